@@ -1,0 +1,45 @@
+-- The numbers of the two systems. Line and field sizes are those of ld-decode's TBC files (samples at four times the colour
+-- subcarrier, so 315/22 or 17.734475 million a second); the tolerance of a half cell and the drawn start are this project's own.
+use Rattle.std.specs.Prelude.{ℕ, ◌*◌, List, codes}
+use Rattle.vbi_words.specs.declared.system.System.{System}
+use Rattle.vbi_words.specs.declared.system.System.TheVariants.{Ntsc, Pal}
+
+-- samples of a line
+abbrev pub width_of : System → ℕ
+width_of Ntsc = 910
+width_of Pal = 1135
+
+-- lines of a field
+abbrev pub height_of : System → ℕ
+height_of Ntsc = 263
+height_of Pal = 313
+
+-- bytes of a line, two a sample
+abbrev pub line_bytes : System → ℕ
+line_bytes Ntsc = 1820
+line_bytes Pal = 2270
+
+-- bytes of a field: those of all its lines
+abbrev pub field_bytes : System → ℕ
+field_bytes Ntsc = 478660
+field_bytes Pal = 710510
+
+-- the fewest samples of a half cell of one microsecond
+abbrev pub least_half : System → ℕ
+least_half Ntsc = 11
+least_half Pal = 14
+
+-- the most samples of a half cell: less than twice the fewest
+abbrev pub greatest_half : System → ℕ
+greatest_half Ntsc = 18
+greatest_half Pal = 22
+
+-- the column at which a drawn word begins
+abbrev pub start_of : System → ℕ
+start_of Ntsc = 150
+start_of Pal = 190
+
+-- what the system is called
+abbrev pub name_of : System → List ℕ
+name_of Ntsc = codes "NTSC"
+name_of Pal = codes "PAL"

@@ -1,0 +1,9 @@
+pub mod Geometry
+pub mod Levels
+pub mod Words
+pub mod Shows
+pub mod Outcomes
+pub mod RunLimits
+pub mod Smooth
+pub mod Readings
+pub mod Drawn

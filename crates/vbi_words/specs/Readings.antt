@@ -1,0 +1,33 @@
+-- The reading of a line's levels: their outcome, or the word that the smoothed levels show.
+use Rattle.std.specs.Prelude.{◌≡◌, ℕ, ◌⊎◌, Bool, List}
+use Rattle.vbi_words.specs.declared.system.System.{System}
+use Rattle.vbi_words.specs.declared.outcome.Outcome.{Outcome}
+use Rattle.vbi_words.specs.declared.outcome.Outcome.TheVariants.{Word, Blank, Unfinished, Change, Hold}
+use Rattle.vbi_words.specs.declared.outcome.Reading.{Reading}
+use Rattle.vbi_words.specs.Shows.{Shows, ShowsNone}
+use Rattle.vbi_words.specs.Outcomes.{AllLow, IsOutcome}
+use Rattle.vbi_words.specs.Smooth.{smooth_of}
+
+-- neither the levels nor the smoothed ones show a word, and a level is high: the outcome is the levels' own
+abbrev pub ReadsNone : System → List Bool → Outcome → ℕ → Type 0
+ReadsNone system levels outcome pass = (pass ≡ 0) × IsOutcome system levels outcome × ShowsNone system (smooth_of levels)
+
+-- The outcome and the pass of a reading, case by case.
+abbrev pub Reads : System → List Bool → Outcome → ℕ → Type 0
+Reads system levels (Word w) pass =
+    ((pass ≡ 1) × Shows system levels w)
+    ⊎ ((pass ≡ 2) × ShowsNone system levels × (AllLow levels → ⊥) × Shows system (smooth_of levels) w)
+Reads system levels Blank pass = (pass ≡ 0) × IsOutcome system levels Blank
+Reads system levels Unfinished pass = ReadsNone system levels Unfinished pass
+Reads system levels (Change c) pass = ReadsNone system levels (Change c) pass
+Reads system levels (Hold c) pass = ReadsNone system levels (Hold c) pass
+
+abbrev pub IsReading : System → List Bool → Reading → Type 0
+IsReading system levels reading = Reads system levels reading.outcome reading.pass
+
+-- the reading, from the outcome of the levels and that of the smoothed ones
+abbrev pub reading_from : Outcome → Outcome → Reading
+reading_from (Word w) smooth = record { outcome = Word w; pass = 1 }
+reading_from Blank smooth = record { outcome = Blank; pass = 0 }
+reading_from plain (Word w) = record { outcome = Word w; pass = 2 }
+reading_from plain _ = record { outcome = plain; pass = 0 }

@@ -1,0 +1,22 @@
+-- The 24-bit code words of a LaserDisc (IEC 60857 for NTSC, IEC 60856 for PAL) and the half cells that they are written in.
+use Rattle.std.specs.Prelude.{ℕ, suc, zero, ◌≤◌, ◌<◌, ◌^◌, Bool, true, false, List, [], ◌∷◌, nat_eq}
+use Rattle.std.specs.List.{flat_map}
+use Rattle.std.specs.Int.{bit_at}
+
+-- a number of 24 bits whose top bit is 1 (the top bit is this project's own rule)
+abbrev pub IsWord : ℕ → Type 0
+IsWord w = (2 ^ 23 ≤ w) × (w < 2 ^ 24)
+
+-- the n lowest bits of a number, the most significant first
+unfoldable pub lowest_bits : ℕ → ℕ → List Bool
+lowest_bits zero w = []
+lowest_bits (suc n) w = nat_eq (bit_at w n) 1 ∷ lowest_bits n w
+
+-- the two half cells of a bit: a one is low and then high, a zero is high and then low
+abbrev pub cell_of : Bool → List Bool
+cell_of true = false ∷ true ∷ []
+cell_of false = true ∷ false ∷ []
+
+-- the 48 half cells of a word
+abbrev pub halves_of : ℕ → List Bool
+halves_of w = flat_map cell_of (lowest_bits 24 w)

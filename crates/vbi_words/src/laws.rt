@@ -1,0 +1,55 @@
+//! Laws over the definitions: each function's contract is one, for every system, list of levels, word and pair of levels.
+
+ghost use Rattle.std.specs.Prelude.{◌≡◌, ℕ, ◌≤◌, ◌<◌, ◌+◌, ◌-◌, List, Bool, false, [], ◌∷◌, ◌++◌, replicate, Some, None};
+ghost use Rattle.vbi_words.specs.declared.system.System.{System};
+ghost use Rattle.vbi_words.specs.declared.outcome.Outcome.TheVariants.{Word};
+ghost use Rattle.vbi_words.specs.Levels.{Slicing, levels_of};
+ghost use Rattle.vbi_words.specs.Words.{IsWord};
+ghost use Rattle.vbi_words.specs.Shows.{Shows, ShowsNone, Viable};
+ghost use Rattle.vbi_words.specs.Outcomes.{AllLow};
+ghost use Rattle.vbi_words.specs.RunLimits.{EndsOtherwise, HasRunLimit};
+ghost use Rattle.vbi_words.specs.Smooth.{IsSmooth, smooth_of, Glitch};
+ghost use Rattle.vbi_words.specs.Readings.{IsReading};
+ghost use Rattle.vbi_words.specs.Drawn.{IsDrawnRow};
+
+/// A list of levels shows at most one word.
+pub fn one_word()
+    ensures { (system : System) (levels : List Bool) (v w : ℕ)
+        → Shows system levels v → Shows system levels w → v ≡ w }
+{}
+
+/// Where a run of equal levels has begun, it may become as long as one half cell, or as two, or as long as you like.
+pub fn run_limit()
+    ensures { (system : System) (levels : List Bool) (v : Bool)
+        → EndsOtherwise levels v → Viable system (levels ++ v ∷ []) → HasRunLimit system levels v }
+{}
+
+/// A drawn row shows its word; that of no word has no high level.
+pub fn drawn_shows()
+    ensures word { (system : System) (slicing : Slicing) (word : ℕ) (samples : List ℕ)
+        → slicing.black < slicing.white → IsWord word
+        → IsDrawnRow system slicing (Some word) samples → Shows system (levels_of slicing samples) word }
+    ensures none { (system : System) (slicing : Slicing) (samples : List ℕ)
+        → slicing.black < slicing.white
+        → IsDrawnRow system slicing None samples → AllLow (levels_of slicing samples) }
+{}
+
+/// A list of levels has one list of smoothed levels.
+pub fn one_smooth()
+    ensures is { (levels : List Bool) → IsSmooth levels (smooth_of levels) }
+    ensures only { (levels smoothed : List Bool) → IsSmooth levels smoothed → smoothed ≡ smooth_of levels }
+{}
+
+/// A shown word with three lows or more behind it is shown by the smoothed levels too, three columns later.
+pub fn smooth_keeps()
+    ensures { (system : System) (levels : List Bool) (word : ℕ) (cut : Shows system levels word) → 3 ≤ cut.after
+        → (smooth_of levels ≡ replicate (cut.before + 3) false ++ (cut.drawn ++ replicate (cut.after - 3) false))
+        × Shows system (smooth_of levels) word }
+{}
+
+/// One to three columns turned over in such a list, among equal ones, are smoothed away, and the second pass reads the word.
+pub fn glitch_gone()
+    ensures { (system : System) (levels turned : List Bool) (word : ℕ) (cut : Shows system levels word) → 3 ≤ cut.after
+        → Glitch levels turned → (smooth_of turned ≡ smooth_of levels) × ShowsNone system turned
+        × IsReading system turned (record { outcome = Word word; pass = 2 }) }
+{}

@@ -1,0 +1,82 @@
+//! The two television systems and their geometry in ld-decode's TBC files.
+
+ghost use Rattle.std.specs.Prelude.{◌≡◌};
+ghost use Rattle.vbi_words.specs.Geometry.{width_of, height_of, field_bytes, least_half, greatest_half, start_of, name_of};
+
+/// A television system. Each call gives one number of its TBC geometry, in samples, lines, columns or bytes.
+#[derive(Clone, Copy, Debug, PartialEq, Eq)]
+pub enum System {
+    /// 525 lines (discs after IEC 60857), sampled at 315/22 MHz.
+    Ntsc,
+    /// 625 lines (discs after IEC 60856), sampled at 17.734475 MHz.
+    Pal,
+}
+
+impl System {
+    /// Samples per line.
+    pub fn width(self) -> usize
+        ensures { result ≡ width_of self }
+    {
+        match self {
+            System::Ntsc => 910,
+            System::Pal => 1135,
+        }
+    }
+
+    /// Lines per field.
+    pub fn height(self) -> usize
+        ensures { result ≡ height_of self }
+    {
+        match self {
+            System::Ntsc => 263,
+            System::Pal => 313,
+        }
+    }
+
+    /// Bytes per field: two bytes a sample.
+    pub fn field_bytes(self) -> usize
+        ensures { result ≡ field_bytes self }
+    {
+        2 * self.width() * self.height()
+    }
+
+    /// The fewest samples of a half cell of one microsecond.
+    pub fn half_min(self) -> usize
+        ensures { result ≡ least_half self }
+    {
+        match self {
+            System::Ntsc => 11,
+            System::Pal => 14,
+        }
+    }
+
+    /// The most samples of a half cell of one microsecond.
+    pub fn half_max(self) -> usize
+        ensures { result ≡ greatest_half self }
+    {
+        match self {
+            System::Ntsc => 18,
+            System::Pal => 22,
+        }
+    }
+
+    /// The column at which a drawn word begins.
+    pub fn start(self) -> usize
+        ensures { result ≡ start_of self }
+    {
+        match self {
+            System::Ntsc => 150,
+            System::Pal => 190,
+        }
+    }
+
+    /// The name that ld-decode's metadata has: `NTSC` or `PAL`.
+    pub fn name(self) -> &'static str
+        ensures { result.now ≡ name_of self }
+    {
+        match self {
+            System::Ntsc => "NTSC",
+            System::Pal => "PAL",
+        }
+    }
+}
