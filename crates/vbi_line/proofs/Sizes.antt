@@ -1,0 +1,15 @@
+-- Bounds on the sizes of a field.
+use Rattle.std.proofs.Common.{ℕ, ◌≤◌, ◌<◌, lit≤, lit<}
+use Rattle.vbi_words.specs.declared.system.System.{System}
+use Rattle.vbi_words.specs.declared.system.System.TheVariants.{Ntsc, Pal}
+use Rattle.vbi_words.specs.Geometry.{width_of, line_bytes}
+
+-- a line fits the buffer
+pub line_bytes-le : (s : System) → line_bytes s ≤ 2270
+line_bytes-le Ntsc = lit≤ tt
+line_bytes-le Pal = lit≤ tt
+
+-- a line isn't empty
+pub line_bytes-pos : (s : System) → 0 < line_bytes s
+line_bytes-pos Ntsc = lit< tt
+line_bytes-pos Pal = lit< tt

@@ -1,0 +1,24 @@
+-- How the fields of the buffer are seen.
+use Rattle.std.specs.Prelude.{◌≡◌, ℕ, ◌+◌, ◌-◌, ◌*◌, ◌^◌, ◌<◌, ◌≤◌, List, [], ◌∷◌, length, take, drop}
+use Rattle.vbi_words.specs.Geometry.{width_of, line_bytes}
+use Rattle.vbi_line.specs.Line.{Line}
+use Rattle.vbi_line.specs.declared.line.LineBuf.TheInside.{Inside}
+
+-- the first bytes are held, and the rest of the line's are room
+abbrev pub line_of : Inside → Line
+line_of b = record {
+  system = b.system;
+  held = take b.held b.bytes;
+  room = take (line_bytes b.system - b.held) (drop b.held b.bytes);
+  cursors = take b.passes (b.cursor ∷ b.earlier ∷ []);
+  looked = b.looked;
+}
+
+pub record IsLine (b : Inside) : Type 0 where
+  pub bytes : length b.bytes ≡ 2270
+  pub held : b.held ≤ line_bytes b.system
+  pub passes : b.passes ≤ 2
+  pub cursor : b.cursor ≤ width_of b.system
+  pub earlier : b.earlier ≤ width_of b.system
+  pub looked : b.looked + (width_of b.system - b.cursor) ≤ 2 ^ 63
+  pub whole : 0 < b.passes → b.held ≡ line_bytes b.system

@@ -1,0 +1,8 @@
+//! One line: filling, passes, outcome.
+#![tactic(auto)]
+
+mod counted;
+mod line;
+
+pub use counted::{Counted, Fail};
+pub use line::LineBuf;
