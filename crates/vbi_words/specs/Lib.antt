@@ -7,3 +7,4 @@ pub mod RunLimits
 pub mod Smooth
 pub mod Readings
 pub mod Drawn
+pub mod WorkedLines

@@ -9,6 +9,8 @@ pub mod laws;
 pub mod levels;
 pub mod outcome;
 pub mod system;
+#[cfg(test)]
+mod tests_values;
 pub mod word;
 
 pub use drawing::drawn_sample;
