@@ -8,3 +8,5 @@ pub mod Smooth
 pub mod Readings
 pub mod Drawn
 pub mod WorkedLines
+pub mod Codes
+pub mod Formats
