@@ -1,9 +1,9 @@
 -- A word has one code: no two patterns have a word in common.
-use Rattle.std.proofs.Common.{◌≡◌, ℕ, suc, zero, ◌≤◌, ◌<◌, ◌+◌, ◌-◌, ◌*◌, ◌%◌, Bool, true, false, ltb, ◌&&◌, ◌||◌, List, [], ◌∷◌, length, get_or, ◌⊎◌, inl, inr, refl, ap, sym, ◌∙◌, subst, arith, lit<, lit≤}
+use Rattle.std.proofs.Common.{◌≡◌, ℕ, suc, zero, ◌≤◌, ◌<◌, ◌+◌, ◌-◌, ◌*◌, ◌%◌, Bool, true, false, ltb, ◌&&◌, ◌||◌, List, [], ◌∷◌, length, get_or, ◌⊎◌, inl, inr, refl, ap, sym, ◌∙◌, arith, lit<, lit≤}
 use Rattle.std.proofs.lemmas.Bool.{ltb-true}
 use Rattle.vbi_words.specs.declared.code.Code.{Code}
 use Rattle.vbi_words.specs.declared.code.Code.TheVariants.{Picture, Chapter, Time, ClvPicture, CxOn, CxOff, Users, LeadIn, LeadOut, PictureStop, ClvMark, Other}
-use Rattle.vbi_words.specs.Codes.{digit_of, last_three, IsBetween, HasPattern, HasNumbers, IsCode}
+use Rattle.vbi_words.specs.Codes.{digit_of, last_three, IsBetween, HasPattern, IsCode}
 
 -- a row of the table: the numbers of its pattern, and the code
 pub record Row : Type 0 where

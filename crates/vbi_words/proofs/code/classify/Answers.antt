@@ -1,5 +1,3 @@
-use Rattle.std.proofs.Common.{◌≡◌, sym, subst}
-use Rattle.vbi_words.specs.Codes.{IsCode}
 use Rattle.vbi_words.proofs.OneCode.{one_code}
 use Rattle.vbi_words.proofs.code.classify.Goals as goal
 
