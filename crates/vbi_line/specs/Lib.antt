@@ -1,3 +1,5 @@
 pub mod Counted
+pub mod Intake
 pub mod Line
+pub mod LineReads
 pub mod LineView
