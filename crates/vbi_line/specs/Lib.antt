@@ -1,5 +1,7 @@
 pub mod Counted
 pub mod Intake
 pub mod Line
+pub mod LineLends
 pub mod LineReads
 pub mod LineView
+pub mod StoreLends

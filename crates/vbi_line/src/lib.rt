@@ -4,6 +4,7 @@
 mod counted;
 mod intake;
 mod line;
+mod store;
 
 pub use counted::{Counted, Fail};
 pub use intake::{Filled, Intake, IntakeFault};

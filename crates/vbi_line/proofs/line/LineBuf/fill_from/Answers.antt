@@ -11,7 +11,7 @@ returns-clause-takes g c =
     let full = line_bytes-le b.system in
     let read = c.in_ok-count.ensures in
     let ys = c.read_once.new.buf in
-    let front = take-written b.bytes ys _ b.held n (omega arith) read.fits in (
+    let front = take-written b.store.bytes ys _ b.held n (omega arith) read.fits in (
       take n ys,
       record {
         count = length-take-le n ys read.fits;
