@@ -15,15 +15,6 @@ drop-part xs h e n le =
     ∙ sym (drop-take n (e - (h + n)) (drop h xs))
     ∙ ap (λ k. drop n (take k (drop h xs))) same
 
--- the front and what was written behind it
-pub take-written : (xs ys rest : List ℕ) (h n : ℕ) → h ≤ length xs → n ≤ length ys
-    → take (h + n) (take h xs ++ (ys ++ rest)) ≡ take h xs ++ take n ys
-take-written xs ys rest h n inside few =
-    let front : length (take h xs) ≡ h = length-take-le h xs inside in
-    ap (λ k. take (k + n) (take h xs ++ (ys ++ rest))) (sym front)
-    ∙ take-append-add (take h xs) (ys ++ rest) n
-    ∙ ap (λ l. take h xs ++ l) (take-append-le n ys rest few)
-
 -- what stands before a part stays where the part is written over
 pub take-with_part : (xs : List ℕ) (from to : ℕ) (w : List ℕ) → from ≤ to → to ≤ length xs
     → take from (with_part xs from to w) ≡ take from xs

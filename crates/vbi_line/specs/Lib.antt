@@ -2,6 +2,5 @@ pub mod Counted
 pub mod Intake
 pub mod Line
 pub mod LineLends
-pub mod LineReads
 pub mod LineView
 pub mod StoreLends
