@@ -1,3 +1,6 @@
 pub mod Counted
+pub mod Intake
 pub mod Line
+pub mod LineLends
 pub mod LineView
+pub mod StoreLends

@@ -2,7 +2,10 @@
 #![tactic(auto)]
 
 mod counted;
+mod intake;
 mod line;
+mod store;
 
 pub use counted::{Counted, Fail};
+pub use intake::{Filled, Intake, IntakeFault};
 pub use line::LineBuf;
