@@ -1,2 +1,4 @@
+pub mod OneOutcome
+pub mod OneReading
 pub mod Parts
 pub mod Sizes

@@ -1,7 +1,6 @@
 -- A part of a list.
-use Rattle.std.proofs.Common.{◌≡◌, ℕ, ◌+◌, ◌-◌, ◌≤◌, List, ◌++◌, length, take, drop, refl, sym, ap, ◌∙◌, arith}
-use Rattle.std.proofs.lemmas.List.{length-take-le, take_at, drop-take, drop-drop, length-drop}
-use Rattle.std.proofs.Math.Seq.{drop_at}
+use Rattle.std.proofs.Common.{◌≡◌, ℕ, ◌+◌, ◌-◌, ◌≤◌, List, length, take, drop, sym, ap, ◌∙◌, arith}
+use Rattle.std.proofs.lemmas.List.{length-take-le, drop-take, drop-drop, length-drop}
 
 -- how long the part is
 pub length-part : (xs : List ℕ) (h e : ℕ) → h ≤ e → e ≤ length xs → length (take (e - h) (drop h xs)) ≡ e - h

@@ -1,8 +1,8 @@
 -- Bounds on the sizes of a field.
-use Rattle.std.proofs.Common.{ℕ, ◌≤◌, ◌<◌, lit≤, lit<}
+use Rattle.std.proofs.Common.{◌≤◌, ◌<◌, lit≤, lit<}
 use Rattle.vbi_words.specs.declared.system.System.{System}
 use Rattle.vbi_words.specs.declared.system.System.TheVariants.{Ntsc, Pal}
-use Rattle.vbi_words.specs.Geometry.{width_of, line_bytes}
+use Rattle.vbi_words.specs.Geometry.{line_bytes}
 
 -- a line fits the buffer
 pub line_bytes-le : (s : System) → line_bytes s ≤ 2270
