@@ -1,4 +1,5 @@
 pub mod OneOutcome
 pub mod OneReading
+pub mod Packs
 pub mod Parts
 pub mod Sizes

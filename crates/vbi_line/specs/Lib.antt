@@ -3,3 +3,6 @@ pub mod Line
 pub mod LineView
 pub mod OneOutcome
 pub mod OneReading
+pub mod PackedView
+pub mod Packing
+pub mod Runs
