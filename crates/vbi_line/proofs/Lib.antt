@@ -1,5 +1,10 @@
+pub mod Ending
 pub mod OneOutcome
 pub mod OneReading
 pub mod Packs
 pub mod Parts
+pub mod RunLoop
+pub mod RunSteps
 pub mod Sizes
+pub mod SmoothRuns
+pub mod Steps

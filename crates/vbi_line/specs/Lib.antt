@@ -5,4 +5,5 @@ pub mod OneOutcome
 pub mod OneReading
 pub mod PackedView
 pub mod Packing
+pub mod Progress
 pub mod Runs

@@ -5,7 +5,10 @@ mod counted;
 pub mod laws;
 mod line;
 mod packed;
+mod plain;
+mod progress;
 
 pub use counted::{Counted, Fail};
 pub use line::LineBuf;
 pub use packed::Packed;
+pub use plain::read_packed;
