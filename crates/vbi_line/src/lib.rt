@@ -7,6 +7,7 @@ mod line;
 mod packed;
 mod plain;
 mod progress;
+mod twice;
 
 pub use counted::{Counted, Fail};
 pub use line::LineBuf;
