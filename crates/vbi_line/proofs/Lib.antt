@@ -6,5 +6,6 @@ pub mod Parts
 pub mod RunLoop
 pub mod RunSteps
 pub mod Sizes
+pub mod Slicing
 pub mod SmoothRuns
 pub mod Steps

@@ -1,8 +1,8 @@
 -- Bounds on the sizes of a field.
-use Rattle.std.proofs.Common.{◌≤◌, ◌<◌, lit≤, lit<}
+use Rattle.std.proofs.Common.{ℕ, ◌≡◌, ◌*◌, ◌≤◌, ◌<◌, lit≤, lit<, refl}
 use Rattle.vbi_words.specs.declared.system.System.{System}
 use Rattle.vbi_words.specs.declared.system.System.TheVariants.{Ntsc, Pal}
-use Rattle.vbi_words.specs.Geometry.{line_bytes}
+use Rattle.vbi_words.specs.Geometry.{width_of, line_bytes}
 
 -- a line fits the buffer
 pub line_bytes-le : (s : System) → line_bytes s ≤ 2270
@@ -13,3 +13,8 @@ line_bytes-le Pal = lit≤ tt
 pub line_bytes-pos : (s : System) → 0 < line_bytes s
 line_bytes-pos Ntsc = lit< tt
 line_bytes-pos Pal = lit< tt
+
+-- a line has two bytes a sample
+pub line_bytes-width : (s : System) → line_bytes s ≡ 2 * width_of s
+line_bytes-width Ntsc = refl
+line_bytes-width Pal = refl

@@ -2,6 +2,7 @@
 #![tactic(auto)]
 
 mod counted;
+mod lanes;
 pub mod laws;
 mod line;
 mod packed;
@@ -10,6 +11,7 @@ mod progress;
 mod twice;
 
 pub use counted::{Counted, Fail};
+pub use lanes::slice_lanes;
 pub use line::LineBuf;
 pub use packed::Packed;
 pub use plain::read_packed;
