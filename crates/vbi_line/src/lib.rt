@@ -14,4 +14,5 @@ pub use counted::{Counted, Fail};
 pub use lanes::slice_lanes;
 pub use line::LineBuf;
 pub use packed::Packed;
-pub use plain::read_packed;
+pub use plain::{read_line, read_packed};
+pub use twice::read_twice;
