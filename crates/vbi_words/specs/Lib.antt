@@ -9,3 +9,4 @@ pub mod Readings
 pub mod Drawn
 pub mod Codes
 pub mod Formats
+pub mod CodeTable
