@@ -10,3 +10,6 @@ pub mod report;
 pub use cause_texts::cause_text;
 pub use code_texts::{code_text, hex_text};
 pub use readings::FieldReadings;
+
+#[cfg(test)]
+mod text_tests;

@@ -29,7 +29,11 @@ fn push_zeros<const N: usize>(text: &mut ArrayString<N>, count: usize)
 }
 
 /// Appends a number in decimal, with zeros in front of it up to so many digits.
-pub(crate) fn push_padded<I: Integer, const N: usize>(text: &mut ArrayString<N>, digits: usize, number: I)
+pub(crate) fn push_padded<I: Integer, const N: usize>(
+    text: &mut ArrayString<N>,
+    digits: usize,
+    number: I,
+)
     requires narrow { digits ≤ I.MAX_STR_LEN }
     requires room { array_string_len text.old + I.MAX_STR_LEN ≤ N }
     ensures bytes { text.new.bytes ≡ text.old.bytes ++ padded digits (I.text number) }
@@ -47,7 +51,11 @@ pub(crate) fn push_hex<const N: usize>(text: &mut ArrayString<N>, value: u8)
     requires room { array_string_len text.old + 1 ≤ N }
     ensures { text.new.bytes ≡ text.old.bytes ++ hex_digit value ∷ [] }
 {
-    text.push(char::from(if value < 10 { b'0' + value } else { b'A' + (value - 10) }));
+    text.push(char::from(if value < 10 {
+        b'0' + value
+    } else {
+        b'A' + (value - 10)
+    }));
 }
 
 /// Appends a number in three hexadecimal digits, or in four where it has more.

@@ -76,23 +76,25 @@ fn shown_text(outcome: Outcome) -> ArrayString<31>
 
 /// The four lines of the whole field of this number, counted from 1.
 #[tactic(auto, unfolding(crate::specs::Report::report_entry_of))]
-pub fn report_entry(number: u32, readings: FieldReadings) -> ArrayString<160>
-    ensures { result.bytes ≡ report_entry_of number readings }
+pub fn report_entry(number: u32, readings: &FieldReadings) -> ArrayString<160>
+    ensures { result.bytes ≡ report_entry_of number readings.now }
 {
-    let (first, second, third) = (readings.first, readings.second, readings.third);
-    let (first, second, third) = (first.outcome, second.outcome, third.outcome);
-    let words = [word(first), word(second), word(third)];
+    let words = [
+        word(readings.first.outcome),
+        word(readings.second.outcome),
+        word(readings.third.outcome),
+    ];
     let mut text = ArrayString::new();
     text.push_str("field ");
     push_number(&mut text, number);
     text.push_str(" ");
     text.push_str(format_name(format_of(&words)));
     text.push_str("\n16 ");
-    text.push_str(shown_text(first).as_str());
+    text.push_str(shown_text(readings.first.outcome).as_str());
     text.push_str("\n17 ");
-    text.push_str(shown_text(second).as_str());
+    text.push_str(shown_text(readings.second.outcome).as_str());
     text.push_str("\n18 ");
-    text.push_str(shown_text(third).as_str());
+    text.push_str(shown_text(readings.third.outcome).as_str());
     text.push_str("\n");
     text
 }
