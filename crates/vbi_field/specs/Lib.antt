@@ -1,0 +1,3 @@
+pub mod CodeTexts
+pub mod CauseTexts
+pub mod Report
