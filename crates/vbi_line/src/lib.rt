@@ -5,6 +5,8 @@ mod counted;
 mod intake;
 mod line;
 mod store;
+#[cfg(test)]
+mod tests_devices;
 
 pub use counted::{Counted, Fail};
 pub use intake::{Filled, Intake, IntakeFault};
