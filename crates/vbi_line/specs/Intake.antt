@@ -1,6 +1,6 @@
 -- What a contract sees of an intake: the reader, the line that is held, and the counts of bytes
 -- and failures (this project's own).
-use Rattle.std.specs.Prelude.{◌≡◌, ℕ, ◌+◌, ◌-◌, ◌*◌, ◌<◌, ◌≤◌, List, [], ◌++◌, length, Option}
+use Rattle.std.specs.Prelude.{◌≡◌, ℕ, ◌+◌, ◌*◌, ◌<◌, ◌≤◌, List, [], ◌++◌, length, Option}
 use Rattle.std.specs.Io.KnownBytes.{Consumes, IsAtEnd}
 use Rattle.vbi_words.specs.Geometry.{line_bytes}
 use Rattle.vbi_words.specs.declared.system.System.{System}
