@@ -14,6 +14,8 @@ mod packed;
 mod plain;
 mod progress;
 mod store;
+#[cfg(test)]
+mod tests_devices;
 mod twice;
 
 pub use counted::{Counted, Fail};
