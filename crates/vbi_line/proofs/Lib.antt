@@ -1,4 +1,5 @@
 pub mod Ending
+pub mod FillSteps
 pub mod OneOutcome
 pub mod OneReading
 pub mod Packs
@@ -9,3 +10,4 @@ pub mod Sizes
 pub mod Slicing
 pub mod SmoothRuns
 pub mod Steps
+pub mod StoreMemory

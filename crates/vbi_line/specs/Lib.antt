@@ -1,5 +1,7 @@
 pub mod Counted
+pub mod Intake
 pub mod Line
+pub mod LineLends
 pub mod LineView
 pub mod OneOutcome
 pub mod OneReading
@@ -7,3 +9,4 @@ pub mod PackedView
 pub mod Packing
 pub mod Progress
 pub mod Runs
+pub mod StoreLends

@@ -2,15 +2,18 @@
 #![tactic(auto)]
 
 mod counted;
+mod intake;
 mod lanes;
 pub mod laws;
 mod line;
 mod packed;
 mod plain;
 mod progress;
+mod store;
 mod twice;
 
 pub use counted::{Counted, Fail};
+pub use intake::{Filled, Intake, IntakeFault};
 pub use lanes::slice_lanes;
 pub use line::LineBuf;
 pub use packed::Packed;

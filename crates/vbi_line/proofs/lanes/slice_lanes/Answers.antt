@@ -1,7 +1,7 @@
 use Rattle.std.proofs.Common.{◌≡◌, ◌+◌, ◌*◌, ◌<◌, ◌∷◌, ◌++◌, ℕ, List, Bool, arith, sym, ap, ◌∙◌, length, length-append, subst}
 use Rattle.vbi_words.specs.Geometry.{width_of}
 use Rattle.vbi_line.specs.Packing.{levels_in}
-use Rattle.vbi_line.proofs.Sizes.{line_bytes-width}
+use Rattle.vbi_line.proofs.Sizes.{line_bytes-twice}
 use Rattle.vbi_line.proofs.Slicing.{Sliced, keeps_on, block_given, line_ended, length-block, block_sliced, sliced_all}
 use Rattle.vbi_line.proofs.lanes.slice_lanes.Goals as goal
 
@@ -32,4 +32,4 @@ returns-clause-levels c =
     let first = c.args.line.now in
     let ended = line_ended c.loop-sample.line c.next_sample.new.self (length c.loop-sample.packed) first.cursors now.cursors c.in_default-next_sample.ensures.gives in
     let long : length c.loop-sample.packed ≡ width_of first.system = ended ∙ ap width_of now.bytes.system in
-    sliced_all c.args.levels first.held c.loop-sample.packed (width_of first.system) (c.requires.full ∙ line_bytes-width first.system) long now.sliced
+    sliced_all c.args.levels first.held c.loop-sample.packed (width_of first.system) (c.requires.full ∙ line_bytes-twice first.system) long now.sliced
