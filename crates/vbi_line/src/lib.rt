@@ -10,6 +10,8 @@ mod packed;
 mod plain;
 mod progress;
 mod store;
+#[cfg(test)]
+mod tests_lines;
 mod twice;
 
 pub use counted::{Counted, Fail};
