@@ -10,7 +10,8 @@ use base.Fml.{Fml, ftrue, fsep, feq}
 use prog.Memory.{align, up}
 use types.Logic.{Logic, sem}
 use types.SemTy.{cells}
-use types.Kit.{‵, ◌⊛◌, raw, ◌$◌, ◌∵◌, !, qed, move, drop as let_go, split, fsplit, fjoin, use1, use2, done, rewrite, feq_l, feq_i, check}
+use types.Kit.{‵, ◌⊛◌, raw, ◌$◌, ◌∵◌, !, qed, move, drop as let_go, done, rewrite, check}
+use types.Kit.{split, fsplit, fjoin, use1, use2, feq_l, feq_i}
 use denote.Array.{Array, Array-Lawful}
 use denote.ArrayMemory.{Array-apart, Array-whole}
 use denote.Builtin.{u8}
@@ -86,7 +87,8 @@ module _ {M : Type 1} {𝓤 : Ura M} (𝓛 : Logic 𝓤) (b o : ℕ) where
       qed 𝓛 (‵ (part_at the_row full_share d b o) ∷ []) ∵
       rewrite ! 0 (λ (f : Fml). ‵ f) (as_tuple d b o) refl $
       use1 𝓛 (‵ (fsep (part_at (Array u8 2270) full_share d.bytes b (start o)) ftrue) ⊛ raw Left)
-      (Struct-left 𝓛 full_share the_type.name fields (lawful_Lones 𝓛 fields (Array-Lawful 𝓛 u8 (uint_Lawful 𝓛 w8) 2270, tt)) (d.bytes, tt) b o) $
+      (Struct-left 𝓛 full_share the_type.name fields (lawful_Lones 𝓛 fields (Array-Lawful 𝓛 u8 (uint_Lawful 𝓛 w8) 2270, tt))
+      (d.bytes, tt) b o) $
       split ! $ fsplit ! $ move ! (1 ∷ []) $ let_go ! $
       use1 𝓛 (‵ (fsep (feq ℕ (length d.bytes) 2270) (row u8 full_share d.bytes b (start o))))
       (Array-apart 𝓛 u8 full_share tt 2270 d.bytes b (start o)) $ fsplit ! $ feq_l ! (λ long.
@@ -100,5 +102,6 @@ module _ {M : Type 1} {𝓤 : Ura M} (𝓛 : Logic 𝓤) (b o : ℕ) where
       feq_i ! ℕ (length d.bytes) 2270 long $ fjoin ! $
       use1 𝓛 (‵ (part_at (Array u8 2270) full_share d.bytes b (start o))) (Array-whole 𝓛 u8 full_share 2270 d.bytes b (start o)) $
       nothing ! $ move ! (1 ∷ 0 ∷ []) $ fjoin ! $
-      use2 𝓛 (‵ (part_at (Struct (shape the_type)) full_share (d.bytes, tt) b o)) (left_Struct 𝓛 full_share the_type.name fields (d.bytes, tt) b o) $
+      use2 𝓛 (‵ (part_at (Struct (shape the_type)) full_share (d.bytes, tt) b o))
+      (left_Struct 𝓛 full_share the_type.name fields (d.bytes, tt) b o) $
       rewrite ! 0 (λ (f : Fml). ‵ f) (sym (as_tuple d b o)) refl $ done !

@@ -14,6 +14,7 @@ line_of b = record {
   looked = b.looked;
 }
 
+-- the bytes fit, a pass needs a whole line, and the count of looks has room for the rest of a pass
 pub record IsLine (b : Inside) : Type 0 where
   pub bytes : length b.store.bytes ≡ 2270
   pub held : b.held ≤ line_bytes b.system

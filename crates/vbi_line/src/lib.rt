@@ -11,6 +11,8 @@ mod plain;
 mod progress;
 mod store;
 #[cfg(test)]
+mod tests_devices;
+#[cfg(test)]
 mod tests_lines;
 mod twice;
 
