@@ -16,6 +16,8 @@ mod progress;
 mod store;
 #[cfg(test)]
 mod tests_devices;
+#[cfg(test)]
+mod tests_lines;
 mod twice;
 
 pub use counted::{Counted, Fail};

@@ -1,4 +1,4 @@
-use Rattle.std.proofs.Common.{◌≡◌, ◌+◌, ◌*◌, ◌<◌, ◌∷◌, ◌++◌, ℕ, List, Bool, arith, sym, ap, ◌∙◌, length, length-append, subst}
+use Rattle.std.proofs.Common.{◌≡◌, ◌+◌, ◌∷◌, ℕ, arith, sym, ap, ◌∙◌, length, length-append, subst}
 use Rattle.vbi_words.specs.Geometry.{width_of}
 use Rattle.vbi_line.specs.Packing.{levels_in}
 use Rattle.vbi_line.proofs.Sizes.{line_bytes-twice}

@@ -1,7 +1,6 @@
-use Rattle.std.proofs.Common.{arith, sym, subst, ap, ◌∙◌, ◌≡◌, ◌<◌, ◌-◌, ◌+◌, ◌%◌, length, ℕ, min, List, Bool}
+use Rattle.std.proofs.Common.{arith, sym, ap, ◌∙◌, ◌≡◌, ◌<◌, List, Bool}
 use Rattle.vbi_words.specs.Levels.{level_at}
-use Rattle.vbi_line.specs.Packing.{unpacked, packed_level}
-use Rattle.vbi_line.specs.Runs.{IsRun}
+use Rattle.vbi_line.specs.Packing.{packed_level}
 use Rattle.vbi_line.proofs.Packs.{length-unpacked, level_unpacked, each_on, run_in_word, run_to_width}
 use Rattle.vbi_line.proofs.packed.Packed.next_run.Goals as goal
 

@@ -1,6 +1,6 @@
-use Rattle.std.proofs.Common.{arith, sym, ap, ◌∙◌, ◌+◌, ◌≤◌, ◌<◌, ◌%◌, ◌/◌, ◌++◌, length, List, Bool}
+use Rattle.std.proofs.Common.{arith, ap, ◌∙◌, ◌+◌, ◌≤◌, ◌%◌, ◌/◌, ◌++◌, List, Bool}
 use Rattle.std.proofs.lemmas.List.{length-set}
-use Rattle.vbi_line.specs.Packing.{levels_in, unpacked}
+use Rattle.vbi_line.specs.Packing.{levels_in}
 use Rattle.vbi_line.proofs.Packs.{length-unpacked, grown_rest, grown_levels}
 use Rattle.vbi_line.proofs.packed.Packed.push.Goals as goal
 
