@@ -35,5 +35,6 @@ module _ (system : System) (levels : List Bool) (progress : Progress) (at_end : 
       (ap (λ (s : State). ending_of system s) (sym at_end) ∙ none)
 
 -- at the end of the list
-pub whole : (system : System) (levels : List Bool) (i : ℕ) → length levels ≤ i → (state : State) → state ≡ state_after system (take i levels) → state ≡ state_after system levels
+pub whole : (system : System) (levels : List Bool) (i : ℕ) → length levels ≤ i → (state : State) → state ≡ state_after system (take i levels)
+    → state ≡ state_after system levels
 whole system levels i past state e = e ∙ ap (λ (t : List Bool). state_after system t) (take_all i levels past)

@@ -27,7 +27,8 @@ invariant_of-self c =
     record {
       words = length-set b.words (b.width / 64) _ ∙ c.self.invariant.words;
       width = room;
-      rest = grown_rest b.words b.width c.args.bits c.args.count c.self.invariant.words room word c.requires.some c.requires.bits c.self.invariant.rest;
+      rest = grown_rest b.words b.width c.args.bits c.args.count c.self.invariant.words room word c.requires.some c.requires.bits
+          c.self.invariant.rest;
     }
 
 pub returns : goal.returns
