@@ -1,7 +1,6 @@
 -- The array behind a line in memory is its bytes side by side, and back. The proof by hand of its loan stands on this.
 use Rattle.std.proofs.Common.{◌≡◌, ℕ, ◌+◌, ◌-◌, ◌≤◌, List, [], ◌∷◌, ◌++◌, length, take, drop, refl, sym, ap, ◌∙◌, arith}
 use Rattle.std.proofs.lemmas.List.{length-take-le, take_at, take-append-drop, drop-drop, length-drop, length-append}
-use Rattle.std.specs.List.{refill}
 use seplogic.Ra.Ura.{Ura}
 use mir.Syntax.{Ty, ty_array, ty_int, ty_struct, w8}
 use base.Logic.{SProp, ent, sep, guard}
@@ -18,11 +17,10 @@ use denote.Builtin.{u8}
 use denote.Index.{row, whole_in, whole_out}
 use denote.Memory.{mem, part_at}
 use denote.Plain.{uint_Lawful}
-use denote.RattleType.{RattleType}
 use denote.Steps.{nothing}
-use denote.Struct.Declared.{Declared, shape}
+use denote.Struct.Declared.{shape}
 use denote.Struct.Members.{Member, raw_tys, lawful_Lones}
-use denote.Struct.Parts.{shape_of, Struct-left, left_Struct}
+use denote.Struct.Parts.{Struct-left, left_Struct}
 use denote.Struct.Recorded.{Recorded-part}
 use denote.Struct.Struct.{Struct}
 use Rattle.vbi_line.specs.contracts.store.LineBytes.{the_row, the_type}

@@ -5,11 +5,10 @@ use Rattle.std.proofs.lemmas.List.{length-take-le}
 use Rattle.std.proofs.raw_atomic.Walks.{proved}
 use seplogic.Ra.Ura.{Ura}
 use mir.Syntax.{named}
-use mir.Val.{Val, vint}
+use mir.Val.{Val}
 use base.Logic.{SProp, ent, sep, ex}
 use base.Fml.{Fml, Lft, GName, Share, ftrue, flft}
 use contract.Monad.{fact}
-use contract.Running.{tables}
 use types.Logic.{Logic, sem}
 use types.Mut.{open_ref}
 use types.SemTy.{cells}
