@@ -1,3 +1,4 @@
 pub mod Counted
 pub mod Line
 pub mod LineView
+pub mod OneReading

@@ -1,0 +1,4 @@
+pub mod Setup
+pub mod Stream
+pub mod Texts
+pub mod Position

@@ -1,0 +1,8 @@
+//! The fields of a TBC stream, and the texts that are written for them.
+#![tactic(auto)]
+
+mod config;
+mod readings;
+
+pub use config::{Config, ConfigFault};
+pub use readings::FieldReadings;
