@@ -2,3 +2,5 @@ pub mod Setup
 pub mod Stream
 pub mod Texts
 pub mod Position
+pub mod Outlet
+pub mod Progress

@@ -1,6 +1,6 @@
 //! What a run is given.
 ghost use Rattle.std.specs.Prelude.{◌≡◌, ◌*◌, ◌<◌, ◌≤◌, ◌↔◌, ◌⊎◌, IfOk, Err};
-ghost use Rattle.vbi_words.specs.Geometry.{height_of};
+ghost use Rattle.vbi_words.specs.Geometry.{height_of, line_bytes};
 
 use std::marker::Model;
 use vbi_words::{Levels, System};
@@ -84,5 +84,12 @@ impl Config {
             System::Ntsc => u64::from(self.max_fields) * 263,
             System::Pal => u64::from(self.max_fields) * 313,
         }
+    }
+
+    /// The bytes of a line: two a sample.
+    pub(crate) fn line_bytes(&self) -> usize
+        ensures { result ≡ line_bytes self.now.system }
+    {
+        2 * self.system.width()
     }
 }

@@ -2,7 +2,12 @@
 #![tactic(auto)]
 
 mod config;
+mod outlet;
+mod progress;
 mod readings;
+mod summary;
 
 pub use config::{Config, ConfigFault};
+pub use outlet::{Outlet, OutletFault};
 pub use readings::FieldReadings;
+pub use summary::{RunFault, Summary};
