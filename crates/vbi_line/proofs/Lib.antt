@@ -1,2 +1,3 @@
+pub mod FillSteps
 pub mod Parts
 pub mod Sizes

@@ -1,7 +1,7 @@
 -- A part of a list.
 use Rattle.std.proofs.Common.{◌≡◌, ℕ, ◌+◌, ◌-◌, ◌≤◌, List, ◌++◌, length, take, drop, refl, sym, ap, ◌∙◌, arith}
-use Rattle.std.proofs.lemmas.List.{length-take-le, take_at, drop-take, drop-drop, length-drop}
-use Rattle.std.proofs.Math.Seq.{drop_at}
+use Rattle.std.proofs.lemmas.List.{length-take-le, take-append-le, drop-take, drop-drop, length-drop}
+use Rattle.std.proofs.Math.Seq.{take-append-add}
 
 -- how long the part is
 pub length-part : (xs : List ℕ) (h e : ℕ) → h ≤ e → e ≤ length xs → length (take (e - h) (drop h xs)) ≡ e - h
@@ -15,3 +15,12 @@ drop-part xs h e n le =
     ap (take (e - (h + n))) (sym (drop-drop n h xs))
     ∙ sym (drop-take n (e - (h + n)) (drop h xs))
     ∙ ap (λ k. drop n (take k (drop h xs))) same
+
+-- the front and what was written behind it
+pub take-written : (xs ys rest : List ℕ) (h n : ℕ) → h ≤ length xs → n ≤ length ys
+    → take (h + n) (take h xs ++ (ys ++ rest)) ≡ take h xs ++ take n ys
+take-written xs ys rest h n inside few =
+    let front : length (take h xs) ≡ h = length-take-le h xs inside in
+    ap (λ k. take (k + n) (take h xs ++ (ys ++ rest))) (sym front)
+    ∙ take-append-add (take h xs) (ys ++ rest) n
+    ∙ ap (λ l. take h xs ++ l) (take-append-le n ys rest few)

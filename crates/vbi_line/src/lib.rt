@@ -2,7 +2,9 @@
 #![tactic(auto)]
 
 mod counted;
+mod intake;
 mod line;
 
 pub use counted::{Counted, Fail};
+pub use intake::{Filled, Intake, IntakeFault};
 pub use line::LineBuf;

@@ -1,8 +1,11 @@
 //! The bytes of one line, and the passes over its samples.
-ghost use Rattle.std.specs.Prelude.{◌≡◌, ◌+◌, ◌-◌, ◌*◌, ◌^◌, ◌<◌, ◌≤◌, ◌==◌, ◌↔◌, [], ◌∷◌, ◌++◌, length, take, drop, sum, IsTrue, MatchOption};
+ghost use Rattle.std.specs.Prelude.{◌≡◌, ◌+◌, ◌-◌, ◌*◌, ◌^◌, ◌<◌, ◌≤◌, ◌==◌, ◌↔◌, [], ◌∷◌, ◌++◌, length, take, drop, sum, IsTrue, MatchOption, IfOk, OnOk, OnErr};
+ghost use Rattle.std.specs.Io.KnownBytes.{IsAtEnd};
 ghost use Rattle.vbi_words.specs.Geometry.{width_of, line_bytes};
 
+use crate::counted::{Counted, Fail};
 use byteorder::{ByteOrder, LittleEndian};
+use std::io::Read;
 use std::marker::Model;
 use vbi_words::System;
 
@@ -31,6 +34,8 @@ impl Model for LineBuf {
 }
 
 impl LineBuf {
+    ghost use Rattle.vbi_line.specs.Counted.{device_of, failures_of, IsSameDevice};
+    ghost use Rattle.vbi_line.specs.LineReads.{Takes};
     ghost use Rattle.vbi_line.specs.Line.{IsCleared, IsFull, IsNextBlock, IsNextSample, Keeps, KeepsBytes};
 
     /// Holds nothing.
@@ -60,6 +65,25 @@ impl LineBuf {
         ensures rest { Keeps self.old self.new }
     {
         self.held += n;
+    }
+
+    /// Asks the reader once for the part that isn't filled, and holds what came.
+    pub(crate) fn fill_from<R: Read>(&mut self, device: &mut Counted<R>) -> Result<usize, Fail>
+        requires { failures_of device.old < 2 ^ 63 }
+        ensures takes { Takes self.old self.new (R.remaining (device_of device.old)) (R.remaining (device_of device.new)) result }
+        ensures at_end { IfOk result (λ n. n ≡ 0 → length self.old.held < line_bytes self.old.system
+            → IsAtEnd (R.remaining (device_of device.new))) }
+        ensures fits { length self.new.held ≤ line_bytes self.new.system }
+        ensures rest { Keeps self.old self.new }
+        ensures same { IsSameDevice device.old device.new }
+        ensures ok { OnOk result (failures_of device.new ≡ failures_of device.old) }
+        ensures failed { OnErr result (failures_of device.new ≡ failures_of device.old + 1) }
+    {
+        let held = self.held;
+        let end = 2 * self.system.width();
+        let count = device.read_once(&mut self.bytes[held..end])?;
+        self.held += count;
+        Ok(count)
     }
 
     /// Whether the line is whole.
