@@ -15,6 +15,14 @@ pub(crate) struct Progress {
     pub(crate) readings: FieldReadings,
 }
 
+/// What stands for the reading of a row that hasn't come, or that isn't asked for.
+pub(crate) fn unread() -> Reading {
+    Reading {
+        outcome: Outcome::Blank,
+        pass: 0,
+    }
+}
+
 /// The same with the reading of a row in its place, if it has one.
 fn with_reading(readings: FieldReadings, row: usize, reading: Reading) -> FieldReadings
     ensures { Keeps row reading readings result }
@@ -44,17 +52,13 @@ impl Progress {
         ensures fields { result.fields ≡ 0 }
         ensures row { result.row ≡ 0 }
     {
-        let none = Reading {
-            outcome: Outcome::Blank,
-            pass: 0,
-        };
         Progress {
             fields: 0,
             row: 0,
             readings: FieldReadings {
-                first: none,
-                second: none,
-                third: none,
+                first: unread(),
+                second: unread(),
+                third: unread(),
             },
         }
     }

@@ -2,11 +2,13 @@
 ghost use Rattle.std.specs.Prelude.{◌≡◌, ◌+◌, ◌*◌, ◌^◌, ◌<◌, ◌≤◌, [], length, IfOk, OnOk, OnErr, Ok};
 ghost use Rattle.vbi_words.specs.Geometry.{width_of, line_bytes};
 ghost use Rattle.vbi_line.specs.Line.{IsFull, KeepsBytes, IsCleared};
+ghost use Rattle.vbi_words.specs.Levels.{row_levels};
+ghost use Rattle.vbi_line.specs.OneReading.{reading_of};
 
 use crate::counted::{Counted, Fail};
 use crate::line::LineBuf;
 use std::io::Read;
-use vbi_words::System;
+use vbi_words::{Levels, Outcome, Reading, System};
 
 /// How a call of `fill_line` ended.
 #[derive(Clone, Copy, Debug, PartialEq, Eq)]
@@ -91,6 +93,27 @@ impl<'a, R: Read> Intake<'a, R> {
                 Err(Fail::Interrupted) if tries < 16 => tries += 1,
                 Err(_) => return Err(IntakeFault::Read),
             }
+        }
+    }
+
+    // STAND-IN, to be dropped by the merger, with `specs/OneReading.antt`.
+    /// The reading of the line that is held.
+    #[tactic(auto, unfolding(crate::specs::OneReading::reading_of))]
+    pub fn reading(&mut self, levels: Levels) -> Reading
+        requires full { IsFull (line_of self.old) }
+        requires fresh { (line_of self.old).cursors ≡ [] }
+        requires looked { (line_of self.old).looked ≤ 2 ^ 61 }
+        ensures reading { result ≡ reading_of (line_of self.old).system (row_levels levels (held_of self.old)) }
+        ensures passes { length (line_of self.new).cursors ≤ 2 }
+        ensures least { (line_of self.old).looked ≤ (line_of self.new).looked }
+        ensures most { (line_of self.new).looked ≤ (line_of self.old).looked + 2 * width_of (line_of self.old).system }
+        ensures rest { KeepsReader self.old self.new }
+        ensures bytes { KeepsBytes (line_of self.old) (line_of self.new) }
+    {
+        let _ = levels;
+        Reading {
+            outcome: Outcome::Blank,
+            pass: 0,
         }
     }
 
