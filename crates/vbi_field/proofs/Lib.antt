@@ -1,4 +1,4 @@
 pub mod Counts
+pub mod Growing
 pub mod Known
 pub mod PutSteps
-pub mod Rows

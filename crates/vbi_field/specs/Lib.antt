@@ -6,3 +6,5 @@ pub mod Document
 pub mod Position
 pub mod Outlet
 pub mod Progress
+pub mod Runs
+pub mod Takes

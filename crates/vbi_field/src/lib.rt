@@ -2,9 +2,11 @@
 #![tactic(auto)]
 
 mod config;
+mod form;
 mod outlet;
 mod progress;
 mod readings;
+mod rows;
 mod summary;
 
 pub use config::{Config, ConfigFault};

@@ -1,6 +1,6 @@
 use Rattle.std.proofs.Common.{refl, arith, ◌<◌, ◌≤◌, ◌+◌}
 use Rattle.vbi_words.specs.Geometry.{height_of}
-use Rattle.vbi_field.proofs.Rows.{within_field, past_field}
+use Rattle.vbi_field.proofs.Growing.{within_field, past_field}
 use Rattle.vbi_field.proofs.progress.Progress.advance.Goals as goal
 
 pub returns-then-self-height-clause-over : goal.returns-then-self-height-clause-over
