@@ -1,3 +1,4 @@
 pub mod FillSteps
 pub mod Parts
 pub mod Sizes
+pub mod StoreMemory

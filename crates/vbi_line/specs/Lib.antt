@@ -1,6 +1,7 @@
 pub mod Counted
 pub mod Intake
 pub mod Line
-pub mod LineReads
+pub mod LineLends
 pub mod LineView
 pub mod OneReading
+pub mod StoreLends

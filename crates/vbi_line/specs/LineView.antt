@@ -8,14 +8,14 @@ use Rattle.vbi_line.specs.declared.line.LineBuf.TheInside.{Inside}
 abbrev pub line_of : Inside → Line
 line_of b = record {
   system = b.system;
-  held = take b.held b.bytes;
-  room = take (line_bytes b.system - b.held) (drop b.held b.bytes);
+  held = take b.held b.store.bytes;
+  room = take (line_bytes b.system - b.held) (drop b.held b.store.bytes);
   cursors = take b.passes (b.cursor ∷ b.earlier ∷ []);
   looked = b.looked;
 }
 
 pub record IsLine (b : Inside) : Type 0 where
-  pub bytes : length b.bytes ≡ 2270
+  pub bytes : length b.store.bytes ≡ 2270
   pub held : b.held ≤ line_bytes b.system
   pub passes : b.passes ≤ 2
   pub cursor : b.cursor ≤ width_of b.system

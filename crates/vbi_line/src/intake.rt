@@ -79,8 +79,10 @@ impl<'a, R: Read> Intake<'a, R> {
     {
         let mut tries = 0u32;
         loop {
-            match self.line.fill_from(&mut self.device) {
+            let room = self.line.room();
+            match self.device.read_once(room) {
                 Ok(count) => {
+                    self.line.commit(count);
                     self.fetched += count as u64;
                     if self.line.is_full() {
                         return Ok(Filled::Full);

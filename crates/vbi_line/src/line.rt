@@ -1,11 +1,10 @@
 //! The bytes of one line, and the passes over its samples.
-ghost use Rattle.std.specs.Prelude.{◌≡◌, ◌+◌, ◌-◌, ◌*◌, ◌^◌, ◌<◌, ◌≤◌, ◌==◌, ◌↔◌, [], ◌∷◌, ◌++◌, length, take, drop, sum, IsTrue, MatchOption, IfOk, OnOk, OnErr};
-ghost use Rattle.std.specs.Io.KnownBytes.{IsAtEnd};
+ghost use Rattle.std.specs.Prelude.{◌≡◌, ◌+◌, ◌-◌, ◌*◌, ◌^◌, ◌<◌, ◌≤◌, ◌==◌, ◌↔◌, [], ◌∷◌, ◌++◌, length, take, drop, sum, IsTrue, MatchOption};
+ghost use Rattle.std.specs.Borrow.{sem};
 ghost use Rattle.vbi_words.specs.Geometry.{width_of, line_bytes};
 
-use crate::counted::{Counted, Fail};
+use crate::store::LineBytes;
 use byteorder::{ByteOrder, LittleEndian};
-use std::io::Read;
 use std::marker::Model;
 use vbi_words::System;
 
@@ -13,7 +12,7 @@ use vbi_words::System;
 #[derive(Drop)]
 pub struct LineBuf {
     system: System,
-    bytes: [u8; 2270],
+    store: LineBytes,
     held: usize,
     passes: usize,
     cursor: usize,
@@ -34,8 +33,7 @@ impl Model for LineBuf {
 }
 
 impl LineBuf {
-    ghost use Rattle.vbi_line.specs.Counted.{device_of, failures_of, IsSameDevice};
-    ghost use Rattle.vbi_line.specs.LineReads.{Takes};
+    ghost use Rattle.vbi_line.specs.LineLends.{LendsRoom};
     ghost use Rattle.vbi_line.specs.Line.{IsCleared, IsFull, IsNextBlock, IsNextSample, Keeps, KeepsBytes};
 
     /// Holds nothing.
@@ -48,13 +46,24 @@ impl LineBuf {
     {
         LineBuf {
             system,
-            bytes: [0; 2270],
+            store: LineBytes { bytes: [0; 2270] },
             held: 0,
             passes: 0,
             cursor: 0,
             earlier: 0,
             looked: 0,
         }
+    }
+
+    /// The part that isn't filled, for writing.
+    pub fn room(&mut self) -> &mut [u8]
+        ensures* writes_back { sem 𝓛 (LendsRoom self.entry result) }
+        ensures value { result.now ≡ self.old.room }
+        ensures fits { length self.old.held + length result.now ≡ line_bytes self.old.system }
+    {
+        let held = self.held;
+        let end = 2 * self.system.width();
+        self.store.part_mut(held, end)
     }
 
     /// Holds the first `n` bytes of the room.
@@ -65,25 +74,6 @@ impl LineBuf {
         ensures rest { Keeps self.old self.new }
     {
         self.held += n;
-    }
-
-    /// Asks the reader once for the part that isn't filled, and holds what came.
-    pub(crate) fn fill_from<R: Read>(&mut self, device: &mut Counted<R>) -> Result<usize, Fail>
-        requires { failures_of device.old < 2 ^ 63 }
-        ensures takes { Takes self.old self.new (R.remaining (device_of device.old)) (R.remaining (device_of device.new)) result }
-        ensures at_end { IfOk result (λ n. n ≡ 0 → length self.old.held < line_bytes self.old.system
-            → IsAtEnd (R.remaining (device_of device.new))) }
-        ensures fits { length self.new.held ≤ line_bytes self.new.system }
-        ensures rest { Keeps self.old self.new }
-        ensures same { IsSameDevice device.old device.new }
-        ensures ok { OnOk result (failures_of device.new ≡ failures_of device.old) }
-        ensures failed { OnErr result (failures_of device.new ≡ failures_of device.old + 1) }
-    {
-        let held = self.held;
-        let end = 2 * self.system.width();
-        let count = device.read_once(&mut self.bytes[held..end])?;
-        self.held += count;
-        Ok(count)
     }
 
     /// Whether the line is whole.
@@ -140,7 +130,7 @@ impl LineBuf {
             return None;
         }
         let at = 2 * self.cursor;
-        let sample = LittleEndian::read_u16(&self.bytes[at..]);
+        let sample = LittleEndian::read_u16(&self.store.bytes[at..]);
         self.cursor += 1;
         self.looked += 1;
         Some(sample)
@@ -157,7 +147,7 @@ impl LineBuf {
         }
         let at = 2 * self.cursor;
         let mut block = [0; 16];
-        LittleEndian::read_u16_into(&self.bytes[at..at + 32], &mut block);
+        LittleEndian::read_u16_into(&self.store.bytes[at..at + 32], &mut block);
         self.cursor += 16;
         self.looked += 16;
         Some(block)
