@@ -1,5 +1,9 @@
 pub mod Counts
 pub mod Entries
+pub mod FeedLoop
+pub mod FeedPlaces
+pub mod FeedSteps
+pub mod FeedTexts
 pub mod Going
 pub mod Growing
 pub mod Known

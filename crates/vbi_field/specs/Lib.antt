@@ -8,3 +8,7 @@ pub mod Outlet
 pub mod Progress
 pub mod Runs
 pub mod Takes
+pub mod Feeding
+pub mod Feed
+pub mod Stand
+pub mod FeedView
