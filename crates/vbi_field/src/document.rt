@@ -46,7 +46,8 @@ fn push_number(text: &mut ArrayString<TEXT_SIZE>, number: u32)
 fn value(reading: Reading) -> u32
     ensures { result ≡ value_of reading.outcome }
 {
-    match reading.outcome {
+    let Reading { outcome, pass: _ } = reading;
+    match outcome {
         Outcome::Word(word) => word.value(),
         _ => 0,
     }
@@ -56,7 +57,8 @@ fn value(reading: Reading) -> u32
 fn cause(reading: Reading) -> ArrayString<16>
     ensures { result.bytes ≡ cause_of reading.outcome }
 {
-    cause_text(reading.outcome)
+    let Reading { outcome, pass: _ } = reading;
+    cause_text(outcome)
 }
 
 /// What stands before the first record.
@@ -87,11 +89,6 @@ pub(crate) fn record_text(before: u32, readings: FieldReadings) -> ArrayString<T
     requires { before < 2 ^ 32 - 1 }
     ensures { result.bytes ≡ piece_of document before readings }
 {
-    let FieldReadings {
-        first,
-        second,
-        third,
-    } = readings;
     let mut text = ArrayString::new();
     if before != 0 {
         text.push_str(",\n");
@@ -99,23 +96,23 @@ pub(crate) fn record_text(before: u32, readings: FieldReadings) -> ArrayString<T
     text.push_str("{\"seqNo\":");
     push_number(&mut text, before + 1);
     text.push_str(",\"vbi\":{\"vbiData\":[");
-    push_number(&mut text, value(first));
+    push_number(&mut text, value(readings.first));
     text.push_str(",");
-    push_number(&mut text, value(second));
+    push_number(&mut text, value(readings.second));
     text.push_str(",");
-    push_number(&mut text, value(third));
+    push_number(&mut text, value(readings.third));
     text.push_str("]},\"vbiCause\":[\"");
-    text.push_str(cause(first).as_str());
+    text.push_str(cause(readings.first).as_str());
     text.push_str("\",\"");
-    text.push_str(cause(second).as_str());
+    text.push_str(cause(readings.second).as_str());
     text.push_str("\",\"");
-    text.push_str(cause(third).as_str());
+    text.push_str(cause(readings.third).as_str());
     text.push_str("\"],\"vbiPass\":[");
-    push_number(&mut text, u32::from(first.pass));
+    push_number(&mut text, u32::from(readings.first.pass));
     text.push_str(",");
-    push_number(&mut text, u32::from(second.pass));
+    push_number(&mut text, u32::from(readings.second.pass));
     text.push_str(",");
-    push_number(&mut text, u32::from(third.pass));
+    push_number(&mut text, u32::from(readings.third.pass));
     text.push_str("]}");
     text
 }
