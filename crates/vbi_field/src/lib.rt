@@ -10,10 +10,12 @@ mod progress;
 mod readings;
 mod rows;
 mod run;
+mod streams;
 mod summary;
 
 pub use cause_texts::cause_text;
 pub use config::{Config, ConfigFault};
 pub use outlet::{Outlet, OutletFault};
 pub use readings::FieldReadings;
+pub use streams::extract;
 pub use summary::{RunFault, Summary};
