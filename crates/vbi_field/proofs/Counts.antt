@@ -85,8 +85,12 @@ pub rows_past : (s : System) (r h : ℕ) → h < line_bytes s → (r * line_byte
 rows_past Ntsc r h lt = omega arith
 rows_past Pal r h lt = omega arith
 
--- rows that fit some fields, and the bytes of an unfinished row behind them, are no more than these fields' bytes
-pub within_fields : (s : System) (f r m n b : ℕ) → f * height_of s + r < m * height_of s → b < line_bytes s
-    → n ≡ (f * height_of s + r) * line_bytes s + b → n ≤ m * field_bytes s
-within_fields Ntsc f r m n b lt short e = omega arith
-within_fields Pal f r m n b lt short e = omega arith
+-- the bytes of rows before the last of some fields, and of an unfinished row behind them, are no more than these fields'
+pub within_rows : (s : System) (k m n : ℕ) → k < m * height_of s → n < line_bytes s → k * line_bytes s + n ≤ m * field_bytes s
+within_rows Ntsc k m n lt short = omega arith
+within_rows Pal k m n lt short = omega arith
+
+-- nor are those of all rows
+pub within_all : (s : System) (k m n : ℕ) → k ≡ m * height_of s → n ≡ 0 → k * line_bytes s + n ≤ m * field_bytes s
+within_all Ntsc k m n e none = omega arith
+within_all Pal k m n e none = omega arith

@@ -12,3 +12,4 @@ pub mod Feeding
 pub mod Feed
 pub mod Stand
 pub mod FeedView
+pub mod Claims

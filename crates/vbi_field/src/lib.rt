@@ -12,6 +12,7 @@ mod progress;
 mod readings;
 mod rows;
 mod run;
+mod streams;
 mod summary;
 
 pub use cause_texts::cause_text;
@@ -19,4 +20,5 @@ pub use config::{Config, ConfigFault};
 pub use feeder::Feeder;
 pub use outlet::{Outlet, OutletFault};
 pub use readings::FieldReadings;
+pub use streams::extract;
 pub use summary::{RunFault, Summary};
