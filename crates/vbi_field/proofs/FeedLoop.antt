@@ -1,6 +1,6 @@
 -- What a piece keeps from row to row, and how it ends.
 use Rattle.std.proofs.Common.{◌≡◌, ℕ, ◌+◌, ◌-◌, ◌*◌, ◌≤◌, ◌<◌, false, List, [], ◌++◌, length, take, drop, refl, sym, ap, ◌∙◌, arith, subst, append_assoc, append-nil}
-use Rattle.std.specs.Prelude.{Option, Err, Ok}
+use Rattle.std.specs.Prelude.{Option, Result, Err, Ok}
 use Rattle.std.specs.Io.KnownBytes.{Appends}
 use Rattle.std.proofs.lemmas.List.{length-append, length-drop, take_all, take-append-drop}
 use Rattle.std.proofs.Math.Nat.{le_refl}
@@ -12,9 +12,11 @@ use Rattle.vbi_field.specs.Feeding.{Feeding}
 use Rattle.vbi_field.specs.Outlet.{device_of, failures_of, written_of, IsSameDevice}
 use Rattle.vbi_field.specs.Position.{Position}
 use Rattle.vbi_field.specs.Setup.{Setup}
-use Rattle.vbi_field.specs.Stand.{IsStand, place_of}
+use Rattle.vbi_field.specs.Stand.{IsStand, IsStep, place_of}
 use Rattle.vbi_field.specs.Texts.{begun_of}
 use Rattle.vbi_field.specs.declared.feeder.Feeder.TheInside.{Inside}
+use Rattle.vbi_line.specs.Line.{Line}
+use Rattle.vbi_field.specs.declared.progress.Progress.{Progress}
 use Rattle.vbi_field.specs.declared.outlet.Outlet.{Outlet}
 use Rattle.vbi_field.specs.declared.summary.RunFault.{RunFault}
 use Rattle.vbi_field.specs.declared.summary.RunFault.TheVariants.{Read, Write, TooManyFields, Failed}
@@ -83,3 +85,93 @@ pub record Taken {W : Type 0} (contents : W → Option (List ℕ)) (old : Feedin
   pub writes : failures_of o ≤ failures_of o0 + 3281 * now.progress.fields
   pub fed : (z : List ℕ) → StandsAt old z
       → IsFed contents old.config o0 o z (take at piece) (place_of now.config now.line now.progress) (Ok tt)
+
+-- before the first row
+pub taken_none : {W : Type 0} (contents : W → Option (List ℕ)) (old : Feeding) (now : Inside) (o : Outlet W) (piece : List ℕ)
+    → feeding_of now ≡ old → now.has_failed ≡ false → IsStand now.config now.line now.progress → Taken contents old now o o piece 0
+taken_none contents old now o piece is calm stand =
+    let place : old.position ≡ place_of now.config now.line now.progress = ap (λ f. f.position) (sym is) in
+    let failed : old.has_failed ≡ now.has_failed = ap (λ f. f.has_failed) (sym is) in
+    record {
+      config = ap (λ f. f.config) is;
+      calm = calm;
+      started = failed ∙ calm;
+      stand = stand;
+      within = omega arith;
+      same = refl;
+      least = le_refl _;
+      small = omega arith;
+      writes = omega arith;
+      fed = λ z s.
+          let at = s.at in
+          let P : Position → Type 0 = λ q. IsAt old.config z q in
+          fed_none contents old.config o z piece _ (subst P place at);
+    }
+
+-- what a slice from a place on is
+rest_of_piece : (piece : List ℕ) (at : ℕ) → take (length piece - at) (drop at piece) ≡ drop at piece
+rest_of_piece piece at = let l = length-drop at piece in take_all (length piece - at) (drop at piece) (omega arith)
+
+module _ {W : Type 0} (contents : W → Option (List ℕ)) (old : Feeding) (was : Inside) (o0 o o' : Outlet W) (piece bytes : List ℕ) (at : ℕ)
+    (t : Taken contents old was o0 o piece at) (is : bytes ≡ take (length piece - at) (drop at piece)) (l : Line) (p : Progress)
+    (result : Result ℕ RunFault)
+    (step : (z : List ℕ) → IsAt was.config z (place_of was.config was.line was.progress)
+      → IsStep contents was.config o o' z bytes (place_of was.config l p) result) where
+  -- the piece so far
+  so_far : (z : List ℕ) → StandsAt old z
+      → IsFed contents was.config o0 o z (take at piece) (place_of was.config was.line was.progress) (Ok tt)
+  so_far z s =
+      let P : Setup → Type 0 = λ k. IsFed contents k o0 o z (take at piece) (place_of was.config was.line was.progress) (Ok tt) in
+      subst P (sym t.config) (t.fed z s)
+
+  -- the bytes of one row more
+  pub taken_more : (n : ℕ) → result ≡ Ok n → at ≤ length piece → n ≤ length bytes → IsSameDevice o o' → IsStand was.config l p
+      → written_of o' + 192 * was.progress.fields ≤ written_of o + 192 * p.fields
+      → failures_of o ≤ failures_of o' → failures_of o' + 3281 * was.progress.fields ≤ failures_of o + 3281 * p.fields
+      → Taken contents old (record { config = was.config; line = l; progress = p; has_failed = was.has_failed }) o0 o' piece (at + n)
+  taken_more n took le few same stand small least writes =
+      let long = ap length (is ∙ rest_of_piece piece at) in
+      let dropped = length-drop at piece in
+      let all : take at piece ++ take n bytes ≡ take (at + n) piece =
+      ap (λ x. take at piece ++ take n x) (is ∙ rest_of_piece piece at) ∙ sym (take-add at n piece) in
+      record {
+        config = t.config;
+        calm = t.calm;
+        started = t.started;
+        stand = stand;
+        within = omega arith;
+        same = same ∙ t.same;
+        least = omega (arith, t.least);
+        small = omega (arith, t.small);
+        writes = omega (arith, t.writes);
+        fed = λ z s.
+            let far = so_far z s in
+            let R : Result ℕ RunFault → Type 0 = λ r. IsStep contents was.config o o' (z ++ take at piece) bytes (place_of was.config l p) r in
+            let next = subst R took (step (z ++ take at piece) far.0) in
+            let P : Setup → Type 0 = λ k. IsFed contents k o0 o' z (take (at + n) piece) (place_of was.config l p) (Ok tt) in
+            let Q : List ℕ → Type 0 = λ x. IsFed contents was.config o0 o' z x (place_of was.config l p) (Ok tt) in
+            subst P t.config (subst Q all
+            (fed_more contents was.config o0 o o' z (take at piece) (take n bytes) (place_of was.config was.line was.progress) (place_of was.config l p) far next));
+      }
+
+  -- a fault in the next row
+  pub taken_fault : (fault : RunFault) → result ≡ Err fault → (z : List ℕ) → StandsAt old z
+      → IsFed contents old.config o0 o' z piece (place_of was.config l p) (Err fault)
+  taken_fault fault fails z s =
+      let far = so_far z s in
+      let all : take at piece ++ bytes ≡ piece =
+      ap (λ x. take at piece ++ x) (is ∙ rest_of_piece piece at) ∙ take-append-drop at piece in
+      let R : Result ℕ RunFault → Type 0 = λ r. IsStep contents was.config o o' (z ++ take at piece) bytes (place_of was.config l p) r in
+      let next = subst R fails (step (z ++ take at piece) far.0) in
+      let P : Setup → Type 0 = λ k. IsFed contents k o0 o' z piece (place_of was.config l p) (Err fault) in
+      let Q : List ℕ → Type 0 = λ x. IsFed contents was.config o0 o' z x (place_of was.config l p) (Err fault) in
+      subst P t.config (subst Q all
+      (fed_fault contents was.config o0 o o' z (take at piece) bytes (place_of was.config was.line was.progress) (place_of was.config l p) far fault next))
+
+-- the whole piece was taken
+pub taken_whole : {W : Type 0} (contents : W → Option (List ℕ)) (old : Feeding) (now : Inside) (o0 o : Outlet W) (piece : List ℕ) (at : ℕ)
+    → Taken contents old now o0 o piece at → length piece ≤ at → (z : List ℕ) → StandsAt old z
+    → IsFed contents old.config o0 o z piece (place_of now.config now.line now.progress) (Ok tt)
+taken_whole contents old now o0 o piece at t done z s =
+    let P : List ℕ → Type 0 = λ x. IsFed contents old.config o0 o z x (place_of now.config now.line now.progress) (Ok tt) in
+    subst P (take_all at piece done) (t.fed z s)

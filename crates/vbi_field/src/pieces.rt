@@ -1,5 +1,5 @@
 //! The bytes of a piece, up to the end of a row.
-ghost use Rattle.std.specs.Prelude.{◌≡◌, ℕ, List, ◌+◌, ◌*◌, ◌^◌, ◌<◌, ◌≤◌, [], ◌++◌, length, take, IsTrue, IfOk, IfErr, if◌then◌else◌};
+ghost use Rattle.std.specs.Prelude.{◌≡◌, ◌≢◌, ℕ, List, ◌+◌, ◌*◌, ◌^◌, ◌<◌, ◌≤◌, [], ◌++◌, length, take, IsTrue, IfOk, IfErr, Err, if◌then◌else◌};
 ghost use Rattle.vbi_words.specs.Geometry.{width_of, line_bytes};
 ghost use Rattle.vbi_words.specs.Levels.{row_levels};
 ghost use Rattle.vbi_line.specs.Line.{IsFull, Keeps};
@@ -84,6 +84,7 @@ pub(crate) fn take_bytes<W: Write>(
     ensures least { failures_of outlet.old ≤ failures_of outlet.new }
     ensures most { failures_of outlet.new + 3281 * progress.old.fields ≤ failures_of outlet.old + 3281 * progress.new.fields }
     ensures fault { IfErr result (IsFeedFault outlet.old outlet.new) }
+    ensures calm { result ≢ Err RunFault.Failed }
     ensures step { (z : List ℕ) → IsAt config.now z (place_of config.now line.old progress.old)
         → IsStep W.contents config.now outlet.old outlet.new z bytes.now (place_of config.now line.new progress.new) result }
 {
