@@ -1,5 +1,6 @@
 pub mod Counts
 pub mod Entries
+pub mod FeedEnds
 pub mod FeedLoop
 pub mod FeedPlaces
 pub mod FeedSteps
