@@ -7,3 +7,6 @@ pub mod RunLimits
 pub mod Smooth
 pub mod Readings
 pub mod Drawn
+pub mod Codes
+pub mod Formats
+pub mod CodeTable
