@@ -1,7 +1,7 @@
 -- The format of a field, by the codes of its three lines (this project's own rule).
 use Rattle.std.specs.Prelude.{ℕ, List, Any, Option, Some, None}
 use Rattle.vbi_words.specs.declared.code.Code.{Code}
-use Rattle.vbi_words.specs.declared.code.Code.TheVariants.{Picture, Chapter, Time, ClvPicture, CxOn, CxOff, Users, LeadIn, LeadOut, PictureStop, ClvMark, Other}
+use Rattle.vbi_words.specs.declared.code.Code.TheVariants.{Picture, Time, ClvPicture, PictureStop, ClvMark}
 use Rattle.vbi_words.specs.declared.format.Format.{Format}
 use Rattle.vbi_words.specs.declared.format.Format.TheVariants.{Cav, Clv, Both, Neither}
 use Rattle.vbi_words.specs.Codes.{IsCode}

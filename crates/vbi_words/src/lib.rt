@@ -12,7 +12,9 @@ pub mod levels;
 pub mod outcome;
 pub mod system;
 #[cfg(test)]
-mod tests;
+mod tests_classes;
+#[cfg(test)]
+mod tests_values;
 pub mod word;
 
 pub use code::{Code, classify};

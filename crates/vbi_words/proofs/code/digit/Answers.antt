@@ -1,4 +1,4 @@
-use Rattle.std.proofs.Common.{◌≡◌, ◌≤◌, ◌<◌, ◌-◌, ◌^◌, lit<, sym, arith}
+use Rattle.std.proofs.Common.{◌≤◌, ◌-◌, ◌^◌, lit<, arith}
 use Rattle.std.proofs.Math.Nat.{pow-le-pow_right, one-le-pow}
 use Rattle.vbi_words.proofs.code.digit.Goals as goal
 
