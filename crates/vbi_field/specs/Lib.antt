@@ -1,3 +1,4 @@
+pub mod ByLines
 pub mod CauseTexts
 pub mod Claims
 pub mod CodeTexts

@@ -1,6 +1,5 @@
 //! The texts of the document.
-ghost use Rattle.std.specs.Prelude.{◌≡◌, ◌+◌, ◌-◌, ◌^◌, ◌<◌, ◌≤◌, ◌++◌};
-ghost use Rattle.arrayvec.specs.ArrayString.{array_string_len};
+ghost use Rattle.std.specs.Prelude.{◌≡◌, ◌-◌, ◌^◌, ◌<◌};
 ghost use Rattle.vbi_field.specs.Document.{value_of, data_of, causes_of, passes_of, head_of, tail_of};
 ghost use Rattle.vbi_field.specs.Kinds.{document};
 ghost use Rattle.vbi_field.specs.Texts.{piece_of};
@@ -64,29 +63,28 @@ pub(crate) fn head_text(config: &Config) -> ArrayString<TEXT_SIZE>
     text
 }
 
-/// Appends the three words, each its number or 0.
+/// The three words, each its number or 0.
 #[tactic(auto, unfolding(crate::specs::Document::data_of))]
-fn push_data(text: &mut ArrayString<TEXT_SIZE>, readings: &FieldReadings)
-    requires { array_string_len text.old + 53 ≤ TEXT_SIZE }
-    ensures bytes { text.new.bytes ≡ text.old.bytes ++ data_of readings.now }
-    ensures fits { array_string_len text.new ≤ array_string_len text.old + 53 }
+fn data_text(readings: &FieldReadings) -> ArrayString<56>
+    ensures { result.bytes ≡ data_of readings.now }
 {
+    let mut text = ArrayString::new();
     text.push_str(",\"vbi\":{\"vbiData\":[");
-    push_number(text, value(readings.first.outcome));
+    push_number(&mut text, value(readings.first.outcome));
     text.push_str(",");
-    push_number(text, value(readings.second.outcome));
+    push_number(&mut text, value(readings.second.outcome));
     text.push_str(",");
-    push_number(text, value(readings.third.outcome));
+    push_number(&mut text, value(readings.third.outcome));
     text.push_str("]}");
+    text
 }
 
-/// Appends the three causes.
+/// The three causes.
 #[tactic(auto, unfolding(crate::specs::Document::causes_of))]
-fn push_causes(text: &mut ArrayString<TEXT_SIZE>, readings: &FieldReadings)
-    requires { array_string_len text.old + 70 ≤ TEXT_SIZE }
-    ensures bytes { text.new.bytes ≡ text.old.bytes ++ causes_of readings.now }
-    ensures fits { array_string_len text.new ≤ array_string_len text.old + 70 }
+fn causes_text(readings: &FieldReadings) -> ArrayString<72>
+    ensures { result.bytes ≡ causes_of readings.now }
 {
+    let mut text = ArrayString::new();
     text.push_str(",\"vbiCause\":[\"");
     text.push_str(cause_text(readings.first.outcome).as_str());
     text.push_str("\",\"");
@@ -94,22 +92,23 @@ fn push_causes(text: &mut ArrayString<TEXT_SIZE>, readings: &FieldReadings)
     text.push_str("\",\"");
     text.push_str(cause_text(readings.third.outcome).as_str());
     text.push_str("\"]");
+    text
 }
 
-/// Appends the three passes.
+/// The three passes.
 #[tactic(auto, unfolding(crate::specs::Document::passes_of))]
-fn push_passes(text: &mut ArrayString<TEXT_SIZE>, readings: &FieldReadings)
-    requires { array_string_len text.old + 24 ≤ TEXT_SIZE }
-    ensures bytes { text.new.bytes ≡ text.old.bytes ++ passes_of readings.now }
-    ensures fits { array_string_len text.new ≤ array_string_len text.old + 24 }
+fn passes_text(readings: &FieldReadings) -> ArrayString<24>
+    ensures { result.bytes ≡ passes_of readings.now }
 {
+    let mut text = ArrayString::new();
     text.push_str(",\"vbiPass\":[");
-    push_number(text, readings.first.pass);
+    push_number(&mut text, readings.first.pass);
     text.push_str(",");
-    push_number(text, readings.second.pass);
+    push_number(&mut text, readings.second.pass);
     text.push_str(",");
-    push_number(text, readings.third.pass);
+    push_number(&mut text, readings.third.pass);
     text.push_str("]");
+    text
 }
 
 /// The record of a field that has so many fields before it, after the joint where there are any.
@@ -124,9 +123,9 @@ pub(crate) fn record_text(before: u32, readings: &FieldReadings) -> ArrayString<
     }
     text.push_str("{\"seqNo\":");
     push_number(&mut text, before + 1);
-    push_data(&mut text, readings);
-    push_causes(&mut text, readings);
-    push_passes(&mut text, readings);
+    text.push_str(data_text(readings).as_str());
+    text.push_str(causes_text(readings).as_str());
+    text.push_str(passes_text(readings).as_str());
     text.push_str("}");
     text
 }

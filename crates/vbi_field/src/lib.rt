@@ -6,6 +6,7 @@ pub mod code_texts;
 mod config;
 mod document;
 mod form;
+pub mod laws;
 mod numbers;
 mod outlet;
 mod progress;
@@ -26,3 +27,5 @@ pub use summary::{RunFault, Summary};
 
 #[cfg(test)]
 mod text_tests;
+#[cfg(test)]
+mod tests_extract;
