@@ -8,5 +8,6 @@ pub mod FeedTexts
 pub mod Going
 pub mod Growing
 pub mod Known
+pub mod OneDocument
 pub mod PutSteps
 pub mod RunSteps

@@ -1,4 +1,4 @@
--- How the fields of the buffer are seen.
+-- How the fields of the buffer of a line are seen (this project's own).
 use Rattle.std.specs.Prelude.{◌≡◌, ℕ, ◌+◌, ◌-◌, ◌*◌, ◌^◌, ◌<◌, ◌≤◌, List, [], ◌∷◌, length, take, drop}
 use Rattle.vbi_words.specs.Geometry.{width_of, line_bytes}
 use Rattle.vbi_line.specs.Line.{Line}

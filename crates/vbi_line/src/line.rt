@@ -8,7 +8,8 @@ use byteorder::{ByteOrder, LittleEndian};
 use std::marker::Model;
 use vbi_words::System;
 
-/// The bytes of one line as they come, the cursors of at most two passes, and counters.
+/// The bytes of one line as they come, the cursors of at most two passes over its samples, and
+/// counts of the samples that were looked at. A line has two bytes a sample, low byte first.
 #[derive(Drop)]
 pub struct LineBuf {
     system: System,
@@ -36,7 +37,7 @@ impl LineBuf {
     ghost use Rattle.vbi_line.specs.LineLends.{LendsRoom};
     ghost use Rattle.vbi_line.specs.Line.{IsCleared, IsFull, IsNextBlock, IsNextSample, Keeps, KeepsBytes};
 
-    /// Holds nothing.
+    /// The buffer of a line of this system, which holds nothing and has all counts 0.
     pub fn new(system: System) -> Self
         ensures system { result.system ≡ system }
         ensures held { result.held ≡ [] }
@@ -55,7 +56,8 @@ impl LineBuf {
         }
     }
 
-    /// The part that isn't filled, for writing.
+    /// Lends the part that isn't filled, in bytes the line's less those held. What is written there
+    /// without a commit isn't held.
     pub fn room(&mut self) -> &mut [u8]
         ensures* writes_back { sem 𝓛 (LendsRoom self.entry result) }
         ensures value { result.now ≡ self.old.room }
@@ -66,7 +68,7 @@ impl LineBuf {
         self.store.part_mut(held, end)
     }
 
-    /// Holds the first `n` bytes of the room.
+    /// Makes the first `n` bytes of the room held.
     pub fn commit(&mut self, n: usize)
         requires { n ≤ length self.old.room }
         ensures held { self.new.held ≡ self.old.held ++ take n self.old.room }
@@ -76,7 +78,7 @@ impl LineBuf {
         self.held += n;
     }
 
-    /// Whether the line is whole.
+    /// Whether all bytes of the line are held.
     pub fn is_full(&self) -> bool
         ensures { IsTrue result ↔ IsFull self.now }
     {
@@ -92,13 +94,13 @@ impl LineBuf {
     }
 
     /// The system that the line is made for.
-    pub fn system(&self) -> System
+    pub(crate) fn system(&self) -> System
         ensures { result ≡ self.now.system }
     {
         self.system
     }
 
-    /// Holds nothing again.
+    /// Holds nothing again, and has no passes and no looks. `looked` stays.
     pub fn clear(&mut self)
         ensures { IsCleared self.old self.new }
     {
@@ -106,7 +108,8 @@ impl LineBuf {
         self.passes = 0;
     }
 
-    /// Starts a pass over the samples.
+    /// Starts a pass over the samples, from column 0. A held line has at most two passes, so none of
+    /// its samples is looked at more than twice.
     pub fn start_pass(&mut self)
         requires full { IsFull self.old }
         requires room { length self.old.cursors < 2 }
@@ -136,7 +139,8 @@ impl LineBuf {
         Some(sample)
     }
 
-    /// The next sixteen samples of the latest pass, or `None` where fewer are left, and then nothing moves.
+    /// The next sixteen samples of the latest pass, whose cursor moves past them, or `None` where fewer
+    /// are left, and then nothing moves.
     pub fn next_block(&mut self) -> Option<[u16; 16]>
         requires { 0 < length self.old.cursors }
         ensures gives { IsNextBlock self.old result self.new }
@@ -155,14 +159,16 @@ impl LineBuf {
 
     /// How many passes were started since the line was cleared.
     pub fn passes(&self) -> usize
-        ensures { result ≡ length self.now.cursors }
+        ensures count { result ≡ length self.now.cursors }
+        ensures most { result ≤ 2 }
     {
         self.passes
     }
 
-    /// How many samples were looked at since the line was cleared.
+    /// How many samples were given since the line was cleared: the sum of the cursors.
     pub fn looks(&self) -> usize
-        ensures { result ≡ sum self.now.cursors }
+        ensures sum { result ≡ sum self.now.cursors }
+        ensures most { result ≤ 2 * width_of self.now.system }
     {
         match self.passes {
             0 => 0,
@@ -171,7 +177,7 @@ impl LineBuf {
         }
     }
 
-    /// How many samples were looked at since the buffer was made.
+    /// How many samples were given since the buffer was made.
     pub fn looked(&self) -> u64
         ensures { result ≡ self.now.looked }
     {

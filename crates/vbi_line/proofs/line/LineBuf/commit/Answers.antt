@@ -1,4 +1,4 @@
-use Rattle.std.proofs.Common.{length, arith, ap, ◌≤◌, ◌+◌, ◌∙◌}
+use Rattle.std.proofs.Common.{arith}
 use Rattle.vbi_words.specs.Geometry.{line_bytes}
 use Rattle.vbi_line.proofs.Parts.{drop-part}
 use Rattle.vbi_line.proofs.StoreMemory.{length-part}
