@@ -5,7 +5,7 @@ use Rattle.std.proofs.lemmas.List.{take-append-drop}
 use Rattle.std.proofs.Math.Nat.{le_trans, le_of_eq}
 use Rattle.vbi_words.specs.Geometry.{width_of, line_bytes}
 use Rattle.vbi_line.specs.Line.{Line}
-use Rattle.vbi_field.specs.Document.{document}
+use Rattle.vbi_field.specs.Kinds.{document}
 use Rattle.vbi_field.specs.Feed.{AppendsInPart, IsAt, IsFinished}
 use Rattle.vbi_field.specs.Outlet.{written_of, Puts}
 use Rattle.vbi_field.specs.Setup.{Setup}

@@ -3,13 +3,13 @@ use Rattle.std.proofs.Common.{◌≡◌, ℕ, ◌+◌, ◌-◌, ◌*◌, ◌≤�
 use Rattle.std.specs.Prelude.{Option, Result, Err, Ok}
 use Rattle.std.specs.Io.KnownBytes.{Appends}
 use Rattle.std.proofs.lemmas.List.{length-append, length-drop, take_all, take-append-drop}
-use Rattle.std.proofs.Math.Nat.{le_refl}
+use Rattle.std.proofs.Math.Nat.{le_refl, le_of_eq}
 use Rattle.std.proofs.Math.Seq.{take-add}
-use Rattle.vbi_field.specs.Document.{document}
-use Rattle.vbi_field.specs.Feed.{limit_of, Completes, IsAt, IsFed, StandsAt}
+use Rattle.vbi_field.specs.Kinds.{document}
+use Rattle.vbi_field.specs.Feed.{limit_of, Completes, IsAt, IsFed, Rises, StandsAt}
 use Rattle.vbi_field.specs.FeedView.{feeding_of}
 use Rattle.vbi_field.specs.Feeding.{Feeding}
-use Rattle.vbi_field.specs.Outlet.{device_of, failures_of, written_of, IsSameDevice}
+use Rattle.vbi_field.specs.Outlet.{IsSameDevice}
 use Rattle.vbi_field.specs.Position.{Position}
 use Rattle.vbi_field.specs.Setup.{Setup}
 use Rattle.vbi_field.specs.Stand.{IsStand, IsStep, place_of}
@@ -80,9 +80,7 @@ pub record Taken {W : Type 0} (contents : W → Option (List ℕ)) (old : Feedin
   pub stand : IsStand now.config now.line now.progress
   pub within : at ≤ length piece
   pub same : IsSameDevice o0 o
-  pub least : failures_of o0 ≤ failures_of o
-  pub small : written_of o ≤ written_of o0 + 192 * now.progress.fields
-  pub writes : failures_of o ≤ failures_of o0 + 3281 * now.progress.fields
+  pub rises : Rises o0 o old.position.fields now.progress.fields
   pub fed : (z : List ℕ) → StandsAt old z
       → IsFed contents old.config o0 o z (take at piece) (place_of now.config now.line now.progress) (Ok tt)
 
@@ -91,6 +89,7 @@ pub taken_none : {W : Type 0} (contents : W → Option (List ℕ)) (old : Feedin
     → feeding_of now ≡ old → now.has_failed ≡ false → IsStand now.config now.line now.progress → Taken contents old now o o piece 0
 taken_none contents old now o piece is calm stand =
     let place : old.position ≡ place_of now.config now.line now.progress = ap (λ f. f.position) (sym is) in
+    let same : old.position.fields ≡ now.progress.fields = ap (λ q. q.fields) place in
     let failed : old.has_failed ≡ now.has_failed = ap (λ f. f.has_failed) (sym is) in
     record {
       config = ap (λ f. f.config) is;
@@ -99,9 +98,13 @@ taken_none contents old now o piece is calm stand =
       stand = stand;
       within = omega arith;
       same = refl;
-      least = le_refl _;
-      small = omega arith;
-      writes = omega arith;
+      rises = record {
+        texts = le_of_eq same;
+        few = stand.most;
+        written = omega arith;
+        failures = omega arith;
+        least = le_refl _;
+      };
       fed = λ z s.
           let at = s.at in
           let P : Position → Type 0 = λ q. IsAt old.config z q in
@@ -126,10 +129,9 @@ module _ {W : Type 0} (contents : W → Option (List ℕ)) (old : Feeding) (was 
 
   -- the bytes of one row more
   pub taken_more : (n : ℕ) → result ≡ Ok n → at ≤ length piece → n ≤ length bytes → IsSameDevice o o' → IsStand was.config l p
-      → written_of o' + 192 * was.progress.fields ≤ written_of o + 192 * p.fields
-      → failures_of o ≤ failures_of o' → failures_of o' + 3281 * was.progress.fields ≤ failures_of o + 3281 * p.fields
+      → Rises o o' was.progress.fields p.fields
       → Taken contents old (record { config = was.config; line = l; progress = p; has_failed = was.has_failed }) o0 o' piece (at + n)
-  taken_more n took le few same stand small least writes =
+  taken_more n took le few same stand rises =
       let long = ap length (is ∙ rest_of_piece piece at) in
       let dropped = length-drop at piece in
       let all : take at piece ++ take n bytes ≡ take (at + n) piece =
@@ -141,9 +143,15 @@ module _ {W : Type 0} (contents : W → Option (List ℕ)) (old : Feeding) (was 
         stand = stand;
         within = omega arith;
         same = same ∙ t.same;
-        least = omega (arith, t.least);
-        small = omega (arith, t.small);
-        writes = omega (arith, t.writes);
+        rises =
+            let before = t.rises in
+            record {
+              texts = omega arith;
+              few = rises.few;
+              written = omega arith;
+              failures = omega arith;
+              least = omega arith;
+            };
         fed = λ z s.
             let far = so_far z s in
             let R : Result ℕ RunFault → Type 0 = λ r. IsStep contents was.config o o' (z ++ take at piece) bytes (place_of was.config l p) r in

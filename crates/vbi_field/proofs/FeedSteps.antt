@@ -4,13 +4,13 @@ use Rattle.std.specs.Prelude.{Option, Err, Ok, IsTrue, ◌↔◌}
 use Rattle.std.specs.Io.KnownBytes.{Appends}
 use Rattle.std.proofs.lemmas.List.{length-append, length-take, take-append-drop, take_at}
 use Rattle.vbi_words.specs.Geometry.{height_of, line_bytes, field_bytes}
-use Rattle.vbi_words.specs.Levels.{Slicing, row_levels}
+use Rattle.vbi_words.specs.Levels.{row_levels}
 use Rattle.vbi_words.specs.declared.system.System.{System}
 use Rattle.vbi_words.specs.declared.system.System.TheVariants.{Ntsc, Pal}
 use Rattle.vbi_words.specs.declared.outcome.Reading.{Reading}
 use Rattle.vbi_line.specs.Line.{Line}
 use Rattle.vbi_line.specs.OneReading.{reading_of}
-use Rattle.vbi_field.specs.Document.{document}
+use Rattle.vbi_field.specs.Kinds.{document}
 use Rattle.vbi_field.specs.Feed.{limit_of, Completes, IsAt, IsFed}
 use Rattle.vbi_field.specs.Outlet.{device_of, Puts}
 use Rattle.vbi_field.specs.Progress.{IsPosition, IsRowOf}
@@ -44,13 +44,13 @@ pub not_full : (b : Bool) (P : Type 0) → (IsTrue b ↔ P) → b ≡ false → 
 not_full b P iff e p = let t = iff.1 p in cc
 
 -- the line that is held is a row
-pub row_held : (c : Setup) (s : System) (lv : Slicing) (sel : Bool) (b : List ℕ) (row : ℕ) (o : Reading)
-    → (IsTrue sel ↔ ((15 ≤ row) × (row ≤ 17))) → s ≡ c.system → lv ≡ c.levels → length b ≡ line_bytes s
-    → (IsTrue sel → o ≡ reading_of s (row_levels lv b)) → IsRowOf c b row o
-row_held c s lv sel b row o sels ss ls whole shows =
+pub row_held : (c : Setup) (s : System) (sel : Bool) (b : List ℕ) (row : ℕ) (o : Reading)
+    → (IsTrue sel ↔ ((15 ≤ row) × (row ≤ 17))) → s ≡ c.system → length b ≡ line_bytes s
+    → (IsTrue sel → o ≡ reading_of c.system (row_levels c.levels b)) → IsRowOf c b row o
+row_held c s sel b row o sels ss whole shows =
     record {
       whole = whole ∙ ap line_bytes ss;
-      shows = λ x y. shows (sels.1 (x, y)) ∙ ap (λ s. reading_of s (row_levels lv b)) ss ∙ ap (λ l. reading_of c.system (row_levels l b)) ls;
+      shows = λ x y. shows (sels.1 (x, y));
     }
 
 module _ {W : Type 0} (contents : W → Option (List ℕ)) (c : Setup) (l : Line) (p : Progress) (st : IsStand c l p) (z : List ℕ)

@@ -6,7 +6,7 @@ use Rattle.std.proofs.Math.Nat.{le_refl}
 use Rattle.vbi_words.specs.Geometry.{height_of, line_bytes, field_bytes}
 use Rattle.vbi_words.specs.declared.system.System.{System}
 use Rattle.vbi_words.specs.declared.system.System.TheVariants.{Ntsc, Pal}
-use Rattle.vbi_field.specs.Document.{document}
+use Rattle.vbi_field.specs.Kinds.{document}
 use Rattle.vbi_field.specs.Feed.{Completes}
 use Rattle.vbi_field.specs.Setup.{Setup}
 use Rattle.vbi_field.specs.Stream.{fields_of, field_readings}

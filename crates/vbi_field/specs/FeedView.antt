@@ -3,6 +3,7 @@ use Rattle.vbi_field.specs.Feeding.{Feeding}
 use Rattle.vbi_field.specs.Stand.{IsStand, place_of}
 use Rattle.vbi_field.specs.declared.feeder.Feeder.TheInside.{Inside}
 
+-- the place is made of the progress and of the bytes that the line holds
 abbrev pub feeding_of : Inside → Feeding
 feeding_of f = record {
   config = f.config;
@@ -11,5 +12,6 @@ feeding_of f = record {
   looked = f.line.looked;
 }
 
+-- what holds of every feeder, also of one that has failed
 abbrev pub IsFeeder : Inside → Type 0
 IsFeeder f = IsStand f.config f.line f.progress

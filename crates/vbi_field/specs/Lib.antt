@@ -3,6 +3,9 @@ pub mod CauseTexts
 pub mod Claims
 pub mod CodeTexts
 pub mod Document
+pub mod Feed
+pub mod FeedView
+pub mod Feeding
 pub mod Kinds
 pub mod Outlet
 pub mod Position
@@ -10,11 +13,7 @@ pub mod Progress
 pub mod Report
 pub mod Runs
 pub mod Setup
+pub mod Stand
 pub mod Stream
 pub mod Takes
-pub mod Feeding
-pub mod Feed
-pub mod Stand
-pub mod FeedView
-pub mod Claims
 pub mod Texts

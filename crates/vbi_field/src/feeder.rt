@@ -1,9 +1,9 @@
 //! A stream that is pushed in pieces.
 ghost use Rattle.std.specs.Prelude.{◌≡◌, ℕ, List, ◌^◌, ◌<◌, ◌≤◌, ◌↔◌, [], length, IsTrue, IsErr, OnOk, OnErr, IfOk, IfErr, Err};
-ghost use Rattle.std.specs.Io.KnownBytes.{Appends};
 ghost use Rattle.vbi_words.specs.Geometry.{line_bytes};
+ghost use Rattle.vbi_field.specs.Claims.{Wrote};
 ghost use Rattle.vbi_field.specs.Document.{head_of};
-ghost use Rattle.vbi_field.specs.Outlet.{device_of, failures_of, written_of, IsFresh, IsSameDevice};
+ghost use Rattle.vbi_field.specs.Outlet.{failures_of, written_of, IsFresh, IsSameDevice};
 
 use crate::config::Config;
 use crate::document::Document;
@@ -40,15 +40,16 @@ impl Model for Feeder {
 }
 
 impl Feeder {
-    ghost use Rattle.vbi_field.specs.Feed.{AppendsInPart, IsEndFault, IsFed, IsFeedFault, IsFinished, StandsAt};
+    ghost use Rattle.vbi_field.specs.Feed.{AppendsInPart, IsEndFault, IsFed, IsFeedFault, IsFinished, Rises, StandsAt};
 
     /// Writes the head, and begins a stream of which nothing has come. A begin that fails gives no feeder.
     pub fn begin<W: Write>(config: Config, outlet: &mut Outlet<W>) -> Result<Feeder, RunFault>
         requires { IsFresh outlet.old }
         ensures same { IsSameDevice outlet.old outlet.new }
+        ensures rises { Rises outlet.old outlet.new 0 1 }
         ensures config { IfOk result (λ f. f.config ≡ config) }
         ensures stands { IfOk result (λ f. StandsAt f []) }
-        ensures head { OnOk result (Appends (W.contents (device_of outlet.old)) (W.contents (device_of outlet.new)) (head_of config)) }
+        ensures head { OnOk result (Wrote W.contents outlet.old outlet.new (head_of config)) }
         ensures write { IfErr result (λ e. e ≡ RunFault.Write (written_of outlet.new)) }
         ensures rose { OnErr result (failures_of outlet.old < failures_of outlet.new) }
         ensures part { OnErr result (AppendsInPart W.contents outlet.old outlet.new (head_of config)) }
@@ -70,6 +71,7 @@ impl Feeder {
         requires written { written_of outlet.old ≤ 2 ^ 61 }
         requires failures { failures_of outlet.old ≤ 2 ^ 61 }
         ensures same { IsSameDevice outlet.old outlet.new }
+        ensures rises { Rises outlet.old outlet.new self.old.position.fields self.new.position.fields }
         ensures config { self.new.config ≡ self.old.config }
         ensures short { length self.new.position.held < line_bytes self.new.config.system }
         ensures failed { IsTrue self.new.has_failed ↔ IsErr result }
@@ -100,6 +102,7 @@ impl Feeder {
         requires written { written_of outlet.old ≤ 2 ^ 61 }
         requires failures { failures_of outlet.old ≤ 2 ^ 61 }
         ensures same { IsSameDevice outlet.old outlet.new }
+        ensures rises { Rises outlet.old outlet.new 0 1 }
         ensures refused { IsTrue self.has_failed ↔ (result ≡ Err RunFault.Failed) }
         ensures unwritten { IsTrue self.has_failed → outlet.new ≡ outlet.old }
         ensures looked { IfOk result (λ s. s.looked ≡ self.looked) }

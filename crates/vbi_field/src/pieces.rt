@@ -5,7 +5,7 @@ ghost use Rattle.vbi_words.specs.Levels.{row_levels};
 ghost use Rattle.vbi_line.specs.Line.{IsFull, Keeps};
 ghost use Rattle.vbi_line.specs.OneReading.{reading_of};
 ghost use Rattle.vbi_field.specs.Outlet.{failures_of, written_of, IsSameDevice};
-ghost use Rattle.vbi_field.specs.Feed.{IsAt, IsFeedFault};
+ghost use Rattle.vbi_field.specs.Feed.{IsAt, IsFeedFault, Rises};
 ghost use Rattle.vbi_field.specs.Stand.{IsStand, IsStep, place_of};
 
 use crate::config::Config;
@@ -17,7 +17,7 @@ use crate::run::put;
 use crate::summary::RunFault;
 use std::io::Write;
 use vbi_line::{LineBuf, read_twice};
-use vbi_words::{Levels, Reading};
+use vbi_words::Reading;
 
 /// Copies bytes over the first ones.
 fn copy_front(to: &mut [u8], from: &[u8])
@@ -44,19 +44,20 @@ fn copy_in(line: &mut LineBuf, bytes: &[u8]) -> usize
 }
 
 /// The reading of the line that is held, if it is selected; the line is held no longer.
-fn read_held(line: &mut LineBuf, levels: Levels, is_selected: bool) -> Reading
+fn read_held(line: &mut LineBuf, config: &Config, is_selected: bool) -> Reading
     requires full { IsFull line.old }
-    requires fresh { line.old.cursors ≡ [] }
+    requires system { line.old.system ≡ config.now.system }
+    requires passes { line.old.cursors ≡ [] }
     requires looked { line.old.looked ≤ 2 ^ 61 }
-    ensures shows { IsTrue is_selected → result ≡ reading_of line.old.system (row_levels levels line.old.held) }
+    ensures shows { IsTrue is_selected
+        → result ≡ reading_of config.now.system (row_levels config.now.levels line.old.held) }
     ensures system { line.new.system ≡ line.old.system }
     ensures held { line.new.held ≡ [] }
     ensures cursors { line.new.cursors ≡ [] }
-    ensures looked { line.new.looked ≤ line.old.looked + (if is_selected then 2 * width_of line.old.system else 0) }
+    ensures looked { line.new.looked ≤ line.old.looked + (if is_selected then 2 * width_of config.now.system else 0) }
 {
-    let system = line.system();
     let reading = if is_selected {
-        read_twice(line, system, levels)
+        read_twice(line, config.system(), config.levels())
     } else {
         unread()
     };
@@ -80,9 +81,7 @@ pub(crate) fn take_bytes<W: Write>(
     ensures same { IsSameDevice outlet.old outlet.new }
     ensures stand { IsStand config.now line.new progress.new }
     ensures some { IfOk result (λ n. (0 < n) × (n ≤ length bytes.now)) }
-    ensures written { written_of outlet.new + 192 * progress.old.fields ≤ written_of outlet.old + 192 * progress.new.fields }
-    ensures least { failures_of outlet.old ≤ failures_of outlet.new }
-    ensures most { failures_of outlet.new + 3281 * progress.old.fields ≤ failures_of outlet.old + 3281 * progress.new.fields }
+    ensures rises { Rises outlet.old outlet.new progress.old.fields progress.new.fields }
     ensures fault { IfErr result (IsFeedFault outlet.old outlet.new) }
     ensures calm { result ≢ Err RunFault.Failed }
     ensures step { (z : List ℕ) → IsAt config.now z (place_of config.now line.old progress.old)
@@ -93,9 +92,9 @@ pub(crate) fn take_bytes<W: Write>(
     }
     let count = copy_in(line, bytes);
     if line.is_full() {
-        let reading = read_held(line, config.levels(), progress.is_selected());
+        let reading = read_held(line, config, progress.is_selected());
         if let Some(readings) = progress.advance(config, reading) {
-            let text = Document::piece(progress.fields - 1, readings);
+            let text = Document::piece(progress.fields - 1, &readings);
             if let Err(fault) = put(outlet, text.as_str()) {
                 return Err(fault);
             }

@@ -33,8 +33,8 @@ returns-in_default-clause-step g c =
     let few = st.few in
     let last = c.if-progress-max_fields.false in
     let left : c.args.progress.now.fields < c.args.config.now.max_fields = omega (arith, c.max_fields.ensures.value) in
-    let came = row_held c.args.config.now c.copy_in-count.new.line.system c.levels.result c.is_selected.result b c.args.progress.now.row c.read_held-reading.result
-    c.is_selected.ensures (c.copy_in-count.ensures.rest.system ∙ st.system) c.levels.ensures (c.is_full.ensures.0 c.if-is_full.true) c.read_held-reading.ensures.shows in
+    let came = row_held c.args.config.now c.copy_in-count.new.line.system c.is_selected.result b c.args.progress.now.row c.read_held-reading.result
+    c.is_selected.ensures (c.copy_in-count.ensures.rest.system ∙ st.system) (c.is_full.ensures.0 c.if-is_full.true) c.read_held-reading.ensures.shows in
     λ z at.
     let s = before g.W.Write.contents c.args.config.now c.args.line.now c.args.progress.now st z at in
     fed_row g.W.Write.contents c.args.config.now c.args.line.now c.args.progress.now st z at
@@ -49,8 +49,8 @@ returns-in_default-put-clause-step g c =
     let few = st.few in
     let last = c.if-progress-max_fields.false in
     let left : c.args.progress.now.fields < c.args.config.now.max_fields = omega (arith, c.max_fields.ensures.value) in
-    let came = row_held c.args.config.now c.copy_in-count.new.line.system c.levels.result c.is_selected.result b c.args.progress.now.row c.read_held-reading.result
-    c.is_selected.ensures (c.copy_in-count.ensures.rest.system ∙ st.system) c.levels.ensures (c.is_full.ensures.0 c.if-is_full.true) c.read_held-reading.ensures.shows in
+    let came = row_held c.args.config.now c.copy_in-count.new.line.system c.is_selected.result b c.args.progress.now.row c.read_held-reading.result
+    c.is_selected.ensures (c.copy_in-count.ensures.rest.system ∙ st.system) (c.is_full.ensures.0 c.if-is_full.true) c.read_held-reading.ensures.shows in
     let counts = c.in-Some.ensures.counts in
     λ z at.
     let s = before g.W.Write.contents c.args.config.now c.args.line.now c.args.progress.now st z at in
@@ -69,8 +69,8 @@ returns-in-Err-clause-step g c =
     let few = st.few in
     let last = c.if-progress-max_fields.false in
     let left : c.args.progress.now.fields < c.args.config.now.max_fields = omega (arith, c.max_fields.ensures.value) in
-    let came = row_held c.args.config.now c.copy_in-count.new.line.system c.levels.result c.is_selected.result b c.args.progress.now.row c.read_held-reading.result
-    c.is_selected.ensures (c.copy_in-count.ensures.rest.system ∙ st.system) c.levels.ensures (c.is_full.ensures.0 c.if-is_full.true) c.read_held-reading.ensures.shows in
+    let came = row_held c.args.config.now c.copy_in-count.new.line.system c.is_selected.result b c.args.progress.now.row c.read_held-reading.result
+    c.is_selected.ensures (c.copy_in-count.ensures.rest.system ∙ st.system) (c.is_full.ensures.0 c.if-is_full.true) c.read_held-reading.ensures.shows in
     let counts = c.in-Some.ensures.counts in
     λ z at.
     let s = before g.W.Write.contents c.args.config.now c.args.line.now c.args.progress.now st z at in
