@@ -42,7 +42,7 @@ impl Model for Feeder {
 impl Feeder {
     ghost use Rattle.vbi_field.specs.Feed.{AppendsInPart, IsEndFault, IsFed, IsFeedFault, IsFinished, Rises, StandsAt};
 
-    /// Writes the head, and begins a stream of which nothing has come. A begin that fails gives no feeder.
+    /// Writes the head, and begins a stream of which nothing has come. Where the writer fails there is no feeder.
     pub fn begin<W: Write>(config: Config, outlet: &mut Outlet<W>) -> Result<Feeder, RunFault>
         requires { IsFresh outlet.old }
         ensures same { IsSameDevice outlet.old outlet.new }
@@ -65,8 +65,12 @@ impl Feeder {
         })
     }
 
-    /// Takes the next piece of the stream, which may be of any length, and writes the record of each field that is whole
-    /// now. After a fault the feeder answers `Failed` to every call and writes nothing more.
+    /// Takes the next piece of the stream, of any length, and writes the record of each field that is whole now. `Write` comes
+    /// where the writer fails, and `TooManyFields` where a byte follows the last field that is allowed, whose records are
+    /// written first. After a fault the feeder answers `Failed` to every call and writes nothing more.
+    ///
+    /// One stream goes to one outlet. The clauses speak of any list z of bytes that has come to the feeder's place, as the
+    /// pieces before have; what is written depends on it and the piece alone.
     pub fn feed<W: Write>(&mut self, piece: &[u8], outlet: &mut Outlet<W>) -> Result<(), RunFault>
         requires written { written_of outlet.old ≤ 2 ^ 61 }
         requires failures { failures_of outlet.old ≤ 2 ^ 61 }
@@ -74,10 +78,14 @@ impl Feeder {
         ensures rises { Rises outlet.old outlet.new self.old.position.fields self.new.position.fields }
         ensures config { self.new.config ≡ self.old.config }
         ensures short { length self.new.position.held < line_bytes self.new.config.system }
+
+        // When it fails, and that it does so for good.
         ensures failed { IsTrue self.new.has_failed ↔ IsErr result }
         ensures refused { IsTrue self.old.has_failed ↔ (result ≡ Err RunFault.Failed) }
         ensures unwritten { IsTrue self.old.has_failed → outlet.new ≡ outlet.old }
         ensures fault { IfErr result (IsFeedFault outlet.old outlet.new) }
+
+        // What it wrote, and where it stands.
         ensures fed { (z : List ℕ) → StandsAt self.old z
             → IsFed W.contents self.old.config outlet.old outlet.new z piece.now self.new.position result }
     {
@@ -97,12 +105,11 @@ impl Feeder {
         Ok(())
     }
 
-    /// Writes the tail. It hands no feeder back, in a fault too.
+    /// Writes the tail, and says what came. It hands no feeder back, in a fault too.
     pub fn finish<W: Write>(self, outlet: &mut Outlet<W>) -> Result<Summary, RunFault>
         requires written { written_of outlet.old ≤ 2 ^ 61 }
         requires failures { failures_of outlet.old ≤ 2 ^ 61 }
         ensures same { IsSameDevice outlet.old outlet.new }
-        ensures rises { Rises outlet.old outlet.new 0 1 }
         ensures refused { IsTrue self.has_failed ↔ (result ≡ Err RunFault.Failed) }
         ensures unwritten { IsTrue self.has_failed → outlet.new ≡ outlet.old }
         ensures looked { IfOk result (λ s. s.looked ≡ self.looked) }
