@@ -29,6 +29,10 @@ pub use streams::{extract, show};
 pub use summary::{RunFault, Summary};
 
 #[cfg(test)]
-mod text_tests;
+mod test_tapes;
 #[cfg(test)]
 mod tests_extract;
+#[cfg(test)]
+mod tests_faults;
+#[cfg(test)]
+mod text_tests;
