@@ -35,4 +35,6 @@ mod tests_extract;
 #[cfg(test)]
 mod tests_faults;
 #[cfg(test)]
+mod tests_feeder;
+#[cfg(test)]
 mod text_tests;
