@@ -1,7 +1,6 @@
 -- A stream has one text of each kind.
-use Rattle.std.proofs.Common.{◌≡◌, ℕ, ◌+◌, ◌<◌, List, ◌++◌, refl, ap, ◌∙◌}
+use Rattle.std.proofs.Common.{◌≡◌, ℕ, ◌+◌, List, ◌++◌, ap, ◌∙◌}
 use Rattle.std.specs.Prelude.{◌↔◌}
-use Rattle.std.specs.List.{join_by, range_with_len}
 use Rattle.vbi_words.specs.Levels.{row_levels}
 use Rattle.vbi_line.proofs.OneReading.{is_reading, only_reading}
 use Rattle.vbi_field.specs.ByLines.{FieldReads, IsDocument}
@@ -26,7 +25,8 @@ only_document : (t : Texts) (c : Setup) (z text : List ℕ) → IsDocument t c z
 unfolding begun_of
 only_document t c z text (readings, each, e) =
     e ∙ ap (λ l. t.head c ++ l ++ t.tail (fields_of c z) (rest_of c z))
-    (joined-same (λ i. t.entry (i + 1) (readings i)) (entry_of t c z) t.joint (fields_of c z) (λ i lt. ap (t.entry (i + 1)) (only_field c z i (readings i) (each i lt))))
+    (joined-same (λ i. t.entry (i + 1) (readings i)) (entry_of t c z) t.joint (fields_of c z)
+        (λ i lt. ap (t.entry (i + 1)) (only_field c z i (readings i) (each i lt))))
 
 is_document : (t : Texts) (c : Setup) (z text : List ℕ) → text ≡ document_of t c z → IsDocument t c z text
 unfolding begun_of

@@ -9,6 +9,10 @@ module _ {W : Type 0} where
   abbrev pub device_of : Outlet W → W
   device_of o = counted.device_of o.device
 
+  -- the ghost name of the reference to it, by which a caller knows the writer again
+  abbrev pub name_of : Outlet W → ℕ
+  name_of o = counted.name_of o.device
+
   -- how often the writer failed
   abbrev pub failures_of : Outlet W → ℕ
   failures_of o = counted.failures_of o.device

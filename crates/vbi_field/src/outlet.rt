@@ -19,11 +19,11 @@ pub struct Outlet<'a, W> {
 }
 
 impl<'a, W: Write> Outlet<'a, W> {
-    ghost use Rattle.vbi_field.specs.Outlet.{device_of, failures_of, written_of, IsFresh, IsSameDevice, Puts};
+    ghost use Rattle.vbi_field.specs.Outlet.{device_of, name_of, failures_of, written_of, IsFresh, IsSameDevice, Puts};
 
     /// An outlet that has written nothing.
     pub fn new(writer: &'a mut W) -> Self
-        ensures same { result.device.device.ghost_name ≡ writer.entry.ghost_name }
+        ensures same { name_of result ≡ writer.entry.ghost_name }
         ensures device { device_of result ≡ writer.old }
         ensures fresh { IsFresh result }
     {
@@ -76,7 +76,7 @@ impl<'a, W: Write> Outlet<'a, W> {
 
     /// The writer again. A caller that lent it knows by this what the writer is now.
     pub fn into_writer(self) -> &'a mut W
-        ensures same { result.ghost_name ≡ self.entry.device.device.ghost_name }
+        ensures same { result.ghost_name ≡ name_of self.entry }
         ensures device { result.now ≡ device_of self.entry }
     {
         let Outlet { device, written: _ } = self;

@@ -1,8 +1,8 @@
 //! The document and the report of a whole stream.
-ghost use Rattle.std.specs.Prelude.{◌≡◌, ◌≢◌, ◌*◌, ◌≤◌, length, OnOk, IfOk, IfErr, Err};
+ghost use Rattle.std.specs.Prelude.{◌≡◌, ◌≢◌, ◌+◌, ◌*◌, ◌≤◌, length, OnOk, IfOk, IfErr, Err};
 ghost use Rattle.vbi_words.specs.Geometry.{width_of, field_bytes};
-ghost use Rattle.vbi_line.specs.Intake.{IsFresh, IsSameDevice};
-ghost use Rattle.vbi_field.specs.Claims.{fetched_of, looked_of, Given, HasEnded, Wrote, IfRead, IfWrite, IfTooMany, StandsAfterRead, StandsAfterWrite, StandsAfterTooMany};
+ghost use Rattle.vbi_line.specs.Intake.{fetched_of, IsFresh, IsSameDevice};
+ghost use Rattle.vbi_field.specs.Claims.{looked_of, Given, HasEnded, Wrote, IfRead, IfWrite, IfTooMany, StandsAfterRead, StandsAfterWrite, StandsAfterTooMany};
 ghost use Rattle.vbi_field.specs.Kinds.{document, report};
 ghost use Rattle.vbi_field.specs.Outlet.{IsFresh as IsFreshOutlet, IsSameDevice as IsSameOutlet};
 ghost use Rattle.vbi_field.specs.Stream.{fields_of, rest_of, cut_of, selected_rows};
@@ -42,6 +42,7 @@ pub fn extract<R: Read, W: Write>(
     ensures looked { IfOk result (λ s. s.looked ≡ looked_of intake.new) }
     ensures looks { IfOk result (λ s. Given R.remaining intake.old (λ z.
         s.looked ≤ 2 * width_of config.now.system * selected_rows config.now z)) }
+    ensures few_looks { IfOk result (λ s. s.looked ≤ 6 * width_of config.now.system * (s.fields + 1)) }
 
     // When each fault comes, and what stands then.
     ensures read_fault { IfErr result (λ e. IfRead e
@@ -79,6 +80,7 @@ pub fn show<R: Read, W: Write>(
     ensures looked { IfOk result (λ s. s.looked ≡ looked_of intake.new) }
     ensures looks { IfOk result (λ s. Given R.remaining intake.old (λ z.
         s.looked ≤ 2 * width_of config.now.system * selected_rows config.now z)) }
+    ensures few_looks { IfOk result (λ s. s.looked ≤ 6 * width_of config.now.system * (s.fields + 1)) }
 
     // When each fault comes, and what stands then.
     ensures read_fault { IfErr result (λ e. IfRead e
