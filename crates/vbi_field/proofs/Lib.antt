@@ -1,0 +1,13 @@
+pub mod Counts
+pub mod Entries
+pub mod FeedEnds
+pub mod FeedLoop
+pub mod FeedPlaces
+pub mod FeedSteps
+pub mod FeedTexts
+pub mod Going
+pub mod Growing
+pub mod Known
+pub mod OneDocument
+pub mod PutSteps
+pub mod RunSteps

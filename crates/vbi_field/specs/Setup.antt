@@ -1,0 +1,10 @@
+-- What a run is given (this project's own).
+use Rattle.std.specs.Prelude.{ℕ}
+use Rattle.vbi_words.specs.declared.system.System.{System}
+use Rattle.vbi_words.specs.Levels.{Slicing}
+
+-- the system, the samples of black and white, and how many fields are allowed
+pub record Setup : Type 0 where
+  pub system : System
+  pub levels : Slicing
+  pub max_fields : ℕ

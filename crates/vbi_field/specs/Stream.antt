@@ -1,0 +1,42 @@
+-- Fields and rows of a TBC stream (ld-decode's TBC format: samples of 16 bits, low byte first, line after line and field after
+-- field), and the readings of its fields. Fields and rows are counted from 0; a stream is the list of its bytes.
+use Rattle.std.specs.Prelude.{ℕ, ◌+◌, ◌-◌, ◌*◌, ◌/◌, ◌%◌, ◌==◌, min, if◌then◌else◌, List, length, take, drop, Option, Some, None}
+use Rattle.vbi_words.specs.Geometry.{line_bytes, field_bytes}
+use Rattle.vbi_words.specs.Levels.{row_levels}
+use Rattle.vbi_words.specs.declared.system.System.{System}
+use Rattle.vbi_words.specs.declared.outcome.Reading.{Reading}
+use Rattle.vbi_line.specs.OneReading.{reading_of}
+use Rattle.vbi_field.specs.Setup.{Setup}
+use Rattle.vbi_field.specs.declared.readings.FieldReadings.{FieldReadings}
+
+-- the bytes of row r of field i
+abbrev pub row_of : System → List ℕ → ℕ → ℕ → List ℕ
+row_of system z i r = take (line_bytes system) (drop (i * field_bytes system + line_bytes system * r) z)
+
+-- how many whole fields a stream has
+abbrev pub fields_of : Setup → List ℕ → ℕ
+fields_of c z = length z / field_bytes c.system
+
+-- how many bytes a stream has past its whole fields
+abbrev pub rest_of : Setup → List ℕ → ℕ
+rest_of c z = length z % field_bytes c.system
+
+-- the bytes of a cut last field, if that many bytes past the whole fields are one
+abbrev pub cut_of : ℕ → Option ℕ
+cut_of rest = if rest == 0 then None else Some rest
+
+-- the reading of row r of field i
+abbrev pub row_reading : Setup → List ℕ → ℕ → ℕ → Reading
+row_reading c z i r = reading_of c.system (row_levels c.levels (row_of c.system z i r))
+
+-- the readings of field i: those of its rows 15, 16 and 17, which are lines 16, 17 and 18
+abbrev pub field_readings : Setup → List ℕ → ℕ → FieldReadings
+field_readings c z i = record { first = row_reading c z i 15; second = row_reading c z i 16; third = row_reading c z i 17 }
+
+-- how many of the rows 15, 16 and 17 are among the rows of f fields and r rows more
+abbrev pub selected : ℕ → ℕ → ℕ
+selected f r = 3 * f + min 3 (r - 15)
+
+-- how many of the rows 15, 16 and 17 of its fields a stream has whole
+abbrev pub selected_rows : Setup → List ℕ → ℕ
+selected_rows c z = selected (fields_of c z) (rest_of c z / line_bytes c.system)
