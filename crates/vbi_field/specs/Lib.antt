@@ -2,3 +2,4 @@ pub mod Setup
 pub mod Stream
 pub mod Texts
 pub mod Position
+pub mod Outlet

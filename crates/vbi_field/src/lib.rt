@@ -2,7 +2,9 @@
 #![tactic(auto)]
 
 mod config;
+mod outlet;
 mod readings;
 
 pub use config::{Config, ConfigFault};
+pub use outlet::{Outlet, OutletFault};
 pub use readings::FieldReadings;
