@@ -3,3 +3,5 @@ pub mod Stream
 pub mod Texts
 pub mod Position
 pub mod Outlet
+pub mod WordRows
+pub mod RowIntake

@@ -4,7 +4,11 @@
 mod config;
 mod outlet;
 mod readings;
+mod row_intake;
+mod word_row;
 
 pub use config::{Config, ConfigFault};
 pub use outlet::{Outlet, OutletFault};
 pub use readings::FieldReadings;
+pub use row_intake::RowIntake;
+pub use word_row::WordRow;
