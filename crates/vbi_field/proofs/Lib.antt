@@ -1,3 +1,4 @@
 pub mod Known
 pub mod PutSteps
 pub mod WordRowLemmas
+pub mod RowSteps

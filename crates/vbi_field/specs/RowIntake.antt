@@ -53,7 +53,7 @@ module _ {R : Type 0} where
   pub record TakesByte (remaining : R → Option (List ℕ)) (old new : RowIntake R) (came : ByteCame) : Type 0 where
     pub fetches : Fetches remaining old new (byte_of came)
     pub most : failures_of new ≤ failures_of old + 17
-    pub came : IsByteCame remaining old new came
+    pub told : IsByteCame remaining old new came
 
   -- a malformed row was read up to its newline, the reader's end or its 21st byte
   pub record IsMalformed (remaining : R → Option (List ℕ)) (new : RowIntake R) (bytes : List ℕ) : Type 0 where
@@ -79,4 +79,4 @@ module _ {R : Type 0} where
     pub fetches : Fetches remaining old new bytes
     pub short : length bytes ≤ 21
     pub most : failures_of new ≤ failures_of old + 357
-    pub came : IsRowCame remaining old new bytes came
+    pub told : IsRowCame remaining old new bytes came
