@@ -5,3 +5,5 @@ pub mod Position
 pub mod Outlet
 pub mod WordRows
 pub mod RowIntake
+pub mod Drawing
+pub mod DrawSteps

@@ -2,12 +2,14 @@
 #![tactic(auto)]
 
 mod config;
+mod drawing_fields;
 mod outlet;
 mod readings;
 mod row_intake;
 mod word_row;
 
 pub use config::{Config, ConfigFault};
+pub use drawing_fields::DrawFault;
 pub use outlet::{Outlet, OutletFault};
 pub use readings::FieldReadings;
 pub use row_intake::RowIntake;
