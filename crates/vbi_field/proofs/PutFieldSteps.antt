@@ -11,7 +11,7 @@ use Rattle.vbi_words.specs.Geometry.{height_of, line_bytes}
 use Rattle.vbi_field.specs.Setup.{Setup}
 use Rattle.vbi_field.specs.Outlet.{device_of, failures_of, IsSameDevice, Puts}
 use Rattle.vbi_field.specs.Drawing.{drawn_line_of, drawn_field_of, word_at}
-use Rattle.vbi_field.specs.DrawSteps.{PutsField}
+use Rattle.vbi_field.specs.DrawRun.{PutsField}
 use Rattle.vbi_field.specs.declared.outlet.Outlet.{Outlet}
 use Rattle.vbi_field.specs.declared.word_row.WordRow.{WordRow}
 use Rattle.vbi_field.proofs.DrawnLemmas.{narrow, length-drawn_line_of, lines_of, length-lines_of, lines_of-more, lines_of-none, lines_of-all, lines_of-split, no_word, last_word}

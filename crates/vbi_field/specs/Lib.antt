@@ -6,4 +6,4 @@ pub mod Outlet
 pub mod WordRows
 pub mod RowIntake
 pub mod Drawing
-pub mod DrawSteps
+pub mod DrawRun

@@ -68,10 +68,10 @@ abbrev pub rows_of : List ℕ → List (List ℕ)
 rows_of [] = []
 rows_of (c ∷ cs) = if c == 10 then (c ∷ []) ∷ rows_of cs else onto_first c (rows_of cs)
 
--- the words that each row stands for
-unfoldable pub words_in : List ℕ → List (Option WordRow)
-words_in text = map (λ row. words_of (before_first (λ c. c == 10) row)) (rows_of text)
+-- the words that a row stands for, with its newline or, at the end, without
+abbrev pub row_words : List ℕ → Option WordRow
+row_words row = words_of (before_first (λ c. c == 10) row)
 
 -- each row of the text is well formed, and they stand for these words in order
 abbrev pub AreRows : List ℕ → List WordRow → Type 0
-AreRows text rows = words_in text ≡ map Some rows
+AreRows text rows = map row_words (rows_of text) ≡ map Some rows

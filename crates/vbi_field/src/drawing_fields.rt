@@ -1,9 +1,10 @@
 //! Fields drawn from rows of words.
-ghost use Rattle.std.specs.Prelude.{◌≡◌, ◌+◌, ◌-◌, ◌*◌, ◌^◌, ◌<◌, ◌≤◌, None, length, OnOk, OnErr, IfErr};
+ghost use Rattle.std.specs.Prelude.{◌≡◌, ℕ, ◌+◌, ◌-◌, ◌*◌, ◌^◌, ◌<◌, ◌≤◌, None, length, IfOk, OnOk, OnErr, IfErr};
 ghost use Rattle.vbi_words.specs.Geometry.{line_bytes, height_of};
 ghost use Rattle.vbi_field.specs.Outlet.{failures_of as outlet_failures, IsSameDevice as IsSameOutlet};
+ghost use Rattle.vbi_field.specs.RowIntake.{IsFresh, IsSameDevice};
 ghost use Rattle.vbi_field.specs.Drawing.{drawn_line_of, drawn_field_of, word_at};
-ghost use Rattle.vbi_field.specs.DrawSteps.{PutsField};
+ghost use Rattle.vbi_field.specs.DrawRun.{PutsField, Draws, DrawsAll, StopsAtRow, StopsAtRead, StopsAtWrite, StopsAtLimit};
 
 use crate::config::Config;
 use crate::outlet::Outlet;
@@ -102,4 +103,71 @@ fn put_field<W: Write>(
         }
     }
     Ok(())
+}
+
+/// Draws a field for each row of words until the reader's end, a fault or the last field that is allowed.
+fn run<R: Read, W: Write>(
+    config: &Config,
+    rows: &mut RowIntake<R>,
+    outlet: &mut Outlet<W>,
+) -> Result<u32, DrawFault>
+    requires rows { IsFresh rows.old }
+    requires written { outlet.old.written ≡ 0 }
+    requires failures { outlet_failures outlet.old ≡ 0 }
+    ensures same_reader { IsSameDevice rows.old rows.new }
+    ensures same_writer { IsSameOutlet outlet.old outlet.new }
+    ensures run { Draws R.remaining W.contents config.now rows.old rows.new outlet.old outlet.new result }
+{
+    let mut cells = [0u8; LONGEST_LINE];
+    let line = &mut cells[..2 * config.system().width()];
+    draw_line(config, &None, line);
+    for done in 0..config.max_fields() {
+        match rows.next_row() {
+            RowCame::Row(words) => {
+                if let Err(fault) = put_field(config, &words, line, outlet) {
+                    return Err(fault);
+                }
+            }
+            RowCame::LastRow(words) => {
+                if let Err(fault) = put_field(config, &words, line, outlet) {
+                    return Err(fault);
+                }
+                return Ok(done + 1);
+            }
+            RowCame::Malformed => return Err(DrawFault::Row { number: done + 1 }),
+            RowCame::Ended => return Ok(done),
+            RowCame::Failed => return Err(DrawFault::Read { number: done + 1 }),
+        }
+    }
+    match rows.next_byte() {
+        ByteCame::Ended => Ok(config.max_fields()),
+        ByteCame::Byte(_) => Err(DrawFault::TooManyFields),
+        ByteCame::Failed => Err(DrawFault::Read {
+            number: config.max_fields() + 1,
+        }),
+    }
+}
+
+/// Writes the TBC stream of a text of words: a field for each row. It answers the number of fields.
+pub fn draw<R: Read, W: Write>(
+    config: &Config,
+    rows: &mut RowIntake<R>,
+    outlet: &mut Outlet<W>,
+) -> Result<u32, DrawFault>
+    requires rows { IsFresh rows.old }
+    requires written { outlet.old.written ≡ 0 }
+    requires failures { outlet_failures outlet.old ≡ 0 }
+    ensures same_reader { IsSameDevice rows.old rows.new }
+    ensures same_writer { IsSameOutlet outlet.old outlet.new }
+    ensures fields { IfOk result (DrawsAll R.remaining W.contents config.now rows.old rows.new outlet.old outlet.new) }
+    ensures row { (number : ℕ) → result ≡ Err (DrawFault.Row number)
+        → StopsAtRow R.remaining W.contents config.now rows.old rows.new outlet.old outlet.new number }
+    ensures read { (number : ℕ) → result ≡ Err (DrawFault.Read number)
+        → StopsAtRead R.remaining W.contents config.now rows.old rows.new outlet.old outlet.new number }
+    ensures write { (count : ℕ) → result ≡ Err (DrawFault.Write count)
+        → StopsAtWrite R.remaining W.contents config.now rows.old rows.new outlet.old outlet.new count }
+    ensures too_many_fields { result ≡ Err DrawFault.TooManyFields
+        → StopsAtLimit R.remaining W.contents config.now rows.old rows.new outlet.old outlet.new }
+{
+    run(config, rows, outlet)
 }
