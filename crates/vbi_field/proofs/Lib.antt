@@ -4,3 +4,4 @@ pub mod WordRowLemmas
 pub mod RowSteps
 pub mod DrawnLemmas
 pub mod PutFieldSteps
+pub mod DrawSteps
