@@ -57,10 +57,12 @@ module _ {R W : Type 0} (remaining : R → Option (List ℕ)) (contents : W → 
     pub same_writer : outlets.IsSameDevice o0 o
     pub black : line ≡ drawn_line_of c None
 
-  pub start : (line : List ℕ) → IsFresh i0 → o0.written ≡ 0 → outlets.failures_of o0 ≡ 0 → line ≡ drawn_line_of c None → Going 0 i0 o0 line
-  start line fresh written failures black =
+  pub start : (line : List ℕ) → IsFresh i0 → outlets.IsFresh o0 → line ≡ drawn_line_of c None → Going 0 i0 o0 line
+  start line fresh outlet black =
       let f = fresh.fetched in
       let n = fresh.failures in
+      let w = outlet.written in
+      let m = outlet.failures in
       record {
         text = [];
         rows = [];
@@ -72,7 +74,7 @@ module _ {R W : Type 0} (remaining : R → Option (List ℕ)) (contents : W → 
         long = omega arith;
         reads = omega arith;
         appended = rw (draw_out-none c) (Appends-nil _);
-        written = rw (draw_out-none c) written;
+        written = rw (draw_out-none c) outlet.written;
         small = omega arith;
         least_writes = omega arith;
         writes = omega arith;

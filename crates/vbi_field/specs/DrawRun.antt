@@ -1,5 +1,5 @@
 -- What a run of drawing does: the text of words that it fetches, the fields that it writes, and what stands after each fault.
-use Rattle.std.specs.Prelude.{◌≡◌, ℕ, ◌+◌, ◌*◌, ◌<◌, ◌≤◌, ◌⊎◌, List, [], ◌∷◌, ◌++◌, take, length, Option, None, Result, Ok, Err}
+use Rattle.std.specs.Prelude.{◌≡◌, ℕ, ◌+◌, ◌*◌, ◌<◌, ◌≤◌, ◌⊎◌, List, [], ◌∷◌, ◌++◌, take, length, ⊤, Option, None, Result, Ok, Err}
 use Rattle.std.specs.Io.KnownBytes.{Consumes, Appends, IsAtEnd}
 use Rattle.vbi_field.specs.Setup.{Setup}
 use Rattle.vbi_field.specs.Outlet as outlets
@@ -18,7 +18,7 @@ pub record PutsField {W : Type 0} (contents : W → Option (List ℕ)) (old new 
   pub count : ℕ
   pub within : count ≤ length bytes
   pub appended : Appends (contents (outlets.device_of old)) (contents (outlets.device_of new)) (take count bytes)
-  pub written : new.written ≡ old.written + count
+  pub written : outlets.written_of new ≡ outlets.written_of old + count
   pub least : outlets.failures_of old ≤ outlets.failures_of new
   pub most : outlets.failures_of new ≤ outlets.failures_of old + 17 * (count + 313)
 
@@ -31,12 +31,12 @@ module _ {R W : Type 0} (remaining : R → Option (List ℕ)) (contents : W → 
   -- this text was fetched, and no more
   pub record Fetched (text : List ℕ) : Type 0 where
     pub consumed : Consumes (remaining (intakes.device_of i0)) (remaining (intakes.device_of i)) text
-    pub fetched : i.fetched ≡ length text
+    pub fetched : intakes.fetched_of i ≡ length text
 
   -- the fields of these rows are written, and no more
   pub record Drew (rows : List WordRow) : Type 0 where
     pub appended : Appends (contents (outlets.device_of o0)) (contents (outlets.device_of o)) (draw_out c rows)
-    pub written : o.written ≡ length (draw_out c rows)
+    pub written : outlets.written_of o ≡ length (draw_out c rows)
 
   -- the reader ended after so many rows, each of them well formed, and their fields are written
   pub record DrawsAll (count : ℕ) : Type 0 where
@@ -96,7 +96,7 @@ module _ {R W : Type 0} (remaining : R → Option (List ℕ)) (contents : W → 
     pub few : length rows ≤ c.max_fields
     pub within : count ≤ length (draw_out c rows)
     pub appended : Appends (contents (outlets.device_of o0)) (contents (outlets.device_of o)) (take count (draw_out c rows))
-    pub written : o.written ≡ count
+    pub written : outlets.written_of o ≡ count
     pub rose : outlets.failures_of o0 < outlets.failures_of o
 
   -- what a run does, by its answer
@@ -106,3 +106,31 @@ module _ {R W : Type 0} (remaining : R → Option (List ℕ)) (contents : W → 
   Draws (Err (Read number)) = StopsAtRead number
   Draws (Err (Write written)) = StopsAtWrite written
   Draws (Err TooManyFields) = StopsAtLimit
+
+-- P of the number, where a row is malformed
+abbrev pub IfRow : DrawFault → (ℕ → Type 0) → Type 0
+IfRow (Row number) P = P number
+IfRow (Read number) P = ⊤
+IfRow (Write written) P = ⊤
+IfRow TooManyFields P = ⊤
+
+-- P of the number, where the reader failed
+abbrev pub IfRead : DrawFault → (ℕ → Type 0) → Type 0
+IfRead (Row number) P = ⊤
+IfRead (Read number) P = P number
+IfRead (Write written) P = ⊤
+IfRead TooManyFields P = ⊤
+
+-- P of the bytes written, where the writer failed
+abbrev pub IfWrite : DrawFault → (ℕ → Type 0) → Type 0
+IfWrite (Row number) P = ⊤
+IfWrite (Read number) P = ⊤
+IfWrite (Write written) P = P written
+IfWrite TooManyFields P = ⊤
+
+-- P, where too many rows came
+abbrev pub IfTooMany : DrawFault → Type 0 → Type 0
+IfTooMany (Row number) P = ⊤
+IfTooMany (Read number) P = ⊤
+IfTooMany (Write written) P = ⊤
+IfTooMany TooManyFields P = P

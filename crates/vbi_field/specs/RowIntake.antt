@@ -28,19 +28,23 @@ module _ {R : Type 0} where
   abbrev pub failures_of : RowIntake R → ℕ
   failures_of i = counted.failures_of i.device
 
+  -- how many bytes it gave
+  abbrev pub fetched_of : RowIntake R → ℕ
+  fetched_of i = i.fetched
+
   -- both speak of the same reader
   abbrev pub IsSameDevice : RowIntake R → RowIntake R → Type 0
   IsSameDevice old new = counted.IsSameDevice old.device new.device
 
   -- nothing was fetched, and the reader hasn't failed
   pub record IsFresh (i : RowIntake R) : Type 0 where
-    pub fetched : i.fetched ≡ 0
+    pub fetched : fetched_of i ≡ 0
     pub failures : failures_of i ≡ 0
 
   -- these are the next bytes of the reader, and all that was taken
   pub record Fetches (remaining : R → Option (List ℕ)) (old new : RowIntake R) (bytes : List ℕ) : Type 0 where
     pub consumed : Consumes (remaining (device_of old)) (remaining (device_of new)) bytes
-    pub fetched : new.fetched ≡ old.fetched + length bytes
+    pub fetched : fetched_of new ≡ fetched_of old + length bytes
     pub least : failures_of old ≤ failures_of new
     pub same : IsSameDevice old new
 

@@ -1,10 +1,10 @@
 //! Fields drawn from rows of words.
 ghost use Rattle.std.specs.Prelude.{◌≡◌, ℕ, ◌+◌, ◌-◌, ◌*◌, ◌^◌, ◌<◌, ◌≤◌, None, length, IfOk, OnOk, OnErr, IfErr};
 ghost use Rattle.vbi_words.specs.Geometry.{line_bytes, height_of};
-ghost use Rattle.vbi_field.specs.Outlet.{failures_of as outlet_failures, IsSameDevice as IsSameOutlet};
+ghost use Rattle.vbi_field.specs.Outlet.{failures_of as outlet_failures, written_of, IsFresh as IsFreshOutlet, IsSameDevice as IsSameOutlet};
 ghost use Rattle.vbi_field.specs.RowIntake.{IsFresh, IsSameDevice};
 ghost use Rattle.vbi_field.specs.Drawing.{drawn_line_of, drawn_field_of, word_at};
-ghost use Rattle.vbi_field.specs.DrawRun.{PutsField, Draws, DrawsAll, StopsAtRow, StopsAtRead, StopsAtWrite, StopsAtLimit};
+ghost use Rattle.vbi_field.specs.DrawRun.{PutsField, Draws, DrawsAll, StopsAtRow, StopsAtRead, StopsAtWrite, StopsAtLimit, IfRow, IfRead, IfWrite, IfTooMany};
 
 use crate::config::Config;
 use crate::outlet::Outlet;
@@ -82,14 +82,14 @@ fn put_field<W: Write>(
     outlet: &mut Outlet<W>,
 ) -> Result<(), DrawFault>
     requires black { line.old ≡ drawn_line_of config.now None }
-    requires written { outlet.old.written ≤ 2 ^ 61 }
+    requires written { written_of outlet.old ≤ 2 ^ 61 }
     requires failures { outlet_failures outlet.old ≤ 2 ^ 61 }
     ensures black { OnOk result (line.new ≡ drawn_line_of config.now None) }
     ensures same { IsSameOutlet outlet.old outlet.new }
     ensures puts { PutsField W.contents outlet.old outlet.new (drawn_field_of config.now words.now) }
-    ensures ok { OnOk result (outlet.new.written ≡ outlet.old.written + length (drawn_field_of config.now words.now)) }
+    ensures ok { OnOk result (written_of outlet.new ≡ written_of outlet.old + length (drawn_field_of config.now words.now)) }
     ensures failed { OnErr result (outlet_failures outlet.old < outlet_failures outlet.new) }
-    ensures fault { IfErr result (λ e. e ≡ DrawFault.Write outlet.new.written) }
+    ensures fault { IfErr result (λ e. e ≡ DrawFault.Write (written_of outlet.new)) }
 {
     for row in 0..config.system().height() {
         next_line(config, words, row, line);
@@ -112,8 +112,7 @@ fn run<R: Read, W: Write>(
     outlet: &mut Outlet<W>,
 ) -> Result<u32, DrawFault>
     requires rows { IsFresh rows.old }
-    requires written { outlet.old.written ≡ 0 }
-    requires failures { outlet_failures outlet.old ≡ 0 }
+    requires outlet { IsFreshOutlet outlet.old }
     ensures same_reader { IsSameDevice rows.old rows.new }
     ensures same_writer { IsSameOutlet outlet.old outlet.new }
     ensures run { Draws R.remaining W.contents config.now rows.old rows.new outlet.old outlet.new result }
@@ -155,19 +154,23 @@ pub fn draw<R: Read, W: Write>(
     outlet: &mut Outlet<W>,
 ) -> Result<u32, DrawFault>
     requires rows { IsFresh rows.old }
-    requires written { outlet.old.written ≡ 0 }
-    requires failures { outlet_failures outlet.old ≡ 0 }
+    requires outlet { IsFreshOutlet outlet.old }
     ensures same_reader { IsSameDevice rows.old rows.new }
     ensures same_writer { IsSameOutlet outlet.old outlet.new }
-    ensures fields { IfOk result (DrawsAll R.remaining W.contents config.now rows.old rows.new outlet.old outlet.new) }
-    ensures row { (number : ℕ) → result ≡ Err (DrawFault.Row number)
-        → StopsAtRow R.remaining W.contents config.now rows.old rows.new outlet.old outlet.new number }
-    ensures read { (number : ℕ) → result ≡ Err (DrawFault.Read number)
-        → StopsAtRead R.remaining W.contents config.now rows.old rows.new outlet.old outlet.new number }
-    ensures write { (count : ℕ) → result ≡ Err (DrawFault.Write count)
-        → StopsAtWrite R.remaining W.contents config.now rows.old rows.new outlet.old outlet.new count }
-    ensures too_many_fields { result ≡ Err DrawFault.TooManyFields
-        → StopsAtLimit R.remaining W.contents config.now rows.old rows.new outlet.old outlet.new }
+
+    // What Ok says: of the text that was fetched, the number of its rows, the reader, and the fields that were written.
+    ensures fields { IfOk result
+        (DrawsAll R.remaining W.contents config.now rows.old rows.new outlet.old outlet.new) }
+
+    // When each fault comes, and what stands then.
+    ensures row_fault { IfErr result (λ e. IfRow e
+        (StopsAtRow R.remaining W.contents config.now rows.old rows.new outlet.old outlet.new)) }
+    ensures read_fault { IfErr result (λ e. IfRead e
+        (StopsAtRead R.remaining W.contents config.now rows.old rows.new outlet.old outlet.new)) }
+    ensures write_fault { IfErr result (λ e. IfWrite e
+        (StopsAtWrite R.remaining W.contents config.now rows.old rows.new outlet.old outlet.new)) }
+    ensures too_many { IfErr result (λ e. IfTooMany e
+        (StopsAtLimit R.remaining W.contents config.now rows.old rows.new outlet.old outlet.new)) }
 {
     run(config, rows, outlet)
 }

@@ -9,7 +9,7 @@ mod row_intake;
 mod word_row;
 
 pub use config::{Config, ConfigFault};
-pub use drawing_fields::DrawFault;
+pub use drawing_fields::{DrawFault, draw};
 pub use outlet::{Outlet, OutletFault};
 pub use readings::FieldReadings;
 pub use row_intake::RowIntake;

@@ -45,7 +45,7 @@ pub struct RowIntake<'a, R> {
 }
 
 impl<'a, R: Read> RowIntake<'a, R> {
-    ghost use Rattle.vbi_field.specs.RowIntake.{device_of, failures_of, IsFresh, IsSameDevice, TakesByte, TakesRow};
+    ghost use Rattle.vbi_field.specs.RowIntake.{device_of, failures_of, fetched_of, IsFresh, IsSameDevice, TakesByte, TakesRow};
 
     /// An intake that has fetched nothing.
     pub fn new(reader: &'a mut R) -> Self
@@ -70,7 +70,7 @@ impl<'a, R: Read> RowIntake<'a, R> {
 
     /// How many bytes the reader gave.
     pub fn fetched(&self) -> u64
-        ensures { result ≡ self.now.fetched }
+        ensures { result ≡ fetched_of self.now }
     {
         self.fetched
     }
@@ -84,7 +84,7 @@ impl<'a, R: Read> RowIntake<'a, R> {
 
     /// Takes the next byte. An interrupted read is tried again at most 16 times in a row.
     pub(crate) fn next_byte(&mut self) -> ByteCame
-        requires fetched { self.old.fetched ≤ 2 ^ 62 }
+        requires fetched { fetched_of self.old ≤ 2 ^ 62 }
         requires failures { failures_of self.old ≤ 2 ^ 62 }
         ensures { TakesByte R.remaining self.old self.new result }
     {
@@ -105,7 +105,7 @@ impl<'a, R: Read> RowIntake<'a, R> {
 
     /// Takes the next row: the bytes up to its newline, the reader's end or the 21st byte that isn't a newline.
     pub(crate) fn next_row(&mut self) -> RowCame
-        requires fetched { self.old.fetched ≤ 2 ^ 61 }
+        requires fetched { fetched_of self.old ≤ 2 ^ 61 }
         requires failures { failures_of self.old ≤ 2 ^ 61 }
         ensures { TakesRow R.remaining self.old self.new result }
     {

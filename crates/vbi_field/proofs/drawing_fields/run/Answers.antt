@@ -3,7 +3,7 @@ use Rattle.vbi_field.proofs.DrawSteps.{start, row_failed, row_drawn, last_row_fa
 use Rattle.vbi_field.proofs.drawing_fields.run.Goals as goal
 
 pub loop-done-init : goal.loop-done-init
-loop-done-init g c = start _ _ _ _ _ c.draw_line.new.line c.requires.rows c.requires.written c.requires.failures c.draw_line.ensures
+loop-done-init g c = start _ _ _ _ _ c.draw_line.new.line c.requires.rows c.requires.outlet c.draw_line.ensures
 
 pub returns-in-Err-clause-run : goal.returns-in-Err-clause-run
 returns-in-Err-clause-run g c =
