@@ -5,3 +5,5 @@ pub mod RowSteps
 pub mod DrawnLemmas
 pub mod PutFieldSteps
 pub mod DrawSteps
+pub mod DrawnReadsLemmas
+pub mod WordRowLaw

@@ -7,3 +7,4 @@ pub mod WordRows
 pub mod RowIntake
 pub mod Drawing
 pub mod DrawRun
+pub mod DrawnReadings

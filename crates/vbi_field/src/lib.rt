@@ -2,6 +2,7 @@
 #![tactic(auto)]
 
 mod config;
+pub mod draw_laws;
 mod drawing_fields;
 mod outlet;
 mod readings;
