@@ -51,9 +51,11 @@ is_drawn_row c word = record {
 -- a drawn line is read as its word
 line_reads : (c : Setup) (word : Option ℕ) → c.levels.black < c.levels.white → IsDrawable word
     → IsReading c.system (levels_of c.levels (drawn_samples c word)) (drawn_reading word)
-line_reads c None order is =
-    (refl, blank_outcome c.system (levels_of c.levels (drawn_samples c None))
-    (low_lead c.system (levels_of c.levels (drawn_samples c None)) (none_low c.system c.levels order (drawn_samples c None) (is_drawn_row c None))))
+line_reads c None order is = (
+  refl,
+  blank_outcome c.system (levels_of c.levels (drawn_samples c None))
+      (low_lead c.system (levels_of c.levels (drawn_samples c None)) (none_low c.system c.levels order (drawn_samples c None) (is_drawn_row c None))),
+)
 line_reads c (Some word) order is =
     inl (refl, drawn_shows c.system c.levels word order (drawn_samples c (Some word)) (is_drawn_row c (Some word)) is)
 
@@ -68,7 +70,7 @@ field_at c (row ∷ rows) zero words e =
     let same : row ≡ words = cc in (
       draw_out c rows,
       ap (λ (n : ℕ). drop n (drawn_field_of c row ++ draw_out c rows)) (zero-mul (field_bytes c.system))
-      ∙ ap (λ (w : WordRow). drawn_field_of c w ++ draw_out c rows) same,
+          ∙ ap (λ (w : WordRow). drawn_field_of c w ++ draw_out c rows) same,
     )
 field_at c (row ∷ rows) (suc i) words e =
     let later = field_at c rows i words e in
@@ -76,9 +78,9 @@ field_at c (row ∷ rows) (suc i) words e =
     let field = drawn_field_of c row in (
       later.0,
       ap (λ (n : ℕ). drop n (field ++ draw_out c rows)) size
-      ∙ sym (drop-drop (i * field_bytes c.system) (field_bytes c.system) (field ++ draw_out c rows))
-      ∙ ap (drop (i * field_bytes c.system)) (drop_at field (draw_out c rows) (field_bytes c.system) (length-drawn_field_of c row))
-      ∙ later.1,
+          ∙ sym (drop-drop (i * field_bytes c.system) (field_bytes c.system) (field ++ draw_out c rows))
+          ∙ ap (drop (i * field_bytes c.system)) (drop_at field (draw_out c rows) (field_bytes c.system) (length-drawn_field_of c row))
+          ∙ later.1,
     )
 
 -- where a row begins, in lines

@@ -96,9 +96,9 @@ one_long : (a b c : ℕ) → 20 < a + (1 + (b + (1 + c))) → (6 < a) ⊎ (6 < b
 one_long a b c l = elim (cases_lt 6 a) [
   | inl h ↦ inl h
   | inr h ↦ elim (cases_lt 6 b) [
-      | inl k ↦ inr (inl k)
-      | inr k ↦ inr (inr (omega arith))
-    ]
+    | inl k ↦ inr (inl k)
+    | inr k ↦ inr (inr (omega arith))
+  ]
 ]
 
 long_parts : (parts : List (List ℕ)) → 20 < length (join_with_byte 32 parts) → row_of_parts parts ≡ None

@@ -15,3 +15,6 @@ pub use outlet::{Outlet, OutletFault};
 pub use readings::FieldReadings;
 pub use row_intake::RowIntake;
 pub use word_row::WordRow;
+
+#[cfg(test)]
+mod tests_draw;
