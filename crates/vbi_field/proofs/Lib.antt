@@ -1,4 +1,7 @@
 pub mod Counts
+pub mod DrawSteps
+pub mod DrawnLemmas
+pub mod DrawnReadsLemmas
 pub mod Entries
 pub mod FeedEnds
 pub mod FeedLoop
@@ -9,5 +12,9 @@ pub mod Going
 pub mod Growing
 pub mod Known
 pub mod OneDocument
+pub mod PutFieldSteps
 pub mod PutSteps
+pub mod RowSteps
 pub mod RunSteps
+pub mod WordRowLaw
+pub mod WordRowLemmas

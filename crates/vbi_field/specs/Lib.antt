@@ -3,6 +3,9 @@ pub mod CauseTexts
 pub mod Claims
 pub mod CodeTexts
 pub mod Document
+pub mod DrawRun
+pub mod Drawing
+pub mod DrawnReadings
 pub mod Feed
 pub mod FeedView
 pub mod Feeding
@@ -11,9 +14,11 @@ pub mod Outlet
 pub mod Position
 pub mod Progress
 pub mod Report
+pub mod RowIntake
 pub mod Runs
 pub mod Setup
 pub mod Stand
 pub mod Stream
 pub mod Takes
 pub mod Texts
+pub mod WordRows
