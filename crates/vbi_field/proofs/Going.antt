@@ -175,4 +175,4 @@ module _ (t : Texts) {R W : Type 0} (remaining : R → Option (List ℕ)) (conte
   head_fault o text fault fresh clean is puts rose fails =
       let e : text ≡ begun_of t c [] = is ∙ sym (stood-none t c []) ∙ sym (begun_of-stood t c [] 0 (nothing_fields c.system)) in
       write_fault i0 o0 o [] [] text text fault (Consumes-none _) fresh.fetched (Appends-none _) clean.written (le_refl _) puts rose fails refl
-          (inl e)
+      (inl e)

@@ -73,7 +73,7 @@ pub field_readings-more : (c : Setup) (z b : List ℕ) (i n : ℕ)
     → (i + 1) * height_of c.system ≤ n → n * line_bytes c.system ≤ length z → field_readings c (z ++ b) i ≡ field_readings c z i
 field_readings-more c z b i n le long =
     let at : (r : ℕ) → r ≤ 17 → (i * height_of c.system + r + 1) * line_bytes c.system ≤ length z =
-        λ r small. le_trans (inner c.system i r n small le) long in
+    λ r small. le_trans (inner c.system i r n small le) long in
     λ j. record {
       first = row_reading-more c z b i 15 (at 15 (lit≤ tt)) j;
       second = row_reading-more c z b i 16 (at 16 (lit≤ tt)) j;
@@ -127,7 +127,7 @@ module _ (c : Setup) (z b : List ℕ) (p : Progress) (o : Reading) (now : FieldR
 
   pub past_field : height_of c.system ≤ p.row + 1
       → IsPosition c (z ++ b) (record { fields = p.fields + 1; row = 0; readings = now }) × (p.row + 1 ≡ height_of c.system) ×
-          (now ≡ field_readings c (z ++ b) p.fields)
+      (now ≡ field_readings c (z ++ b) p.fields)
   past_field le =
       let inside = at.inside in
       let last : p.row + 1 ≡ height_of c.system = omega arith in

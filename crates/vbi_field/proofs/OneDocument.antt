@@ -26,7 +26,7 @@ unfolding begun_of
 only_document t c z text (readings, each, e) =
     e ∙ ap (λ l. t.head c ++ l ++ t.tail (fields_of c z) (rest_of c z))
     (joined-same (λ i. t.entry (i + 1) (readings i)) (entry_of t c z) t.joint (fields_of c z)
-        (λ i lt. ap (t.entry (i + 1)) (only_field c z i (readings i) (each i lt))))
+    (λ i lt. ap (t.entry (i + 1)) (only_field c z i (readings i) (each i lt))))
 
 is_document : (t : Texts) (c : Setup) (z text : List ℕ) → text ≡ document_of t c z → IsDocument t c z text
 unfolding begun_of

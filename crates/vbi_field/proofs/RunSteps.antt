@@ -54,7 +54,7 @@ module _ (t : Texts) {R W : Type 0} (remaining : R → Option (List ℕ)) (conte
         record {
           whole = row.got.0 ∙ ap line_bytes g.system;
           shows = λ a b. row.got.3 (sels.1 (a, b)) ∙ ap (λ s. reading_of s (row_levels lv row.bytes)) g.system
-          ∙ ap (λ l. reading_of c.system (row_levels l row.bytes)) lvs;
+              ∙ ap (λ l. reading_of c.system (row_levels l row.bytes)) lvs;
         }
 
     looked_more : i'.line.looked ≤ i.line.looked + cond sel (2 * width_of c.system) 0
@@ -126,7 +126,7 @@ module _ (t : Texts) {R W : Type 0} (remaining : R → Option (List ℕ)) (conte
           let pushed = grown text before first is in
           let m = ap length pushed ∙ length-append (stood t c g.z p.fields) text in
           let place : p'.fields * height_of c.system + p'.row ≡ k + 1 =
-              rw (fields, rows) (sym (whole_field p.fields (height_of c.system) p.row last) ∙ ap (λ n. n + 1) g.place) in
+          rw (fields, rows) (sym (whole_field p.fields (height_of c.system) p.row last) ∙ ap (λ n. n + 1) g.place) in
           record {
             z = g.z ++ row.bytes;
             consumed = Consumes-twice _ _ _ g.z row.bytes g.consumed row.consumed;
@@ -148,7 +148,7 @@ module _ (t : Texts) {R W : Type 0} (remaining : R → Option (List ℕ)) (conte
             looked = omega (arith, row.looked, g.looked);
             looks = rw (fields, rows)
                 (looks_field c.system p.fields p.row i'.line.looked last
-                    (looks_next c.system p.fields p.row i.line.looked i'.line.looked sel sels g.looks (looked_more)));
+                (looks_next c.system p.fields p.row i.line.looked i'.line.looked sel sels g.looks (looked_more)));
             same_reader = same ∙ g.same_reader;
             same_writer = same_writer ∙ g.same_writer;
           }
@@ -162,9 +162,9 @@ module _ (t : Texts) {R W : Type 0} (remaining : R → Option (List ℕ)) (conte
           let l = length-append g.z row.bytes in
           let pushed = grown text before first is in
           let begun : stood t c (g.z ++ row.bytes) p'.fields ≡ begun_of t c (g.z ++ row.bytes) =
-              sym (begun_of-stood t c (g.z ++ row.bytes) p'.fields (whole_at c (g.z ++ row.bytes) p' at)) in
+          sym (begun_of-stood t c (g.z ++ row.bytes) p'.fields (whole_at c (g.z ++ row.bytes) p' at)) in
           write_fault t remaining contents c i0 o0 i' o o' (g.z ++ row.bytes) (stood t c g.z p.fields) text (stood t c (g.z ++ row.bytes) p'.fields)
-              fault
+          fault
           (Consumes-twice _ _ _ g.z row.bytes g.consumed row.consumed) (omega (arith, row.fetched, g.fetched)) g.appended g.written
           g.least_writes puts rose fails pushed (inl begun)
 
@@ -206,7 +206,7 @@ module _ (t : Texts) {R W : Type 0} (remaining : R → Option (List ℕ)) (conte
   closed i o o' z base tail fields rest looked (Err e) consumed fetched appended written least puts end stands fs rs ls few looks whole says rose
       fails =
       write_fault t remaining contents c i0 o0 i o o' z base tail (base ++ tail) e consumed fetched appended written least puts rose fails refl
-          (inr (end, stands))
+      (inr (end, stands))
 
   -- the stream ended, and the tail was put
   pub ended : (k : ℕ) (i i' : Intake R) (o o' : Outlet W) (p : Progress) (g : Going t remaining contents c i0 o0 k i o p) (sel : Bool)
@@ -233,12 +233,12 @@ module _ (t : Texts) {R W : Type 0} (remaining : R → Option (List ℕ)) (conte
       let same : selected p.fields p.row ≡ selected_rows c (g.z ++ row.bytes) = ap (λ f. selected f p.row) (sym fields_are')
       ∙ ap (λ r. selected (fields_of c (g.z ++ row.bytes)) r) (sym rows) in
       let bound : i'.line.looked ≤ 2 * width_of c.system * selected_rows c (g.z ++ row.bytes) =
-          le_trans (le_of_eq row.got.4) (le_trans g.looks (le_of_eq (ap (λ n. 2 * width_of c.system * n) same))) in
+      le_trans (le_of_eq row.got.4) (le_trans g.looks (le_of_eq (ap (λ n. 2 * width_of c.system * n) same))) in
       let long : length (g.z ++ row.bytes) ≡ k * line_bytes c.system + n = l
       ∙ ap (λ m. m + length row.bytes) (at.whole ∙ ap (λ m. m * line_bytes c.system) g.place)
       ∙ ap (λ m. k * line_bytes c.system + m) (sym row.got.0) in
       closed i' o o' (g.z ++ row.bytes) (stood t c g.z p.fields) (t.tail fields rest) fields rest looked r consumed fetched g.appended g.written
-          g.least_writes puts row.got.3 stands
+      g.least_writes puts row.got.3 stands
       (fs ∙ sym fields_are') (rs' ∙ sym rest_is') ls (le_trans (le_of_eq long) within) bound whole says rose fails
 
   -- the reader failed
@@ -261,7 +261,7 @@ module _ (t : Texts) {R W : Type 0} (remaining : R → Option (List ℕ)) (conte
           begun_is t remaining contents c i0 o0 k i o p g row.bytes short,
           fs ∙ ap (λ n. n + 1) (sym (fields_are t remaining contents c i0 o0 k i o p g row.bytes short)),
           os ∙ ap (λ n. p.row * line_bytes c.system + n) (hs ∙ ap length row.got.0)
-          ∙ sym (rest_is t remaining contents c i0 o0 k i o p g row.bytes short),
+              ∙ sym (rest_is t remaining contents c i0 o0 k i o p g row.bytes short),
           omega (arith, g.least_reads, row.got.1),
         );
       }
