@@ -59,7 +59,7 @@ module _ {W : Type 0} (contents : W → Option (List ℕ)) (c : Setup) where
           (
             before.1.0 ++ after.1.0,
             completes_twice c z (z ++ first) (take (limit_of c) ((z ++ first) ++ bytes)) before.1.0 after.1.0 before.1.1 after.1.1
-            ∙ ap (λ l. begun_of document c (take (limit_of c) l)) all,
+                ∙ ap (λ l. begun_of document c (take (limit_of c) l)) all,
             Appends-twice _ _ _ before.1.0 after.1.0 before.1.2 after.1.2,
           ),
         )
@@ -68,8 +68,8 @@ module _ {W : Type 0} (contents : W → Option (List ℕ)) (c : Setup) where
           before.1.0 ++ after.0,
           after.1,
           ap (λ l. begun_of document c z ++ l) (append_assoc before.1.0 after.0 after.1)
-          ∙ completes_twice c z (z ++ first) (take (limit_of c) ((z ++ first) ++ bytes)) before.1.0 (after.0 ++ after.1) before.1.1 after.2
-          ∙ ap (λ l. begun_of document c (take (limit_of c) l)) all,
+              ∙ completes_twice c z (z ++ first) (take (limit_of c) ((z ++ first) ++ bytes)) before.1.0 (after.0 ++ after.1) before.1.1 after.2
+              ∙ ap (λ l. begun_of document c (take (limit_of c) l)) all,
           Appends-twice _ _ _ before.1.0 after.0 before.1.2 after.3,
         )
 
@@ -121,7 +121,7 @@ module _ {W : Type 0} (contents : W → Option (List ℕ)) (old : Feeding) (was 
     (t : Taken contents old was o0 o piece at) (is : bytes ≡ take (length piece - at) (drop at piece)) (l : Line) (p : Progress)
     (result : Result ℕ RunFault)
     (step : (z : List ℕ) → IsAt was.config z (place_of was.config was.line was.progress)
-      → IsStep contents was.config o o' z bytes (place_of was.config l p) result) where
+    → IsStep contents was.config o o' z bytes (place_of was.config l p) result) where
   -- the piece so far
   so_far : (z : List ℕ) → StandsAt old z
       → IsFed contents was.config o0 o z (take at piece) (place_of was.config was.line was.progress) (Ok tt)

@@ -90,7 +90,7 @@ module _ {W : Type 0} (contents : W → Option (List ℕ)) (c : Setup) (l : Line
       (
         [],
         append-nil (begun_of document c z)
-        ∙ begun_same document c z more (split_fields c (z ++ more) l'.held p' after ∙ same ∙ sym (split_fields c z l.held p before)),
+            ∙ begun_same document c z more (split_fields c (z ++ more) l'.held p' after ∙ same ∙ sym (split_fields c z l.held p before)),
         Appends-none _,
       ),
     )
@@ -162,6 +162,6 @@ module _ {W : Type 0} (contents : W → Option (List ℕ)) (c : Setup) (l : Line
             front_text,
             back ++ grown.0,
             ap (λ x. begun_of document c z ++ x) parts
-            ∙ completes_twice c z (z ++ more) ((z ++ more) ++ further.0) text grown.0 completed grown.1 ∙ longer,
+                ∙ completes_twice c z (z ++ more) ((z ++ more) ++ further.0) text grown.0 completed grown.1 ∙ longer,
             puts.appended,
           )

@@ -51,9 +51,9 @@ stood-grows t c z n (suc k) =
     let next : n + k + 1 ≡ n + suc k = omega arith in (
       before.0 ++ piece,
       sym (append_assoc (stood t c z n) before.0 piece)
-      ∙ ap (λ l. l ++ piece) before.1
-      ∙ sym (stood-more t c z (n + k))
-      ∙ ap (stood t c z) next,
+          ∙ ap (λ l. l ++ piece) before.1
+          ∙ sym (stood-more t c z (n + k))
+          ∙ ap (stood t c z) next,
     )
 
 -- the text of a longer stream begins with that of the shorter
@@ -66,9 +66,9 @@ begun_grows t c z b =
     let all : n + (m - n) ≡ m = omega arith in (
       grown.0,
       ap (λ l. l ++ grown.0) (sym (stays t c z b))
-      ∙ grown.1
-      ∙ ap (stood t c (z ++ b)) all
-      ∙ sym (begun_of-stood t c (z ++ b) m refl),
+          ∙ grown.1
+          ∙ ap (stood t c (z ++ b)) all
+          ∙ sym (begun_of-stood t c (z ++ b) m refl),
     )
 
 -- one text after the other

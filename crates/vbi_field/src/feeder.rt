@@ -94,7 +94,13 @@ impl Feeder {
         }
         let mut at = 0;
         while at < piece.len() {
-            match take_bytes(&self.config, &mut self.line, &mut self.progress, &piece[at..], outlet) {
+            match take_bytes(
+                &self.config,
+                &mut self.line,
+                &mut self.progress,
+                &piece[at..],
+                outlet,
+            ) {
                 Ok(count) => at += count,
                 Err(fault) => {
                     self.has_failed = true;

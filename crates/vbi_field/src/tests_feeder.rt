@@ -139,7 +139,10 @@ fn fails_for_good(rt: HostRuntime) -> Result<(), Fail> {
         next: Err(RunFault::Failed),
         end: Err(RunFault::Failed),
     });
-    assert_eq!(rt; after_a_fault(config, stream.as_slice(), &mut document), write);
+    assert_eq!(rt;
+        after_a_fault(config, stream.as_slice(), &mut document),
+        write
+    );
     assert_eq!(rt; document.taken.len(), 150);
     assert!(rt; text.as_bytes().starts_with(document.taken.as_slice()));
 
@@ -150,7 +153,10 @@ fn fails_for_good(rt: HostRuntime) -> Result<(), Fail> {
         next: Err(RunFault::Failed),
         end: Err(RunFault::Failed),
     });
-    assert_eq!(rt; after_a_fault(config, stream.as_slice(), &mut document), too_many);
+    assert_eq!(rt;
+        after_a_fault(config, stream.as_slice(), &mut document),
+        too_many
+    );
     assert!(rt; document.taken.as_slice() == text.as_bytes());
     Ok(())
 }
