@@ -48,7 +48,8 @@ module _ {W : Type 0} (contents : W → Option (List ℕ)) (c : Setup) where
         )
 
     -- or with a fault
-    pub fed_fault : (fault : RunFault) → IsFed contents c o o' (z ++ first) bytes now (Err fault) → IsFed contents c o0 o' z (first ++ bytes) now (Err fault)
+    pub fed_fault : (fault : RunFault) → IsFed contents c o o' (z ++ first) bytes now (Err fault)
+        → IsFed contents c o0 o' z (first ++ bytes) now (Err fault)
     fed_fault (Read field offset) after = after
     fed_fault Failed after = after
     fed_fault TooManyFields after =
@@ -73,7 +74,8 @@ module _ {W : Type 0} (contents : W → Option (List ℕ)) (c : Setup) where
         )
 
 -- so much of a piece was taken
-pub record Taken {W : Type 0} (contents : W → Option (List ℕ)) (old : Feeding) (now : Inside) (o0 o : Outlet W) (piece : List ℕ) (at : ℕ) : Type 0 where
+pub record Taken {W : Type 0} (contents : W → Option (List ℕ)) (old : Feeding) (now : Inside) (o0 o : Outlet W) (piece : List ℕ)
+    (at : ℕ) : Type 0 where
   pub config : now.config ≡ old.config
   pub calm : now.has_failed ≡ false
   pub started : old.has_failed ≡ false
@@ -159,7 +161,8 @@ module _ {W : Type 0} (contents : W → Option (List ℕ)) (old : Feeding) (was 
             let P : Setup → Type 0 = λ k. IsFed contents k o0 o' z (take (at + n) piece) (place_of was.config l p) (Ok tt) in
             let Q : List ℕ → Type 0 = λ x. IsFed contents was.config o0 o' z x (place_of was.config l p) (Ok tt) in
             subst P t.config (subst Q all
-            (fed_more contents was.config o0 o o' z (take at piece) (take n bytes) (place_of was.config was.line was.progress) (place_of was.config l p) far next));
+            (fed_more contents was.config o0 o o' z (take at piece) (take n bytes) (place_of was.config was.line was.progress)
+            (place_of was.config l p) far next));
       }
 
   -- a fault in the next row
@@ -174,7 +177,8 @@ module _ {W : Type 0} (contents : W → Option (List ℕ)) (old : Feeding) (was 
       let P : Setup → Type 0 = λ k. IsFed contents k o0 o' z piece (place_of was.config l p) (Err fault) in
       let Q : List ℕ → Type 0 = λ x. IsFed contents was.config o0 o' z x (place_of was.config l p) (Err fault) in
       subst P t.config (subst Q all
-      (fed_fault contents was.config o0 o o' z (take at piece) bytes (place_of was.config was.line was.progress) (place_of was.config l p) far fault next))
+      (fed_fault contents was.config o0 o o' z (take at piece) bytes (place_of was.config was.line was.progress)
+      (place_of was.config l p) far fault next))
 
 -- the whole piece was taken
 pub taken_whole : {W : Type 0} (contents : W → Option (List ℕ)) (old : Feeding) (now : Inside) (o0 o : Outlet W) (piece : List ℕ) (at : ℕ)

@@ -74,7 +74,8 @@ module _ (c : Setup) (z held : List ℕ) (p : Progress) (s : Split c z held p) w
 
   split_held : held ≡ drop (length z - rest_of c z % line_bytes c.system) z
   split_held =
-      let past : rest_of c z % line_bytes c.system ≡ length held = ap (λ m. m % line_bytes c.system) split_rest ∙ held_past c.system p.row (length held) s.short in
+      let past : rest_of c z % line_bytes c.system ≡ length held =
+      ap (λ m. m % line_bytes c.system) split_rest ∙ held_past c.system p.row (length held) s.short in
       let long = ap length s.split in
       let both = length-append s.rows held in
       let at : length z - rest_of c z % line_bytes c.system ≡ length s.rows = omega arith in
@@ -86,7 +87,8 @@ module _ (c : Setup) (z held : List ℕ) (p : Progress) (s : Split c z held p) w
       let at = s.position in
       ap (λ l. row_reading c l p.fields r) s.split
       ∙ row_reading-more c s.rows held p.fields r
-      (le_trans (row_mono c.system (p.fields * height_of c.system + r + 1) (p.fields * height_of c.system + p.row) (omega arith)) (le_of_eq (sym at.whole)))
+      (le_trans (row_mono c.system (p.fields * height_of c.system + r + 1) (p.fields * height_of c.system + p.row) (omega arith))
+      (le_of_eq (sym at.whole)))
 
   split_readings : take (p.row - 15) (p.readings.first ∷ p.readings.second ∷ p.readings.third ∷ [])
       ≡ take (rest_of c z / line_bytes c.system - 15) (readings_of c z (fields_of c z))
@@ -125,7 +127,8 @@ split_of c z l p short inside at =
     let long : length z ≡ length rows + length l.held = ap length split ∙ length-append rows l.held in
     let whole : length rows ≡ (p.fields * height_of c.system + p.row) * line_bytes c.system =
     rows_long c.system (length z) (length rows) p.fields p.row (length l.held) fields rest long in
-    let past : rest_of c z / line_bytes c.system ≡ p.row = ap (λ m. m / line_bytes c.system) (sym rest) ∙ rows_past c.system p.row (length l.held) short in
+    let past : rest_of c z / line_bytes c.system ≡ p.row =
+    ap (λ m. m / line_bytes c.system) (sym rest) ∙ rows_past c.system p.row (length l.held) short in
     let same : take (p.row - 15) (p.readings.first ∷ p.readings.second ∷ p.readings.third ∷ []) ≡ take (p.row - 15) (readings_of c z p.fields) =
     ap (λ q. q.readings) at.position
     ∙ ap (λ m. take (m - 15) (readings_of c z (fields_of c z))) past
@@ -134,7 +137,8 @@ split_of c z l p short inside at =
     let stays : (r : ℕ) → r < p.row → row_reading c z p.fields r ≡ row_reading c rows p.fields r = λ r lt.
     (ap (λ h. row_reading c h p.fields r) split
     ∙ row_reading-more c rows l.held p.fields r
-    (le_trans (row_mono c.system (p.fields * height_of c.system + r + 1) (p.fields * height_of c.system + p.row) (omega arith)) (le_of_eq (sym whole)))) in
+    (le_trans (row_mono c.system (p.fields * height_of c.system + r + 1) (p.fields * height_of c.system + p.row) (omega arith))
+    (le_of_eq (sym whole)))) in
     record {
       rows = rows;
       split = split;

@@ -1,6 +1,6 @@
 //! A stream that is pushed in pieces.
-ghost use Rattle.std.specs.Prelude.{◌≡◌, ℕ, List, ◌^◌, ◌<◌, ◌≤◌, ◌↔◌, [], length, IsTrue, IsErr, OnOk, OnErr, IfOk, IfErr, Err};
-ghost use Rattle.vbi_words.specs.Geometry.{line_bytes};
+ghost use Rattle.std.specs.Prelude.{◌≡◌, ℕ, List, ◌+◌, ◌*◌, ◌^◌, ◌<◌, ◌≤◌, ◌↔◌, [], length, IsTrue, IsErr, OnOk, OnErr, IfOk, IfErr, Err};
+ghost use Rattle.vbi_words.specs.Geometry.{width_of, line_bytes};
 ghost use Rattle.vbi_field.specs.Claims.{Wrote};
 ghost use Rattle.vbi_field.specs.Document.{head_of};
 ghost use Rattle.vbi_field.specs.Outlet.{failures_of, written_of, IsFresh, IsSameDevice};
@@ -119,6 +119,7 @@ impl Feeder {
         ensures refused { IsTrue self.has_failed ↔ (result ≡ Err RunFault.Failed) }
         ensures unwritten { IsTrue self.has_failed → outlet.new ≡ outlet.old }
         ensures looked { IfOk result (λ s. s.looked ≡ self.looked) }
+        ensures few_looks { IfOk result (λ s. s.looked ≤ 6 * width_of self.config.system * (s.fields + 1)) }
         ensures fault { IfErr result (IsEndFault outlet.old outlet.new) }
         ensures finished { (z : List ℕ) → StandsAt self z → IsFinished W.contents self.config outlet.old outlet.new z result }
     {

@@ -7,7 +7,8 @@ use Rattle.vbi_field.proofs.pieces.take_bytes.Goals as goal
 
 pub returns-then-progress-max_fields-clause-step : goal.returns-then-progress-max_fields-clause-step
 returns-then-progress-max_fields-clause-step g c = λ z at.
-    too_many g.W.Write.contents c.args.config.now c.args.line.now c.args.progress.now c.requires.stand z at c.args.outlet.now c.args.bytes.now c.requires.some
+    too_many g.W.Write.contents c.args.config.now c.args.line.now c.args.progress.now c.requires.stand z at c.args.outlet.now
+    c.args.bytes.now c.requires.some
     (c.if-progress-max_fields.true ∙ c.max_fields.ensures.value)
 
 pub returns-else-is_full-clause-step : goal.returns-else-is_full-clause-step
@@ -34,11 +35,13 @@ returns-in_default-clause-step g c =
     let last = c.if-progress-max_fields.false in
     let left : c.args.progress.now.fields < c.args.config.now.max_fields = omega (arith, c.max_fields.ensures.value) in
     let came = row_held c.args.config.now c.copy_in-count.new.line.system c.is_selected.result b c.args.progress.now.row c.read_held-reading.result
-    c.is_selected.ensures (c.copy_in-count.ensures.rest.system ∙ st.system) (c.is_full.ensures.0 c.if-is_full.true) c.read_held-reading.ensures.shows in
+    c.is_selected.ensures (c.copy_in-count.ensures.rest.system ∙ st.system) (c.is_full.ensures.0 c.if-is_full.true)
+    c.read_held-reading.ensures.shows in
     λ z at.
     let s = before g.W.Write.contents c.args.config.now c.args.line.now c.args.progress.now st z at in
     fed_row g.W.Write.contents c.args.config.now c.args.line.now c.args.progress.now st z at
-    (take c.copy_in-count.result c.args.bytes.now) b c.copy_in-count.ensures.held le left c.read_held-reading.new.line c.advance.new.self c.args.outlet.now
+    (take c.copy_in-count.result c.args.bytes.now) b c.copy_in-count.ensures.held le left c.read_held-reading.new.line c.advance.new.self
+    c.args.outlet.now
     c.read_held-reading.ensures.held (c.in_default.ensures.over s.rows b s.position came) c.in_default.ensures.counts.0
 
 pub returns-in_default-put-clause-step : goal.returns-in_default-put-clause-step
@@ -50,7 +53,8 @@ returns-in_default-put-clause-step g c =
     let last = c.if-progress-max_fields.false in
     let left : c.args.progress.now.fields < c.args.config.now.max_fields = omega (arith, c.max_fields.ensures.value) in
     let came = row_held c.args.config.now c.copy_in-count.new.line.system c.is_selected.result b c.args.progress.now.row c.read_held-reading.result
-    c.is_selected.ensures (c.copy_in-count.ensures.rest.system ∙ st.system) (c.is_full.ensures.0 c.if-is_full.true) c.read_held-reading.ensures.shows in
+    c.is_selected.ensures (c.copy_in-count.ensures.rest.system ∙ st.system) (c.is_full.ensures.0 c.if-is_full.true)
+    c.read_held-reading.ensures.shows in
     let counts = c.in-Some.ensures.counts in
     λ z at.
     let s = before g.W.Write.contents c.args.config.now c.args.line.now c.args.progress.now st z at in
@@ -70,7 +74,8 @@ returns-in-Err-clause-step g c =
     let last = c.if-progress-max_fields.false in
     let left : c.args.progress.now.fields < c.args.config.now.max_fields = omega (arith, c.max_fields.ensures.value) in
     let came = row_held c.args.config.now c.copy_in-count.new.line.system c.is_selected.result b c.args.progress.now.row c.read_held-reading.result
-    c.is_selected.ensures (c.copy_in-count.ensures.rest.system ∙ st.system) (c.is_full.ensures.0 c.if-is_full.true) c.read_held-reading.ensures.shows in
+    c.is_selected.ensures (c.copy_in-count.ensures.rest.system ∙ st.system) (c.is_full.ensures.0 c.if-is_full.true)
+    c.read_held-reading.ensures.shows in
     let counts = c.in-Some.ensures.counts in
     λ z at.
     let s = before g.W.Write.contents c.args.config.now c.args.line.now c.args.progress.now st z at in

@@ -11,7 +11,8 @@ pub loop-at-preserved : goal.loop-at-preserved
 loop-at-preserved g c =
     let e = c.in-Ok.ensures in
     let le : c.loop-at.at ≤ length c.args.piece.now = omega (arith, c.loop-at-test.true) in
-    taken_more _ _ c.loop-at.self-inside _ _ _ _ _ _ c.loop-at.invariant refl _ _ _ c.take_bytes.ensures.step c.in-Ok.count c.in-Ok.is le e.some.1 e.same e.stand e.rises
+    taken_more _ _ c.loop-at.self-inside _ _ _ _ _ _ c.loop-at.invariant refl _ _ _ c.take_bytes.ensures.step c.in-Ok.count
+    c.in-Ok.is le e.some.1 e.same e.stand e.rises
 
 pub returns-in-Err-clause-refused : goal.returns-in-Err-clause-refused
 returns-in-Err-clause-refused g c =
