@@ -357,14 +357,18 @@ fn reads_127_levels_and_no_more(rt: HostRuntime) -> Result<(), Fail> {
     Ok(())
 }
 
+fn zeros(alloc: Global, count: usize) -> Result<Vec<u8>, AllocError> {
+    vec![in alloc; 0; count]
+}
+
 #[test]
 fn reads_no_more_than_the_limit(rt: HostRuntime) -> Result<(), Fail> {
     let alloc = rt.alloc();
-    let zeros = vec![in alloc; 0_u8; META_LIMIT + 1]?;
-    let zeros = zeros.as_slice();
-    assert_eq!(rt; zeros.len(), META_LIMIT + 1);
-    assert_eq!(rt; read_meta(alloc, zeros).err(), Some(MetaFault::TooLarge));
-    let found = read_meta(alloc, &zeros[..META_LIMIT]).err();
+    let bytes = zeros(alloc, META_LIMIT + 1)?;
+    let found = read_meta(alloc, bytes.as_slice()).err();
+    assert_eq!(rt; found, Some(MetaFault::TooLarge));
+    let bytes = zeros(alloc, META_LIMIT)?;
+    let found = read_meta(alloc, bytes.as_slice()).err();
     assert_eq!(rt; found, Some(MetaFault::NotJson));
     Ok(())
 }
