@@ -1,3 +1,13 @@
 pub mod FillSteps
+pub mod Ending
+pub mod OneOutcome
+pub mod OneReading
+pub mod Packs
 pub mod Parts
+pub mod RunLoop
+pub mod RunSteps
 pub mod Sizes
+pub mod StoreMemory
+pub mod Slicing
+pub mod SmoothRuns
+pub mod Steps

@@ -1,11 +1,10 @@
--- A part of a list.
+-- A part of a list, and a list with a part written over.
 use Rattle.std.proofs.Common.{◌≡◌, ℕ, ◌+◌, ◌-◌, ◌≤◌, List, ◌++◌, length, take, drop, refl, sym, ap, ◌∙◌, arith}
-use Rattle.std.proofs.lemmas.List.{length-take-le, take-append-le, drop-take, drop-drop, length-drop}
-use Rattle.std.proofs.Math.Seq.{take-append-add}
-
--- how long the part is
-pub length-part : (xs : List ℕ) (h e : ℕ) → h ≤ e → e ≤ length xs → length (take (e - h) (drop h xs)) ≡ e - h
-length-part xs h e le inside = let l = length-drop h xs in length-take-le (e - h) (drop h xs) (omega arith)
+use Rattle.std.proofs.lemmas.List.{length-take-le, take_at, take-append-le, drop-take, drop-drop, length-drop}
+use Rattle.std.proofs.Math.Seq.{take-append-add, drop_at}
+use Rattle.std.specs.List.{refill, length_refill}
+use Rattle.vbi_line.specs.StoreLends.{with_part}
+use Rattle.vbi_line.proofs.StoreMemory.{length-part}
 
 -- a part without its first n
 pub drop-part : (xs : List ℕ) (h e n : ℕ) → h + n ≤ e
@@ -16,11 +15,20 @@ drop-part xs h e n le =
     ∙ sym (drop-take n (e - (h + n)) (drop h xs))
     ∙ ap (λ k. drop n (take k (drop h xs))) same
 
--- the front and what was written behind it
-pub take-written : (xs ys rest : List ℕ) (h n : ℕ) → h ≤ length xs → n ≤ length ys
-    → take (h + n) (take h xs ++ (ys ++ rest)) ≡ take h xs ++ take n ys
-take-written xs ys rest h n inside few =
-    let front : length (take h xs) ≡ h = length-take-le h xs inside in
-    ap (λ k. take (k + n) (take h xs ++ (ys ++ rest))) (sym front)
-    ∙ take-append-add (take h xs) (ys ++ rest) n
-    ∙ ap (λ l. take h xs ++ l) (take-append-le n ys rest few)
+-- what stands before a part stays where the part is written over
+pub take-with_part : (xs : List ℕ) (from to : ℕ) (w : List ℕ) → from ≤ to → to ≤ length xs
+    → take from (with_part xs from to w) ≡ take from xs
+take-with_part xs from to w le inside = take_at (take from xs) _ from (length-take-le from xs (omega arith))
+
+-- the part is then what was written
+pub part-with_part : (xs : List ℕ) (from to : ℕ) (w : List ℕ) → from ≤ to → to ≤ length xs
+    → take (to - from) (drop from (with_part xs from to w))
+    ≡ refill (length (take (to - from) (drop from xs))) (take (to - from) (drop from xs)) w
+part-with_part xs from to w le inside =
+    let part = take (to - from) (drop from xs) in
+    let counted : length part ≡ to - from = length-part xs from to le inside in
+    let written = refill (to - from) part w in
+    let long : length written ≡ to - from = sym (length_refill (to - from) part w (sym counted)) in
+    ap (take (to - from)) (drop_at (take from xs) (written ++ drop to xs) from (length-take-le from xs (omega arith)))
+    ∙ take_at written (drop to xs) (to - from) long
+    ∙ ap (λ k. refill k part w) (sym counted)

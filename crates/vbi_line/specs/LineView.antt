@@ -1,4 +1,4 @@
--- How the fields of the buffer are seen.
+-- How the fields of the buffer of a line are seen (this project's own).
 use Rattle.std.specs.Prelude.{◌≡◌, ℕ, ◌+◌, ◌-◌, ◌*◌, ◌^◌, ◌<◌, ◌≤◌, List, [], ◌∷◌, length, take, drop}
 use Rattle.vbi_words.specs.Geometry.{width_of, line_bytes}
 use Rattle.vbi_line.specs.Line.{Line}
@@ -8,14 +8,14 @@ use Rattle.vbi_line.specs.declared.line.LineBuf.TheInside.{Inside}
 abbrev pub line_of : Inside → Line
 line_of b = record {
   system = b.system;
-  held = take b.held b.bytes;
-  room = take (line_bytes b.system - b.held) (drop b.held b.bytes);
+  held = take b.held b.store.bytes;
+  room = take (line_bytes b.system - b.held) (drop b.held b.store.bytes);
   cursors = take b.passes (b.cursor ∷ b.earlier ∷ []);
   looked = b.looked;
 }
 
 pub record IsLine (b : Inside) : Type 0 where
-  pub bytes : length b.bytes ≡ 2270
+  pub bytes : length b.store.bytes ≡ 2270
   pub held : b.held ≤ line_bytes b.system
   pub passes : b.passes ≤ 2
   pub cursor : b.cursor ≤ width_of b.system

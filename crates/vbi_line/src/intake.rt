@@ -1,12 +1,17 @@
 //! The intake of one line from a reader.
-ghost use Rattle.std.specs.Prelude.{◌≡◌, ◌+◌, ◌*◌, ◌^◌, ◌<◌, ◌≤◌, [], length, IfOk, OnOk, OnErr, Ok};
+ghost use Rattle.std.specs.Prelude.{◌≡◌, ◌+◌, ◌*◌, ◌^◌, ◌<◌, ◌≤◌, [], ◌∷◌, length, IfOk, OnOk, OnErr, Ok};
 ghost use Rattle.vbi_words.specs.Geometry.{width_of, line_bytes};
-ghost use Rattle.vbi_line.specs.Line.{IsFull, KeepsBytes, IsCleared};
 ghost use Rattle.vbi_words.specs.Levels.{row_levels};
+ghost use Rattle.vbi_words.specs.Outcomes.{IsOutcome};
+ghost use Rattle.vbi_words.specs.Readings.{IsReading};
+ghost use Rattle.vbi_line.specs.Line.{IsFull, KeepsBytes, IsCleared};
+ghost use Rattle.vbi_line.specs.OneOutcome.{outcome_of};
 ghost use Rattle.vbi_line.specs.OneReading.{reading_of};
 
 use crate::counted::{Counted, Fail};
 use crate::line::LineBuf;
+use crate::plain::read_line;
+use crate::twice::read_twice;
 use std::io::Read;
 use vbi_words::{Levels, Outcome, Reading, System};
 
@@ -79,8 +84,10 @@ impl<'a, R: Read> Intake<'a, R> {
     {
         let mut tries = 0u32;
         loop {
-            match self.line.fill_from(&mut self.device) {
+            let room = self.line.room();
+            match self.device.read_once(room) {
                 Ok(count) => {
+                    self.line.commit(count);
                     self.fetched += count as u64;
                     if self.line.is_full() {
                         return Ok(Filled::Full);
@@ -96,25 +103,40 @@ impl<'a, R: Read> Intake<'a, R> {
         }
     }
 
-    // STAND-IN, to be dropped by the merger, with `specs/OneReading.antt`.
-    /// The reading of the line that is held.
-    #[tactic(auto, unfolding(crate::specs::OneReading::reading_of))]
+    /// The outcome of the line that is held, by one pass over its samples; columns in it are counted from 0.
+    pub fn outcome(&mut self, levels: Levels) -> Outcome
+        requires full { IsFull (line_of self.old) }
+        requires passes { (line_of self.old).cursors ≡ [] }
+        requires looked { (line_of self.old).looked ≤ 2 ^ 61 }
+        ensures outcome { IsOutcome (line_of self.old).system (row_levels levels (held_of self.old)) result }
+        ensures same { result ≡ outcome_of (line_of self.old).system (row_levels levels (held_of self.old)) }
+
+        // One pass has looked at each sample once.
+        ensures reader { KeepsReader self.old self.new }
+        ensures bytes { KeepsBytes (line_of self.old) (line_of self.new) }
+        ensures pass { (line_of self.new).cursors ≡ width_of (line_of self.old).system ∷ [] }
+        ensures looked { (line_of self.new).looked ≡ (line_of self.old).looked + width_of (line_of self.old).system }
+    {
+        let system = self.line.system();
+        read_line(&mut self.line, system, levels)
+    }
+
+    /// The reading of the line that is held: its outcome, or the word that its smoothed levels show.
     pub fn reading(&mut self, levels: Levels) -> Reading
         requires full { IsFull (line_of self.old) }
-        requires fresh { (line_of self.old).cursors ≡ [] }
+        requires passes { (line_of self.old).cursors ≡ [] }
         requires looked { (line_of self.old).looked ≤ 2 ^ 61 }
-        ensures reading { result ≡ reading_of (line_of self.old).system (row_levels levels (held_of self.old)) }
-        ensures passes { length (line_of self.new).cursors ≤ 2 }
-        ensures least { (line_of self.old).looked ≤ (line_of self.new).looked }
-        ensures most { (line_of self.new).looked ≤ (line_of self.old).looked + 2 * width_of (line_of self.old).system }
-        ensures rest { KeepsReader self.old self.new }
+        ensures reading { IsReading (line_of self.old).system (row_levels levels (held_of self.old)) result }
+        ensures same { result ≡ reading_of (line_of self.old).system (row_levels levels (held_of self.old)) }
+
+        // One pass has looked at each sample once.
+        ensures reader { KeepsReader self.old self.new }
         ensures bytes { KeepsBytes (line_of self.old) (line_of self.new) }
+        ensures pass { (line_of self.new).cursors ≡ width_of (line_of self.old).system ∷ [] }
+        ensures looked { (line_of self.new).looked ≡ (line_of self.old).looked + width_of (line_of self.old).system }
     {
-        let _ = levels;
-        Reading {
-            outcome: Outcome::Blank,
-            pass: 0,
-        }
+        let system = self.line.system();
+        read_twice(&mut self.line, system, levels)
     }
 
     /// Holds nothing again.
