@@ -37,7 +37,7 @@ pub few_bytes_row : (s : System) → line_bytes s ≤ 2270
 few_bytes_row Ntsc = omega arith
 few_bytes_row Pal = omega arith
 
-pub few_looks : (s : System) → width_of s ≤ 1135
+pub few_looks : (s : System) → 2 * width_of s ≤ 2270
 few_looks Ntsc = omega arith
 few_looks Pal = omega arith
 
@@ -59,23 +59,24 @@ pub some_bytes : (s : System) → 0 < line_bytes s
 some_bytes Ntsc = lit< tt
 some_bytes Pal = lit< tt
 
-looks_some : (s : System) (f r old new : ℕ) → 15 ≤ r → r ≤ 17 → old ≤ width_of s * selected f r → new ≤ old + width_of s
-    → new ≤ width_of s * selected f (r + 1)
+-- the looks after a row that is read at most twice
+looks_some : (s : System) (f r old new : ℕ) → 15 ≤ r → r ≤ 17 → old ≤ 2 * width_of s * selected f r → new ≤ old + 2 * width_of s
+    → new ≤ 2 * width_of s * selected f (r + 1)
 looks_some Ntsc f r old new a b h k = omega arith
 looks_some Pal f r old new a b h k = omega arith
 
-looks_none : (s : System) (f r old new : ℕ) → old ≤ width_of s * selected f r → new ≤ old + 0 → new ≤ width_of s * selected f (r + 1)
+looks_none : (s : System) (f r old new : ℕ) → old ≤ 2 * width_of s * selected f r → new ≤ old + 0 → new ≤ 2 * width_of s * selected f (r + 1)
 looks_none Ntsc f r old new h k = omega arith
 looks_none Pal f r old new h k = omega arith
 
--- one row more
+-- the looks after one row more
 pub looks_next : (s : System) (f r old new : ℕ) (sel : Bool) → (IsTrue sel ↔ ((15 ≤ r) × (r ≤ 17)))
-    → old ≤ width_of s * selected f r → new ≤ old + cond sel (width_of s) 0 → new ≤ width_of s * selected f (r + 1)
+    → old ≤ 2 * width_of s * selected f r → new ≤ old + cond sel (2 * width_of s) 0 → new ≤ 2 * width_of s * selected f (r + 1)
 looks_next s f r old new true sels h k = let at = sels.0 refl in looks_some s f r old new at.0 at.1 h k
 looks_next s f r old new false sels h k = looks_none s f r old new h k
 
--- after the last row of a field
-pub looks_field : (s : System) (f r new : ℕ) → r + 1 ≡ height_of s → new ≤ width_of s * selected f (r + 1) → new ≤ width_of s * selected (f + 1) 0
+-- the looks after the last row of a field
+pub looks_field : (s : System) (f r new : ℕ) → r + 1 ≡ height_of s → new ≤ 2 * width_of s * selected f (r + 1) → new ≤ 2 * width_of s * selected (f + 1) 0
 looks_field Ntsc f r new e h = omega arith
 looks_field Pal f r new e h = omega arith
 
@@ -84,18 +85,12 @@ pub rows_past : (s : System) (r h : ℕ) → h < line_bytes s → (r * line_byte
 rows_past Ntsc r h lt = omega arith
 rows_past Pal r h lt = omega arith
 
-pub looks_twice : (s : System) (x n : ℕ) → x ≤ width_of s * n → x ≤ 2 * width_of s * n
-looks_twice Ntsc x n h = omega arith
-looks_twice Pal x n h = omega arith
+-- the bytes of rows before the last of some fields, and of an unfinished row behind them, are no more than these fields'
+pub within_rows : (s : System) (k m n : ℕ) → k < m * height_of s → n < line_bytes s → k * line_bytes s + n ≤ m * field_bytes s
+within_rows Ntsc k m n lt short = omega arith
+within_rows Pal k m n lt short = omega arith
 
--- after a row with which a field may be whole
-field_most : (s : System) (f r new : ℕ) → new ≤ width_of s * selected f r → new ≤ width_of s * selected (f + 1) 0
-field_most Ntsc f r new h = omega arith
-field_most Pal f r new h = omega arith
-
-pub looks_past : (s t : System) (f r f' r' old mid new : ℕ) (sel : Bool) → (IsTrue sel ↔ ((15 ≤ r) × (r ≤ 17))) → t ≡ s
-    → mid ≡ old → old ≤ width_of s * selected f r → new ≤ mid + cond sel (width_of t) 0 → r < height_of s → f' ≡ f + 1 → r' ≡ 0
-    → new ≤ width_of s * selected f' r'
-looks_past s t f r f' r' old mid new sel sels ts ms h k lt fs rs =
-    let e = ap (λ x. cond sel (width_of x) 0) ts in
-    rw (fs, rs) (field_most s f (r + 1) new (looks_next s f r old new sel sels h (omega arith)))
+-- nor are those of all rows
+pub within_all : (s : System) (k m n : ℕ) → k ≡ m * height_of s → n ≡ 0 → k * line_bytes s + n ≤ m * field_bytes s
+within_all Ntsc k m n e none = omega arith
+within_all Pal k m n e none = omega arith

@@ -1,4 +1,7 @@
 pub mod Counts
+pub mod Entries
+pub mod Going
 pub mod Growing
 pub mod Known
 pub mod PutSteps
+pub mod RunSteps

@@ -8,3 +8,4 @@ pub mod Outlet
 pub mod Progress
 pub mod Runs
 pub mod Takes
+pub mod Claims

@@ -79,6 +79,7 @@ impl Config {
     pub(crate) fn row_limit(&self) -> u64
         ensures value { result ≡ self.now.max_fields * height_of self.now.system }
         ensures few { result ≤ 313000000 }
+        ensures fields { self.now.max_fields ≤ 1000000 }
     {
         match self.system {
             System::Ntsc => u64::from(self.max_fields) * 263,
