@@ -2,7 +2,9 @@ pub mod Setup
 pub mod Stream
 pub mod Texts
 pub mod CauseTexts
+pub mod CodeTexts
 pub mod Document
+pub mod Report
 pub mod Position
 pub mod Outlet
 pub mod Progress

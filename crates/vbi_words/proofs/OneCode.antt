@@ -1,15 +1,11 @@
 -- A word has one code: no two patterns have a word in common.
-use Rattle.std.proofs.Common.{◌≡◌, ℕ, suc, zero, ◌≤◌, ◌<◌, ◌+◌, ◌-◌, ◌*◌, ◌%◌, Bool, true, false, ltb, ◌&&◌, ◌||◌, List, [], ◌∷◌, length, get_or, ◌⊎◌, inl, inr, refl, ap, sym, ◌∙◌, arith, lit<, lit≤}
-use Rattle.std.proofs.lemmas.Bool.{ltb-true}
+use Rattle.std.proofs.Common.{◌≡◌, ℕ, suc, zero, ◌≤◌, ◌<◌, ◌+◌, ◌-◌, ◌*◌, ◌%◌, Bool, true, false, ltb, leb, ◌&&◌, ◌||◌, List, [], ◌∷◌, length, get_or, cond, ◌⊎◌, inl, inr, refl, ap, sym, ◌∙◌, subst, arith, lit<, lit≤}
+use Rattle.std.proofs.lemmas.Bool.{ltb-true, leb-true, le-leb}
+use Rattle.std.specs.List.{list_all}
 use Rattle.vbi_words.specs.declared.code.Code.{Code}
 use Rattle.vbi_words.specs.declared.code.Code.TheVariants.{Picture, Chapter, Time, ClvPicture, CxOn, CxOff, Users, LeadIn, LeadOut, PictureStop, ClvMark, Other}
-use Rattle.vbi_words.specs.Codes.{digit_of, last_three, IsBetween, HasPattern, IsCode}
-
--- a row of the table: the numbers of its pattern, and the code
-pub record Row : Type 0 where
-  pub least : ℕ
-  pub greatest : ℕ
-  pub code : Code
+use Rattle.vbi_words.specs.Codes.{digit_of, IsBetween, HasPattern, IsCode}
+use Rattle.vbi_words.specs.CodeTable.{Row, rows_of, first_code, fits, code_of}
 
 -- the word matches the pattern of the row
 abbrev pub Fits : ℕ → Row → Type 0
@@ -99,24 +95,8 @@ one_row word (r ∷ rows) e (suc i) zero k l x y = absurd (later-not word r rows
 one_row word (r ∷ rows) e (suc i) (suc j) k l x y =
     ap suc (one_row word rows (both (apart_from r rows) (all_apart rows) e).1 i j (omega arith) (omega arith) x y)
 
--- the table at a word
-abbrev table : ℕ → List Row
-table word =
-    record { least = 0x88FFFF; greatest = 0x88FFFF; code = LeadIn }
-    ∷ record { least = 0x80EEEE; greatest = 0x80EEEE; code = LeadOut }
-    ∷ record { least = 0xF00000; greatest = 0xFF9999; code = Picture (10000 * (digit_of word 2 % 8) + 1000 * digit_of word 3 + 100 * digit_of word 4 + 10 * digit_of word 5 + digit_of word 6) }
-    ∷ record { least = 0x82CFFF; greatest = 0x82CFFF; code = PictureStop }
-    ∷ record { least = 0x800DDD; greatest = 0x8F9DDD; code = Chapter (10 * (digit_of word 2 % 8) + digit_of word 3) }
-    ∷ record { least = 0x87FFFF; greatest = 0x87FFFF; code = ClvMark }
-    ∷ record { least = 0xF0DD00; greatest = 0xF9DD99; code = Time (digit_of word 2) (10 * digit_of word 5 + digit_of word 6) }
-    ∷ record { least = 0x8AE000; greatest = 0x8FE999; code = ClvPicture (10 * (digit_of word 2 - 10) + digit_of word 4) (10 * digit_of word 5 + digit_of word 6) }
-    ∷ record { least = 0x8DC000; greatest = 0x8DCFFF; code = CxOn (last_three word) }
-    ∷ record { least = 0x8BA000; greatest = 0x8BAFFF; code = CxOff (last_three word) }
-    ∷ record { least = 0x80D000; greatest = 0x87DFFF; code = Users (digit_of word 2) (last_three word) }
-    ∷ []
-
 abbrev Found : ℕ → Code → Type 0
-Found word code = (i : ℕ) × (i < 11) × Fits word (get_or (table word) i none) × (code ≡ (get_or (table word) i none).code)
+Found word code = (i : ℕ) × (i < 11) × Fits word (get_or (rows_of word) i none) × (code ≡ (get_or (rows_of word) i none).code)
 
 -- the code is `Other`, and the word matches no pattern, or it stands in the table
 found : (word : ℕ) (code : Code) → IsCode word code → ((code ≡ Other) × ((c : Code) → HasPattern word c → ⊥)) ⊎ (HasPattern word code × Found word code)
@@ -143,5 +123,125 @@ one_code word c d x y = go (found word c x) (found word d y)
     go (inl a) (inr b) = absurd (a.1 d b.0)
     go (inr a) (inl b) = absurd (b.1 c a.0)
     go (inr (p, (i, k, fi, ci))) (inr (q, (j, l, fj, cj))) =
-        let same : i ≡ j = one_row word (table word) refl i j k l fi fj in
-        ci ∙ ap (λ (n : ℕ). (get_or (table word) n none).code) same ∙ sym cj
+        let same : i ≡ j = one_row word (rows_of word) refl i j k l fi fj in
+        ci ∙ ap (λ (n : ℕ). (get_or (rows_of word) n none).code) same ∙ sym cj
+
+-- ---- the code as a function
+
+bounds : (low x high : ℕ) → leb low x && leb x high ≡ true → (low ≤ x) × (x ≤ high)
+bounds low x high e = (leb-true low x (both (leb low x) (leb x high) e).0, leb-true x high (both (leb low x) (leb x high) e).1)
+
+abbrev test : ℕ → Row → ℕ → Bool
+test word row place = leb (digit_of row.least place) (digit_of word place) && leb (digit_of word place) (digit_of row.greatest place)
+
+abbrev tests : ℕ → Row → List ℕ → Bool
+tests word row places = list_all (test word row) places
+
+-- the test is that of the relation
+fits-between : (word : ℕ) (row : Row) → fits word row ≡ true → Fits word row
+fits-between word row e = go
+  where
+    first : (test word row 1 ≡ true) × (tests word row (2 ∷ 3 ∷ 4 ∷ 5 ∷ 6 ∷ []) ≡ true)
+    first = both (test word row 1) (tests word row (2 ∷ 3 ∷ 4 ∷ 5 ∷ 6 ∷ [])) e
+
+    second : (test word row 2 ≡ true) × (tests word row (3 ∷ 4 ∷ 5 ∷ 6 ∷ []) ≡ true)
+    second = both (test word row 2) (tests word row (3 ∷ 4 ∷ 5 ∷ 6 ∷ [])) first.1
+
+    third : (test word row 3 ≡ true) × (tests word row (4 ∷ 5 ∷ 6 ∷ []) ≡ true)
+    third = both (test word row 3) (tests word row (4 ∷ 5 ∷ 6 ∷ [])) second.1
+
+    fourth : (test word row 4 ≡ true) × (tests word row (5 ∷ 6 ∷ []) ≡ true)
+    fourth = both (test word row 4) (tests word row (5 ∷ 6 ∷ [])) third.1
+
+    fifth : (test word row 5 ≡ true) × (tests word row (6 ∷ []) ≡ true)
+    fifth = both (test word row 5) (tests word row (6 ∷ [])) fourth.1
+
+    sixth : (test word row 6 ≡ true) × (tests word row [] ≡ true)
+    sixth = both (test word row 6) (tests word row []) fifth.1
+
+    go : Fits word row
+    go zero low high = absurd (omega arith)
+    go (suc zero) low high = bounds _ _ _ first.0
+    go (suc (suc zero)) low high = bounds _ _ _ second.0
+    go (suc (suc (suc zero))) low high = bounds _ _ _ third.0
+    go (suc (suc (suc (suc zero)))) low high = bounds _ _ _ fourth.0
+    go (suc (suc (suc (suc (suc zero))))) low high = bounds _ _ _ fifth.0
+    go (suc (suc (suc (suc (suc (suc zero)))))) low high = bounds _ _ _ sixth.0
+    go (suc (suc (suc (suc (suc (suc (suc n))))))) low high = absurd (omega arith)
+
+and_true : (a b : Bool) → a ≡ true → b ≡ true → a && b ≡ true
+and_true true true x y = refl
+and_true true false x y = y
+and_true false b x y = x
+
+between-fits : (word : ℕ) (row : Row) → Fits word row → fits word row ≡ true
+between-fits word row x =
+    and_true (test word row 1) (tests word row (2 ∷ 3 ∷ 4 ∷ 5 ∷ 6 ∷ [])) (at 1 (lit≤ tt) (lit≤ tt))
+    (and_true (test word row 2) (tests word row (3 ∷ 4 ∷ 5 ∷ 6 ∷ [])) (at 2 (lit≤ tt) (lit≤ tt))
+    (and_true (test word row 3) (tests word row (4 ∷ 5 ∷ 6 ∷ [])) (at 3 (lit≤ tt) (lit≤ tt))
+    (and_true (test word row 4) (tests word row (5 ∷ 6 ∷ [])) (at 4 (lit≤ tt) (lit≤ tt))
+    (and_true (test word row 5) (tests word row (6 ∷ [])) (at 5 (lit≤ tt) (lit≤ tt))
+    (and_true (test word row 6) (tests word row []) (at 6 (lit≤ tt) (lit≤ tt)) refl)))))
+  where
+    at : (place : ℕ) → 1 ≤ place → place ≤ 6 → test word row place ≡ true
+    at place low high =
+        and_true (leb (digit_of row.least place) (digit_of word place)) (leb (digit_of word place) (digit_of row.greatest place))
+        (le-leb _ _ (x place low high).0) (le-leb _ _ (x place low high).1)
+
+-- P holds of each row, one after the other
+abbrev Each : (Row → Type 0) → List Row → Type 0
+Each P [] = Unit {0}
+Each P (row ∷ rows) = P row × Each P rows
+
+-- what holds of the code of each row that the word fits, and of `Other` where it fits none, holds of the first code
+first_has : (P : Code → Type 0) (word : ℕ) (rows : List Row) → Each (λ row. Fits word row → P row.code) rows
+    → (Each (λ row. Fits word row → ⊥) rows → P Other) → P (first_code word rows)
+first_has P word [] each other = other tt
+first_has P word (row ∷ rows) each other = go (λ f. first_has P word rows each.1 (λ none. other (f, none))) (fits word row) refl
+  where
+    go : ((Fits word row → ⊥) → P (first_code word rows)) → (b : Bool) → fits word row ≡ b → P (cond b row.code (first_code word rows))
+    go later true e = each.0 (fits-between word row e)
+    go later false e = later (λ x. absurd (let h : fits word row ≡ true = between-fits word row x in cc))
+
+-- the function gives the word's code
+pub code_of_is : (word : ℕ) → IsCode word (code_of word)
+unfolding code_of
+code_of_is word = first_has (IsCode word) word (rows_of word) (
+  (λ x. (x, tt)),
+  (
+    (λ x. (x, tt)),
+    (
+      (λ x. (x, refl)),
+      (
+        (λ x. (x, tt)),
+        (
+          (λ x. (x, refl)),
+          (
+            (λ x. (x, tt)),
+            (
+              (λ x. (x, (refl, refl))),
+              ((λ x. (x, (refl, refl))), ((λ x. (x, refl)), ((λ x. (x, refl)), ((λ x. (x, (refl, refl))), tt)))),
+            ),
+          ),
+        ),
+      ),
+    ),
+  ),
+) other
+  where
+    other : Each (λ row. Fits word row → ⊥) (rows_of word) → (code : Code) → HasPattern word code → ⊥
+    other none LeadIn x = none.0 x
+    other none LeadOut x = none.1.0 x
+    other none (Picture n) x = none.1.1.0 x
+    other none PictureStop x = none.1.1.1.0 x
+    other none (Chapter n) x = none.1.1.1.1.0 x
+    other none ClvMark x = none.1.1.1.1.1.0 x
+    other none (Time h m) x = none.1.1.1.1.1.1.0 x
+    other none (ClvPicture s p) x = none.1.1.1.1.1.1.1.0 x
+    other none (CxOn n) x = none.1.1.1.1.1.1.1.1.0 x
+    other none (CxOff n) x = none.1.1.1.1.1.1.1.1.1.0 x
+    other none (Users d n) x = none.1.1.1.1.1.1.1.1.1.1.0 x
+    other none Other x = x
+
+pub only_code_of : (word : ℕ) (code : Code) → IsCode word code → code ≡ code_of word
+only_code_of word code x = one_code word code (code_of word) x (code_of_is word)

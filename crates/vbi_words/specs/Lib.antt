@@ -10,3 +10,4 @@ pub mod Drawn
 pub mod WorkedLines
 pub mod Codes
 pub mod Formats
+pub mod CodeTable

@@ -2,6 +2,7 @@
 
 ghost use Rattle.std.specs.Prelude.{◌≡◌, ◌↔◌, ◌≤◌, ◌<◌, ◌+◌, ◌-◌, ◌*◌, IsTrue};
 ghost use Rattle.vbi_words.specs.declared.code.Code.{Code};
+ghost use Rattle.vbi_words.specs.CodeTable.{code_of};
 ghost use Rattle.vbi_words.specs.Codes.{digit_of, IsBetween, last_three, HasNumbers, IsCode};
 
 use crate::word::Word24;
@@ -50,8 +51,8 @@ pub enum Code {
     Other,
 }
 
-/// The word's hexadecimal digit at a place from 1 to 6, the most significant first.
-fn digit(word: u32, place: u32) -> u8
+/// A number's hexadecimal digit at a place from 1 to 6, of which 1 is the sixth from the right and 6 the last.
+pub fn digit(word: u32, place: u32) -> u8
     requires low { 1 ≤ place }
     requires high { place ≤ 6 }
     ensures digit { result ≡ digit_of word place }
@@ -100,7 +101,7 @@ fn seconds(word: u32) -> u8
 }
 
 /// The code of the word.
-fn code_of(word: u32) -> Code
+fn code_of_number(word: u32) -> Code
     ensures { IsCode word result }
 {
     if is_between(word, 0x88FFFF, 0x88FFFF) {
@@ -143,6 +144,7 @@ fn code_of(word: u32) -> Code
 pub fn classify(word: Word24) -> Code
     ensures is { IsCode word result }
     ensures only { (code : Code) → IsCode word code → code ≡ result }
+    ensures value { result ≡ code_of word }
 {
-    code_of(word.value())
+    code_of_number(word.value())
 }

@@ -1,6 +1,7 @@
 //! The format of a field.
 
-ghost use Rattle.std.specs.Prelude.{◌↔◌, IsTrue};
+ghost use Rattle.std.specs.Prelude.{◌≡◌, ◌↔◌, IsTrue};
+ghost use Rattle.vbi_words.specs.CodeTable.{format_of_lines};
 ghost use Rattle.vbi_words.specs.Formats.{IsCavLine, IsClvLine, IsFormat};
 
 use crate::code::{Code, classify};
@@ -42,8 +43,8 @@ fn is_clv(line: Option<Word24>) -> bool
     }
 }
 
-/// The format of a field whose lines 16, 17 and 18 have these words; lines without a word count for nothing.
-pub fn format_of(words: &[Option<Word24>; 3]) -> Format
+/// The format of lines with these words.
+fn find_format(words: &[Option<Word24>; 3]) -> Format
     ensures { IsFormat words.now result }
 {
     let cav = is_cav(words[0]) || is_cav(words[1]) || is_cav(words[2]);
@@ -57,4 +58,12 @@ pub fn format_of(words: &[Option<Word24>; 3]) -> Format
     } else {
         Format::Neither
     }
+}
+
+/// The format of a field whose lines 16, 17 and 18 have these words; lines without a word count for nothing.
+pub fn format_of(words: &[Option<Word24>; 3]) -> Format
+    ensures is { IsFormat words.now result }
+    ensures value { result ≡ format_of_lines words.now }
+{
+    find_format(words)
 }
