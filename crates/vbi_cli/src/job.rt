@@ -1,15 +1,18 @@
 //! A job: settings from metadata and options, and then the command.
 
-ghost use Rattle.std.specs.Prelude.{◌≡◌, IfOk, IfErr, option_map};
-ghost use Rattle.vbi_cli.specs.Jobs.{Settles, Refuses};
+ghost use Rattle.std.specs.Prelude.{◌≡◌, ◌≢◌, IfOk, IfErr, Err, option_map};
+ghost use Rattle.vbi_field.specs.Document.{document};
+ghost use Rattle.vbi_field.specs.Setup.{Setup};
+ghost use Rattle.vbi_cli.specs.Jobs.{Settles, Refuses, Did, DidLine, DidStream, WasShort, HadTooMany, IfMeta, IfShort, IfTooMany, IsEndedBy};
 ghost use Rattle.vbi_cli.specs.Statuses.{app_status};
 
 use crate::fault::AppFault;
+use crate::one_line::{LineFault, run_line};
 use crate::words::{Job, Verb};
 use std::alloc::Global;
-use std::io;
 use std::io::{Read, Write};
-use vbi_field::Config;
+use vbi_field::{Config, Outlet, RunFault, Summary, extract};
+use vbi_line::Intake;
 use vbi_meta::{MetaFault, read_meta, settings};
 
 /// How a job ended that is done.
@@ -32,8 +35,44 @@ pub fn status(ended: &Result<Ended, AppFault>) -> u8
     }
 }
 
+/// Settles the settings from metadata and the job's options, and then does what the job says. The paths in the job aren't
+/// looked at. Memory is taken for the metadata document alone. It doesn't flush.
+pub fn run_job<R: Read, W: Write>(
+    alloc: Global,
+    job: &Job,
+    meta: Option<&[u8]>,
+    input: &mut R,
+    output: &mut W,
+) -> Result<Ended, AppFault>
+    ensures done { IfOk result (λ ended. (c : Setup) × (Settles (option_map (λ b. b.now) meta.entry) job.now.overrides c
+        × Did c (R.remaining input.old) (R.remaining input.new) (W.contents output.old) (W.contents output.new)
+        job.now.verb ended)) }
+
+    // Nothing was read or written then.
+    ensures refused { IfErr result (λ e. IfMeta e (λ fault.
+        Refuses (option_map (λ b. b.now) meta.entry) job.now.overrides fault
+        × (input.new ≡ input.old) × (output.new ≡ output.old))) }
+    ensures short { IfErr result (λ e. IfShort e (λ bytes wanted. (job.now.verb ≡ Verb.Line)
+        × ((c : Setup) × (Settles (option_map (λ b. b.now) meta.entry) job.now.overrides c
+        × WasShort c (R.remaining input.old) (R.remaining input.new) (W.contents output.old) (W.contents output.new)
+        bytes wanted)))) }
+    ensures too_many { IfErr result (λ e. IfTooMany e
+        ((c : Setup) × (Settles (option_map (λ b. b.now) meta.entry) job.now.overrides c
+        × HadTooMany c (R.remaining input.old)))) }
+{
+    let config = match config_of(alloc, job, meta) {
+        Ok(config) => config,
+        Err(fault) => return Err(AppFault::Meta(fault)),
+    };
+    match job.verb {
+        Verb::Line => line_job(&config, input, output),
+        Verb::Extract => extract_job(&config, input, output),
+        Verb::Show | Verb::Draw => Ok(Ended::Whole),
+    }
+}
+
 /// What metadata and the job's options settle.
-pub fn config_of(alloc: Global, job: &Job, meta: Option<&[u8]>) -> Result<Config, MetaFault>
+fn config_of(alloc: Global, job: &Job, meta: Option<&[u8]>) -> Result<Config, MetaFault>
     ensures ok { IfOk result (Settles (option_map (λ b. b.now) meta.entry) job.now.overrides) }
     ensures err { IfErr result (Refuses (option_map (λ b. b.now) meta.entry) job.now.overrides) }
 {
@@ -46,33 +85,67 @@ pub fn config_of(alloc: Global, job: &Job, meta: Option<&[u8]>) -> Result<Config
     }
 }
 
-/// Settles the settings, and does what the job says; the job's paths aren't looked at.
-pub fn run_job<R: Read, W: Write>(
-    alloc: Global,
-    job: &Job,
-    meta: Option<&[u8]>,
+/// The command `line`.
+fn line_job<R: Read, W: Write>(
+    config: &Config,
     input: &mut R,
     output: &mut W,
-) -> Result<Ended, AppFault> {
-    let config = match config_of(alloc, job, meta) {
-        Ok(config) => config,
-        Err(fault) => return Err(AppFault::Meta(fault)),
-    };
-    match job.verb {
-        Verb::Line => match run_line(&config, input, output) {
-            Ok(()) => Ok(Ended::Whole),
-            Err(_) => Err(AppFault::Short {
-                bytes: 0,
-                wanted: 1820,
-            }),
-        },
-        _ => Ok(Ended::Whole),
+) -> Result<Ended, AppFault>
+    ensures done { IfOk result
+        (DidLine config.now (R.remaining input.old) (R.remaining input.new) (W.contents output.old) (W.contents output.new)) }
+    ensures short { IfErr result (λ e. IfShort e
+        (WasShort config.now (R.remaining input.old) (R.remaining input.new) (W.contents output.old) (W.contents output.new))) }
+    ensures refused { IfErr result (λ e. IfMeta e (λ _. ⊥)) }
+    ensures too_many { IfErr result (λ e. IfTooMany e ⊥) }
+{
+    let system = config.system();
+    let mut intake = Intake::new(input, system);
+    let mut outlet = Outlet::new(output);
+    let outcome = run_line(config, &mut intake, &mut outlet);
+    let _ = intake.into_reader();
+    let _ = outlet.into_writer();
+    match outcome {
+        Ok(_) => Ok(Ended::Whole),
+        Err(LineFault::Short { bytes }) => Err(AppFault::Short {
+            bytes,
+            wanted: 2 * system.width() as u16,
+        }),
+        Err(LineFault::Read { offset }) => Err(AppFault::ReadLine { offset }),
+        Err(LineFault::Write { written }) => Err(AppFault::Write { written }),
     }
 }
 
-fn run_line<R: Read, W: Write>(config: &Config, input: &mut R, output: &mut W) -> io::Result<()> {
-    let mut bytes = [0; 16];
-    let n = input.read(&mut bytes)?;
-    let _ = config;
-    output.write_all(&bytes[..n])
+/// The command `extract`.
+fn extract_job<R: Read, W: Write>(
+    config: &Config,
+    input: &mut R,
+    output: &mut W,
+) -> Result<Ended, AppFault>
+    ensures done { IfOk result (DidStream config.now (R.remaining input.old) (R.remaining input.new)
+        (W.contents output.old) (W.contents output.new) document) }
+    ensures too_many { IfErr result (λ e. IfTooMany e (HadTooMany config.now (R.remaining input.old))) }
+    ensures refused { IfErr result (λ e. IfMeta e (λ _. ⊥)) }
+    ensures short { IfErr result (λ e. IfShort e (λ _ _. ⊥)) }
+{
+    let mut intake = Intake::new(input, config.system());
+    let mut outlet = Outlet::new(output);
+    let summary = extract(config, &mut intake, &mut outlet);
+    let _ = intake.into_reader();
+    let _ = outlet.into_writer();
+    end_of(summary)
+}
+
+/// How a run over a stream ended, for the program.
+fn end_of(summary: Result<Summary, RunFault>) -> Result<Ended, AppFault>
+    requires { summary ≢ Err RunFault.Failed }
+    ensures { IsEndedBy summary result }
+{
+    match summary {
+        Ok(summary) if summary.cut.is_some() => Ok(Ended::CutField),
+        Ok(_) => Ok(Ended::Whole),
+        Err(RunFault::Read { field, offset }) => Err(AppFault::ReadField { field, offset }),
+        Err(RunFault::Write { written }) => Err(AppFault::Write { written }),
+        Err(RunFault::TooManyFields) => Err(AppFault::TooManyFields),
+        Err(RunFault::Failed) => unreachable!("a run never answers it"),
+    }
 }

@@ -8,6 +8,7 @@ mod commands;
 mod fault;
 mod input;
 mod job;
+mod one_line;
 mod words;
 
 use input::Input;
@@ -140,3 +141,8 @@ fn metadata(rt: &(impl Files + AllocGlobal), path: &str) -> Result<Vec<u8>, Main
         Err(_) => Err(MainFault::CannotReadMetadata),
     }
 }
+
+#[cfg(test)]
+mod job_tests;
+#[cfg(test)]
+mod words_tests;

@@ -1,0 +1,300 @@
+//! Jobs over memory: what is written, how they end, and the texts of their faults.
+
+use crate::fault::AppFault;
+use crate::job::{Ended, run_job, status};
+use crate::words::{Job, Verb};
+use std::alloc::{AllocError, Global};
+use std::io;
+use std::io::{Read, Write};
+use std::test::Fail;
+use vbi_meta::{MetaFault, Overrides};
+use vbi_words::{Levels, System, Word24, drawn_sample};
+
+const NONE: Overrides = Overrides {
+    system: None,
+    black: None,
+    white: None,
+    max_fields: None,
+};
+
+/// The levels of the stored run, whose samples are two spaces or two `@`.
+const STORED: Overrides = Overrides {
+    system: Some(System::Ntsc),
+    black: Some(8224),
+    white: Some(16448),
+    max_fields: None,
+};
+
+const PAL: Overrides = Overrides {
+    system: Some(System::Pal),
+    black: Some(16384),
+    white: Some(54016),
+    max_fields: None,
+};
+
+/// Metadata of an NTSC capture.
+const FULL: &[u8] =
+    b"{\"videoParameters\":{\"system\":\"NTSC\",\"fieldWidth\":910,\"fieldHeight\":263,\"black16bIre\":16384,\"white16bIre\":51200,\"sampleRate\":14318181.5},\"fields\":[]}";
+
+const BLACK_FIELD: &str =
+    "{\"version\":2,\"videoParameters\":{\"system\":\"NTSC\",\"fieldWidth\":910,\"fieldHeight\":263,\"black16bIre\":16384,\"white16bIre\":51200},\"fields\":[\n{\"seqNo\":1,\"vbi\":{\"vbiData\":[0,0,0]},\"vbiCause\":[\"blank\",\"blank\",\"blank\"],\"vbiPass\":[0,0,0]}\n],\"cutField\":null}\n";
+
+fn job(verb: Verb, overrides: Overrides) -> Job {
+    Job {
+        verb,
+        overrides,
+        meta: None,
+        input: None,
+    }
+}
+
+/// The bytes of a line on which a word is drawn.
+fn drawn(
+    alloc: Global,
+    system: System,
+    levels: Levels,
+    word: Word24,
+) -> Result<Vec<u8>, AllocError> {
+    let mut bytes = Vec::new(alloc);
+    for column in 0..system.width() {
+        let sample = drawn_sample(system, levels, Some(word), column);
+        bytes.push((sample % 256) as u8)?;
+        bytes.push((sample / 256) as u8)?;
+    }
+    Ok(bytes)
+}
+
+/// The input of the stored run.
+fn stored_line(alloc: Global) -> Result<Vec<u8>, Fail> {
+    let levels = Levels::new(8224, 16448)?;
+    Ok(drawn(alloc, System::Ntsc, levels, Word24::new(0x82_CFFF)?)?)
+}
+
+/// A reader of some bytes that fails after them.
+#[derive(Drop)]
+struct Breaks<'a> {
+    rest: &'a [u8],
+}
+
+impl Read for Breaks<'_> {
+    fn read(&mut self, buf: &mut [u8]) -> io::Result<usize> {
+        if self.rest.is_empty() {
+            return Err(io::Error::from(io::ErrorKind::Other));
+        }
+        let mut rest = self.rest;
+        let count = rest.read(buf)?;
+        self.rest = rest;
+        Ok(count)
+    }
+}
+
+/// A writer that takes so many bytes more, and then fails.
+#[derive(Drop)]
+struct Fills {
+    taken: Vec<u8>,
+    room: usize,
+}
+
+impl Write for Fills {
+    fn write(&mut self, buf: &[u8]) -> io::Result<usize> {
+        if self.room == 0 {
+            return Err(io::Error::from(io::ErrorKind::Other));
+        }
+        let count = buf.len().min(self.room);
+        self.taken.extend_from_slice(&buf[..count])?;
+        self.room -= count;
+        Ok(count)
+    }
+
+    fn flush(&mut self) -> io::Result<()> {
+        Ok(())
+    }
+}
+
+#[test]
+fn answers_a_line(rt: HostRuntime) -> Result<(), Fail> {
+    let alloc = rt.alloc();
+    let line = stored_line(alloc)?;
+    let mut input = line.as_slice();
+    let mut output = Vec::new(alloc);
+    let ended = run_job(
+        alloc,
+        &job(Verb::Line, STORED),
+        None,
+        &mut input,
+        &mut output,
+    );
+    assert_eq!(rt; ended, Ok(Ended::Whole));
+    assert_eq!(rt; output.as_slice(), b"82CFFF\n".as_slice());
+    assert_eq!(rt; input.len(), 0);
+
+    let spaces = vec![in alloc; b' '; 1821]?;
+    let mut input = spaces.as_slice();
+    let mut output = Vec::new(alloc);
+    let ended = run_job(
+        alloc,
+        &job(Verb::Line, STORED),
+        None,
+        &mut input,
+        &mut output,
+    );
+    assert_eq!(rt; ended, Ok(Ended::Whole));
+    assert_eq!(rt; output.as_slice(), b"blank\n".as_slice());
+    assert_eq!(rt; input.len(), 1);
+
+    let levels = Levels::new(16384, 54016)?;
+    let line = drawn(alloc, System::Pal, levels, Word24::new(0x8A_E012)?)?;
+    let mut input = line.as_slice();
+    let mut output = Vec::new(alloc);
+    let ended = run_job(alloc, &job(Verb::Line, PAL), None, &mut input, &mut output);
+    assert_eq!(rt; ended, Ok(Ended::Whole));
+    assert_eq!(rt; output.as_slice(), b"8AE012\n".as_slice());
+    Ok(())
+}
+
+#[test]
+fn names_the_faults_of_a_line(rt: HostRuntime) -> Result<(), Fail> {
+    let alloc = rt.alloc();
+    let line = stored_line(alloc)?;
+    let spaces = vec![in alloc; b' '; 1819]?;
+    let mut input = spaces.as_slice();
+    let mut output = Vec::new(alloc);
+    let ended = run_job(
+        alloc,
+        &job(Verb::Line, STORED),
+        None,
+        &mut input,
+        &mut output,
+    );
+    let short = AppFault::Short {
+        bytes: 1819,
+        wanted: 1820,
+    };
+    assert_eq!(rt; ended, Err(short));
+    assert!(rt; output.is_empty());
+
+    let mut input = Breaks { rest: b"7 bytes" };
+    let ended = run_job(
+        alloc,
+        &job(Verb::Line, STORED),
+        None,
+        &mut input,
+        &mut output,
+    );
+    assert_eq!(rt; ended, Err(AppFault::ReadLine { offset: 7 }));
+    assert!(rt; output.is_empty());
+
+    let mut input = line.as_slice();
+    let mut output = Fills {
+        taken: Vec::new(alloc),
+        room: 3,
+    };
+    let ended = run_job(
+        alloc,
+        &job(Verb::Line, STORED),
+        None,
+        &mut input,
+        &mut output,
+    );
+    assert_eq!(rt; ended, Err(AppFault::Write { written: 3 }));
+    assert_eq!(rt; output.taken.as_slice(), b"82C".as_slice());
+    Ok(())
+}
+
+#[test]
+fn settles_before_it_reads(rt: HostRuntime) -> Result<(), Fail> {
+    let alloc = rt.alloc();
+    let same = Overrides {
+        system: Some(System::Ntsc),
+        black: Some(5),
+        white: Some(5),
+        max_fields: None,
+    };
+    let cases: [(Overrides, Option<&[u8]>, MetaFault); 4] = [
+        (same, None, MetaFault::LevelsOrder),
+        (NONE, None, MetaFault::NoSystem),
+        (STORED, Some(b"{\"a\":NaN}"), MetaFault::NotJson),
+        (STORED, Some(b"[]"), MetaFault::NoVideoParameters),
+    ];
+    for (overrides, meta, fault) in cases {
+        for verb in [Verb::Line, Verb::Extract, Verb::Show, Verb::Draw] {
+            let mut input = b"some bytes".as_slice();
+            let mut output = Vec::new(alloc);
+            let ended = run_job(alloc, &job(verb, overrides), meta, &mut input, &mut output);
+            assert_eq!(rt; ended, Err(AppFault::Meta(fault)));
+            assert_eq!(rt; input.len(), 10);
+            assert!(rt; output.is_empty());
+        }
+    }
+    Ok(())
+}
+
+/// A field of black samples.
+fn black_field(alloc: Global) -> Result<Vec<u8>, AllocError> {
+    let mut bytes = Vec::new(alloc);
+    for _ in 0..239_330_u32 {
+        bytes.push(0)?;
+        bytes.push(64)?;
+    }
+    Ok(bytes)
+}
+
+#[test]
+fn extracts_with_metadata(rt: HostRuntime) -> Result<(), Fail> {
+    let alloc = rt.alloc();
+    let field = black_field(alloc)?;
+    let mut input = field.as_slice();
+    let mut output = Vec::new(alloc);
+    let ended = run_job(
+        alloc,
+        &job(Verb::Extract, NONE),
+        Some(FULL),
+        &mut input,
+        &mut output,
+    );
+    assert_eq!(rt; ended, Ok(Ended::Whole));
+    assert_eq!(rt; output.as_slice(), BLACK_FIELD.as_bytes());
+    Ok(())
+}
+
+#[test]
+fn gives_the_statuses(rt: HostRuntime) {
+    assert_eq!(rt; status(&Ok(Ended::Whole)), 0);
+    assert_eq!(rt; status(&Ok(Ended::CutField)), 3);
+    assert_eq!(rt; status(&Err(AppFault::TooManyFields)), 1);
+}
+
+const TEXTS: [(AppFault, &str); 9] = [
+    (AppFault::Meta(MetaFault::NoBlack), "no black level given"),
+    (AppFault::Meta(MetaFault::OutOfMemory), "out of memory"),
+    (
+        AppFault::ReadField {
+            field: 2,
+            offset: 1000,
+        },
+        "read failed in field 2 at byte 1000",
+    ),
+    (AppFault::ReadLine { offset: 7 }, "read failed at byte 7"),
+    (AppFault::ReadRow { number: 3 }, "read failed in row 3"),
+    (
+        AppFault::Write { written: 150 },
+        "write failed after 150 bytes",
+    ),
+    (AppFault::TooManyFields, "too many fields"),
+    (AppFault::Row { number: 2 }, "row 2 is malformed"),
+    (
+        AppFault::Short {
+            bytes: 1819,
+            wanted: 1820,
+        },
+        "short line: 1819 of 1820 bytes",
+    ),
+];
+
+#[test]
+fn faults_have_their_texts(rt: HostRuntime) -> Result<(), Fail> {
+    for (fault, text) in &TEXTS {
+        assert_eq!(rt; fault.to_string(rt.alloc())?.as_str(), *text);
+    }
+    Ok(())
+}
