@@ -86,6 +86,30 @@ levels='--system NTSC --black 8224 --white 16448'
     cp empty out
     judge 'no room for the output' 1 empty 'ldvbi: write failed after 0 bytes'
 
+    # a field of black samples, 239,330 of 16,384
+    dd if=/dev/zero bs=239330 count=1 2> /dev/null | tr '\000' '\n' | sed 's/^/@/' | tr '@\n' '\000@' > black.tbc
+    printf '{"version":2,"videoParameters":{"system":"NTSC","fieldWidth":910,"fieldHeight":263,"black16bIre":16384,"white16bIre":51200},"fields":[\n' > head
+    { cat head; printf '\n],"cutField":null}\n'; } > none.json
+    {
+        cat head
+        printf '{"seqNo":1,"vbi":{"vbiData":[0,0,0]},"vbiCause":["blank","blank","blank"],"vbiPass":[0,0,0]}'
+        printf '\n],"cutField":null}\n'
+    } > black.json
+    { cat head; printf '\n],"cutField":{"seqNo":1,"bytes":478659}}\n'; } > cut.json
+    head -c 478659 black.tbc > cut.tbc
+    ntsc='--system NTSC --black 16384 --white 51200'
+    run extract $ntsc < empty
+    judge 'the document of no field' 0 none.json ''
+    run extract $ntsc black.tbc
+    judge 'the document of a black field' 0 black.json ''
+    cat black.tbc | { run extract $ntsc; judge 'a pipe' 0 black.json ''; [ $failed = 0 ]; } || failed=1
+    run extract $ntsc cut.tbc
+    judge 'the document of a cut field' 3 cut.json ''
+    { cat head; printf '{"seqNo":1,"vbi":{"vbiData":[0,0,0]},"vbiCause":["blank","blank","blank"],"vbiPass":[0,0,0]}'; } > begun.json
+    cat black.tbc black.tbc > two.tbc
+    run extract $ntsc --max-fields 1 two.tbc
+    judge 'too many fields' 1 begun.json 'ldvbi: too many fields'
+
     run
     [ $status = 2 ] && [ ! -s out ] && [ -s err ] && passed=$((passed + 1)) || { failed=1; echo 'program: no command' >&2; }
     run --version

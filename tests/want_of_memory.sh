@@ -64,4 +64,9 @@ each 'metadata that is not JSON' "$stored/stdin" line --meta "$work/nan.json"
 printf '{"videoParameters":{"system":"NTSC","fieldWidth":910,"fieldHeight":263,"black16bIre":8224,"white16bIre":16448,"sampleRate":14318181.5},"fields":[]}' > "$work/line.json"
 each 'the stored run with metadata' "$stored/stdin" line --meta "$work/line.json"
 
+# the joined run: a field of black samples, 239,330 of 16,384, with its metadata
+dd if=/dev/zero bs=239330 count=1 2> /dev/null | tr '\000' '\n' | sed 's/^/@/' | tr '@\n' '\000@' > "$work/black.tbc"
+printf '{"videoParameters":{"system":"NTSC","fieldWidth":910,"fieldHeight":263,"black16bIre":16384,"white16bIre":51200,"sampleRate":14318181.5},"fields":[]}' > "$work/full.json"
+each 'the joined run' "$work/black.tbc" extract --meta "$work/full.json"
+
 exit $failed
