@@ -25,6 +25,13 @@ const STORED: Overrides = Overrides {
     max_fields: None,
 };
 
+const SAME_LEVELS: Overrides = Overrides {
+    system: Some(System::Ntsc),
+    black: Some(5),
+    white: Some(5),
+    max_fields: None,
+};
+
 const PAL: Overrides = Overrides {
     system: Some(System::Pal),
     black: Some(16384),
@@ -111,149 +118,181 @@ impl Write for Fills {
     }
 }
 
+/// What a job did over memory.
+#[derive(Drop)]
+struct Ran {
+    ended: Result<Ended, AppFault>,
+    /// How many bytes of the input weren't read.
+    left: usize,
+    written: Vec<u8>,
+}
+
+/// Does a job over memory.
+fn ran(alloc: Global, job: &Job, meta: Option<&[u8]>, input: &[u8]) -> Ran {
+    let mut rest = input;
+    let mut written = Vec::new(alloc);
+    let ended = run_job(alloc, job, meta, &mut rest, &mut written);
+    Ran {
+        ended,
+        left: rest.len(),
+        written,
+    }
+}
+
+/// Does a job over a reader that fails after these bytes.
+fn ran_broken(alloc: Global, job: &Job, input: &[u8]) -> Ran {
+    let mut reader = Breaks { rest: input };
+    let mut written = Vec::new(alloc);
+    let ended = run_job(alloc, job, None, &mut reader, &mut written);
+    Ran {
+        ended,
+        left: reader.rest.len(),
+        written,
+    }
+}
+
+/// Does a job over a writer that takes so many bytes and then fails.
+fn ran_full(alloc: Global, job: &Job, input: &[u8], room: usize) -> Ran {
+    let mut rest = input;
+    let mut writer = Fills {
+        taken: Vec::new(alloc),
+        room,
+    };
+    let ended = run_job(alloc, job, None, &mut rest, &mut writer);
+    let Fills { taken, room: _ } = writer;
+    Ran {
+        ended,
+        left: rest.len(),
+        written: taken,
+    }
+}
+
+/// So many bytes, all alike.
+fn alike(alloc: Global, byte: u8, count: usize) -> Result<Vec<u8>, AllocError> {
+    vec![in alloc; byte; count]
+}
+
 #[test]
 fn answers_a_line(rt: HostRuntime) -> Result<(), Fail> {
     let alloc = rt.alloc();
+    let stored = job(Verb::Line, STORED);
     let line = stored_line(alloc)?;
-    let mut input = line.as_slice();
-    let mut output = Vec::new(alloc);
-    let ended = run_job(
-        alloc,
-        &job(Verb::Line, STORED),
-        None,
-        &mut input,
-        &mut output,
-    );
-    assert_eq!(rt; ended, Ok(Ended::Whole));
-    assert_eq!(rt; output.as_slice(), b"82CFFF\n".as_slice());
-    assert_eq!(rt; input.len(), 0);
+    let ran_line = ran(alloc, &stored, None, line.as_slice());
+    assert_eq!(rt; ran_line.ended, Ok(Ended::Whole));
+    assert_eq!(rt; ran_line.written.as_slice(), b"82CFFF\n".as_slice());
+    assert_eq!(rt; ran_line.left, 0);
 
-    let spaces = vec![in alloc; b' '; 1821]?;
-    let mut input = spaces.as_slice();
-    let mut output = Vec::new(alloc);
-    let ended = run_job(
-        alloc,
-        &job(Verb::Line, STORED),
-        None,
-        &mut input,
-        &mut output,
-    );
-    assert_eq!(rt; ended, Ok(Ended::Whole));
-    assert_eq!(rt; output.as_slice(), b"blank\n".as_slice());
-    assert_eq!(rt; input.len(), 1);
+    // One byte more than a line's is left unread.
+    let spaces = alike(alloc, b' ', 1821)?;
+    let ran_line = ran(alloc, &stored, None, spaces.as_slice());
+    assert_eq!(rt; ran_line.ended, Ok(Ended::Whole));
+    assert_eq!(rt; ran_line.written.as_slice(), b"blank\n".as_slice());
+    assert_eq!(rt; ran_line.left, 1);
 
     let levels = Levels::new(16384, 54016)?;
     let line = drawn(alloc, System::Pal, levels, Word24::new(0x8A_E012)?)?;
-    let mut input = line.as_slice();
-    let mut output = Vec::new(alloc);
-    let ended = run_job(alloc, &job(Verb::Line, PAL), None, &mut input, &mut output);
-    assert_eq!(rt; ended, Ok(Ended::Whole));
-    assert_eq!(rt; output.as_slice(), b"8AE012\n".as_slice());
+    let ran_line = ran(alloc, &job(Verb::Line, PAL), None, line.as_slice());
+    assert_eq!(rt; ran_line.ended, Ok(Ended::Whole));
+    assert_eq!(rt; ran_line.written.as_slice(), b"8AE012\n".as_slice());
     Ok(())
 }
 
 #[test]
 fn names_the_faults_of_a_line(rt: HostRuntime) -> Result<(), Fail> {
     let alloc = rt.alloc();
-    let line = stored_line(alloc)?;
-    let spaces = vec![in alloc; b' '; 1819]?;
-    let mut input = spaces.as_slice();
-    let mut output = Vec::new(alloc);
-    let ended = run_job(
-        alloc,
-        &job(Verb::Line, STORED),
-        None,
-        &mut input,
-        &mut output,
-    );
+    let stored = job(Verb::Line, STORED);
+    let spaces = alike(alloc, b' ', 1819)?;
+    let ran_line = ran(alloc, &stored, None, spaces.as_slice());
     let short = AppFault::Short {
         bytes: 1819,
         wanted: 1820,
     };
-    assert_eq!(rt; ended, Err(short));
-    assert!(rt; output.is_empty());
+    assert_eq!(rt; ran_line.ended, Err(short));
+    assert!(rt; ran_line.written.is_empty());
 
-    let mut input = Breaks { rest: b"7 bytes" };
-    let ended = run_job(
-        alloc,
-        &job(Verb::Line, STORED),
-        None,
-        &mut input,
-        &mut output,
-    );
-    assert_eq!(rt; ended, Err(AppFault::ReadLine { offset: 7 }));
-    assert!(rt; output.is_empty());
+    let ran_line = ran_broken(alloc, &stored, b"7 bytes");
+    assert_eq!(rt; ran_line.ended, Err(AppFault::ReadLine { offset: 7 }));
+    assert!(rt; ran_line.written.is_empty());
 
-    let mut input = line.as_slice();
-    let mut output = Fills {
-        taken: Vec::new(alloc),
-        room: 3,
-    };
-    let ended = run_job(
-        alloc,
-        &job(Verb::Line, STORED),
-        None,
-        &mut input,
-        &mut output,
-    );
-    assert_eq!(rt; ended, Err(AppFault::Write { written: 3 }));
-    assert_eq!(rt; output.taken.as_slice(), b"82C".as_slice());
+    let line = stored_line(alloc)?;
+    let ran_line = ran_full(alloc, &stored, line.as_slice(), 3);
+    assert_eq!(rt; ran_line.ended, Err(AppFault::Write { written: 3 }));
+    assert_eq!(rt; ran_line.written.as_slice(), b"82C".as_slice());
     Ok(())
 }
+
+/// Options and metadata that settle nothing, and why.
+const UNSETTLED: [(Overrides, Option<&[u8]>, MetaFault); 4] = [
+    (SAME_LEVELS, None, MetaFault::LevelsOrder),
+    (NONE, None, MetaFault::NoSystem),
+    (STORED, Some(b"{\"a\":NaN}"), MetaFault::NotJson),
+    (STORED, Some(b"[]"), MetaFault::NoVideoParameters),
+];
 
 #[test]
-fn settles_before_it_reads(rt: HostRuntime) -> Result<(), Fail> {
-    let alloc = rt.alloc();
-    let same = Overrides {
-        system: Some(System::Ntsc),
-        black: Some(5),
-        white: Some(5),
-        max_fields: None,
-    };
-    let cases: [(Overrides, Option<&[u8]>, MetaFault); 4] = [
-        (same, None, MetaFault::LevelsOrder),
-        (NONE, None, MetaFault::NoSystem),
-        (STORED, Some(b"{\"a\":NaN}"), MetaFault::NotJson),
-        (STORED, Some(b"[]"), MetaFault::NoVideoParameters),
-    ];
-    for (overrides, meta, fault) in cases {
+fn settles_before_it_reads(rt: HostRuntime) {
+    for (overrides, meta, fault) in &UNSETTLED {
         for verb in [Verb::Line, Verb::Extract, Verb::Show, Verb::Draw] {
-            let mut input = b"some bytes".as_slice();
-            let mut output = Vec::new(alloc);
-            let ended = run_job(alloc, &job(verb, overrides), meta, &mut input, &mut output);
-            assert_eq!(rt; ended, Err(AppFault::Meta(fault)));
-            assert_eq!(rt; input.len(), 10);
-            assert!(rt; output.is_empty());
+            let refused = ran(rt.alloc(), &job(verb, *overrides), *meta, b"some bytes");
+            assert_eq!(rt; refused.ended, Err(AppFault::Meta(*fault)));
+            assert_eq!(rt; refused.left, 10);
+            assert!(rt; refused.written.is_empty());
         }
     }
-    Ok(())
 }
 
-/// A field of black samples.
-fn black_field(alloc: Global) -> Result<Vec<u8>, AllocError> {
-    let mut bytes = Vec::new(alloc);
-    for _ in 0..239_330_u32 {
-        bytes.push(0)?;
-        bytes.push(64)?;
+/// Some of a field of black samples.
+fn black_field(alloc: Global, bytes: usize) -> Result<Vec<u8>, AllocError> {
+    let mut field = Vec::new(alloc);
+    for i in 0..bytes {
+        field.push(if i % 2 == 0 { 0 } else { 64 })?;
     }
-    Ok(bytes)
+    Ok(field)
 }
 
 #[test]
 fn extracts_with_metadata(rt: HostRuntime) -> Result<(), Fail> {
     let alloc = rt.alloc();
-    let field = black_field(alloc)?;
-    let mut input = field.as_slice();
-    let mut output = Vec::new(alloc);
-    let ended = run_job(
-        alloc,
-        &job(Verb::Extract, NONE),
-        Some(FULL),
-        &mut input,
-        &mut output,
-    );
-    assert_eq!(rt; ended, Ok(Ended::Whole));
-    assert_eq!(rt; output.as_slice(), BLACK_FIELD.as_bytes());
+    let extract = job(Verb::Extract, NONE);
+    let field = black_field(alloc, 478_660)?;
+    let whole = ran(alloc, &extract, Some(FULL), field.as_slice());
+    assert_eq!(rt; whole.ended, Ok(Ended::Whole));
+    assert_eq!(rt; whole.written.as_slice(), BLACK_FIELD.as_bytes());
+
+    let field = black_field(alloc, 478_659)?;
+    let cut = ran(alloc, &extract, Some(FULL), field.as_slice());
+    assert_eq!(rt; cut.ended, Ok(Ended::CutField));
+    Ok(())
+}
+
+#[test]
+fn names_the_faults_of_a_stream(rt: HostRuntime) -> Result<(), Fail> {
+    let alloc = rt.alloc();
+    let few = Overrides {
+        system: Some(System::Ntsc),
+        black: Some(16384),
+        white: Some(51200),
+        max_fields: Some(1),
+    };
+    let extract = job(Verb::Extract, few);
+    let field = black_field(alloc, 478_661)?;
+    let too_many = ran(alloc, &extract, None, field.as_slice());
+    assert_eq!(rt; too_many.ended, Err(AppFault::TooManyFields));
+    assert_eq!(rt; too_many.written.len(), 227);
+
+    let field = black_field(alloc, 1819)?;
+    let broken = ran_broken(alloc, &extract, field.as_slice());
+    let read = AppFault::ReadField {
+        field: 1,
+        offset: 1819,
+    };
+    assert_eq!(rt; broken.ended, Err(read));
+    assert_eq!(rt; broken.written.len(), 135);
+
+    let field = black_field(alloc, 478_660)?;
+    let full = ran_full(alloc, &extract, field.as_slice(), 150);
+    assert_eq!(rt; full.ended, Err(AppFault::Write { written: 150 }));
+    assert_eq!(rt; full.written.len(), 150);
     Ok(())
 }
 
