@@ -76,9 +76,15 @@ looks_next s f r old new true sels h k = let at = sels.0 refl in looks_some s f 
 looks_next s f r old new false sels h k = looks_none s f r old new h k
 
 -- the looks after the last row of a field
-pub looks_field : (s : System) (f r new : ℕ) → r + 1 ≡ height_of s → new ≤ 2 * width_of s * selected f (r + 1) → new ≤ 2 * width_of s * selected (f + 1) 0
+pub looks_field : (s : System) (f r new : ℕ) → r + 1 ≡ height_of s → new ≤ 2 * width_of s * selected f (r + 1)
+    → new ≤ 2 * width_of s * selected (f + 1) 0
 looks_field Ntsc f r new e h = omega arith
 looks_field Pal f r new e h = omega arith
+
+-- the looks of all fields, the unfinished one among them
+pub looks_in_all : (s : System) (x f r : ℕ) → x ≤ 2 * width_of s * selected f r → x ≤ 6 * width_of s * (f + 1)
+looks_in_all Ntsc x f r h = omega arith
+looks_in_all Pal x f r h = omega arith
 
 -- the whole rows past the whole fields
 pub rows_past : (s : System) (r h : ℕ) → h < line_bytes s → (r * line_bytes s + h) / line_bytes s ≡ r

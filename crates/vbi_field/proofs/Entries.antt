@@ -25,6 +25,7 @@ joined-push f joint x xs y =
     ap (λ l. f x ++ l) (flat_map-append (λ y. joint ++ f y) xs (y ∷ []) ∙ ap (λ l. flat_map (λ y. joint ++ f y) xs ++ l) (append-nil (joint ++ f y)))
     ∙ sym (append_assoc (f x) (flat_map (λ y. joint ++ f y) xs) (joint ++ f y))
 
+-- one number more, joined
 joined-more : (f : ℕ → List ℕ) (joint : List ℕ) (n : ℕ)
     → join_by f joint (range_with_len 0 (n + 1)) ≡ join_by f joint (range_with_len 0 n) ++ (cond (n == 0) [] joint ++ f n)
 joined-more f joint zero = append-nil (f 0)
@@ -35,6 +36,7 @@ joined-more f joint (suc m) =
     ∙ ap (λ k. join_by f joint (range_with_len 0 (suc m)) ++ (joint ++ f k)) (zero-add (suc m))
     ∙ ap (λ b. join_by f joint (range_with_len 0 (suc m)) ++ (cond b [] joint ++ f (suc m))) (sym (eqb-suc-zero m))
 
+-- pieces that are the same give the same text
 pieces-same : (f g : ℕ → List ℕ) (joint : List ℕ) (a n : ℕ) → ((i : ℕ) → i < a + n → f i ≡ g i)
     → flat_map (λ y. joint ++ f y) (range_with_len a n) ≡ flat_map (λ y. joint ++ g y) (range_with_len a n)
 pieces-same f g joint a zero same = refl
@@ -43,7 +45,8 @@ pieces-same f g joint a (suc n) same =
     let here : f a ≡ g a = same a (omega arith) in
     ap (λ l. (joint ++ l) ++ flat_map (λ y. joint ++ f y) (range_with_len (a + 1) n)) here ∙ ap (λ l. (joint ++ g a) ++ l) rest
 
-joined-same : (f g : ℕ → List ℕ) (joint : List ℕ) (n : ℕ) → ((i : ℕ) → i < n → f i ≡ g i)
+-- and so joined
+pub joined-same : (f g : ℕ → List ℕ) (joint : List ℕ) (n : ℕ) → ((i : ℕ) → i < n → f i ≡ g i)
     → join_by f joint (range_with_len 0 n) ≡ join_by g joint (range_with_len 0 n)
 joined-same f g joint zero same = refl
 joined-same f g joint (suc n) same =

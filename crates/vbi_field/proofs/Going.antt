@@ -114,7 +114,8 @@ module _ (t : Texts) {R W : Type 0} (remaining : R → Option (List ℕ)) (conte
       let m = length-take-le puts.count more puts.within in
       let w = puts.written in
       let at : o'.written ≡ length base + puts.count = omega arith in
-      let cut : base ++ take puts.count more ≡ take o'.written whole = sym (take-append-add base more puts.count) ∙ ap (λ n. take n (base ++ more)) (sym at) ∙ ap (take o'.written) (sym joined) in
+      let cut : base ++ take puts.count more ≡ take o'.written whole = sym (take-append-add base more puts.count)
+      ∙ ap (λ n. take n (base ++ more)) (sym at) ∙ ap (take o'.written) (sym joined) in
       record {
         z = z;
         text = base ++ take puts.count more;
@@ -173,4 +174,5 @@ module _ (t : Texts) {R W : Type 0} (remaining : R → Option (List ℕ)) (conte
       → fault ≡ Write o.written → Runs t remaining contents c i0 i0 o0 o (Err fault)
   head_fault o text fault fresh clean is puts rose fails =
       let e : text ≡ begun_of t c [] = is ∙ sym (stood-none t c []) ∙ sym (begun_of-stood t c [] 0 (nothing_fields c.system)) in
-      write_fault i0 o0 o [] [] text text fault (Consumes-none _) fresh.fetched (Appends-none _) clean.written (le_refl _) puts rose fails refl (inl e)
+      write_fault i0 o0 o [] [] text text fault (Consumes-none _) fresh.fetched (Appends-none _) clean.written (le_refl _) puts rose fails refl
+          (inl e)

@@ -72,7 +72,8 @@ inner Pal i r n small le = row_mono Pal (i * 313 + r + 1) n (omega arith)
 pub field_readings-more : (c : Setup) (z b : List ℕ) (i n : ℕ)
     → (i + 1) * height_of c.system ≤ n → n * line_bytes c.system ≤ length z → field_readings c (z ++ b) i ≡ field_readings c z i
 field_readings-more c z b i n le long =
-    let at : (r : ℕ) → r ≤ 17 → (i * height_of c.system + r + 1) * line_bytes c.system ≤ length z = λ r small. le_trans (inner c.system i r n small le) long in
+    let at : (r : ℕ) → r ≤ 17 → (i * height_of c.system + r + 1) * line_bytes c.system ≤ length z =
+        λ r small. le_trans (inner c.system i r n small le) long in
     λ j. record {
       first = row_reading-more c z b i 15 (at 15 (lit≤ tt)) j;
       second = row_reading-more c z b i 16 (at 16 (lit≤ tt)) j;
@@ -86,7 +87,8 @@ reads_next : (c : Setup) (z b : List ℕ) (i row r : ℕ) (o was now : Reading) 
 reads_next c z b i row r o was now low high long whole before kept lt =
     elim (eq-or-lt_of_le {n = r} {m = row} (omega arith)) [
       | inl e ↦
-          let here : length z ≡ (i * height_of c.system + r) * line_bytes c.system = long ∙ ap (λ k. (i * height_of c.system + k) * line_bytes c.system) (sym e) in
+          let here : length z ≡ (i * height_of c.system + r) * line_bytes c.system = long
+          ∙ ap (λ k. (i * height_of c.system + k) * line_bytes c.system) (sym e) in
           kept.0 (sym e) ∙ whole.shows (omega arith) (omega arith)
           ∙ ap (λ l. reading_of c.system (row_levels c.levels l)) (sym (row_of-new c.system z b i r here whole.whole))
       | inr k ↦
@@ -124,7 +126,8 @@ module _ (c : Setup) (z b : List ℕ) (p : Progress) (o : Reading) (now : FieldR
   }
 
   pub past_field : height_of c.system ≤ p.row + 1
-      → IsPosition c (z ++ b) (record { fields = p.fields + 1; row = 0; readings = now }) × (p.row + 1 ≡ height_of c.system) × (now ≡ field_readings c (z ++ b) p.fields)
+      → IsPosition c (z ++ b) (record { fields = p.fields + 1; row = 0; readings = now }) × (p.row + 1 ≡ height_of c.system) ×
+          (now ≡ field_readings c (z ++ b) p.fields)
   past_field le =
       let inside = at.inside in
       let last : p.row + 1 ≡ height_of c.system = omega arith in

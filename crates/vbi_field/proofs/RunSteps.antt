@@ -26,7 +26,7 @@ use Rattle.vbi_field.specs.declared.rows.Row.TheVariants.{Whole, Ended, Failed}
 use Rattle.vbi_field.specs.declared.summary.RunFault.{RunFault}
 use Rattle.vbi_field.specs.declared.summary.Summary.{Summary}
 use Rattle.vbi_field.specs.declared.summary.RunFault.TheVariants.{Read, Write, TooManyFields}
-use Rattle.vbi_field.proofs.Counts.{few_fields, few_bytes_row, few_looks, some_bytes, bytes_of_fields, looks_next, looks_field, rows_past, whole_fields}
+use Rattle.vbi_field.proofs.Counts.{few_fields, few_bytes_row, few_looks, some_bytes, bytes_of_fields, looks_next, looks_field, looks_in_all, rows_past, whole_fields}
 use Rattle.vbi_field.proofs.Entries.{stood, stood-more, stood-stays, begun_of-stood}
 use Rattle.vbi_field.proofs.Going.{Going, put_whole, write_fault, fields_are, rest_is, begun_is, document_is}
 use Rattle.vbi_field.proofs.Growing.{whole_field}
@@ -54,7 +54,8 @@ module _ (t : Texts) {R W : Type 0} (remaining : R → Option (List ℕ)) (conte
     row_came =
         record {
           whole = row.got.0 ∙ ap line_bytes g.system;
-          shows = λ a b. row.got.3 (sels.1 (a, b)) ∙ ap (λ s. reading_of s (row_levels lv row.bytes)) g.system ∙ ap (λ l. reading_of c.system (row_levels l row.bytes)) lvs;
+          shows = λ a b. row.got.3 (sels.1 (a, b)) ∙ ap (λ s. reading_of s (row_levels lv row.bytes)) g.system
+          ∙ ap (λ l. reading_of c.system (row_levels l row.bytes)) lvs;
         }
 
     looked_more : i'.line.looked ≤ i.line.looked + cond sel (2 * width_of c.system) 0
@@ -125,7 +126,8 @@ module _ (t : Texts) {R W : Type 0} (remaining : R → Option (List ℕ)) (conte
           let looks = cond_le sel (2 * width_of i.line.system) (few_looks i.line.system) in
           let pushed = grown text before first is in
           let m = ap length pushed ∙ length-append (stood t c g.z p.fields) text in
-          let place : p'.fields * height_of c.system + p'.row ≡ k + 1 = rw (fields, rows) (sym (whole_field p.fields (height_of c.system) p.row last) ∙ ap (λ n. n + 1) g.place) in
+          let place : p'.fields * height_of c.system + p'.row ≡ k + 1 =
+              rw (fields, rows) (sym (whole_field p.fields (height_of c.system) p.row last) ∙ ap (λ n. n + 1) g.place) in
           record {
             z = g.z ++ row.bytes;
             consumed = Consumes-twice _ _ _ g.z row.bytes g.consumed row.consumed;
@@ -145,7 +147,9 @@ module _ (t : Texts) {R W : Type 0} (remaining : R → Option (List ℕ)) (conte
             held = row.got.1;
             cursors = row.got.2;
             looked = omega (arith, row.looked, g.looked);
-            looks = rw (fields, rows) (looks_field c.system p.fields p.row i'.line.looked last (looks_next c.system p.fields p.row i.line.looked i'.line.looked sel sels g.looks (looked_more)));
+            looks = rw (fields, rows)
+                (looks_field c.system p.fields p.row i'.line.looked last
+                    (looks_next c.system p.fields p.row i.line.looked i'.line.looked sel sels g.looks (looked_more)));
             same_reader = same ∙ g.same_reader;
             same_writer = same_writer ∙ g.same_writer;
           }
@@ -158,8 +162,10 @@ module _ (t : Texts) {R W : Type 0} (remaining : R → Option (List ℕ)) (conte
       field_fault o' text before fault first rows is puts rose fails =
           let l = length-append g.z row.bytes in
           let pushed = grown text before first is in
-          let begun : stood t c (g.z ++ row.bytes) p'.fields ≡ begun_of t c (g.z ++ row.bytes) = sym (begun_of-stood t c (g.z ++ row.bytes) p'.fields (whole_at c (g.z ++ row.bytes) p' at)) in
-          write_fault t remaining contents c i0 o0 i' o o' (g.z ++ row.bytes) (stood t c g.z p.fields) text (stood t c (g.z ++ row.bytes) p'.fields) fault
+          let begun : stood t c (g.z ++ row.bytes) p'.fields ≡ begun_of t c (g.z ++ row.bytes) =
+              sym (begun_of-stood t c (g.z ++ row.bytes) p'.fields (whole_at c (g.z ++ row.bytes) p' at)) in
+          write_fault t remaining contents c i0 o0 i' o o' (g.z ++ row.bytes) (stood t c g.z p.fields) text (stood t c (g.z ++ row.bytes) p'.fields)
+              fault
           (Consumes-twice _ _ _ g.z row.bytes g.consumed row.consumed) (omega (arith, row.fetched, g.fetched)) g.appended g.written
           g.least_writes puts rose fails pushed (inl begun)
 
@@ -175,7 +181,11 @@ module _ (t : Texts) {R W : Type 0} (remaining : R → Option (List ℕ)) (conte
       → IfOk r (λ s. s ≡ record { fields = fields; cut = cut_of rest; looked = looked })
       → OnErr r (outlets.failures_of o < outlets.failures_of o') → IfErr r (λ e. e ≡ Write o'.written)
       → Runs t remaining contents c i0 i o0 o' r
-  closed i o o' z base tail fields rest looked (Ok s) consumed fetched appended written least puts end stands fs rs ls few looks whole says rose fails =
+  closed i o o' z base tail fields rest looked (Ok s) consumed fetched appended written least puts end stands fs rs ls few looks whole says rose
+      fails =
+      let counted : s.fields ≡ fields_of c z = ap (λ s. s.fields) says ∙ fs in
+      let bound : s.looked ≤ 2 * width_of c.system * selected_rows c z = le_trans (le_of_eq (ap (λ s. s.looked) says ∙ ls)) looks in
+      let P : ℕ → Type 0 = λ f. s.looked ≤ 6 * width_of c.system * (f + 1) in
       record {
         z = z;
         text = base ++ tail;
@@ -183,13 +193,25 @@ module _ (t : Texts) {R W : Type 0} (remaining : R → Option (List ℕ)) (conte
         fetched = fetched;
         appended = Appends-twice _ _ _ base tail appended (put_whole contents o o' tail puts whole);
         written = whole ∙ ap (λ n. n + length tail) written ∙ sym (length-append base tail);
-        run = (stands, end, few, ap (λ s. s.fields) says ∙ fs, ap (λ s. s.cut) says ∙ ap cut_of rs, ap (λ s. s.looked) says ∙ ls, le_trans (le_of_eq (ap (λ s. s.looked) says ∙ ls)) looks);
+        run = (
+          stands,
+          end,
+          few,
+          counted,
+          ap (λ s. s.cut) says ∙ ap cut_of rs,
+          ap (λ s. s.looked) says ∙ ls,
+          bound,
+          subst P (sym counted) (looks_in_all c.system s.looked (fields_of c z) (rest_of c z / line_bytes c.system) bound),
+        );
       }
-  closed i o o' z base tail fields rest looked (Err e) consumed fetched appended written least puts end stands fs rs ls few looks whole says rose fails =
-      write_fault t remaining contents c i0 o0 i o o' z base tail (base ++ tail) e consumed fetched appended written least puts rose fails refl (inr (end, stands))
+  closed i o o' z base tail fields rest looked (Err e) consumed fetched appended written least puts end stands fs rs ls few looks whole says rose
+      fails =
+      write_fault t remaining contents c i0 o0 i o o' z base tail (base ++ tail) e consumed fetched appended written least puts rose fails refl
+          (inr (end, stands))
 
   -- the stream ended, and the tail was put
-  pub ended : (k : ℕ) (i i' : Intake R) (o o' : Outlet W) (p : Progress) (g : Going t remaining contents c i0 o0 k i o p) (sel : Bool) (lv : Slicing) (n : ℕ)
+  pub ended : (k : ℕ) (i i' : Intake R) (o o' : Outlet W) (p : Progress) (g : Going t remaining contents c i0 o0 k i o p) (sel : Bool)
+      (lv : Slicing) (n : ℕ)
       (row : Takes remaining lv sel i i' (Ended n)) (fields rest looked : ℕ) → fields ≡ p.fields
       → rest ≡ p.row * line_bytes c.system + n → k * line_bytes c.system + n ≤ c.max_fields * field_bytes c.system
       → looked ≡ i'.line.looked → outlets.Puts contents o o' (t.tail fields rest)
@@ -207,15 +229,22 @@ module _ (t : Texts) {R W : Type 0} (remaining : R → Option (List ℕ)) (conte
       let stands = document_is t remaining contents c i0 o0 k i o p g row.bytes short fields rest fs rs' in
       let consumed = Consumes-twice _ _ _ g.z row.bytes g.consumed row.consumed in
       let fetched : i'.fetched ≡ length (g.z ++ row.bytes) = omega (arith, row.fetched, g.fetched) in
-      let rows : rest_of c (g.z ++ row.bytes) / line_bytes c.system ≡ p.row = ap (λ m. m / line_bytes c.system) rest_is' ∙ rows_past c.system p.row (length row.bytes) short in
-      let same : selected p.fields p.row ≡ selected_rows c (g.z ++ row.bytes) = ap (λ f. selected f p.row) (sym fields_are') ∙ ap (λ r. selected (fields_of c (g.z ++ row.bytes)) r) (sym rows) in
-      let bound : i'.line.looked ≤ 2 * width_of c.system * selected_rows c (g.z ++ row.bytes) = le_trans (le_of_eq row.got.4) (le_trans g.looks (le_of_eq (ap (λ n. 2 * width_of c.system * n) same))) in
-      let long : length (g.z ++ row.bytes) ≡ k * line_bytes c.system + n = l ∙ ap (λ m. m + length row.bytes) (at.whole ∙ ap (λ m. m * line_bytes c.system) g.place) ∙ ap (λ m. k * line_bytes c.system + m) (sym row.got.0) in
-      closed i' o o' (g.z ++ row.bytes) (stood t c g.z p.fields) (t.tail fields rest) fields rest looked r consumed fetched g.appended g.written g.least_writes puts row.got.3 stands
+      let rows : rest_of c (g.z ++ row.bytes) / line_bytes c.system ≡ p.row = ap (λ m. m / line_bytes c.system) rest_is'
+      ∙ rows_past c.system p.row (length row.bytes) short in
+      let same : selected p.fields p.row ≡ selected_rows c (g.z ++ row.bytes) = ap (λ f. selected f p.row) (sym fields_are')
+      ∙ ap (λ r. selected (fields_of c (g.z ++ row.bytes)) r) (sym rows) in
+      let bound : i'.line.looked ≤ 2 * width_of c.system * selected_rows c (g.z ++ row.bytes) =
+          le_trans (le_of_eq row.got.4) (le_trans g.looks (le_of_eq (ap (λ n. 2 * width_of c.system * n) same))) in
+      let long : length (g.z ++ row.bytes) ≡ k * line_bytes c.system + n = l
+      ∙ ap (λ m. m + length row.bytes) (at.whole ∙ ap (λ m. m * line_bytes c.system) g.place)
+      ∙ ap (λ m. k * line_bytes c.system + m) (sym row.got.0) in
+      closed i' o o' (g.z ++ row.bytes) (stood t c g.z p.fields) (t.tail fields rest) fields rest looked r consumed fetched g.appended g.written
+          g.least_writes puts row.got.3 stands
       (fs ∙ sym fields_are') (rs' ∙ sym rest_is') ls (le_trans (le_of_eq long) within) bound whole says rose fails
 
   -- the reader failed
-  pub read_fault : (k : ℕ) (i i' : Intake R) (o : Outlet W) (p : Progress) (g : Going t remaining contents c i0 o0 k i o p) (sel : Bool) (lv : Slicing)
+  pub read_fault : (k : ℕ) (i i' : Intake R) (o : Outlet W) (p : Progress) (g : Going t remaining contents c i0 o0 k i o p) (sel : Bool)
+      (lv : Slicing)
       (row : Takes remaining lv sel i i' Failed) (field held offset : ℕ) → field ≡ p.fields + 1
       → held ≡ length (intakes.held_of i') → offset ≡ p.row * line_bytes c.system + held
       → Runs t remaining contents c i0 i' o0 o (Err (Read field offset))
@@ -232,7 +261,8 @@ module _ (t : Texts) {R W : Type 0} (remaining : R → Option (List ℕ)) (conte
         run = (
           begun_is t remaining contents c i0 o0 k i o p g row.bytes short,
           fs ∙ ap (λ n. n + 1) (sym (fields_are t remaining contents c i0 o0 k i o p g row.bytes short)),
-          os ∙ ap (λ n. p.row * line_bytes c.system + n) (hs ∙ ap length row.got.0) ∙ sym (rest_is t remaining contents c i0 o0 k i o p g row.bytes short),
+          os ∙ ap (λ n. p.row * line_bytes c.system + n) (hs ∙ ap length row.got.0)
+          ∙ sym (rest_is t remaining contents c i0 o0 k i o p g row.bytes short),
           omega (arith, g.least_reads, row.got.1),
         );
       }
@@ -246,7 +276,8 @@ module _ (t : Texts) {R W : Type 0} (remaining : R → Option (List ℕ)) (conte
       let l = length-append g.z bytes in
       let at = g.at in
       let place : p.fields * height_of c.system + p.row ≡ c.max_fields * height_of c.system = g.place ∙ last in
-      let long : length g.z ≡ c.max_fields * field_bytes c.system = at.whole ∙ ap (λ n. n * line_bytes c.system) place ∙ sym (bytes_of_fields c.system c.max_fields) in
+      let long : length g.z ≡ c.max_fields * field_bytes c.system = at.whole ∙ ap (λ n. n * line_bytes c.system) place
+      ∙ sym (bytes_of_fields c.system c.max_fields) in
       let cut : take (c.max_fields * field_bytes c.system) (g.z ++ bytes) ≡ g.z = take_at g.z bytes _ long in
       let begun : stood t c g.z p.fields ≡ begun_of t c g.z = sym (begun_of-stood t c g.z p.fields (whole_at c g.z p at)) in
       record {

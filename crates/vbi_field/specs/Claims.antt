@@ -14,10 +14,6 @@ use Rattle.vbi_field.specs.declared.summary.RunFault.{RunFault}
 use Rattle.vbi_field.specs.declared.summary.RunFault.TheVariants.{Read, Write, TooManyFields, Failed}
 
 module _ {R : Type 0} where
-  -- how many bytes the reader gave
-  abbrev pub fetched_of : Intake R → ℕ
-  fetched_of i = i.fetched
-
   -- how many samples were looked at
   abbrev pub looked_of : Intake R → ℕ
   looked_of i = i.line.looked
@@ -28,7 +24,7 @@ module _ {R : Type 0} where
 
   -- P of those of the reader's bytes that were fetched, for an intake that was fresh
   abbrev pub GivenFetched : (R → Option (List ℕ)) → Intake R → Intake R → (List ℕ → Type 0) → Type 0
-  GivenFetched remaining old new P = IfSome (remaining (intakes.device_of old)) (λ all. P (take (fetched_of new) all))
+  GivenFetched remaining old new P = IfSome (remaining (intakes.device_of old)) (λ all. P (take (intakes.fetched_of new) all))
 
   -- the reader has no byte more
   abbrev pub HasEnded : (R → Option (List ℕ)) → Intake R → Type 0

@@ -2,7 +2,7 @@
 use Rattle.std.specs.Prelude.{ℕ, ◌+◌, List, [], ◌∷◌, ◌++◌, ◌==◌, if◌then◌else◌, codes, decimal, Option, Some, None}
 use Rattle.vbi_words.specs.declared.system.System.{System}
 use Rattle.vbi_words.specs.declared.outcome.Outcome.{Outcome}
-use Rattle.vbi_words.specs.declared.outcome.Outcome.TheVariants.{Word, Blank, Unfinished, Change, Hold}
+use Rattle.vbi_words.specs.declared.outcome.Outcome.TheVariants.{Word}
 use Rattle.vbi_words.specs.declared.format.Format.{Format}
 use Rattle.vbi_words.specs.declared.format.Format.TheVariants.{Cav, Clv, Both, Neither}
 use Rattle.vbi_words.specs.Geometry.{name_of, width_of, height_of}
@@ -10,7 +10,7 @@ use Rattle.vbi_words.specs.Levels.{Slicing}
 use Rattle.vbi_words.specs.CodeTable.{code_of, format_of_lines}
 use Rattle.vbi_field.specs.declared.readings.FieldReadings.{FieldReadings}
 use Rattle.vbi_field.specs.CodeTexts.{hex_text_of, code_text_of}
-use Rattle.vbi_field.specs.CauseTexts.{cause_of}
+use Rattle.vbi_field.specs.CauseTexts.{cause_text_of}
 
 -- the first line
 unfoldable pub report_head_of : System → Slicing → List ℕ
@@ -37,7 +37,7 @@ format_text_of Neither = codes "neither"
 -- what stands behind the number of a line: its word and what it says, or why it has none
 unfoldable pub shown_of : Outcome → List ℕ
 shown_of (Word word) = hex_text_of word ++ codes " " ++ code_text_of (code_of word)
-shown_of outcome = codes "none " ++ cause_of outcome
+shown_of outcome = codes "none " ++ cause_text_of outcome
 
 -- the four lines of a whole field, from its number and its readings
 unfoldable pub report_entry_of : ℕ → FieldReadings → List ℕ

@@ -24,7 +24,7 @@ module _ (t : Texts) {R W : Type 0} (remaining : R → Option (List ℕ)) (conte
   IsRun z text (Ok s) =
       (text ≡ document_of t c z) × HasEnded × (length z ≤ c.max_fields * field_bytes c.system)
       × (s.fields ≡ fields_of c z) × (s.cut ≡ cut_of (rest_of c z)) × (s.looked ≡ i.line.looked)
-      × (s.looked ≤ 2 * width_of c.system * selected_rows c z)
+      × (s.looked ≤ 2 * width_of c.system * selected_rows c z) × (s.looked ≤ 6 * width_of c.system * (s.fields + 1))
   IsRun z text (Err (Read field offset)) =
       (text ≡ begun_of t c z) × (field ≡ fields_of c z + 1) × (offset ≡ rest_of c z)
       × (intakes.failures_of i0 < intakes.failures_of i)
@@ -40,7 +40,7 @@ module _ (t : Texts) {R W : Type 0} (remaining : R → Option (List ℕ)) (conte
     pub z : List ℕ
     pub text : List ℕ
     pub consumed : Consumes (remaining (intakes.device_of i0)) (remaining (intakes.device_of i)) z
-    pub fetched : i.fetched ≡ length z
+    pub fetched : intakes.fetched_of i ≡ length z
     pub appended : Appends (contents (outlets.device_of o0)) (contents (outlets.device_of o)) text
     pub written : outlets.written_of o ≡ length text
     pub run : IsRun z text result

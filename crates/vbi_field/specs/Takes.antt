@@ -4,7 +4,7 @@ use Rattle.std.specs.Io.KnownBytes.{Consumes, IsAtEnd}
 use Rattle.vbi_words.specs.Geometry.{width_of, line_bytes}
 use Rattle.vbi_words.specs.Levels.{Slicing, row_levels}
 use Rattle.vbi_line.specs.OneReading.{reading_of}
-use Rattle.vbi_line.specs.Intake.{device_of, failures_of, held_of, line_of}
+use Rattle.vbi_line.specs.Intake.{device_of, failures_of, fetched_of, held_of, line_of}
 use Rattle.vbi_line.specs.declared.intake.Intake.{Intake}
 use Rattle.vbi_field.specs.declared.rows.Row.{Row}
 use Rattle.vbi_field.specs.declared.rows.Row.TheVariants.{Whole, Ended, Failed}
@@ -26,7 +26,7 @@ module _ {R : Type 0} (remaining : R → Option (List ℕ)) (levels : Slicing) (
   pub record Takes (result : Row) : Type 0 where
     pub bytes : List ℕ
     pub consumed : Consumes (remaining (device_of old)) (remaining (device_of new)) bytes
-    pub fetched : new.fetched ≡ old.fetched + length bytes
+    pub fetched : fetched_of new ≡ fetched_of old + length bytes
     pub least : failures_of old ≤ failures_of new
     pub most : failures_of new ≤ failures_of old + 17 * (length bytes + 1)
     pub system : (line_of new).system ≡ (line_of old).system

@@ -1,17 +1,16 @@
 //! The texts of the document.
-ghost use Rattle.std.specs.Prelude.{◌≡◌, ◌+◌, ◌-◌, ◌^◌, ◌<◌, ◌≤◌, ◌++◌, decimal};
-ghost use Rattle.arrayvec.specs.ArrayString.{array_string_len};
-ghost use Rattle.vbi_field.specs.CauseTexts.{cause_of};
-ghost use Rattle.vbi_field.specs.Document.{document, value_of, head_of, tail_of};
+ghost use Rattle.std.specs.Prelude.{◌≡◌, ◌-◌, ◌^◌, ◌<◌};
+ghost use Rattle.vbi_field.specs.Document.{value_of, data_of, causes_of, passes_of, head_of, tail_of};
+ghost use Rattle.vbi_field.specs.Kinds.{document};
 ghost use Rattle.vbi_field.specs.Texts.{piece_of};
 
 use crate::cause_texts::cause_text;
 use crate::config::Config;
 use crate::form::{Form, TEXT_SIZE};
+use crate::numbers::push_number;
 use crate::readings::FieldReadings;
 use arrayvec::ArrayString;
-use itoa::Buffer;
-use vbi_words::{Outcome, Reading};
+use vbi_words::Outcome;
 
 /// The document of `extract`.
 pub(crate) struct Document;
@@ -23,7 +22,7 @@ impl Form for Document {
         head_text(config)
     }
 
-    fn piece(before: u32, readings: FieldReadings) -> ArrayString<TEXT_SIZE> {
+    fn piece(before: u32, readings: &FieldReadings) -> ArrayString<TEXT_SIZE> {
         record_text(before, readings)
     }
 
@@ -32,33 +31,14 @@ impl Form for Document {
     }
 }
 
-/// Appends a number in decimal.
-fn push_number(text: &mut ArrayString<TEXT_SIZE>, number: u32)
-    requires { array_string_len text.old + 10 ≤ TEXT_SIZE }
-    ensures bytes { text.new.bytes ≡ text.old.bytes ++ decimal number }
-    ensures fits { array_string_len text.new ≤ array_string_len text.old + 10 }
-{
-    let mut buffer = Buffer::new();
-    text.push_str(buffer.format(number));
-}
-
 /// The number of the word, or 0 where there is none.
-fn value(reading: Reading) -> u32
-    ensures { result ≡ value_of reading.outcome }
+fn value(outcome: Outcome) -> u32
+    ensures { result ≡ value_of outcome }
 {
-    let Reading { outcome, pass: _ } = reading;
     match outcome {
         Outcome::Word(word) => word.value(),
         _ => 0,
     }
-}
-
-/// Why there is no word, or that there is one.
-fn cause(reading: Reading) -> ArrayString<16>
-    ensures { result.bytes ≡ cause_of reading.outcome }
-{
-    let Reading { outcome, pass: _ } = reading;
-    cause_text(outcome)
 }
 
 /// What stands before the first record.
@@ -72,22 +52,70 @@ pub(crate) fn head_text(config: &Config) -> ArrayString<TEXT_SIZE>
     text.push_str("{\"version\":2,\"videoParameters\":{\"system\":\"");
     text.push_str(system.name());
     text.push_str("\",\"fieldWidth\":");
-    push_number(&mut text, system.width() as u32);
+    push_number(&mut text, system.width() as u16);
     text.push_str(",\"fieldHeight\":");
-    push_number(&mut text, system.height() as u32);
+    push_number(&mut text, system.height() as u16);
     text.push_str(",\"black16bIre\":");
-    push_number(&mut text, u32::from(levels.black()));
+    push_number(&mut text, levels.black());
     text.push_str(",\"white16bIre\":");
-    push_number(&mut text, u32::from(levels.white()));
+    push_number(&mut text, levels.white());
     text.push_str("},\"fields\":[\n");
+    text
+}
+
+/// The three words, each its number or 0.
+#[tactic(auto, unfolding(crate::specs::Document::data_of))]
+fn data_text(readings: &FieldReadings) -> ArrayString<56>
+    ensures { result.bytes ≡ data_of readings.now }
+{
+    let mut text = ArrayString::new();
+    text.push_str(",\"vbi\":{\"vbiData\":[");
+    push_number(&mut text, value(readings.first.outcome));
+    text.push_str(",");
+    push_number(&mut text, value(readings.second.outcome));
+    text.push_str(",");
+    push_number(&mut text, value(readings.third.outcome));
+    text.push_str("]}");
+    text
+}
+
+/// The three causes.
+#[tactic(auto, unfolding(crate::specs::Document::causes_of))]
+fn causes_text(readings: &FieldReadings) -> ArrayString<72>
+    ensures { result.bytes ≡ causes_of readings.now }
+{
+    let mut text = ArrayString::new();
+    text.push_str(",\"vbiCause\":[\"");
+    text.push_str(cause_text(readings.first.outcome).as_str());
+    text.push_str("\",\"");
+    text.push_str(cause_text(readings.second.outcome).as_str());
+    text.push_str("\",\"");
+    text.push_str(cause_text(readings.third.outcome).as_str());
+    text.push_str("\"]");
+    text
+}
+
+/// The three passes.
+#[tactic(auto, unfolding(crate::specs::Document::passes_of))]
+fn passes_text(readings: &FieldReadings) -> ArrayString<24>
+    ensures { result.bytes ≡ passes_of readings.now }
+{
+    let mut text = ArrayString::new();
+    text.push_str(",\"vbiPass\":[");
+    push_number(&mut text, readings.first.pass);
+    text.push_str(",");
+    push_number(&mut text, readings.second.pass);
+    text.push_str(",");
+    push_number(&mut text, readings.third.pass);
+    text.push_str("]");
     text
 }
 
 /// The record of a field that has so many fields before it, after the joint where there are any.
 #[tactic(auto, unfolding(crate::specs::Document::record_of))]
-pub(crate) fn record_text(before: u32, readings: FieldReadings) -> ArrayString<TEXT_SIZE>
+pub(crate) fn record_text(before: u32, readings: &FieldReadings) -> ArrayString<TEXT_SIZE>
     requires { before < 2 ^ 32 - 1 }
-    ensures { result.bytes ≡ piece_of document before readings }
+    ensures { result.bytes ≡ piece_of document before readings.now }
 {
     let mut text = ArrayString::new();
     if before != 0 {
@@ -95,25 +123,10 @@ pub(crate) fn record_text(before: u32, readings: FieldReadings) -> ArrayString<T
     }
     text.push_str("{\"seqNo\":");
     push_number(&mut text, before + 1);
-    text.push_str(",\"vbi\":{\"vbiData\":[");
-    push_number(&mut text, value(readings.first));
-    text.push_str(",");
-    push_number(&mut text, value(readings.second));
-    text.push_str(",");
-    push_number(&mut text, value(readings.third));
-    text.push_str("]},\"vbiCause\":[\"");
-    text.push_str(cause(readings.first).as_str());
-    text.push_str("\",\"");
-    text.push_str(cause(readings.second).as_str());
-    text.push_str("\",\"");
-    text.push_str(cause(readings.third).as_str());
-    text.push_str("\"],\"vbiPass\":[");
-    push_number(&mut text, u32::from(readings.first.pass));
-    text.push_str(",");
-    push_number(&mut text, u32::from(readings.second.pass));
-    text.push_str(",");
-    push_number(&mut text, u32::from(readings.third.pass));
-    text.push_str("]}");
+    text.push_str(data_text(readings).as_str());
+    text.push_str(causes_text(readings).as_str());
+    text.push_str(passes_text(readings).as_str());
+    text.push_str("}");
     text
 }
 

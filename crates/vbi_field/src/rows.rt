@@ -1,6 +1,6 @@
 //! The rows of a stream, one after the other.
 ghost use Rattle.std.specs.Prelude.{◌≡◌, ◌+◌, ◌*◌, ◌^◌, ◌<◌, ◌≤◌, [], length};
-ghost use Rattle.vbi_line.specs.Intake.{failures_of, held_of, line_of, IsSameDevice};
+ghost use Rattle.vbi_line.specs.Intake.{failures_of, fetched_of, held_of, line_of, IsSameDevice};
 ghost use Rattle.vbi_field.specs.Takes.{Takes};
 
 use crate::progress::unread;
@@ -24,7 +24,7 @@ pub(crate) fn take_row<R: Read>(intake: &mut Intake<R>, levels: Levels, is_selec
     requires empty { held_of intake.old ≡ [] }
     requires fresh { (line_of intake.old).cursors ≡ [] }
     requires looked { (line_of intake.old).looked ≤ 2 ^ 61 }
-    requires fetched { intake.old.fetched ≤ 2 ^ 62 }
+    requires fetched { fetched_of intake.old ≤ 2 ^ 62 }
     requires failures { failures_of intake.old ≤ 2 ^ 62 }
     ensures same { IsSameDevice intake.old intake.new }
     ensures takes { Takes R.remaining levels is_selected intake.old intake.new result }

@@ -23,7 +23,7 @@ pub(crate) fn put<W: Write>(outlet: &mut Outlet<W>, text: &str) -> Result<(), Ru
     ensures puts { Puts W.contents outlet.old outlet.new text.now }
     ensures ok { OnOk result (written_of outlet.new ≡ written_of outlet.old + length text.now) }
     ensures failed { OnErr result (failures_of outlet.old < failures_of outlet.new) }
-    ensures fault { IfErr result (λ e. e ≡ RunFault.Write outlet.new.written) }
+    ensures fault { IfErr result (λ e. e ≡ RunFault.Write (written_of outlet.new)) }
 {
     match outlet.put_all(text.as_bytes()) {
         Ok(()) => Ok(()),
@@ -48,7 +48,7 @@ pub(crate) fn end<F: Form, W: Write>(
     ensures written { OnOk result (written_of outlet.new ≡ written_of outlet.old + length (F.texts.tail fields rest)) }
     ensures ok { IfOk result (λ s. s ≡ record { fields = fields; cut = cut_of rest; looked = looked }) }
     ensures failed { OnErr result (failures_of outlet.old < failures_of outlet.new) }
-    ensures fault { IfErr result (λ e. e ≡ RunFault.Write outlet.new.written) }
+    ensures fault { IfErr result (λ e. e ≡ RunFault.Write (written_of outlet.new)) }
 {
     if let Err(fault) = put(outlet, F::tail(fields, rest).as_str()) {
         return Err(fault);
@@ -81,7 +81,7 @@ pub(crate) fn run<F: Form, R: Read, W: Write>(
         match take_row(intake, config.levels(), progress.is_selected()) {
             Row::Whole(reading) => {
                 if let Some(readings) = progress.advance(config, reading) {
-                    let text = F::piece(progress.fields - 1, readings);
+                    let text = F::piece(progress.fields - 1, &readings);
                     if let Err(fault) = put(outlet, text.as_str()) {
                         return Err(fault);
                     }

@@ -1,15 +1,15 @@
 -- What a reader tells at the end of a line.
-use Rattle.std.proofs.Common.{◌≡◌, ℕ, ◌+◌, ◌<◌, ◌≤◌, Bool, true, false, List, length, take, get_or, Some, None, refl, sym, ap, subst, ◌∙◌}
+use Rattle.std.proofs.Common.{◌≡◌, ℕ, ◌≤◌, Bool, true, false, List, length, take, Some, None, sym, ap, subst, ◌∙◌}
 use Rattle.std.proofs.lemmas.List.{take_all}
 use Rattle.vbi_words.specs.declared.system.System.{System}
-use Rattle.vbi_words.specs.declared.outcome.Outcome.TheVariants.{Word, Blank, Unfinished, Change, Hold}
+use Rattle.vbi_words.specs.declared.outcome.Outcome.TheVariants.{Word, Blank, Unfinished}
 use Rattle.vbi_words.specs.Outcomes.{IsOutcome}
-use Rattle.vbi_words.proofs.Machine.{State, dead, level_of, is_lead}
+use Rattle.vbi_words.proofs.Machine.{State, dead, is_lead}
 use Rattle.vbi_words.proofs.Shown.{state_after, ending_of, fit_after}
 use Rattle.vbi_words.proofs.Outcomes.{word_outcome, blank_outcome, unfinished_outcome}
 use Rattle.vbi_line.specs.declared.progress.Progress.{Progress}
 use Rattle.vbi_line.specs.declared.progress.Progress.TheVariants.{Lead, First, Second, Tail}
-use Rattle.vbi_line.specs.Progress.{state_of, next_of, IsFit}
+use Rattle.vbi_line.specs.Progress.{state_of, IsFit}
 use Rattle.vbi_words.specs.Words.{IsWord, lowest_bits}
 
 -- a reader that goes on isn't in the dead state
@@ -35,5 +35,6 @@ module _ (system : System) (levels : List Bool) (progress : Progress) (at_end : 
       (ap (λ (s : State). ending_of system s) (sym at_end) ∙ none)
 
 -- at the end of the list
-pub whole : (system : System) (levels : List Bool) (i : ℕ) → length levels ≤ i → (state : State) → state ≡ state_after system (take i levels) → state ≡ state_after system levels
+pub whole : (system : System) (levels : List Bool) (i : ℕ) → length levels ≤ i → (state : State) → state ≡ state_after system (take i levels)
+    → state ≡ state_after system levels
 whole system levels i past state e = e ∙ ap (λ (t : List Bool). state_after system t) (take_all i levels past)

@@ -1,5 +1,5 @@
-pub mod FillSteps
 pub mod Ending
+pub mod FillSteps
 pub mod OneOutcome
 pub mod OneReading
 pub mod Packs
@@ -7,7 +7,7 @@ pub mod Parts
 pub mod RunLoop
 pub mod RunSteps
 pub mod Sizes
-pub mod StoreMemory
 pub mod Slicing
 pub mod SmoothRuns
 pub mod Steps
+pub mod StoreMemory

@@ -12,7 +12,8 @@ use Rattle.vbi_line.specs.OneOutcome.{outcome_of}
 use Rattle.vbi_line.specs.OneReading.{reading_of}
 use Rattle.vbi_line.proofs.OneOutcome.{is_outcome, same_outcome}
 
-pub by_outcomes : (system : System) (levels : List Bool) → reading_of system levels ≡ reading_from (outcome_of system levels) (outcome_of system (smooth_of levels))
+pub by_outcomes : (system : System) (levels : List Bool) → reading_of system levels ≡ reading_from (outcome_of system levels) (outcome_of system
+    (smooth_of levels))
 unfolding reading_of
 by_outcomes system levels = refl
 
@@ -44,7 +45,8 @@ reads_plain (Hold c) (Change d) free none = refl
 reads_plain (Hold c) (Hold d) free none = refl
 
 -- the reading where the smoothed levels show one
-reads_second : (system : System) (levels : List Bool) (o : Outcome) → IsOutcome system levels o → ShowsNone system levels → (AllLow levels → ⊥) → (w : ℕ)
+reads_second : (system : System) (levels : List Bool) (o : Outcome) → IsOutcome system levels o → ShowsNone system levels → (AllLow levels → ⊥) →
+    (w : ℕ)
     → reading_from o (Word w) ≡ record { outcome = Word w; pass = 2 }
 reads_second system levels (Word v) is none high w = absurd (none v is)
 reads_second system levels Blank is none high w = absurd (high is.1)
@@ -63,7 +65,8 @@ module _ (system : System) (levels : List Bool) where
   only_plain o pass free (p, is, none) =
       let e : o ≡ outcome_of system levels = same_outcome system levels o is in
       ap (λ (k : ℕ). told o k) p
-      ∙ sym (reads_plain o (outcome_of system (smooth_of levels)) free (no_word system (smooth_of levels) (outcome_of system (smooth_of levels)) (is_outcome system (smooth_of levels)) none))
+      ∙ sym (reads_plain o (outcome_of system (smooth_of levels)) free (no_word system (smooth_of levels) (outcome_of system (smooth_of levels))
+      (is_outcome system (smooth_of levels)) none))
       ∙ ap (λ (x : Outcome). reading_from x (outcome_of system (smooth_of levels))) e
 
   only : (o : Outcome) (pass : ℕ) → Reads system levels o pass → told o pass ≡ from_both
@@ -107,4 +110,5 @@ only_reading system levels reading is = only system levels reading.outcome readi
 
 pub is_reading : (system : System) (levels : List Bool) → IsReading system levels (reading_of system levels)
 unfolding reading_of
-is_reading system levels = from_outcomes system levels (outcome_of system levels) (outcome_of system (smooth_of levels)) (is_outcome system levels) (is_outcome system (smooth_of levels))
+is_reading system levels = from_outcomes system levels (outcome_of system levels) (outcome_of system (smooth_of levels))
+    (is_outcome system levels) (is_outcome system (smooth_of levels))

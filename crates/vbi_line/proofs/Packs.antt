@@ -1,5 +1,6 @@
 -- Levels as the bits of words.
-use Rattle.std.proofs.Common.{◌≡◌, ℕ, zero, suc, ◌+◌, ◌-◌, ◌*◌, ◌/◌, ◌%◌, ◌^◌, ◌<◌, ◌≤◌, Bool, true, false, cond, List, [], ◌∷◌, ◌++◌, ◌⊎◌, inl, inr, map, length, max, min, nat_eq, slice_index, refl, sym, ap, ◌∙◌, arith, add-zero, lit<, bit_or}
+use Rattle.std.proofs.Common.{◌≡◌, ℕ, zero, suc, ◌+◌, ◌-◌, ◌*◌, ◌/◌, ◌%◌, ◌^◌, ◌<◌, ◌≤◌, Bool, true, false, cond, List, ◌∷◌, ◌++◌, ◌⊎◌, inl, inr, map}
+use Rattle.std.proofs.Common.{length, max, min, nat_eq, slice_index, refl, sym, ap, ◌∙◌, arith, add-zero, lit<, bit_or}
 use Rattle.std.specs.List.{range_with_len}
 use Rattle.std.specs.Int.{bit_at, bit_not, trailing_zeros}
 use mir.Syntax.{w64}
@@ -9,7 +10,8 @@ use Rattle.std.proofs.lemmas.Nat.{pow-add, pow_pos}
 use Rattle.std.proofs.lemmas.Bool.{eqb-false, cases_eq, cases_lt}
 use Rattle.std.proofs.lemmas.List.{get_or-set_same, get_or-set_other}
 use Rattle.std.proofs.lemmas.List.FromFn.{length-map-range_with_len, get_or-map-range_with_len}
-use Rattle.std.proofs.lemmas.Nat.Bits.{bit_at-lt, bit_at-zero, bit_at_not, bit_at-trailing_zeros, bit_at_or, bit_at_above, bit_at_cat_low, bit_at_cat_high}
+use Rattle.std.proofs.lemmas.Nat.Bits.{bit_at-lt, bit_at-zero, bit_at_not, bit_at-trailing_zeros, bit_at_or, bit_at_above, bit_at_cat_low}
+use Rattle.std.proofs.lemmas.Nat.Bits.{bit_at_cat_high}
 use Rattle.vbi_words.specs.Levels.{level_at}
 use Rattle.vbi_line.specs.Packing.{level_of_bit, levels_in, packed_level, unpacked, EqualBits}
 use Rattle.vbi_line.specs.Runs.{IsRun}
@@ -112,17 +114,20 @@ module _ (words : List ℕ) (width bits count : ℕ) (long : length words ≡ 18
   inside : width / 64 < length words
   inside = omega (arith, long)
 
-  same_word : (column : ℕ) → column / 64 ≡ width / 64 → packed_level grown column ≡ level_of_bit (joined word bits (width % 64) count within few) (column % 64)
+  same_word : (column : ℕ) → column / 64 ≡ width / 64 → packed_level grown column ≡ level_of_bit (joined word bits (width % 64) count within few)
+      (column % 64)
   same_word column e =
       ap (λ (j : ℕ). level_of_bit (get_or grown j 0) (column % 64)) e
       ∙ ap (λ (w : ℕ). level_of_bit w (column % 64)) (get_or-set_same words (width / 64) (joined word bits (width % 64) count within few) 0 inside)
 
   other_word : (column : ℕ) → (column / 64 ≡ width / 64 → ⊥) → packed_level grown column ≡ packed_level words column
-  other_word column ne = ap (λ (w : ℕ). level_of_bit w (column % 64)) (get_or-set_other words (width / 64) (column / 64) (joined word bits (width % 64) count within few) 0 ne)
+  other_word column ne = ap (λ (w : ℕ). level_of_bit w (column % 64)) (get_or-set_other words (width / 64) (column / 64) (joined word bits
+      (width % 64) count within few) 0 ne)
 
   -- the last word has no level yet at this column
   empty : (column : ℕ) → width ≤ column → column < 1152 → column / 64 ≡ width / 64 → bit_at word (column % 64) ≡ 0
-  empty column past inside e = low_bit word (column % 64) (ap (λ (j : ℕ). level_of_bit (get_or words j 0) (column % 64)) (sym e) ∙ rest column past inside)
+  empty column past inside e = low_bit word (column % 64) (ap (λ (j : ℕ). level_of_bit (get_or words j 0) (column % 64)) (sym e)
+      ∙ rest column past inside)
 
   kept : (column : ℕ) → column < width → packed_level grown column ≡ packed_level words column
   kept column l = go (cases_eq (column / 64) (width / 64))
@@ -193,7 +198,8 @@ module _ (word place : ℕ) (level : Bool) (small : word < 2 ^ 64) (within : pla
   others = others_of word level / 2 ^ place
 
   bit_others : (i : ℕ) → bit_at others i ≡ bit_at (others_of word level) (place + i)
-  bit_others i = ap (λ (x : ℕ). x % 2) (div-div-eq-div-mul (others_of word level) (2 ^ place) (2 ^ i) ∙ ap (λ (x : ℕ). others_of word level / x) (sym (pow-add 2 place i)))
+  bit_others i = ap (λ (x : ℕ). x % 2) (div-div-eq-div-mul (others_of word level) (2 ^ place) (2 ^ i) ∙ ap (λ (x : ℕ). others_of word level / x)
+      (sym (pow-add 2 place i)))
 
   pub none_other : others ≡ 0 → EqualBits word place level (64 - place)
   none_other e = record {
@@ -218,7 +224,8 @@ module _ (word place : ℕ) (level : Bool) (small : word < 2 ^ 64) (within : pla
       go (inl l) one = l
       go (inr past) one =
           let none : bit_at others (trailing_zeros w64 others) ≡ 0
-          = bit_others (trailing_zeros w64 others) ∙ bit_at_above (others_of word level) 64 (place + trailing_zeros w64 others) (others-lt word level small) past in
+          = bit_others (trailing_zeros w64 others) ∙ bit_at_above (others_of word level) 64 (place + trailing_zeros w64 others)
+          (others-lt word level small) past in
           absurd (omega arith)
 
 -- ---- a run over words

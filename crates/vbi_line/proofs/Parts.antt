@@ -1,7 +1,7 @@
 -- A part of a list, and a list with a part written over.
-use Rattle.std.proofs.Common.{◌≡◌, ℕ, ◌+◌, ◌-◌, ◌≤◌, List, ◌++◌, length, take, drop, refl, sym, ap, ◌∙◌, arith}
-use Rattle.std.proofs.lemmas.List.{length-take-le, take_at, take-append-le, drop-take, drop-drop, length-drop}
-use Rattle.std.proofs.Math.Seq.{take-append-add, drop_at}
+use Rattle.std.proofs.Common.{◌≡◌, ℕ, ◌+◌, ◌-◌, ◌≤◌, List, ◌++◌, length, take, drop, sym, ap, ◌∙◌, arith}
+use Rattle.std.proofs.lemmas.List.{length-take-le, take_at, drop-take, drop-drop}
+use Rattle.std.proofs.Math.Seq.{drop_at}
 use Rattle.std.specs.List.{refill, length_refill}
 use Rattle.vbi_line.specs.StoreLends.{with_part}
 use Rattle.vbi_line.proofs.StoreMemory.{length-part}

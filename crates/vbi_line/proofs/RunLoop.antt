@@ -1,5 +1,6 @@
 -- What the loop over a line's runs needs.
-use Rattle.std.proofs.Common.{◌≡◌, ℕ, zero, suc, ◌+◌, ◌<◌, ◌≤◌, Bool, false, List, [], ◌∷◌, ◌++◌, inl, inr, length, take, sym, ap, subst, ◌∙◌, arith, add-zero, add-one, append_assoc}
+use Rattle.std.proofs.Common.{◌≡◌, ℕ, zero, suc, ◌+◌, ◌<◌, ◌≤◌, Bool, false, List, [], ◌∷◌, ◌++◌, inl, inr, length, take, sym, ap, subst, ◌∙◌, arith}
+use Rattle.std.proofs.Common.{add-zero, add-one, append_assoc}
 use Rattle.std.proofs.Math.ListN.{replicate}
 use Rattle.std.proofs.lemmas.List.{take_more, replicate_more, append-nil}
 use Rattle.std.proofs.lemmas.Bool.{cases_lt}
@@ -18,9 +19,11 @@ use Rattle.vbi_line.specs.Runs.{IsRun}
 use Rattle.vbi_line.proofs.Ending.{alive}
 
 -- the level after a run is the run's
-last_level : (system : System) (state : State) (v : Bool) (k : ℕ) → 0 < k → (after_of system state (replicate k v) ≡ dead → ⊥) → level_of (after_of system state (replicate k v)) ≡ v
+last_level : (system : System) (state : State) (v : Bool) (k : ℕ) → 0 < k → (after_of system state (replicate k v) ≡ dead → ⊥) → level_of
+    (after_of system state (replicate k v)) ≡ v
 last_level system state v zero some alive = absurd (omega arith)
-last_level system state v (suc k) some alive = ap level_of last ∙ Machine.next_level (least_half system) (greatest_half system) 24 (after_of system state (replicate k v)) v (λ d. alive (last ∙ d))
+last_level system state v (suc k) some alive = ap level_of last ∙ Machine.next_level (least_half system) (greatest_half system) 24
+    (after_of system state (replicate k v)) v (λ d. alive (last ∙ d))
   where
     last : after_of system state (replicate (suc k) v) ≡ next_of system (after_of system state (replicate k v)) v
     last = ap (λ (t : List Bool). after_of system state t) (ap (λ (j : ℕ). replicate j v) (sym (add-one k)) ∙ sym (replicate_more k v))
@@ -46,7 +49,8 @@ module _ (system : System) (levels : List Bool) (column : ℕ) (v : Bool) (count
         ∙ sym (Machine.after-append (least_half system) (greatest_half system) 24 (lead 0) (take column levels) (replicate k v))
         ∙ ap (λ (t : List Bool). state_after system t) (sym (run_levels k l))
 
-    pub goes_on : (new : State) → new ≡ after_of system (state_of progress) (replicate count v) → new ≡ state_after system (take (column + count) levels)
+    pub goes_on : (new : State) → new ≡ after_of system (state_of progress) (replicate count v) → new ≡ state_after system (take
+        (column + count) levels)
     goes_on new e = e ∙ after_levels count (omega arith)
 
     -- the next run has the other level
@@ -80,7 +84,8 @@ module _ (system : System) (levels : List Bool) (column : ℕ) (v : Bool) (count
         start e same =
             let lead_now : state_of progress ≡ lead 0 = so_far ∙ ap (λ (j : ℕ). state_after system (take j levels)) e in
             let low : v ≡ false = sym here ∙ same ∙ ap level_of (sym so_far ∙ lead_now) in
-            let bad : dead ≡ lead (0 + 1) = sym at_once ∙ ap (λ (s : State). next_of system s v) lead_now ∙ ap (λ (b : Bool). next_of system (lead 0) b) low in
+            let bad : dead ≡ lead (0 + 1) = sym at_once ∙ ap (λ (s : State). next_of system s v) lead_now ∙ ap (λ (b : Bool). next_of system
+            (lead 0) b) low in
             cc
 
         differs : level_at levels column ≡ level_of (state_after system (take column levels)) → ⊥
@@ -89,7 +94,8 @@ module _ (system : System) (levels : List Bool) (column : ℕ) (v : Bool) (count
           | inr first ↦ start (omega arith) same
         ]
 
-    pub holds : (lived : ℕ) → 0 < lived → lived < count → DiesAfter system (state_of progress) v lived → IsOutcome system levels (Hold (column + lived))
+    pub holds : (lived : ℕ) → 0 < lived → lived < count → DiesAfter system (state_of progress) v lived → IsOutcome system levels (Hold
+        (column + lived))
     holds lived some few dies =
         hold_outcome system levels (column + lived) (omega (arith, run.inside))
         (λ d. dies.0 (there ∙ d))

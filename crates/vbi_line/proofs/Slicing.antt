@@ -1,9 +1,9 @@
 -- Slicing samples into levels.
-use Rattle.std.proofs.Common.{◌≡◌, ℕ, zero, suc, ◌+◌, ◌-◌, ◌*◌, ◌/◌, ◌%◌, ◌^◌, ◌<◌, ◌≤◌, Bool, true, false, cond, ltb, nat_eq, nat_lt, List, [], ◌∷◌, ◌++◌, ◌⊎◌, inl, inr, map, length, get_or, Some, None, refl, sym, ap, subst, ◌∙◌, arith, lit≤}
+use Rattle.std.proofs.Common.{◌≡◌, ℕ, zero, suc, ◌+◌, ◌-◌, ◌*◌, ◌%◌, ◌^◌, ◌<◌, ◌≤◌, Bool, true, false, cond, ltb, nat_eq, nat_lt, List, [], ◌∷◌, ◌++◌}
+use Rattle.std.proofs.Common.{◌⊎◌, inl, inr, map, length, get_or, Some, None, refl, sym, ap, subst, ◌∙◌, arith, lit≤}
 use Rattle.std.specs.Prelude.{replicate}
-use Rattle.std.specs.Int.{bit_at}
 use Rattle.std.proofs.lemmas.Bool.{cases_lt}
-use Rattle.std.proofs.lemmas.List.{get_or-map, length-map, length-append, same_lists, ext_get_or, get_or_append_left, get_or-append-add}
+use Rattle.std.proofs.lemmas.List.{get_or-map, length-map, length-append, ext_get_or, get_or_append_left, get_or-append-add}
 use Rattle.std.proofs.lemmas.List.FromFn.{length-map-range_with_len, get_or-map-range_with_len}
 use Rattle.std.proofs.lemmas.Simd.{tops_compared, zip2_splat_left, mask_l-mod, mask_l-lt, bit_mask_l}
 use lib.Lanes.{zip2, mask_l, top}
@@ -24,17 +24,23 @@ bit_of_level false = refl
 pub levels_of_mask : (levels : List Bool) (count : ℕ) → length levels ≡ count → levels_in count (mask_l levels) ≡ levels
 levels_of_mask levels count long =
     ext_get_or false (levels_in count (mask_l levels)) levels (length-map-range_with_len (level_of_bit (mask_l levels)) 0 count ∙ sym long) (λ i l.
-    get_or-map-range_with_len (level_of_bit (mask_l levels)) 0 count i i false (omega (arith, length-map-range_with_len (level_of_bit (mask_l levels)) 0 count)) (omega arith)
+    get_or-map-range_with_len (level_of_bit (mask_l levels)) 0 count i i false (omega (
+      arith,
+      length-map-range_with_len (level_of_bit
+          (mask_l levels)) 0 count,
+    )) (omega arith)
     ∙ ap (λ (x : ℕ). nat_eq x 1) (bit_mask_l levels i) ∙ bit_of_level (get_or levels i false))
 
 pub mask_above : (samples : List ℕ) (low : ℕ) → length samples ≡ 16
-    → mask_l (map (top (hbits w16)) (zip2 (λ a b. cond (ltb a b) (2 ^ bits w16 - 1) 0) (replicate 16 low) samples)) % 2 ^ 64 ≡ mask_l (map (λ sample. nat_lt low sample) samples)
+    → mask_l (map (top (hbits w16)) (zip2 (λ a b. cond (ltb a b) (2 ^ bits w16 - 1) 0) (replicate 16 low) samples)) % 2 ^ 64 ≡ mask_l (map
+    (λ sample. nat_lt low sample) samples)
 mask_above samples low long =
     ap (λ (ms : List Bool). mask_l ms % 2 ^ 64) (tops_compared w16 ltb (replicate 16 low) samples ∙ zip2_splat_left ltb low 16 samples long)
     ∙ mask_l-mod (map (λ sample. nat_lt low sample) samples) 64 (rw (length-map, long) (lit≤ tt))
 
 pub levels_above : (samples : List ℕ) (low : ℕ) → length samples ≡ 16
-    → levels_in 16 (mask_l (map (top (hbits w16)) (zip2 (λ a b. cond (ltb a b) (2 ^ bits w16 - 1) 0) (replicate 16 low) samples)) % 2 ^ 64) ≡ map (λ sample. nat_lt low sample) samples
+    → levels_in 16 (mask_l (map (top (hbits w16)) (zip2 (λ a b. cond (ltb a b) (2 ^ bits w16 - 1) 0) (replicate 16 low) samples)) % 2 ^ 64) ≡ map
+    (λ sample. nat_lt low sample) samples
 levels_above samples low long =
     ap (λ (x : ℕ). levels_in 16 x) (mask_above samples low long)
     ∙ levels_of_mask (map (λ sample. nat_lt low sample) samples) 16 (rw (length-map, long) refl)
@@ -85,7 +91,8 @@ sliced_more slicing held levels more sliced new k l = go (cases_lt k (length lev
         ap (level_at (levels ++ more)) place ∙ get_or-append-add levels more j false
         ∙ new j (omega (arith, length-append levels more)) ∙ ap (λ (i : ℕ). is_high_of slicing (sample_at held i)) (sym place)
 
-pub sliced_all : (slicing : Slicing) (held : List ℕ) (levels : List Bool) (width : ℕ) → length held ≡ 2 * width → length levels ≡ width → Sliced slicing held levels
+pub sliced_all : (slicing : Slicing) (held : List ℕ) (levels : List Bool) (width : ℕ) → length held ≡ 2 * width → length levels ≡ width
+    → Sliced slicing held levels
     → levels ≡ row_levels slicing held
 sliced_all slicing held levels width full long sliced =
     ext_get_or false levels (row_levels slicing held)
@@ -100,10 +107,12 @@ pub keeps_on : (first middle last : Line) → KeepsBytes first middle → KeepsB
 keeps_on first middle last k l = record { system = l.system ∙ k.system; held = l.held ∙ k.held; room = l.room ∙ k.room }
 
 -- what the latest pass gives at a known cursor
-pub block_given : (old new : Line) (cursor : ℕ) (before block : List ℕ) → old.cursors ≡ cursor ∷ before → IsNextBlock old (Some block) new → LooksAtBlock old cursor before block new
+pub block_given : (old new : Line) (cursor : ℕ) (before block : List ℕ) → old.cursors ≡ cursor ∷ before → IsNextBlock old (Some block) new
+    → LooksAtBlock old cursor before block new
 block_given old new cursor before block at gives = subst (λ (cursors : List ℕ). IsNextBlockAt cursors old (Some block) new) at gives
 
-pub line_ended : (old new : Line) (cursor : ℕ) (before : List ℕ) → old.cursors ≡ cursor ∷ before → IsNextSample old None new → cursor ≡ width_of old.system
+pub line_ended : (old new : Line) (cursor : ℕ) (before : List ℕ) → old.cursors ≡ cursor ∷ before → IsNextSample old None new
+    → cursor ≡ width_of old.system
 line_ended old new cursor before at gives = (subst (λ (cursors : List ℕ). IsNextSampleAt cursors old None new) at gives).0
 
 -- a pass that gave as many samples as there are levels gives a block, and the levels of the block are added

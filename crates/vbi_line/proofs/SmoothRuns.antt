@@ -1,5 +1,6 @@
 -- Smoothed levels by whole runs.
-use Rattle.std.proofs.Common.{◌≡◌, ℕ, suc, zero, ◌+◌, ◌-◌, ◌<◌, ◌≤◌, Bool, false, true, List, [], ◌∷◌, ◌++◌, ◌⊎◌, inl, inr, length, drop, refl, sym, ap, subst, ◌∙◌, arith, append_assoc, add-zero, Some, None}
+use Rattle.std.proofs.Common.{◌≡◌, ℕ, suc, zero, ◌+◌, ◌-◌, ◌<◌, ◌≤◌, Bool, false, true, List, [], ◌∷◌, ◌++◌, ◌⊎◌, inl, inr, length, drop, refl, sym}
+use Rattle.std.proofs.Common.{ap, subst, ◌∙◌, arith, append_assoc, add-zero, Some, None}
 use Rattle.std.proofs.Math.ListN.{replicate}
 use Rattle.std.proofs.lemmas.List.{append-nil, drop_all}
 use Rattle.std.specs.Prelude.{not}
@@ -128,16 +129,19 @@ begins system levels = record {
     first false = inr (refl, refl, refl, refl)
 
 -- the levels of a run
-run_dropped : (levels : List Bool) (column : ℕ) (x : Bool) (count : ℕ) → IsRun levels column x count → drop column levels ≡ replicate count x ++ drop (column + count) levels
+run_dropped : (levels : List Bool) (column : ℕ) (x : Bool) (count : ℕ) → IsRun levels column x count
+    → drop column levels ≡ replicate count x ++ drop (column + count) levels
 run_dropped levels column x count r = equal_from levels column count x r.inside r.each
 
 here_is : (levels : List Bool) (column : ℕ) (x : Bool) (count : ℕ) → IsRun levels column x count → level_at levels column ≡ x
 here_is levels column x count r = ap (λ (k : ℕ). level_at levels k) (sym (add-zero column)) ∙ r.each 0 r.some
 
-more : (system : System) (front : List Bool) (n : ℕ) (v : Bool) → state_after system (front ++ replicate n v) ≡ after_of system (state_after system front) (replicate n v)
+more : (system : System) (front : List Bool) (n : ℕ) (v : Bool) → state_after system (front ++ replicate n v) ≡ after_of system
+    (state_after system front) (replicate n v)
 more system front n v = Machine.after-append (least_half system) (greatest_half system) 24 (lead 0) front (replicate n v)
 
-module _ (system : System) (levels : List Bool) (column : ℕ) (out : Bool) (state : State) (h : Halfway system levels column out state) (x : Bool) (count : ℕ) (run : IsRun levels column x count) where
+module _ (system : System) (levels : List Bool) (column : ℕ) (out : Bool) (state : State) (h : Halfway system levels column out state) (x : Bool)
+    (count : ℕ) (run : IsRun levels column x count) where
   turning : Turns out h.a h.b h.c x
   turning = subst (λ (y : Bool). Turns out h.a h.b h.c y) (here_is levels column x count run) (h.turns (omega (arith, run.some, run.inside)))
 
@@ -156,7 +160,8 @@ module _ (system : System) (levels : List Bool) (column : ℕ) (out : Bool) (sta
   pub fits : IsFit system state
   fits = subst (λ (s : State). IsFit system s) (sym h.state_is) (fit_after system h.front)
 
-  short_whole : (l : count < 4) → (a : Bool) × (b : Bool) × (smooth_of levels ≡ h.front ++ (replicate count out ++ window out a b x (drop (column + count) levels)))
+  short_whole : (l : count < 4) → (a : Bool) × (b : Bool) × (smooth_of levels ≡ h.front ++ (replicate count out ++ window out a b x (drop
+      (column + count) levels)))
   short_whole l =
       let r = short_run out h.a h.b h.c x count (drop (column + count) levels) turning run.some l in
       (r.0, r.1, h.whole ∙ ap (λ (t : List Bool). h.front ++ t) (spread h.a h.b h.c ∙ r.2))
@@ -178,14 +183,18 @@ module _ (system : System) (levels : List Bool) (column : ℕ) (out : Bool) (sta
   short_dies l lived within dies =
       let r = short_whole l in
       let e : count ≡ (lived + 1) + (count - (lived + 1)) = omega arith in
-      dead_none system (smooth_of levels) (h.front ++ replicate (lived + 1) out) (replicate (count - (lived + 1)) out ++ window out r.0 r.1 x (drop (column + count) levels))
+      dead_none system (smooth_of levels) (h.front ++ replicate (lived + 1) out) (replicate (count - (lived + 1)) out ++ window out r.0 r.1 x
+      (drop (column + count) levels))
       (r.2 ∙ ap (λ (n : ℕ). h.front ++ (replicate n out ++ window out r.0 r.1 x (drop (column + count) levels))) e
-      ∙ ap (λ (t : List Bool). h.front ++ t) (sym (run_joined (lived + 1) (count - (lived + 1)) out (window out r.0 r.1 x (drop (column + count) levels))))
-      ∙ sym (append_assoc h.front (replicate (lived + 1) out) (replicate (count - (lived + 1)) out ++ window out r.0 r.1 x (drop (column + count) levels))))
+      ∙ ap (λ (t : List Bool). h.front ++ t) (sym (run_joined (lived + 1) (count - (lived + 1)) out (window out r.0 r.1 x (drop
+      (column + count) levels))))
+      ∙ sym (append_assoc h.front (replicate (lived + 1) out) (replicate (count - (lived + 1)) out ++ window out r.0 r.1 x (drop
+      (column + count) levels))))
       (more system h.front (lived + 1) out ∙ ap (λ (s : State). after_of system s (replicate (lived + 1) out)) (sym h.state_is) ∙ dies.1)
 
   long_whole : 4 ≤ count → smooth_of levels ≡ h.front ++ (replicate 3 out ++ (replicate (count - 3) x ++ steady x (drop (column + count) levels)))
-  long_whole l = h.whole ∙ ap (λ (t : List Bool). h.front ++ t) (spread h.a h.b h.c ∙ long_run out h.a h.b h.c x count (drop (column + count) levels) turning l)
+  long_whole l = h.whole ∙ ap (λ (t : List Bool). h.front ++ t) (spread h.a h.b h.c ∙ long_run out h.a h.b h.c x count (drop
+      (column + count) levels) turning l)
 
   pub first_dies : 4 ≤ count → (lived : ℕ) → lived < 3 → DiesAfter system state out lived → ShowsNone system (smooth_of levels)
   first_dies l lived within dies =
@@ -214,7 +223,8 @@ module _ (system : System) (levels : List Bool) (column : ℕ) (out : Bool) (sta
       b = x;
       c = x;
       whole = middle_whole ∙ sym (append_assoc (h.front ++ replicate 3 out) (replicate (count - 3) x) (steady x (drop (column + count) levels)));
-      state_is = f ∙ ap (λ (s : State). after_of system s (replicate (count - 3) x)) middle_is ∙ sym (more system (h.front ++ replicate 3 out) (count - 3) x);
+      state_is = f ∙ ap (λ (s : State). after_of system s (replicate (count - 3) x)) middle_is ∙ sym (more system (h.front ++ replicate 3 out)
+          (count - 3) x);
       turns = next_turn x x x;
     }
 
@@ -234,9 +244,11 @@ unfolding window
 window_empty out a b c = refl
 
 -- at the end
-module _ (system : System) (levels : List Bool) (column : ℕ) (out : Bool) (state : State) (h : Halfway system levels column out state) (past : length levels ≤ column) where
+module _ (system : System) (levels : List Bool) (column : ℕ) (out : Bool) (state : State) (h : Halfway system levels column out state)
+    (past : length levels ≤ column) where
   all : smooth_of levels ≡ h.front
-  all = h.whole ∙ ap (λ (t : List Bool). h.front ++ window out h.a h.b h.c t) (drop_all column levels past) ∙ ap (λ (t : List Bool). h.front ++ t) (window_empty out h.a h.b h.c) ∙ append-nil h.front
+  all = h.whole ∙ ap (λ (t : List Bool). h.front ++ window out h.a h.b h.c t) (drop_all column levels past) ∙ ap (λ
+      (t : List Bool). h.front ++ t) (window_empty out h.a h.b h.c) ∙ append-nil h.front
 
   at_end : state ≡ state_after system (smooth_of levels)
   at_end = h.state_is ∙ ap (λ (t : List Bool). state_after system t) (sym all)

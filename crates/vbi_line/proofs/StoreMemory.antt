@@ -1,7 +1,6 @@
 -- The array behind a line in memory is its bytes side by side, and back. The proof by hand of its loan stands on this.
 use Rattle.std.proofs.Common.{◌≡◌, ℕ, ◌+◌, ◌-◌, ◌≤◌, List, [], ◌∷◌, ◌++◌, length, take, drop, refl, sym, ap, ◌∙◌, arith}
 use Rattle.std.proofs.lemmas.List.{length-take-le, take_at, take-append-drop, drop-drop, length-drop, length-append}
-use Rattle.std.specs.List.{refill}
 use seplogic.Ra.Ura.{Ura}
 use mir.Syntax.{Ty, ty_array, ty_int, ty_struct, w8}
 use base.Logic.{SProp, ent, sep, guard}
@@ -10,18 +9,18 @@ use base.Fml.{Fml, ftrue, fsep, feq}
 use prog.Memory.{align, up}
 use types.Logic.{Logic, sem}
 use types.SemTy.{cells}
-use types.Kit.{‵, ◌⊛◌, raw, ◌$◌, ◌∵◌, !, qed, move, drop as let_go, split, fsplit, fjoin, use1, use2, done, rewrite, feq_l, feq_i, check}
+use types.Kit.{‵, ◌⊛◌, raw, ◌$◌, ◌∵◌, !, qed, move, drop as let_go, done, rewrite, check}
+use types.Kit.{split, fsplit, fjoin, use1, use2, feq_l, feq_i}
 use denote.Array.{Array, Array-Lawful}
 use denote.ArrayMemory.{Array-apart, Array-whole}
 use denote.Builtin.{u8}
 use denote.Index.{row, whole_in, whole_out}
 use denote.Memory.{mem, part_at}
 use denote.Plain.{uint_Lawful}
-use denote.RattleType.{RattleType}
 use denote.Steps.{nothing}
-use denote.Struct.Declared.{Declared, shape}
+use denote.Struct.Declared.{shape}
 use denote.Struct.Members.{Member, raw_tys, lawful_Lones}
-use denote.Struct.Parts.{shape_of, Struct-left, left_Struct}
+use denote.Struct.Parts.{Struct-left, left_Struct}
 use denote.Struct.Recorded.{Recorded-part}
 use denote.Struct.Struct.{Struct}
 use Rattle.vbi_line.specs.contracts.store.LineBytes.{the_row, the_type}
@@ -86,7 +85,8 @@ module _ {M : Type 1} {𝓤 : Ura M} (𝓛 : Logic 𝓤) (b o : ℕ) where
       qed 𝓛 (‵ (part_at the_row full_share d b o) ∷ []) ∵
       rewrite ! 0 (λ (f : Fml). ‵ f) (as_tuple d b o) refl $
       use1 𝓛 (‵ (fsep (part_at (Array u8 2270) full_share d.bytes b (start o)) ftrue) ⊛ raw Left)
-      (Struct-left 𝓛 full_share the_type.name fields (lawful_Lones 𝓛 fields (Array-Lawful 𝓛 u8 (uint_Lawful 𝓛 w8) 2270, tt)) (d.bytes, tt) b o) $
+      (Struct-left 𝓛 full_share the_type.name fields (lawful_Lones 𝓛 fields (Array-Lawful 𝓛 u8 (uint_Lawful 𝓛 w8) 2270, tt))
+      (d.bytes, tt) b o) $
       split ! $ fsplit ! $ move ! (1 ∷ []) $ let_go ! $
       use1 𝓛 (‵ (fsep (feq ℕ (length d.bytes) 2270) (row u8 full_share d.bytes b (start o))))
       (Array-apart 𝓛 u8 full_share tt 2270 d.bytes b (start o)) $ fsplit ! $ feq_l ! (λ long.
@@ -100,5 +100,6 @@ module _ {M : Type 1} {𝓤 : Ura M} (𝓛 : Logic 𝓤) (b o : ℕ) where
       feq_i ! ℕ (length d.bytes) 2270 long $ fjoin ! $
       use1 𝓛 (‵ (part_at (Array u8 2270) full_share d.bytes b (start o))) (Array-whole 𝓛 u8 full_share 2270 d.bytes b (start o)) $
       nothing ! $ move ! (1 ∷ 0 ∷ []) $ fjoin ! $
-      use2 𝓛 (‵ (part_at (Struct (shape the_type)) full_share (d.bytes, tt) b o)) (left_Struct 𝓛 full_share the_type.name fields (d.bytes, tt) b o) $
+      use2 𝓛 (‵ (part_at (Struct (shape the_type)) full_share (d.bytes, tt) b o))
+      (left_Struct 𝓛 full_share the_type.name fields (d.bytes, tt) b o) $
       rewrite ! 0 (λ (f : Fml). ‵ f) (sym (as_tuple d b o)) refl $ done !

@@ -1,6 +1,6 @@
 -- What a contract sees of an intake: the reader, the line that is held, and the counts of bytes
 -- and failures (this project's own).
-use Rattle.std.specs.Prelude.{◌≡◌, ℕ, ◌+◌, ◌-◌, ◌*◌, ◌<◌, ◌≤◌, List, [], ◌++◌, length, Option}
+use Rattle.std.specs.Prelude.{◌≡◌, ℕ, ◌+◌, ◌*◌, ◌<◌, ◌≤◌, List, [], ◌++◌, length, Option}
 use Rattle.std.specs.Io.KnownBytes.{Consumes, IsAtEnd}
 use Rattle.vbi_words.specs.Geometry.{line_bytes}
 use Rattle.vbi_words.specs.declared.system.System.{System}
@@ -14,6 +14,14 @@ module _ {R : Type 0} where
   -- the reader
   abbrev pub device_of : Intake R → R
   device_of i = counted.device_of i.device
+
+  -- the ghost name of the reference to it, by which a caller knows the reader again
+  abbrev pub name_of : Intake R → ℕ
+  name_of i = counted.name_of i.device
+
+  -- how many bytes the reader gave
+  abbrev pub fetched_of : Intake R → ℕ
+  fetched_of i = i.fetched
 
   -- how often the reader failed
   abbrev pub failures_of : Intake R → ℕ
@@ -37,14 +45,14 @@ module _ {R : Type 0} where
     pub held : i.line.held ≡ []
     pub cursors : i.line.cursors ≡ []
     pub looked : i.line.looked ≡ 0
-    pub fetched : i.fetched ≡ 0
+    pub fetched : fetched_of i ≡ 0
     pub failures : failures_of i ≡ 0
 
   -- the next bytes of the reader are newly held, and nothing else
   pub record FetchesBytes (remaining : R → Option (List ℕ)) (old new : Intake R) (bytes : List ℕ) : Type 0 where
     pub held : held_of new ≡ held_of old ++ bytes
     pub consumed : Consumes (remaining (device_of old)) (remaining (device_of new)) bytes
-    pub fetched : new.fetched ≡ old.fetched + length bytes
+    pub fetched : fetched_of new ≡ fetched_of old + length bytes
     pub least : failures_of old ≤ failures_of new
     pub most : failures_of new ≤ failures_of old + 17 * (length bytes + 1)
     pub kept : Keeps old.line new.line
@@ -64,4 +72,4 @@ module _ {R : Type 0} where
     pub same : IsSameDevice old new
     pub device : device_of new ≡ device_of old
     pub failures : failures_of new ≡ failures_of old
-    pub fetched : new.fetched ≡ old.fetched
+    pub fetched : fetched_of new ≡ fetched_of old

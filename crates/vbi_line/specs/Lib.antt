@@ -3,10 +3,10 @@ pub mod Intake
 pub mod Line
 pub mod LineLends
 pub mod LineView
-pub mod StoreLends
 pub mod OneOutcome
 pub mod OneReading
 pub mod PackedView
 pub mod Packing
 pub mod Progress
 pub mod Runs
+pub mod StoreLends

@@ -4,8 +4,8 @@ use Rattle.vbi_line.specs.Packing.{packed_level, unpacked}
 use Rattle.vbi_line.specs.declared.packed.Packed.TheInside.{Inside}
 
 -- the levels of the line's columns
-abbrev pub levels_of : Inside → List Bool
-levels_of p = unpacked p.words p.width
+abbrev pub packed_levels : Inside → List Bool
+packed_levels p = unpacked p.words p.width
 
 -- there is room for the widest line, and no bit past the width is set
 pub record IsPacked (p : Inside) : Type 0 where

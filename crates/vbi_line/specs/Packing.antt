@@ -1,5 +1,5 @@
 -- Levels packed into words of 64 bits (this project's own): the level of column k is bit k mod 64 of word k div 64.
-use Rattle.std.specs.Prelude.{ℕ, ◌≡◌, ◌≢◌, ◌<◌, ◌≤◌, ◌+◌, ◌/◌, ◌%◌, Bool, false, List, map, nat_eq, length, slice_index}
+use Rattle.std.specs.Prelude.{ℕ, ◌≡◌, ◌≢◌, ◌<◌, ◌≤◌, ◌+◌, ◌/◌, ◌%◌, Bool, List, map, nat_eq, slice_index}
 use Rattle.std.specs.List.{range_with_len}
 use Rattle.std.specs.Int.{bit_at}
 

@@ -1,5 +1,5 @@
 //! The intake of one line from a reader.
-ghost use Rattle.std.specs.Prelude.{◌≡◌, ◌+◌, ◌*◌, ◌^◌, ◌<◌, ◌≤◌, [], ◌∷◌, length, IfOk, OnOk, OnErr, Ok};
+ghost use Rattle.std.specs.Prelude.{◌≡◌, ◌+◌, ◌*◌, ◌^◌, ◌<◌, ◌≤◌, [], ◌∷◌, length, IfOk, OnErr};
 ghost use Rattle.vbi_words.specs.Geometry.{width_of, line_bytes};
 ghost use Rattle.vbi_words.specs.Levels.{row_levels};
 ghost use Rattle.vbi_words.specs.Outcomes.{IsOutcome};
@@ -40,11 +40,11 @@ pub struct Intake<'a, R> {
 }
 
 impl<'a, R: Read> Intake<'a, R> {
-    ghost use Rattle.vbi_line.specs.Intake.{device_of, failures_of, held_of, line_of, IsFresh, Fetches, IsFilled, IsSameDevice, KeepsReader};
+    ghost use Rattle.vbi_line.specs.Intake.{device_of, failures_of, fetched_of, held_of, line_of, name_of, IsFresh, Fetches, IsFilled, IsSameDevice, KeepsReader};
 
     /// An intake of lines of this system, which holds nothing and hasn't asked the reader.
     pub fn new(reader: &'a mut R, system: System) -> Self
-        ensures same { result.device.device.ghost_name ≡ reader.entry.ghost_name }
+        ensures same { name_of result ≡ reader.entry.ghost_name }
         ensures reader { device_of result ≡ reader.old }
         ensures fresh { IsFresh result system }
     {
@@ -57,7 +57,7 @@ impl<'a, R: Read> Intake<'a, R> {
 
     /// The reader again. A caller that lent it knows by this what the reader is now.
     pub fn into_reader(self) -> &'a mut R
-        ensures same { result.ghost_name ≡ self.entry.device.device.ghost_name }
+        ensures same { result.ghost_name ≡ name_of self.entry }
         ensures reader { result.now ≡ device_of self.entry }
     {
         let Intake {
@@ -73,7 +73,7 @@ impl<'a, R: Read> Intake<'a, R> {
     /// goes on from there; after `Ended` a later call asks the reader again.
     pub fn fill_line(&mut self) -> Result<Filled, IntakeFault>
         requires room { length (held_of self.old) < line_bytes (line_of self.old).system }
-        requires fetched { self.old.fetched ≤ 2 ^ 62 }
+        requires fetched { fetched_of self.old ≤ 2 ^ 62 }
         requires failures { failures_of self.old ≤ 2 ^ 62 }
         ensures same { IsSameDevice self.old self.new }
         ensures bytes { Fetches R.remaining self.old self.new }
@@ -163,7 +163,7 @@ impl<'a, R: Read> Intake<'a, R> {
 
     /// How many bytes the reader gave.
     pub fn fetched(&self) -> u64
-        ensures { result ≡ self.now.fetched }
+        ensures { result ≡ fetched_of self.now }
     {
         self.fetched
     }

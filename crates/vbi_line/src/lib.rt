@@ -14,6 +14,14 @@ mod packed;
 mod plain;
 mod progress;
 mod store;
+#[cfg(test)]
+mod tests_cases;
+#[cfg(test)]
+mod tests_devices;
+#[cfg(test)]
+mod tests_lines;
+#[cfg(test)]
+mod tests_packed;
 mod twice;
 
 pub use counted::{Counted, Fail};

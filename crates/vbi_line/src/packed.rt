@@ -19,9 +19,9 @@ impl Model for Packed {
 
     ghost Value = { List Bool };
 
-    ghost use Rattle.vbi_line.specs.PackedView.{levels_of, IsPacked};
+    ghost use Rattle.vbi_line.specs.PackedView.{packed_levels, IsPacked};
 
-    ghost view = { levels_of };
+    ghost view = { packed_levels };
 
     ghost invariant = { IsPacked };
 }

@@ -1,5 +1,5 @@
 -- A word has one code: no two patterns have a word in common.
-use Rattle.std.proofs.Common.{◌≡◌, ℕ, suc, zero, ◌≤◌, ◌<◌, ◌+◌, ◌-◌, ◌*◌, ◌%◌, Bool, true, false, ltb, leb, ◌&&◌, ◌||◌, List, [], ◌∷◌, length, get_or, cond, ◌⊎◌, inl, inr, refl, ap, sym, ◌∙◌, subst, arith, lit<, lit≤}
+use Rattle.std.proofs.Common.{◌≡◌, ℕ, suc, zero, ◌≤◌, ◌<◌, Bool, true, false, ltb, leb, ◌&&◌, ◌||◌, List, [], ◌∷◌, length, get_or, cond, ◌⊎◌, inl, inr, refl, ap, sym, ◌∙◌, arith, lit<, lit≤}
 use Rattle.std.proofs.lemmas.Bool.{ltb-true, leb-true, le-leb}
 use Rattle.std.specs.List.{list_all}
 use Rattle.vbi_words.specs.declared.code.Code.{Code}

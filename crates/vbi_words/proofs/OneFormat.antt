@@ -1,12 +1,11 @@
 -- A field has one format.
-use Rattle.std.proofs.Common.{◌≡◌, ℕ, ◌<◌, Bool, true, false, List, Option, Some, None, Any, refl, ap, sym, ◌∙◌, subst}
+use Rattle.std.proofs.Common.{◌≡◌, ℕ, Bool, true, false, List, Option, Some, None, Any, refl, ap, sym, ◌∙◌}
 use Rattle.std.specs.List.{list_any}
 use Rattle.std.proofs.lemmas.List.Folds.{Any-from_list_any, list_any_at}
 use Rattle.vbi_words.specs.declared.code.Code.{Code}
 use Rattle.vbi_words.specs.declared.code.Code.TheVariants.{Picture, Chapter, Time, ClvPicture, CxOn, CxOff, Users, LeadIn, LeadOut, PictureStop, ClvMark, Other}
 use Rattle.vbi_words.specs.declared.format.Format.{Format}
 use Rattle.vbi_words.specs.declared.format.Format.TheVariants.{Cav, Clv, Both, Neither}
-use Rattle.vbi_words.specs.Codes.{IsCode}
 use Rattle.vbi_words.specs.CodeTable.{code_of, has_code, is_cav_code, is_clv_code, format_from, format_of_lines}
 use Rattle.vbi_words.specs.Formats.{IsCavCode, IsClvCode, IsCavLine, IsClvLine, IsFormat}
 use Rattle.vbi_words.proofs.OneCode.{code_of_is, only_code_of}
@@ -114,19 +113,51 @@ any_none test P each lines e x = let h : list_any test lines ≡ true = any_to t
 
 -- ---- the format
 
+abbrev cav : List (Option ℕ) → Bool
+cav lines = list_any (has_code is_cav_code) lines
+
+abbrev clv : List (Option ℕ) → Bool
+clv lines = list_any (has_code is_clv_code) lines
+
+some_cav : (lines : List (Option ℕ)) → Any IsCavLine lines → cav lines ≡ true
+some_cav lines x = any_to (has_code is_cav_code) IsCavLine cav_line_to lines x
+
+some_clv : (lines : List (Option ℕ)) → Any IsClvLine lines → clv lines ≡ true
+some_clv lines x = any_to (has_code is_clv_code) IsClvLine clv_line_to lines x
+
+no_cav : (lines : List (Option ℕ)) → (Any IsCavLine lines → ⊥) → cav lines ≡ false
+no_cav lines x = not_any (has_code is_cav_code) IsCavLine cav_line_from lines x
+
+no_clv : (lines : List (Option ℕ)) → (Any IsClvLine lines → ⊥) → clv lines ≡ false
+no_clv lines x = not_any (has_code is_clv_code) IsClvLine clv_line_from lines x
+
+has_cav : (lines : List (Option ℕ)) → cav lines ≡ true → Any IsCavLine lines
+has_cav lines e = any_from (has_code is_cav_code) IsCavLine cav_line_from lines e
+
+has_clv : (lines : List (Option ℕ)) → clv lines ≡ true → Any IsClvLine lines
+has_clv lines e = any_from (has_code is_clv_code) IsClvLine clv_line_from lines e
+
+lacks_cav : (lines : List (Option ℕ)) → cav lines ≡ false → Any IsCavLine lines → ⊥
+lacks_cav lines e = any_none (has_code is_cav_code) IsCavLine cav_line_to lines e
+
+lacks_clv : (lines : List (Option ℕ)) → clv lines ≡ false → Any IsClvLine lines → ⊥
+lacks_clv lines e = any_none (has_code is_clv_code) IsClvLine clv_line_to lines e
+
+-- the function gives the field's format
 pub format_is : (lines : List (Option ℕ)) → IsFormat lines (format_of_lines lines)
 unfolding format_of_lines
-format_is lines = go (list_any (has_code is_cav_code) lines) (list_any (has_code is_clv_code) lines) refl refl
+format_is lines = go (cav lines) (clv lines) refl refl
   where
-    go : (a b : Bool) → list_any (has_code is_cav_code) lines ≡ a → list_any (has_code is_clv_code) lines ≡ b → IsFormat lines (format_from a b)
-    go true true x y = (any_from (has_code is_cav_code) IsCavLine cav_line_from lines x, any_from (has_code is_clv_code) IsClvLine clv_line_from lines y)
-    go true false x y = (any_from (has_code is_cav_code) IsCavLine cav_line_from lines x, any_none (has_code is_clv_code) IsClvLine clv_line_to lines y)
-    go false true x y = (any_none (has_code is_cav_code) IsCavLine cav_line_to lines x, any_from (has_code is_clv_code) IsClvLine clv_line_from lines y)
-    go false false x y = (any_none (has_code is_cav_code) IsCavLine cav_line_to lines x, any_none (has_code is_clv_code) IsClvLine clv_line_to lines y)
+    go : (a b : Bool) → cav lines ≡ a → clv lines ≡ b → IsFormat lines (format_from a b)
+    go true true x y = (has_cav lines x, has_clv lines y)
+    go true false x y = (has_cav lines x, lacks_clv lines y)
+    go false true x y = (lacks_cav lines x, has_clv lines y)
+    go false false x y = (lacks_cav lines x, lacks_clv lines y)
 
+-- a field's format is what the function gives
 pub only_format : (lines : List (Option ℕ)) (format : Format) → IsFormat lines format → format ≡ format_of_lines lines
 unfolding format_of_lines
-only_format lines Both (x, y) = sym (rw (any_to (has_code is_cav_code) IsCavLine cav_line_to lines x, any_to (has_code is_clv_code) IsClvLine clv_line_to lines y) refl)
-only_format lines Cav (x, y) = sym (rw (any_to (has_code is_cav_code) IsCavLine cav_line_to lines x, not_any (has_code is_clv_code) IsClvLine clv_line_from lines y) refl)
-only_format lines Clv (x, y) = sym (rw (not_any (has_code is_cav_code) IsCavLine cav_line_from lines x, any_to (has_code is_clv_code) IsClvLine clv_line_to lines y) refl)
-only_format lines Neither (x, y) = sym (rw (not_any (has_code is_cav_code) IsCavLine cav_line_from lines x, not_any (has_code is_clv_code) IsClvLine clv_line_from lines y) refl)
+only_format lines Both (x, y) = sym (rw (some_cav lines x, some_clv lines y) refl)
+only_format lines Cav (x, y) = sym (rw (some_cav lines x, no_clv lines y) refl)
+only_format lines Clv (x, y) = sym (rw (no_cav lines x, some_clv lines y) refl)
+only_format lines Neither (x, y) = sym (rw (no_cav lines x, no_clv lines y) refl)

@@ -6,7 +6,7 @@ use Rattle.vbi_words.specs.declared.code.Code.{Code}
 use Rattle.vbi_words.specs.declared.code.Code.TheVariants.{Picture, Chapter, Time, ClvPicture, CxOn, CxOff, Users, LeadIn, LeadOut, PictureStop, ClvMark, Other}
 use Rattle.vbi_words.specs.declared.format.Format.{Format}
 use Rattle.vbi_words.specs.declared.format.Format.TheVariants.{Cav, Clv, Both, Neither}
-use Rattle.vbi_words.specs.Codes.{digit_of, last_three}
+use Rattle.vbi_words.specs.Codes.{digit_of, picture_of, seconds_of, last_two, last_three}
 
 -- a row of the table: the numbers whose digits bound the word's, and the code of a word that fits
 pub record Row : Type 0 where
@@ -25,12 +25,12 @@ abbrev pub rows_of : ℕ → List Row
 rows_of word =
     record { least = 0x88FFFF; greatest = 0x88FFFF; code = LeadIn }
     ∷ record { least = 0x80EEEE; greatest = 0x80EEEE; code = LeadOut }
-    ∷ record { least = 0xF00000; greatest = 0xFF9999; code = Picture (10000 * (digit_of word 2 % 8) + 1000 * digit_of word 3 + 100 * digit_of word 4 + 10 * digit_of word 5 + digit_of word 6) }
+    ∷ record { least = 0xF00000; greatest = 0xFF9999; code = Picture (picture_of word) }
     ∷ record { least = 0x82CFFF; greatest = 0x82CFFF; code = PictureStop }
     ∷ record { least = 0x800DDD; greatest = 0x8F9DDD; code = Chapter (10 * (digit_of word 2 % 8) + digit_of word 3) }
     ∷ record { least = 0x87FFFF; greatest = 0x87FFFF; code = ClvMark }
-    ∷ record { least = 0xF0DD00; greatest = 0xF9DD99; code = Time (digit_of word 2) (10 * digit_of word 5 + digit_of word 6) }
-    ∷ record { least = 0x8AE000; greatest = 0x8FE999; code = ClvPicture (10 * (digit_of word 2 - 10) + digit_of word 4) (10 * digit_of word 5 + digit_of word 6) }
+    ∷ record { least = 0xF0DD00; greatest = 0xF9DD99; code = Time (digit_of word 2) (last_two word) }
+    ∷ record { least = 0x8AE000; greatest = 0x8FE999; code = ClvPicture (seconds_of word) (last_two word) }
     ∷ record { least = 0x8DC000; greatest = 0x8DCFFF; code = CxOn (last_three word) }
     ∷ record { least = 0x8BA000; greatest = 0x8BAFFF; code = CxOff (last_three word) }
     ∷ record { least = 0x80D000; greatest = 0x87DFFF; code = Users (digit_of word 2) (last_three word) }

@@ -28,6 +28,19 @@ HasPattern word (CxOff number) = IsBetween 0x8BA000 0x8BAFFF word
 HasPattern word (Users digit number) = IsBetween 0x80D000 0x87DFFF word
 HasPattern word Other = ⊥
 
+-- the five digits of a picture's word as a number; digit 2 counts without its top bit
+abbrev pub picture_of : ℕ → ℕ
+picture_of word =
+    10000 * (digit_of word 2 % 8) + 1000 * digit_of word 3 + 100 * digit_of word 4 + 10 * digit_of word 5 + digit_of word 6
+
+-- the seconds of a CLV picture's word
+abbrev pub seconds_of : ℕ → ℕ
+seconds_of word = 10 * (digit_of word 2 - 10) + digit_of word 4
+
+-- the number of the word's last two decimal digits
+abbrev pub last_two : ℕ → ℕ
+last_two word = 10 * digit_of word 5 + digit_of word 6
+
 -- the number of the word's last three hexadecimal digits
 abbrev pub last_three : ℕ → ℕ
 last_three word = 256 * digit_of word 4 + 16 * digit_of word 5 + digit_of word 6
@@ -36,14 +49,12 @@ last_three word = 256 * digit_of word 4 + 16 * digit_of word 5 + digit_of word 6
 abbrev pub HasNumbers : ℕ → Code → Type 0
 HasNumbers word LeadIn = Unit {0}
 HasNumbers word LeadOut = Unit {0}
-HasNumbers word (Picture number) =
-    number ≡ 10000 * (digit_of word 2 % 8) + 1000 * digit_of word 3 + 100 * digit_of word 4 + 10 * digit_of word 5 + digit_of word 6
+HasNumbers word (Picture number) = number ≡ picture_of word
 HasNumbers word PictureStop = Unit {0}
 HasNumbers word (Chapter number) = number ≡ 10 * (digit_of word 2 % 8) + digit_of word 3
 HasNumbers word ClvMark = Unit {0}
-HasNumbers word (Time hours minutes) = (hours ≡ digit_of word 2) × (minutes ≡ 10 * digit_of word 5 + digit_of word 6)
-HasNumbers word (ClvPicture seconds picture) =
-    (seconds ≡ 10 * (digit_of word 2 - 10) + digit_of word 4) × (picture ≡ 10 * digit_of word 5 + digit_of word 6)
+HasNumbers word (Time hours minutes) = (hours ≡ digit_of word 2) × (minutes ≡ last_two word)
+HasNumbers word (ClvPicture seconds picture) = (seconds ≡ seconds_of word) × (picture ≡ last_two word)
 HasNumbers word (CxOn number) = number ≡ last_three word
 HasNumbers word (CxOff number) = number ≡ last_three word
 HasNumbers word (Users digit number) = (digit ≡ digit_of word 2) × (number ≡ last_three word)

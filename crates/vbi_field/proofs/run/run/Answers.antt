@@ -34,10 +34,12 @@ returns-in-Ended-clause-run g c =
     let t = c.in-Ended.ensures.takes in
     let v = c.loop-row.invariant in
     let short = t.got.2 in
-    let before : c.loop-row.row < c.args.config.now.max_fields * height_of c.args.config.now.system = omega (arith, c.row_limit-row-end.ensures.value) in
+    let before : c.loop-row.row < c.args.config.now.max_fields * height_of c.args.config.now.system =
+        omega (arith, c.row_limit-row-end.ensures.value) in
     let within = within_rows c.args.config.now.system c.loop-row.row c.args.config.now.max_fields c.in-Ended.bytes before (rw (← v.system) short) in
     ended _ _ _ _ _ _ _ _ _ _ _ _ v c.is_selected.result c.levels.result c.in-Ended.bytes t _ _ _
-    refl c.rest-rest.ensures within c.looked.ensures c.end.ensures.puts _ c.end.ensures.written c.end.ensures.ok c.end.ensures.failed c.end.ensures.fault
+    refl c.rest-rest.ensures within c.looked.ensures c.end.ensures.puts _ c.end.ensures.written c.end.ensures.ok c.end.ensures.failed
+        c.end.ensures.fault
 
 pub returns-in-Failed-clause-run : goal.returns-in-Failed-clause-run
 returns-in-Failed-clause-run g c =
@@ -49,7 +51,8 @@ loop-row-preserved g c =
     let v = c.loop-row.invariant in
     let t = c.in-Whole.ensures.takes in
     let came = row_came _ _ _ _ _ _ _ _ _ _ _ v c.is_selected.result c.is_selected.ensures c.in-Whole.reading c.levels.result c.levels.ensures t in
-    let last : c.loop-row.row + 1 ≤ c.args.config.now.max_fields * height_of c.args.config.now.system = omega (arith, c.row_limit-row-end.ensures.value) in
+    let last : c.loop-row.row + 1 ≤ c.args.config.now.max_fields * height_of c.args.config.now.system =
+        omega (arith, c.row_limit-row-end.ensures.value) in
     elim c.match-advance.branch [
       | in-Some+in_default-put w ↦
           let over = w.in-Some.ensures.over v.z t.bytes v.at came in
@@ -71,27 +74,34 @@ loop-row-preserved g c =
 pub returns-then-bytes-ne0-clause-run : goal.returns-then-bytes-ne0-clause-run
 returns-then-bytes-ne0-clause-run g c =
     let t = c.in-Ended-take_row.ensures.takes in
-    let last : c.loop-row.row ≡ c.args.config.now.max_fields * height_of c.args.config.now.system = omega (arith, c.row_limit-row-end.ensures.value) in
+    let last : c.loop-row.row ≡ c.args.config.now.max_fields * height_of c.args.config.now.system =
+        omega (arith, c.row_limit-row-end.ensures.value) in
     too_many _ _ _ _ _ _ _ _ _ _ _ c.loop-row.invariant t.bytes last (omega (arith, t.got.0)) t.consumed t.fetched
 
 pub returns-else-bytes-ne0-clause-run : goal.returns-else-bytes-ne0-clause-run
 returns-else-bytes-ne0-clause-run g c =
     let v = c.loop-row.invariant in
     let at = v.at in
-    let last : c.loop-row.row ≡ c.args.config.now.max_fields * height_of c.args.config.now.system = omega (arith, c.row_limit-row-end.ensures.value) in
-    let none = (all_fields c.args.config.now.system c.loop-row.progress.fields c.loop-row.progress.row c.args.config.now.max_fields at.inside (v.place ∙ last)).1 in
+    let last : c.loop-row.row ≡ c.args.config.now.max_fields * height_of c.args.config.now.system =
+        omega (arith, c.row_limit-row-end.ensures.value) in
+    let none = (all_fields c.args.config.now.system c.loop-row.progress.fields c.loop-row.progress.row c.args.config.now.max_fields at.inside
+        (v.place ∙ last)).1 in
     let within = within_all c.args.config.now.system c.loop-row.row c.args.config.now.max_fields c.in-Ended-take_row.bytes last (omega arith) in
     ended _ _ _ _ _ _ _ _ _ _ _ _ v false c.levels-2.result c.in-Ended-take_row.bytes c.in-Ended-take_row.ensures.takes _ _ _
-    refl (rw none (omega (arith, zero-mul (line_bytes c.args.config.now.system)))) within c.looked-in-Ended-take_row.ensures c.end-in-Ended-take_row.ensures.puts _ c.end-in-Ended-take_row.ensures.written c.end-in-Ended-take_row.ensures.ok c.end-in-Ended-take_row.ensures.failed c.end-in-Ended-take_row.ensures.fault
+    refl (rw none (omega (arith, zero-mul (line_bytes c.args.config.now.system)))) within c.looked-in-Ended-take_row.ensures
+        c.end-in-Ended-take_row.ensures.puts _ c.end-in-Ended-take_row.ensures.written c.end-in-Ended-take_row.ensures.ok
+            c.end-in-Ended-take_row.ensures.failed c.end-in-Ended-take_row.ensures.fault
 
 pub returns-in-Whole-take_row-clause-run : goal.returns-in-Whole-take_row-clause-run
 returns-in-Whole-take_row-clause-run g c =
     let t = c.in-Whole-take_row.ensures.takes in
     let some = some_bytes c.loop-row.intake.line.system in
-    let last : c.loop-row.row ≡ c.args.config.now.max_fields * height_of c.args.config.now.system = omega (arith, c.row_limit-row-end.ensures.value) in
+    let last : c.loop-row.row ≡ c.args.config.now.max_fields * height_of c.args.config.now.system =
+        omega (arith, c.row_limit-row-end.ensures.value) in
     too_many _ _ _ _ _ _ _ _ _ _ _ c.loop-row.invariant t.bytes last (omega (arith, t.got.0)) t.consumed t.fetched
 
 pub returns-in-Failed-take_row-clause-run : goal.returns-in-Failed-take_row-clause-run
 returns-in-Failed-take_row-clause-run g c =
-    read_fault _ _ _ _ _ _ _ _ _ _ _ c.loop-row.invariant false c.levels-2.result c.in-Failed-take_row.ensures.takes _ c.held-in-Failed-take_row.result _
+    read_fault _ _ _ _ _ _ _ _ _ _ _ c.loop-row.invariant false c.levels-2.result c.in-Failed-take_row.ensures.takes _
+        c.held-in-Failed-take_row.result _
     refl c.held-in-Failed-take_row.ensures c.rest-in-Failed-take_row.ensures

@@ -22,6 +22,7 @@ returns-else-others-eq0 c =
       | then-level w ↦ w.other_bits-is ∙ ap (λ (b : Bool). others_of c.args.word b) (sym w.if-level.true)
       | else-level w ↦ w.other_bits-is ∙ ap (λ (b : Bool). others_of c.args.word b) (sym w.if-level.false)
     ] in
-    let e : others_of c.args.word c.args.level / 2 ^ c.args.place ≡ c.if-level.other_bits / 2 ^ c.args.place = ap (λ (x : ℕ). x / 2 ^ c.args.place) (sym is) in
+    let e : others_of c.args.word c.args.level / 2 ^ c.args.place ≡ c.if-level.other_bits / 2 ^ c.args.place = ap (λ
+    (x : ℕ). x / 2 ^ c.args.place) (sym is) in
     subst (λ (x : ℕ). EqualBits c.args.word c.args.place c.args.level (trailing_zeros w64 x)) e
     (some_other c.args.word c.args.place c.args.level small c.requires (λ none. c.if-others-eq0.false (sym e ∙ none)))

@@ -9,11 +9,13 @@ use Rattle.vbi_line.proofs.plain.read_runs.Goals as goal
 
 pub read_run-requires-clause-fit : goal.read_run-requires-clause-fit
 read_run-requires-clause-fit c =
-    subst (λ (s : State). IsFit c.args.system s) (sym c.loop-column.invariant.state) (fit_after c.args.system (take c.loop-column.column c.args.packed.now))
+    subst (λ (s : State). IsFit c.args.system s) (sym c.loop-column.invariant.state) (fit_after c.args.system
+    (take c.loop-column.column c.args.packed.now))
 
 pub loop-column-preserved : goal.loop-column-preserved
 loop-column-preserved c =
-    let run = subst (λ (n : ℕ). IsRun c.args.packed.now c.loop-column.column c.next_run-level.result.0 n) (sym c.from-count.ensures) c.next_run-level.ensures in
+    let run = subst (λ (n : ℕ). IsRun c.args.packed.now c.loop-column.column c.next_run-level.result.0 n)
+    (sym c.from-count.ensures) c.next_run-level.ensures in
     record {
       inside = run.inside;
       state = goes_on c.args.system c.args.packed.now c.loop-column.column c.next_run-level.result.0 c.from-count.result run
@@ -26,13 +28,15 @@ loop-column-preserved c =
 
 pub returns-then-lived-eq0 : goal.returns-then-lived-eq0
 returns-then-lived-eq0 c =
-    let run = subst (λ (n : ℕ). IsRun c.args.packed.now c.loop-column.column c.next_run-level.result.0 n) (sym c.from-count.ensures) c.next_run-level.ensures in
+    let run = subst (λ (n : ℕ). IsRun c.args.packed.now c.loop-column.column c.next_run-level.result.0 n)
+    (sym c.from-count.ensures) c.next_run-level.ensures in
     changes c.args.system c.args.packed.now c.loop-column.column c.next_run-level.result.0 c.from-count.result run
     c.loop-column.progress c.loop-column.invariant.state c.loop-column.invariant.turns c.in-Err.lived c.if-lived-eq0.true c.in-Err.ensures.err.1
 
 pub returns-else-lived-eq0 : goal.returns-else-lived-eq0
 returns-else-lived-eq0 c =
-    let run = subst (λ (n : ℕ). IsRun c.args.packed.now c.loop-column.column c.next_run-level.result.0 n) (sym c.from-count.ensures) c.next_run-level.ensures in
+    let run = subst (λ (n : ℕ). IsRun c.args.packed.now c.loop-column.column c.next_run-level.result.0 n)
+    (sym c.from-count.ensures) c.next_run-level.ensures in
     holds c.args.system c.args.packed.now c.loop-column.column c.next_run-level.result.0 c.from-count.result run
     c.loop-column.progress c.loop-column.invariant.state c.in-Err.lived (omega arith) c.in-Err.ensures.err.0 c.in-Err.ensures.err.1
 

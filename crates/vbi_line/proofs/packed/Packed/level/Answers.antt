@@ -1,4 +1,4 @@
-use Rattle.std.proofs.Common.{arith, sym, ap, ◌∙◌, ◌<◌, ◌/◌, ◌%◌, ℕ, length, nat_eq, slice_index}
+use Rattle.std.proofs.Common.{arith, sym, ap, ◌∙◌, ◌<◌, ◌/◌, ◌%◌, ℕ, nat_eq, slice_index}
 use Rattle.std.proofs.lemmas.Nat.Bits.{shr_and_one}
 use Rattle.vbi_line.proofs.Packs.{length-unpacked, level_unpacked}
 use Rattle.vbi_line.proofs.packed.Packed.level.Goals as goal

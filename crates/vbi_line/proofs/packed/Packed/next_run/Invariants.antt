@@ -1,4 +1,4 @@
-use Rattle.std.proofs.Common.{◌≡◌, ℕ, ◌+◌, ◌-◌, ◌<◌, ◌≤◌, length}
+use Rattle.std.proofs.Common.{◌≡◌, ℕ, ◌+◌, ◌-◌, ◌<◌, ◌≤◌}
 use Rattle.vbi_line.specs.Packing.{packed_level}
 use Rattle.vbi_line.proofs.packed.Packed.next_run.Given as goal
 

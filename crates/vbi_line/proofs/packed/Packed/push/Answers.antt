@@ -1,6 +1,6 @@
-use Rattle.std.proofs.Common.{arith, sym, ap, ◌∙◌, ◌+◌, ◌≤◌, ◌<◌, ◌%◌, ◌/◌, ◌++◌, length, List, Bool}
+use Rattle.std.proofs.Common.{arith, ap, ◌∙◌, ◌+◌, ◌≤◌, ◌%◌, ◌/◌, ◌++◌, List, Bool}
 use Rattle.std.proofs.lemmas.List.{length-set}
-use Rattle.vbi_line.specs.Packing.{levels_in, unpacked}
+use Rattle.vbi_line.specs.Packing.{levels_in}
 use Rattle.vbi_line.proofs.Packs.{length-unpacked, grown_rest, grown_levels}
 use Rattle.vbi_line.proofs.packed.Packed.push.Goals as goal
 
@@ -27,7 +27,8 @@ invariant_of-self c =
     record {
       words = length-set b.words (b.width / 64) _ ∙ c.self.invariant.words;
       width = room;
-      rest = grown_rest b.words b.width c.args.bits c.args.count c.self.invariant.words room word c.requires.some c.requires.bits c.self.invariant.rest;
+      rest = grown_rest b.words b.width c.args.bits c.args.count c.self.invariant.words room word c.requires.some c.requires.bits
+          c.self.invariant.rest;
     }
 
 pub returns : goal.returns

@@ -1,4 +1,4 @@
-use Rattle.std.proofs.Common.{sym, length}
+use Rattle.std.proofs.Common.{sym}
 use Rattle.vbi_line.proofs.Packs.{length-unpacked}
 use Rattle.vbi_line.proofs.packed.Packed.width.Goals as goal
 

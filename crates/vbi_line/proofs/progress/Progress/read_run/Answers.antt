@@ -10,15 +10,18 @@ returns-then-length-more-clause-ok c =
 
 pub returns-else-length-more-clause-err : goal.returns-else-length-more-clause-err
 returns-else-length-more-clause-err c =
-    let P : ℕ → Type 0 = λ (n : ℕ). (1 + c.in-Some-limit.limit - n < c.args.count) × DiesAfter c.args.system (state_of c.args.self) c.args.level (1 + c.in-Some-limit.limit - n) in
+    let P : ℕ → Type 0 = λ (n : ℕ). (1 + c.in-Some-limit.limit - n < c.args.count) × DiesAfter c.args.system (state_of c.args.self) c.args.level
+    (1 + c.in-Some-limit.limit - n) in
     subst P (sym c.length-else-length-more.ensures) (
       omega (
         arith,
         c.length.ensures,
         c.if-length-more.false,
-        fits c.args.system (state_of c.args.self) c.args.level c.in-Some.begun c.in-Some.ensures.some c.in-Some-limit.limit c.requires.fit c.in-Some-limit.ensures,
+        fits c.args.system (state_of c.args.self) c.args.level c.in-Some.begun c.in-Some.ensures.some c.in-Some-limit.limit c.requires.fit
+            c.in-Some-limit.ensures,
       ),
-      dies c.args.system (state_of c.args.self) c.args.level c.in-Some.begun c.in-Some.ensures.some c.in-Some-limit.limit c.requires.fit c.in-Some-limit.ensures,
+      dies c.args.system (state_of c.args.self) c.args.level c.in-Some.begun c.in-Some.ensures.some c.in-Some-limit.limit c.requires.fit
+          c.in-Some-limit.ensures,
     )
 
 pub returns-in-None-clause-ok : goal.returns-in-None-clause-ok
@@ -30,5 +33,6 @@ pub overflow_sub-result : goal.overflow_sub-result
 overflow_sub-result c = omega (
   arith,
   c.length-else-length-more.ensures,
-  fits c.args.system (state_of c.args.self) c.args.level c.in-Some.begun c.in-Some.ensures.some c.in-Some-limit.limit c.requires.fit c.in-Some-limit.ensures,
+  fits c.args.system (state_of c.args.self) c.args.level c.in-Some.begun c.in-Some.ensures.some c.in-Some-limit.limit c.requires.fit
+      c.in-Some-limit.ensures,
 )

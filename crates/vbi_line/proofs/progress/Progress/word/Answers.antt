@@ -1,4 +1,3 @@
-use Rattle.std.proofs.Common.{arith}
 use Rattle.vbi_line.proofs.Steps.{begun_top}
 use Rattle.vbi_line.proofs.progress.Progress.word.Goals as goal
 
