@@ -1,8 +1,15 @@
 pub mod Counts
+pub mod DrawSteps
+pub mod DrawnLemmas
+pub mod DrawnReadsLemmas
 pub mod Entries
 pub mod Going
 pub mod Growing
 pub mod Known
 pub mod OneDocument
+pub mod PutFieldSteps
 pub mod PutSteps
+pub mod RowSteps
 pub mod RunSteps
+pub mod WordRowLaw
+pub mod WordRowLemmas

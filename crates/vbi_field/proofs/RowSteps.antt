@@ -1,0 +1,148 @@
+-- What the calls of an intake of rows keep from read to read.
+use Rattle.std.proofs.Common.{◌≡◌, ◌≢◌, ℕ, zero, suc, ◌+◌, ◌*◌, ◌<◌, ◌≤◌, List, [], ◌∷◌, ◌++◌, length, take, set, inl, inr, refl, sym, ap, subst, ◌∙◌, arith, lit<}
+use Rattle.std.specs.Prelude.{Option, Some, None, All}
+use Rattle.std.specs.Io.KnownBytes.{Consumes, IsAtEnd}
+use Rattle.std.proofs.KnownBytes.{Consumes-trans, Consumes-nil, Consumes-kept}
+use Rattle.std.proofs.lemmas.List.{append-nil, take_more_set, length-append, length-set, length-take-le}
+use Rattle.std.proofs.lemmas.List.Elements.{All-append}
+use Rattle.vbi_field.specs.WordRows.{words_of}
+use Rattle.vbi_field.specs.RowIntake.{device_of, failures_of, HasNoNewline, IsSameDevice, Fetches, TakesByte, TakesRow, byte_of}
+use Rattle.vbi_field.specs.declared.word_row.WordRow.{WordRow}
+use Rattle.vbi_field.specs.declared.row_intake.RowIntake.{RowIntake}
+use Rattle.vbi_field.specs.declared.row_intake.ByteCame.TheVariants as bytes
+use Rattle.vbi_field.specs.declared.row_intake.RowCame.TheVariants.{Row, LastRow, Malformed, Ended, Failed}
+use Rattle.vbi_field.proofs.WordRowLemmas.{long_row}
+
+all_one : (byte : ℕ) → byte ≢ 10 → HasNoNewline (byte ∷ [])
+all_one byte other zero d inside = other
+all_one byte other (suc k) d inside = absurd (omega arith)
+
+module _ {R : Type 0} (remaining : R → Option (List ℕ)) where
+  -- a byte was asked for so many times, and none came
+  pub record Tried (old now : RowIntake R) (tries : ℕ) : Type 0 where
+    pub fetches : Fetches remaining old now []
+    pub count : failures_of now ≡ failures_of old + tries
+
+  -- so many bytes of a row are held, none of them a newline
+  pub record Held (old now : RowIntake R) (row : List ℕ) (held : ℕ) : Type 0 where
+    pub fetches : Fetches remaining old now (take held row)
+    pub most : failures_of now ≤ failures_of old + 17 * held
+    pub plain : HasNoNewline (take held row)
+    pub long : length row ≡ 21
+
+  pub Fetches-none : (i : RowIntake R) → Fetches remaining i i []
+  Fetches-none i = record { consumed = Consumes-nil _; fetched = omega arith; least = omega arith; same = refl }
+
+  pub Fetches-more : (old now new : RowIntake R) (a b : List ℕ) → Fetches remaining old now a → Fetches remaining now new b
+      → Fetches remaining old new (a ++ b)
+  Fetches-more old now new a b f g =
+      let l = length-append a b in
+      let e = f.fetched in
+      let h = g.fetched in
+      let m = f.least in
+      let n = g.least in
+      record {
+        consumed = Consumes-trans _ _ _ a b f.consumed g.consumed;
+        fetched = omega arith;
+        least = omega arith;
+        same = g.same ∙ f.same;
+      }
+
+  module _ (old now new : RowIntake R) (row : List ℕ) (held : ℕ) (h : Held old now row held) (inside : held < 21) where
+    -- one byte more
+    pub Held-more : (byte : ℕ) → TakesByte remaining now new (bytes.Byte byte) → byte ≢ 10 → Held old new (set row held byte) (held + 1)
+    Held-more byte t other =
+        let most = h.most in
+        let more = t.most in
+        let long = h.long in
+        let joined = take_more_set row held byte (omega arith) in
+        record {
+          fetches = rw joined (Fetches-more old now new (take held row) (byte ∷ []) h.fetches t.fetches);
+          most = omega arith;
+          plain = rw joined (All-append (λ c. c ≢ 10) (take held row) (byte ∷ []) h.plain (all_one byte other));
+          long = length-set row held byte ∙ long;
+        }
+
+    short : length (take held row) ≡ held
+    short = length-take-le held row (omega (arith, h.long))
+
+    module _ (byte : ℕ) (t : TakesByte remaining now new (bytes.Byte byte)) (newline : byte ≡ 10) where
+      with_newline : Fetches remaining old new (take held row ++ 10 ∷ [])
+      with_newline =
+          let P : ℕ → Type 0 = λ b. Fetches remaining old new (take held row ++ b ∷ []) in
+          subst P newline (Fetches-more old now new (take held row) (byte ∷ []) h.fetches t.fetches)
+
+      few : length (take held row ++ 10 ∷ []) ≤ 21
+      few = omega (arith, length-append (take held row) (10 ∷ []), short)
+
+      pub newline_came : (words : WordRow) → Some words ≡ words_of (take held row) → TakesRow remaining old new (Row words)
+      newline_came words w = record {
+        bytes = take held row ++ 10 ∷ [];
+        fetches = with_newline;
+        short = few;
+        most = omega (arith, h.most, t.most);
+        told = (take held row, h.plain, refl, sym w);
+      }
+
+      pub bad_newline_came : None ≡ words_of (take held row) → TakesRow remaining old new Malformed
+      bad_newline_came w = record {
+        bytes = take held row ++ 10 ∷ [];
+        fetches = with_newline;
+        short = few;
+        most = omega (arith, h.most, t.most);
+        told = record { row = take held row; plain = h.plain; malformed = sym w; read_to = inl refl };
+      }
+
+    -- no byte came
+    as_held : Fetches remaining now new [] → Fetches remaining old new (take held row)
+    as_held f = rw append-nil at (Fetches-more old now new (take held row) [] h.fetches f)
+
+    module _ (t : TakesByte remaining now new bytes.Ended) where
+      pub end_came : (words : WordRow) → held ≢ 0 → Some words ≡ words_of (take held row) → TakesRow remaining old new (LastRow words)
+      end_came words some w = record {
+        bytes = take held row;
+        fetches = as_held t.fetches;
+        short = omega (arith, short);
+        most = omega (arith, h.most, t.most);
+        told = (h.plain, omega (arith, short), sym w, t.told);
+      }
+
+      pub bad_end_came : held ≢ 0 → None ≡ words_of (take held row) → TakesRow remaining old new Malformed
+      bad_end_came some w = record {
+        bytes = take held row;
+        fetches = as_held t.fetches;
+        short = omega (arith, short);
+        most = omega (arith, h.most, t.most);
+        told = record {
+          row = take held row;
+          plain = h.plain;
+          malformed = sym w;
+          read_to = inr (inl (refl, omega (arith, short), t.told));
+        };
+      }
+
+    pub fault_came : TakesByte remaining now new bytes.Failed → TakesRow remaining old new Failed
+    fault_came t = record {
+      bytes = take held row;
+      fetches = as_held t.fetches;
+      short = omega (arith, short);
+      most = omega (arith, h.most, t.most);
+      told = (h.plain, omega (arith, t.told, h.fetches.least));
+    }
+
+  -- a row of 21 bytes
+  pub too_long : (old now : RowIntake R) (row : List ℕ) → Held old now row 21 → TakesRow remaining old now Malformed
+  too_long old now row h =
+      let long = length-take-le 21 row (omega (arith, h.long)) in
+      record {
+        bytes = take 21 row;
+        fetches = h.fetches;
+        short = omega arith;
+        most = omega (arith, h.most);
+        told = record {
+          row = take 21 row;
+          plain = h.plain;
+          malformed = long_row (take 21 row) (omega arith);
+          read_to = inr (inr (refl, long));
+        };
+      }

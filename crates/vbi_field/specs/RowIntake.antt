@@ -1,0 +1,86 @@
+-- What a contract sees of an intake of rows of words, and what its calls take from the reader.
+use Rattle.std.specs.Prelude.{◌≡◌, ◌≢◌, ℕ, ◌+◌, ◌*◌, ◌<◌, ◌≤◌, ◌⊎◌, List, [], ◌∷◌, ◌++◌, All, length, ⊤, Option, Some, None}
+use Rattle.std.specs.Io.KnownBytes.{Consumes, IsAtEnd}
+use Rattle.vbi_line.specs.Counted as counted
+use Rattle.vbi_field.specs.WordRows.{words_of}
+use Rattle.vbi_field.specs.declared.row_intake.RowIntake.{RowIntake}
+use Rattle.vbi_field.specs.declared.row_intake.ByteCame.{ByteCame}
+use Rattle.vbi_field.specs.declared.row_intake.ByteCame.TheVariants as bytes
+use Rattle.vbi_field.specs.declared.row_intake.RowCame.{RowCame}
+use Rattle.vbi_field.specs.declared.row_intake.RowCame.TheVariants.{Row, LastRow, Malformed, Ended, Failed}
+
+-- no byte of the text is a newline
+abbrev pub HasNoNewline : List ℕ → Type 0
+HasNoNewline text = All (λ c. c ≢ 10) text
+
+-- the bytes that came
+abbrev pub byte_of : ByteCame → List ℕ
+byte_of (bytes.Byte byte) = byte ∷ []
+byte_of bytes.Ended = []
+byte_of bytes.Failed = []
+
+module _ {R : Type 0} where
+  -- the reader
+  abbrev pub device_of : RowIntake R → R
+  device_of i = counted.device_of i.device
+
+  -- how often it failed
+  abbrev pub failures_of : RowIntake R → ℕ
+  failures_of i = counted.failures_of i.device
+
+  -- how many bytes it gave
+  abbrev pub fetched_of : RowIntake R → ℕ
+  fetched_of i = i.fetched
+
+  -- both speak of the same reader
+  abbrev pub IsSameDevice : RowIntake R → RowIntake R → Type 0
+  IsSameDevice old new = counted.IsSameDevice old.device new.device
+
+  -- nothing was fetched, and the reader hasn't failed
+  pub record IsFresh (i : RowIntake R) : Type 0 where
+    pub fetched : fetched_of i ≡ 0
+    pub failures : failures_of i ≡ 0
+
+  -- these are the next bytes of the reader, and all that was taken
+  pub record Fetches (remaining : R → Option (List ℕ)) (old new : RowIntake R) (bytes : List ℕ) : Type 0 where
+    pub consumed : Consumes (remaining (device_of old)) (remaining (device_of new)) bytes
+    pub fetched : fetched_of new ≡ fetched_of old + length bytes
+    pub least : failures_of old ≤ failures_of new
+    pub same : IsSameDevice old new
+
+  -- the reader said its end where nothing came, and failed where a fault is told
+  abbrev pub IsByteCame : (R → Option (List ℕ)) → RowIntake R → RowIntake R → ByteCame → Type 0
+  IsByteCame remaining old new (bytes.Byte byte) = ⊤
+  IsByteCame remaining old new bytes.Ended = IsAtEnd (remaining (device_of new))
+  IsByteCame remaining old new bytes.Failed = failures_of old < failures_of new
+
+  pub record TakesByte (remaining : R → Option (List ℕ)) (old new : RowIntake R) (came : ByteCame) : Type 0 where
+    pub fetches : Fetches remaining old new (byte_of came)
+    pub most : failures_of new ≤ failures_of old + 17
+    pub told : IsByteCame remaining old new came
+
+  -- a malformed row was read up to its newline, the reader's end or its 21st byte
+  pub record IsMalformed (remaining : R → Option (List ℕ)) (new : RowIntake R) (bytes : List ℕ) : Type 0 where
+    pub row : List ℕ
+    pub plain : HasNoNewline row
+    pub malformed : words_of row ≡ None
+    pub read_to : (bytes ≡ row ++ 10 ∷ [])
+        ⊎ (((bytes ≡ row) × (0 < length row) × IsAtEnd (remaining (device_of new)))
+        ⊎ ((bytes ≡ row) × (length row ≡ 21)))
+
+  -- what the bytes taken are
+  abbrev pub IsRowCame : (R → Option (List ℕ)) → RowIntake R → RowIntake R → List ℕ → RowCame → Type 0
+  IsRowCame remaining old new bytes (Row words) =
+      (row : List ℕ) × HasNoNewline row × (bytes ≡ row ++ 10 ∷ []) × (words_of row ≡ Some words)
+  IsRowCame remaining old new bytes (LastRow words) =
+      HasNoNewline bytes × (0 < length bytes) × (words_of bytes ≡ Some words) × IsAtEnd (remaining (device_of new))
+  IsRowCame remaining old new bytes Malformed = IsMalformed remaining new bytes
+  IsRowCame remaining old new bytes Ended = (bytes ≡ []) × IsAtEnd (remaining (device_of new))
+  IsRowCame remaining old new bytes Failed = HasNoNewline bytes × (failures_of old < failures_of new)
+
+  pub record TakesRow (remaining : R → Option (List ℕ)) (old new : RowIntake R) (came : RowCame) : Type 0 where
+    pub bytes : List ℕ
+    pub fetches : Fetches remaining old new bytes
+    pub short : length bytes ≤ 21
+    pub most : failures_of new ≤ failures_of old + 357
+    pub told : IsRowCame remaining old new bytes came

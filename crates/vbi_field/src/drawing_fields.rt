@@ -1,0 +1,176 @@
+//! Fields drawn from rows of words.
+ghost use Rattle.std.specs.Prelude.{◌≡◌, ℕ, ◌+◌, ◌-◌, ◌*◌, ◌^◌, ◌<◌, ◌≤◌, None, length, IfOk, OnOk, OnErr, IfErr};
+ghost use Rattle.vbi_words.specs.Geometry.{line_bytes, height_of};
+ghost use Rattle.vbi_field.specs.Outlet.{failures_of as outlet_failures, written_of, IsFresh as IsFreshOutlet, IsSameDevice as IsSameOutlet};
+ghost use Rattle.vbi_field.specs.RowIntake.{IsFresh, IsSameDevice};
+ghost use Rattle.vbi_field.specs.Drawing.{drawn_line_of, drawn_field_of, word_at};
+ghost use Rattle.vbi_field.specs.DrawRun.{PutsField, Draws, DrawsAll, StopsAtRow, StopsAtRead, StopsAtWrite, StopsAtLimit, IfRow, IfRead, IfWrite, IfTooMany};
+
+use crate::config::Config;
+use crate::outlet::Outlet;
+use crate::row_intake::{ByteCame, RowCame, RowIntake};
+use crate::word_row::WordRow;
+use std::io::{Read, Write};
+use vbi_words::{Word24, drawn_sample};
+
+/// The bytes of the longest line, that of PAL.
+const LONGEST_LINE: usize = 2270;
+
+/// Why drawing stopped. Rows are counted from 1.
+#[derive(Clone, Copy, Debug, PartialEq, Eq)]
+pub enum DrawFault {
+    /// This row is malformed.
+    Row {
+        /// Its number.
+        number: u32,
+    },
+    /// The reader failed before this row was read whole.
+    Read {
+        /// Its number.
+        number: u32,
+    },
+    /// The writer failed.
+    Write {
+        /// How many bytes it took in all.
+        written: u64,
+    },
+    /// A byte followed the last row that is allowed.
+    TooManyFields,
+}
+
+/// The word that a row of a field has.
+fn word_of_row(words: &WordRow, row: usize) -> Option<Word24>
+    ensures { result ≡ word_at words.now row }
+{
+    match row {
+        15 => words.first,
+        16 => words.second,
+        17 => words.third,
+        _ => None,
+    }
+}
+
+/// Draws a word, or none, on a line.
+fn draw_line(config: &Config, word: &Option<Word24>, line: &mut [u8])
+    requires { length line.old ≡ line_bytes config.now.system }
+    ensures { line.new ≡ drawn_line_of config.now word.now }
+{
+    let system = config.system();
+    let levels = config.levels();
+    for column in 0..system.width() {
+        let sample = drawn_sample(system, levels, *word, column);
+        line[2 * column] = (sample % 256) as u8;
+        line[2 * column + 1] = (sample / 256) as u8;
+    }
+}
+
+/// Draws the line of a row of a field over that of the row before. Only rows 15 to 18 differ from the row before them.
+fn next_line(config: &Config, words: &WordRow, row: usize, line: &mut [u8])
+    requires { line.old ≡ drawn_line_of config.now (word_at words.now (row - 1)) }
+    ensures { line.new ≡ drawn_line_of config.now (word_at words.now row) }
+{
+    if 15 <= row && row <= 18 {
+        draw_line(config, &word_of_row(words, row), line);
+    }
+}
+
+/// Writes the field of a row of words. The line has a drawn row of no word before, and again afterwards.
+fn put_field<W: Write>(
+    config: &Config,
+    words: &WordRow,
+    line: &mut [u8],
+    outlet: &mut Outlet<W>,
+) -> Result<(), DrawFault>
+    requires black { line.old ≡ drawn_line_of config.now None }
+    requires written { written_of outlet.old ≤ 2 ^ 61 }
+    requires failures { outlet_failures outlet.old ≤ 2 ^ 61 }
+    ensures black { OnOk result (line.new ≡ drawn_line_of config.now None) }
+    ensures same { IsSameOutlet outlet.old outlet.new }
+    ensures puts { PutsField W.contents outlet.old outlet.new (drawn_field_of config.now words.now) }
+    ensures ok { OnOk result (written_of outlet.new ≡ written_of outlet.old + length (drawn_field_of config.now words.now)) }
+    ensures failed { OnErr result (outlet_failures outlet.old < outlet_failures outlet.new) }
+    ensures fault { IfErr result (λ e. e ≡ DrawFault.Write (written_of outlet.new)) }
+{
+    for row in 0..config.system().height() {
+        next_line(config, words, row, line);
+        match outlet.put_all(line) {
+            Ok(()) => {}
+            Err(_) => {
+                return Err(DrawFault::Write {
+                    written: outlet.written(),
+                });
+            }
+        }
+    }
+    Ok(())
+}
+
+/// Draws a field for each row of words until the reader's end, a fault or the last field that is allowed.
+fn run<R: Read, W: Write>(
+    config: &Config,
+    rows: &mut RowIntake<R>,
+    outlet: &mut Outlet<W>,
+) -> Result<u32, DrawFault>
+    requires rows { IsFresh rows.old }
+    requires outlet { IsFreshOutlet outlet.old }
+    ensures same_reader { IsSameDevice rows.old rows.new }
+    ensures same_writer { IsSameOutlet outlet.old outlet.new }
+    ensures run { Draws R.remaining W.contents config.now rows.old rows.new outlet.old outlet.new result }
+{
+    let mut cells = [0u8; LONGEST_LINE];
+    let line = &mut cells[..2 * config.system().width()];
+    draw_line(config, &None, line);
+    for done in 0..config.max_fields() {
+        match rows.next_row() {
+            RowCame::Row(words) => {
+                if let Err(fault) = put_field(config, &words, line, outlet) {
+                    return Err(fault);
+                }
+            }
+            RowCame::LastRow(words) => {
+                if let Err(fault) = put_field(config, &words, line, outlet) {
+                    return Err(fault);
+                }
+                return Ok(done + 1);
+            }
+            RowCame::Malformed => return Err(DrawFault::Row { number: done + 1 }),
+            RowCame::Ended => return Ok(done),
+            RowCame::Failed => return Err(DrawFault::Read { number: done + 1 }),
+        }
+    }
+    match rows.next_byte() {
+        ByteCame::Ended => Ok(config.max_fields()),
+        ByteCame::Byte(_) => Err(DrawFault::TooManyFields),
+        ByteCame::Failed => Err(DrawFault::Read {
+            number: config.max_fields() + 1,
+        }),
+    }
+}
+
+/// Writes the TBC stream of a text of words: a field for each row. It answers the number of fields.
+pub fn draw<R: Read, W: Write>(
+    config: &Config,
+    rows: &mut RowIntake<R>,
+    outlet: &mut Outlet<W>,
+) -> Result<u32, DrawFault>
+    requires rows { IsFresh rows.old }
+    requires outlet { IsFreshOutlet outlet.old }
+    ensures same_reader { IsSameDevice rows.old rows.new }
+    ensures same_writer { IsSameOutlet outlet.old outlet.new }
+
+    // What Ok says: of the text that was fetched, the number of its rows, the reader, and the fields that were written.
+    ensures fields { IfOk result
+        (DrawsAll R.remaining W.contents config.now rows.old rows.new outlet.old outlet.new) }
+
+    // When each fault comes, and what stands then.
+    ensures row_fault { IfErr result (λ e. IfRow e
+        (StopsAtRow R.remaining W.contents config.now rows.old rows.new outlet.old outlet.new)) }
+    ensures read_fault { IfErr result (λ e. IfRead e
+        (StopsAtRead R.remaining W.contents config.now rows.old rows.new outlet.old outlet.new)) }
+    ensures write_fault { IfErr result (λ e. IfWrite e
+        (StopsAtWrite R.remaining W.contents config.now rows.old rows.new outlet.old outlet.new)) }
+    ensures too_many { IfErr result (λ e. IfTooMany e
+        (StopsAtLimit R.remaining W.contents config.now rows.old rows.new outlet.old outlet.new)) }
+{
+    run(config, rows, outlet)
+}

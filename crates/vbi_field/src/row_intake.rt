@@ -1,0 +1,138 @@
+//! The intake of rows of words from a reader.
+ghost use Rattle.std.specs.Prelude.{◌≡◌, ◌+◌, ◌*◌, ◌^◌, ◌<◌, ◌≤◌, length};
+
+use crate::word_row::{WordRow, read_words};
+use std::io::Read;
+use vbi_line::{Counted, Fail};
+
+/// How often a read is tried that is interrupted each time.
+const TRIES: u32 = 17;
+
+/// The bytes of a row at which it is malformed, whatever follows: a good one has at most 20 before its newline.
+const ROW_LIMIT: usize = 21;
+
+/// What came in place of a byte.
+#[derive(Clone, Copy, Debug, PartialEq, Eq)]
+pub(crate) enum ByteCame {
+    /// A byte.
+    Byte(u8),
+    /// The reader's end.
+    Ended,
+    /// A fault of the reader.
+    Failed,
+}
+
+/// What came in place of a row.
+#[derive(Clone, Copy, Debug, PartialEq, Eq)]
+pub(crate) enum RowCame {
+    /// A row with its newline, and the words that it stands for.
+    Row(WordRow),
+    /// A row that the reader's end closed, and the words that it stands for.
+    LastRow(WordRow),
+    /// A malformed row, read up to its newline, the reader's end or its 21st byte.
+    Malformed,
+    /// The reader's end, and no byte before it.
+    Ended,
+    /// A fault of the reader.
+    Failed,
+}
+
+/// A reader of the text of words: a row of three items and a newline for each field.
+#[derive(Drop)]
+pub struct RowIntake<'a, R> {
+    device: Counted<'a, R>,
+    fetched: u64,
+}
+
+impl<'a, R: Read> RowIntake<'a, R> {
+    ghost use Rattle.vbi_field.specs.RowIntake.{device_of, failures_of, fetched_of, IsFresh, IsSameDevice, TakesByte, TakesRow};
+
+    /// An intake that has fetched nothing.
+    pub fn new(reader: &'a mut R) -> Self
+        ensures same { result.device.device.ghost_name ≡ reader.entry.ghost_name }
+        ensures reader { device_of result ≡ reader.old }
+        ensures fresh { IsFresh result }
+    {
+        RowIntake {
+            device: Counted::new(reader),
+            fetched: 0,
+        }
+    }
+
+    /// The reader again. A caller that lent it knows by this what the reader is now.
+    pub fn into_reader(self) -> &'a mut R
+        ensures same { result.ghost_name ≡ self.entry.device.device.ghost_name }
+        ensures reader { result.now ≡ device_of self.entry }
+    {
+        let RowIntake { device, fetched: _ } = self;
+        device.into_inner()
+    }
+
+    /// How many bytes the reader gave.
+    pub fn fetched(&self) -> u64
+        ensures { result ≡ fetched_of self.now }
+    {
+        self.fetched
+    }
+
+    /// How often the reader failed, interruptions among these.
+    pub fn failures(&self) -> u64
+        ensures { result ≡ failures_of self.now }
+    {
+        self.device.failures()
+    }
+
+    /// Takes the next byte. An interrupted read is tried again at most 16 times in a row.
+    pub(crate) fn next_byte(&mut self) -> ByteCame
+        requires fetched { fetched_of self.old ≤ 2 ^ 62 }
+        requires failures { failures_of self.old ≤ 2 ^ 62 }
+        ensures { TakesByte R.remaining self.old self.new result }
+    {
+        let mut byte = [0u8; 1];
+        for _ in 0..TRIES {
+            match self.device.read_once(&mut byte) {
+                Ok(0) => return ByteCame::Ended,
+                Ok(_) => {
+                    self.fetched += 1;
+                    return ByteCame::Byte(byte[0]);
+                }
+                Err(Fail::Interrupted) => {}
+                Err(Fail::Other) => return ByteCame::Failed,
+            }
+        }
+        ByteCame::Failed
+    }
+
+    /// Takes the next row: the bytes up to its newline, the reader's end or the 21st byte that isn't a newline.
+    pub(crate) fn next_row(&mut self) -> RowCame
+        requires fetched { fetched_of self.old ≤ 2 ^ 61 }
+        requires failures { failures_of self.old ≤ 2 ^ 61 }
+        ensures { TakesRow R.remaining self.old self.new result }
+    {
+        let mut row = [0u8; ROW_LIMIT];
+        for held in 0..ROW_LIMIT {
+            match self.next_byte() {
+                ByteCame::Byte(byte) => {
+                    if byte == b'\n' {
+                        return match read_words(&row[..held]) {
+                            Some(words) => RowCame::Row(words),
+                            None => RowCame::Malformed,
+                        };
+                    }
+                    row[held] = byte;
+                }
+                ByteCame::Ended => {
+                    if held == 0 {
+                        return RowCame::Ended;
+                    }
+                    return match read_words(&row[..held]) {
+                        Some(words) => RowCame::LastRow(words),
+                        None => RowCame::Malformed,
+                    };
+                }
+                ByteCame::Failed => return RowCame::Failed,
+            }
+        }
+        RowCame::Malformed
+    }
+}
