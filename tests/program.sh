@@ -110,6 +110,38 @@ levels='--system NTSC --black 8224 --white 16448'
     run extract $ntsc --max-fields 1 two.tbc
     judge 'too many fields' 1 begun.json 'ldvbi: too many fields'
 
+    # a field drawn from words, and what the other commands say of it
+    printf '82CFFF F12345 F12345\n' > words
+    run draw $ntsc words
+    cp out drawn.tbc
+    [ $status = 0 ] && [ ! -s err ] && [ "$(wc -c < drawn.tbc)" -eq 478660 ] && passed=$((passed + 1)) || { failed=1; echo 'program: draw' >&2; }
+    {
+        cat head
+        printf '{"seqNo":1,"vbi":{"vbiData":[8572927,15803205,15803205]},"vbiCause":["word","word","word"],"vbiPass":[1,1,1]}'
+        printf '\n],"cutField":null}\n'
+    } > drawn.json
+    run extract $ntsc drawn.tbc
+    judge 'the document of a drawn field' 0 drawn.json ''
+    cat > drawn.txt << 'END'
+system NTSC 910x263 black 16384 white 51200
+field 1 cav
+16 82CFFF picture stop
+17 F12345 picture 12345
+18 F12345 picture 12345
+fields 1 cut none
+END
+    run show $ntsc drawn.tbc
+    judge 'the report of a drawn field' 0 drawn.txt ''
+    cat > cut.txt << 'END'
+system NTSC 910x263 black 16384 white 51200
+fields 0 cut field 1 bytes 478659
+END
+    run show $ntsc cut.tbc
+    judge 'the report of a cut field' 3 cut.txt ''
+    printf '82CFFF F12345 F12345\n82CFFF F12345' > short.words
+    run draw $ntsc short.words
+    judge 'a malformed row' 1 drawn.tbc 'ldvbi: row 2 is malformed'
+
     run
     [ $status = 2 ] && [ ! -s out ] && [ -s err ] && passed=$((passed + 1)) || { failed=1; echo 'program: no command' >&2; }
     run --version

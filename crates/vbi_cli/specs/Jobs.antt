@@ -4,10 +4,12 @@
 use Rattle.std.specs.Prelude.{◌≡◌, ◌⊎◌, ℕ, ◌*◌, ◌<◌, ◌≤◌, List, [], length, Option, Some, None, Result, Ok, Err, IfSome, ⊤}
 use Rattle.std.specs.Io.KnownBytes.{Consumes, Appends, IsAtEnd}
 use Rattle.vbi_words.specs.Geometry.{line_bytes, field_bytes}
-use Rattle.vbi_field.specs.Document.{document}
+use Rattle.vbi_field.specs.Kinds.{document, report}
 use Rattle.vbi_field.specs.Setup.{Setup}
 use Rattle.vbi_field.specs.Stream.{rest_of, cut_of}
 use Rattle.vbi_field.specs.Texts.{Texts, document_of}
+use Rattle.vbi_field.specs.declared.drawing_fields.DrawFault.{DrawFault}
+use Rattle.vbi_field.specs.declared.drawing_fields.DrawFault.TheVariants as draw
 use Rattle.vbi_field.specs.declared.summary.Summary.{Summary}
 use Rattle.vbi_field.specs.declared.summary.RunFault.{RunFault}
 use Rattle.vbi_field.specs.declared.summary.RunFault.TheVariants as run
@@ -16,6 +18,7 @@ use Rattle.vbi_meta.specs.Metadata.{IsDocument, IsUnread}
 use Rattle.vbi_meta.specs.Settings.{IsSettled, IsRefused}
 use Rattle.vbi_meta.specs.declared.choosing.Overrides.{Overrides}
 use Rattle.vbi_meta.specs.declared.fault.MetaFault.{MetaFault}
+use Rattle.vbi_cli.specs.Drew.{DrewAll, MetTooMany}
 use Rattle.vbi_cli.specs.OneLine.{outcome_read, line_text}
 use Rattle.vbi_cli.specs.declared.fault.AppFault.{AppFault}
 use Rattle.vbi_cli.specs.declared.fault.AppFault.TheVariants.{Meta, ReadField, ReadLine, ReadRow, Write, TooManyFields, Row, Short}
@@ -38,6 +41,10 @@ Refuses None given fault = IsRefused None given fault
 Refuses (Some bytes) given fault =
     IsUnread bytes fault ⊎ ((value : Data) × IsDocument bytes value × IsRefused (Some value) given fault)
 
+-- with what metadata and options settle, P
+abbrev pub Under : Option (List ℕ) → Overrides → (Setup → Type 0) → Type 0
+Under meta given P = (c : Setup) × (Settles meta given c × P c)
+
 -- ---- the commands
 
 -- whole, or with a cut field where one was cut
@@ -52,10 +59,6 @@ IsEndedBy (Err (run.Read field offset)) ended = ended ≡ Err (ReadField field o
 IsEndedBy (Err (run.Write written)) ended = ended ≡ Err (Write written)
 IsEndedBy (Err run.TooManyFields) ended = ended ≡ Err TooManyFields
 IsEndedBy (Err run.Failed) ended = ⊥
-
--- the input has more bytes than the fields that are allowed
-abbrev pub HadTooMany : Setup → Option (List ℕ) → Type 0
-HadTooMany c input = IfSome input (λ z. c.max_fields * field_bytes c.system < length z)
 
 module _ (c : Setup) (input0 input output0 output : Option (List ℕ)) where
   -- one line's bytes were read and no more, and the answer to it was written
@@ -72,13 +75,20 @@ module _ (c : Setup) (input0 input output0 output : Option (List ℕ)) where
   abbrev pub Did : Verb → Ended → Type 0
   Did Line ended = DidLine ended
   Did Extract ended = DidStream document ended
-  Did Show ended = ⊤
-  Did Draw ended = ⊤
+  Did Show ended = DidStream report ended
+  Did Draw ended = DrewAll c input0 input output0 output × (ended ≡ Whole)
 
   -- the input ended after these bytes, fewer than a line's, and nothing was written
   abbrev pub WasShort : ℕ → ℕ → Type 0
   WasShort bytes wanted = (z : List ℕ) × (Consumes input0 input z × (bytes ≡ length z) × (wanted ≡ line_bytes c.system)
       × (bytes < wanted) × IsAtEnd input × Appends output0 output [])
+
+  -- the input goes on past the fields that are allowed
+  abbrev pub HadTooMany : Verb → Type 0
+  HadTooMany Line = ⊥
+  HadTooMany Extract = IfSome input0 (λ z. c.max_fields * field_bytes c.system < length z)
+  HadTooMany Show = IfSome input0 (λ z. c.max_fields * field_bytes c.system < length z)
+  HadTooMany Draw = MetTooMany c input0 input output0 output
 
 -- ---- the faults
 
@@ -96,3 +106,16 @@ IfShort _ P = ⊤
 abbrev pub IfTooMany : AppFault → Type 0 → Type 0
 IfTooMany TooManyFields P = P
 IfTooMany _ P = ⊤
+
+-- P of the row's number, where a row is malformed
+abbrev pub IfRow : AppFault → (ℕ → Type 0) → Type 0
+IfRow (Row number) P = P number
+IfRow _ P = ⊤
+
+-- how drawing ended, for the program
+abbrev pub IsDrawnBy : Result ℕ DrawFault → Result Ended AppFault → Type 0
+IsDrawnBy (Ok fields) ended = ended ≡ Ok Whole
+IsDrawnBy (Err (draw.Row number)) ended = ended ≡ Err (Row number)
+IsDrawnBy (Err (draw.Read number)) ended = ended ≡ Err (ReadRow number)
+IsDrawnBy (Err (draw.Write written)) ended = ended ≡ Err (Write written)
+IsDrawnBy (Err draw.TooManyFields) ended = ended ≡ Err TooManyFields

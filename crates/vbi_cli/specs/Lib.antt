@@ -1,3 +1,4 @@
-pub mod Statuses
-pub mod OneLine
+pub mod Drew
 pub mod Jobs
+pub mod OneLine
+pub mod Statuses

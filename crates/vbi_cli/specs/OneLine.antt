@@ -8,7 +8,7 @@ use Rattle.vbi_words.specs.declared.outcome.Outcome.TheVariants.{Word, Blank, Un
 use Rattle.vbi_line.specs.Intake as intakes
 use Rattle.vbi_line.specs.OneReading.{reading_of}
 use Rattle.vbi_line.specs.declared.intake.Intake.{Intake}
-use Rattle.vbi_field.specs.CauseTexts.{cause_of}
+use Rattle.vbi_field.specs.CauseTexts.{cause_text_of}
 use Rattle.vbi_field.specs.CodeTexts.{hex_text_of}
 use Rattle.vbi_field.specs.Outlet as outlets
 use Rattle.vbi_field.specs.Setup.{Setup}
@@ -23,10 +23,10 @@ outcome_read c bytes = (reading_of c.system (row_levels c.levels bytes)).outcome
 -- what a line is answered with: its word in hexadecimal digits, or why it has none
 abbrev pub answer_of : Outcome → List ℕ
 answer_of (Word word) = hex_text_of word
-answer_of Blank = cause_of Blank
-answer_of Unfinished = cause_of Unfinished
-answer_of (Change column) = cause_of (Change column)
-answer_of (Hold column) = cause_of (Hold column)
+answer_of Blank = cause_text_of Blank
+answer_of Unfinished = cause_text_of Unfinished
+answer_of (Change column) = cause_text_of (Change column)
+answer_of (Hold column) = cause_text_of (Hold column)
 
 -- the answer and a newline
 abbrev pub line_text : Outcome → List ℕ
@@ -51,7 +51,7 @@ module _ {R W : Type 0} (remaining : R → Option (List ℕ)) (contents : W → 
     pub z : List ℕ
     pub text : List ℕ
     pub consumed : Consumes (remaining (intakes.device_of i0)) (remaining (intakes.device_of i)) z
-    pub fetched : i.fetched ≡ length z
+    pub fetched : intakes.fetched_of i ≡ length z
     pub appended : Appends (contents (outlets.device_of o0)) (contents (outlets.device_of o)) text
     pub written : outlets.written_of o ≡ length text
     pub run : IsLineRun z text result

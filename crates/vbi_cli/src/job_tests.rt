@@ -46,6 +46,12 @@ const FULL: &[u8] =
 const BLACK_FIELD: &str =
     "{\"version\":2,\"videoParameters\":{\"system\":\"NTSC\",\"fieldWidth\":910,\"fieldHeight\":263,\"black16bIre\":16384,\"white16bIre\":51200},\"fields\":[\n{\"seqNo\":1,\"vbi\":{\"vbiData\":[0,0,0]},\"vbiCause\":[\"blank\",\"blank\",\"blank\"],\"vbiPass\":[0,0,0]}\n],\"cutField\":null}\n";
 
+const DRAWN_FIELD: &str =
+    "{\"version\":2,\"videoParameters\":{\"system\":\"NTSC\",\"fieldWidth\":910,\"fieldHeight\":263,\"black16bIre\":16384,\"white16bIre\":51200},\"fields\":[\n{\"seqNo\":1,\"vbi\":{\"vbiData\":[8572927,15803205,15803205]},\"vbiCause\":[\"word\",\"word\",\"word\"],\"vbiPass\":[1,1,1]}\n],\"cutField\":null}\n";
+
+const REPORT: &str =
+    "system NTSC 910x263 black 16384 white 51200\nfield 1 cav\n16 82CFFF picture stop\n17 F12345 picture 12345\n18 F12345 picture 12345\nfields 1 cut none\n";
+
 fn job(verb: Verb, overrides: Overrides) -> Job {
     Job {
         verb,
@@ -294,6 +300,47 @@ fn names_the_faults_of_a_stream(rt: HostRuntime) -> Result<(), Fail> {
     assert_eq!(rt; full.ended, Err(AppFault::Write { written: 150 }));
     assert_eq!(rt; full.written.len(), 150);
     Ok(())
+}
+
+#[test]
+fn shows_what_was_drawn(rt: HostRuntime) -> Result<(), Fail> {
+    let alloc = rt.alloc();
+    let field = ran(
+        alloc,
+        &job(Verb::Draw, NONE),
+        Some(FULL),
+        b"82CFFF F12345 F12345\n",
+    );
+    assert_eq!(rt; field.ended, Ok(Ended::Whole));
+    assert_eq!(rt; field.written.len(), 478_660);
+    let field = field.written.as_slice();
+
+    let document = ran(alloc, &job(Verb::Extract, NONE), Some(FULL), field);
+    assert_eq!(rt; document.ended, Ok(Ended::Whole));
+    assert_eq!(rt; document.written.as_slice(), DRAWN_FIELD.as_bytes());
+    let report = ran(alloc, &job(Verb::Show, NONE), Some(FULL), field);
+    assert_eq!(rt; report.ended, Ok(Ended::Whole));
+    assert_eq!(rt; report.written.as_slice(), REPORT.as_bytes());
+    Ok(())
+}
+
+#[test]
+fn names_the_faults_of_drawing(rt: HostRuntime) {
+    let alloc = rt.alloc();
+    let malformed = ran(
+        alloc,
+        &job(Verb::Draw, NONE),
+        Some(FULL),
+        b"82CFFF  F12345 -",
+    );
+    assert_eq!(rt; malformed.ended, Err(AppFault::Row { number: 1 }));
+    assert!(rt; malformed.written.is_empty());
+    let broken = ran_broken(alloc, &job(Verb::Draw, STORED), b"82CFFF - -\n");
+    assert_eq!(rt; broken.ended, Err(AppFault::ReadRow { number: 2 }));
+    assert_eq!(rt; broken.written.len(), 478_660);
+    let full = ran_full(alloc, &job(Verb::Draw, STORED), b"82CFFF - -", 1000);
+    assert_eq!(rt; full.ended, Err(AppFault::Write { written: 1000 }));
+    assert_eq!(rt; full.written.len(), 1000);
 }
 
 #[test]
