@@ -1,13 +1,12 @@
 -- What a run of drawing keeps from row to row, and how it ends.
-use Rattle.std.proofs.Common.{◌≡◌, ℕ, ◌+◌, ◌-◌, ◌*◌, ◌≤◌, ◌<◌, ◌⊎◌, inl, inr, List, [], ◌∷◌, ◌++◌, length, take, refl, sym, ap, subst, ◌∙◌, arith, append_assoc}
-use Rattle.std.specs.Prelude.{Option, Some, None, Result, Ok, Err}
+use Rattle.std.proofs.Common.{◌≡◌, ℕ, ◌+◌, ◌*◌, ◌≤◌, ◌<◌, ◌⊎◌, inl, inr, List, [], ◌∷◌, ◌++◌, length, take, refl, sym, ap, subst, ◌∙◌, arith, append_assoc}
+use Rattle.std.specs.Prelude.{Option, Some, None, Err}
 use Rattle.std.specs.List.{flat_map}
-use Rattle.std.specs.Io.KnownBytes.{Consumes, Appends, IsAtEnd}
+use Rattle.std.specs.Io.KnownBytes.{Appends, IsAtEnd}
 use Rattle.std.proofs.KnownBytes.{Appends-trans, Appends-nil}
-use Rattle.std.proofs.lemmas.List.{append-nil, take_all, take_at, length-append, length-take-le}
+use Rattle.std.proofs.lemmas.List.{append-nil, take_all, length-append}
 use Rattle.std.proofs.lemmas.Grind.{flat_map-append}
 use Rattle.std.proofs.Math.Seq.{take-append-add}
-use Rattle.vbi_words.specs.Geometry.{field_bytes}
 use Rattle.vbi_field.specs.Setup.{Setup}
 use Rattle.vbi_field.specs.Outlet as outlets
 use Rattle.vbi_field.specs.RowIntake as intakes

@@ -1,7 +1,7 @@
 -- Lines and fields that are drawn.
-use Rattle.std.proofs.Common.{◌≡◌, ◌≢◌, ℕ, zero, suc, ◌+◌, ◌*◌, ◌-◌, ◌/◌, ◌%◌, ◌<◌, ◌≤◌, ◌⊎◌, inl, inr, Bool, true, false, cond, List, [], ◌∷◌, ◌++◌, length, take, drop, set, get_or, refl, sym, ap, subst, ◌∙◌, arith, append_assoc, add-zero, zero-add, lit≤, lit<}
+use Rattle.std.proofs.Common.{◌≡◌, ◌≢◌, ℕ, zero, suc, ◌+◌, ◌*◌, ◌-◌, ◌/◌, ◌%◌, ◌<◌, ◌≤◌, ◌⊎◌, inl, inr, Bool, true, false, cond, List, [], ◌∷◌, ◌++◌, length, take, set, get_or, refl, sym, ap, subst, ◌∙◌, arith, append_assoc, add-zero, zero-add, lit≤, lit<}
 use Rattle.std.proofs.Math.Nat.{zero-mul, suc-mul}
-use Rattle.std.specs.Prelude.{Option, Some, None, ◌==◌, ◌&&◌, nat_lt, nat_le}
+use Rattle.std.specs.Prelude.{Option, Some, None, ◌&&◌, nat_lt, nat_le}
 use Rattle.std.specs.List.{flat_map, list_any, range_with_len}
 use Rattle.std.proofs.lemmas.List.{append-nil, take_all, take_more_set, length-append, length-set}
 use Rattle.std.proofs.lemmas.List.Folds.{Any-from_list_any, list_any_at}
@@ -16,7 +16,7 @@ use Rattle.vbi_words.specs.Words.{halves_of}
 use Rattle.vbi_words.specs.Drawn.{boundary, DrawnHigh, IsDrawn}
 use Rattle.vbi_field.specs.Setup.{Setup}
 use Rattle.vbi_field.specs.declared.word_row.WordRow.{WordRow}
-use Rattle.vbi_field.specs.Drawing.{is_drawn_in, is_drawn_high, drawn_sample_of, sample_bytes, drawn_line_of, word_at, drawn_field_of, draw_out}
+use Rattle.vbi_field.specs.Drawing.{is_drawn_in, is_drawn_high, drawn_sample_of, sample_bytes, drawn_line_of, word_at, drawn_field_of}
 
 -- ---- lists made from the numbers from a on
 

@@ -8,7 +8,6 @@ use Rattle.vbi_words.specs.Geometry.{height_of, line_bytes}
 use Rattle.vbi_field.specs.Setup.{Setup}
 use Rattle.vbi_field.specs.Stream.{fields_of, field_readings}
 use Rattle.vbi_field.specs.Texts.{Texts, entry_of, begun_of, piece_of}
-use Rattle.vbi_field.specs.declared.readings.FieldReadings.{FieldReadings}
 use Rattle.vbi_field.proofs.Growing.{field_readings-more}
 
 -- one number more

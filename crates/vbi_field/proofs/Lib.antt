@@ -3,6 +3,11 @@ pub mod DrawSteps
 pub mod DrawnLemmas
 pub mod DrawnReadsLemmas
 pub mod Entries
+pub mod FeedEnds
+pub mod FeedLoop
+pub mod FeedPlaces
+pub mod FeedSteps
+pub mod FeedTexts
 pub mod Going
 pub mod Growing
 pub mod Known

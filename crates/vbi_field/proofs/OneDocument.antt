@@ -1,7 +1,6 @@
 -- A stream has one text of each kind.
-use Rattle.std.proofs.Common.{◌≡◌, ℕ, ◌+◌, ◌<◌, List, ◌++◌, refl, ap, ◌∙◌}
+use Rattle.std.proofs.Common.{◌≡◌, ℕ, ◌+◌, List, ◌++◌, ap, ◌∙◌}
 use Rattle.std.specs.Prelude.{◌↔◌}
-use Rattle.std.specs.List.{join_by, range_with_len}
 use Rattle.vbi_words.specs.Levels.{row_levels}
 use Rattle.vbi_line.proofs.OneReading.{is_reading, only_reading}
 use Rattle.vbi_field.specs.ByLines.{FieldReads, IsDocument}

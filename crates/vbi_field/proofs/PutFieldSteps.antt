@@ -1,9 +1,9 @@
 -- What the writing of a field keeps from row to row.
-use Rattle.std.proofs.Common.{◌≡◌, ℕ, ◌+◌, ◌-◌, ◌*◌, ◌≤◌, ◌<◌, List, [], ◌++◌, length, take, refl, sym, ap, subst, ◌∙◌, arith, append_assoc, lit≤}
+use Rattle.std.proofs.Common.{◌≡◌, ℕ, ◌+◌, ◌-◌, ◌*◌, ◌≤◌, ◌<◌, List, ◌++◌, length, take, refl, sym, ap, ◌∙◌, arith, append_assoc, lit≤}
 use Rattle.std.specs.Prelude.{Option, None}
 use Rattle.std.specs.Io.KnownBytes.{Appends}
 use Rattle.std.proofs.KnownBytes.{Appends-trans, Appends-nil}
-use Rattle.std.proofs.lemmas.List.{take_all, take-append-le, length-append, length-take-le}
+use Rattle.std.proofs.lemmas.List.{take_all, take-append-le, length-append}
 use Rattle.std.proofs.Math.Seq.{take-append-add}
 use Rattle.vbi_words.specs.declared.system.System.{System}
 use Rattle.vbi_words.specs.declared.system.System.TheVariants.{Ntsc, Pal}
@@ -14,7 +14,7 @@ use Rattle.vbi_field.specs.Drawing.{drawn_line_of, drawn_field_of, word_at}
 use Rattle.vbi_field.specs.DrawRun.{PutsField}
 use Rattle.vbi_field.specs.declared.outlet.Outlet.{Outlet}
 use Rattle.vbi_field.specs.declared.word_row.WordRow.{WordRow}
-use Rattle.vbi_field.proofs.DrawnLemmas.{narrow, length-drawn_line_of, lines_of, length-lines_of, lines_of-more, lines_of-none, lines_of-all, lines_of-split, no_word, last_word}
+use Rattle.vbi_field.proofs.DrawnLemmas.{narrow, length-drawn_line_of, lines_of, lines_of-more, lines_of-none, lines_of-all, lines_of-split, last_word}
 
 few_rows : (s : System) → height_of s ≤ 313
 few_rows Ntsc = lit≤ tt

@@ -1,16 +1,15 @@
 -- What the calls of an intake of rows keep from read to read.
-use Rattle.std.proofs.Common.{◌≡◌, ◌≢◌, ℕ, zero, suc, ◌+◌, ◌*◌, ◌<◌, ◌≤◌, List, [], ◌∷◌, ◌++◌, length, take, set, inl, inr, refl, sym, ap, subst, ◌∙◌, arith, lit<}
-use Rattle.std.specs.Prelude.{Option, Some, None, All}
-use Rattle.std.specs.Io.KnownBytes.{Consumes, IsAtEnd}
-use Rattle.std.proofs.KnownBytes.{Consumes-trans, Consumes-nil, Consumes-kept}
+use Rattle.std.proofs.Common.{◌≡◌, ◌≢◌, ℕ, zero, suc, ◌+◌, ◌*◌, ◌<◌, ◌≤◌, List, [], ◌∷◌, ◌++◌, length, take, set, inl, inr, refl, sym, subst, ◌∙◌, arith}
+use Rattle.std.specs.Prelude.{Option, Some, None}
+use Rattle.std.proofs.KnownBytes.{Consumes-trans, Consumes-nil}
 use Rattle.std.proofs.lemmas.List.{append-nil, take_more_set, length-append, length-set, length-take-le}
 use Rattle.std.proofs.lemmas.List.Elements.{All-append}
 use Rattle.vbi_field.specs.WordRows.{words_of}
-use Rattle.vbi_field.specs.RowIntake.{device_of, failures_of, HasNoNewline, IsSameDevice, Fetches, TakesByte, TakesRow, byte_of}
+use Rattle.vbi_field.specs.RowIntake.{failures_of, HasNoNewline, Fetches, TakesByte, TakesRow}
 use Rattle.vbi_field.specs.declared.word_row.WordRow.{WordRow}
 use Rattle.vbi_field.specs.declared.row_intake.RowIntake.{RowIntake}
 use Rattle.vbi_field.specs.declared.row_intake.ByteCame.TheVariants as bytes
-use Rattle.vbi_field.specs.declared.row_intake.RowCame.TheVariants.{Row, LastRow, Malformed, Ended, Failed}
+use Rattle.vbi_field.specs.declared.row_intake.RowCame.TheVariants.{Row, LastRow, Malformed, Failed}
 use Rattle.vbi_field.proofs.WordRowLemmas.{long_row}
 
 all_one : (byte : ℕ) → byte ≢ 10 → HasNoNewline (byte ∷ [])

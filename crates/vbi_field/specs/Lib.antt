@@ -6,6 +6,9 @@ pub mod Document
 pub mod DrawRun
 pub mod Drawing
 pub mod DrawnReadings
+pub mod Feed
+pub mod FeedView
+pub mod Feeding
 pub mod Kinds
 pub mod Outlet
 pub mod Position
@@ -14,6 +17,7 @@ pub mod Report
 pub mod RowIntake
 pub mod Runs
 pub mod Setup
+pub mod Stand
 pub mod Stream
 pub mod Takes
 pub mod Texts

@@ -1,19 +1,24 @@
-//! The fields of a TBC stream, and the texts that are written for them.
+//! The fields of a TBC stream: the document and the report that are written for it, pulled from a reader or pushed in pieces,
+//! and test fields drawn from a text of words. Stands on `vbi_words`, `vbi_line`, `itoa` and `arrayvec`. What is written is
+//! exactly the text of `specs/` for the bytes that came, however they were cut; a fault comes only where a device failed or the
+//! input is at fault, and says what was written. One line is held at a time, each byte is fetched once, and nothing allocates.
 #![tactic(auto)]
 
-pub mod cause_texts;
-pub mod code_texts;
+mod cause_texts;
+mod code_texts;
 mod config;
 mod document;
 pub mod draw_laws;
 mod drawing_fields;
+mod feeder;
 mod form;
 pub mod laws;
 mod numbers;
 mod outlet;
+mod pieces;
 mod progress;
-pub mod readings;
-pub mod report;
+mod readings;
+mod report;
 mod row_intake;
 mod rows;
 mod run;
@@ -25,6 +30,7 @@ pub use cause_texts::cause_text;
 pub use code_texts::{code_text, hex_text};
 pub use config::{Config, ConfigFault};
 pub use drawing_fields::{DrawFault, draw};
+pub use feeder::Feeder;
 pub use outlet::{Outlet, OutletFault};
 pub use readings::FieldReadings;
 pub use row_intake::RowIntake;
@@ -40,5 +46,7 @@ mod tests_draw;
 mod tests_extract;
 #[cfg(test)]
 mod tests_faults;
+#[cfg(test)]
+mod tests_feeder;
 #[cfg(test)]
 mod text_tests;

@@ -4,7 +4,7 @@ ghost use Rattle.std.specs.Prelude.{◌≡◌, []};
 ghost use Rattle.vbi_line.specs.Line.{IsFull};
 
 use crate::tests_cases::{Case, RUNS, Shape, TURNED, Told, WORDS};
-use crate::{LineBuf, read_line, read_twice};
+use crate::{Filled, Intake, LineBuf, read_line, read_twice};
 use byteorder::{ByteOrder, LittleEndian};
 use vbi_words::{Levels, Outcome, System, Word24, drawn_sample};
 
@@ -107,15 +107,40 @@ fn reading(system: System, levels: Levels, samples: &[u16; 1135]) -> (Told, u8) 
     (in_numbers(reading.outcome), reading.pass)
 }
 
-/// Whether the line tells what is expected.
+/// The outcome, and the reading with its pass, as an intake gives them of the line's bytes.
+fn by_intake(system: System, levels: Levels, samples: &[u16; 1135]) -> Option<(Told, (Told, u8))> {
+    let mut bytes = [0; 2270];
+    LittleEndian::write_u16_into(samples, &mut bytes);
+    let mut first = &bytes[..2 * system.width()];
+    let mut intake = Intake::new(&mut first, system);
+    let Ok(Filled::Full) = intake.fill_line() else {
+        return None;
+    };
+    let outcome = intake.outcome(levels);
+    let mut second = &bytes[..2 * system.width()];
+    let mut intake = Intake::new(&mut second, system);
+    let Ok(Filled::Full) = intake.fill_line() else {
+        return None;
+    };
+    let reading = intake.reading(levels);
+    Some((
+        in_numbers(outcome),
+        (in_numbers(reading.outcome), reading.pass),
+    ))
+}
+
+/// Whether the line tells what is expected, to the readers and to an intake.
 fn is_told(case: &Case) -> bool {
     let levels = levels_of(case.system);
     let samples = samples_of(case, levels);
+    let outcome = plain(case.system, levels, &samples);
     let plain_too = match case.plain {
-        Some(expected) => plain(case.system, levels, &samples) == expected,
+        Some(expected) => outcome == expected,
         None => true,
     };
-    plain_too && reading(case.system, levels, &samples) == case.reading
+    plain_too
+        && reading(case.system, levels, &samples) == case.reading
+        && by_intake(case.system, levels, &samples) == Some((outcome, case.reading))
 }
 
 #[test]

@@ -1,4 +1,4 @@
-use Rattle.std.proofs.Common.{◌≡◌, ◌<◌, ap, arith}
+use Rattle.std.proofs.Common.{ap, arith}
 use Rattle.vbi_words.specs.Geometry.{width_of}
 use Rattle.vbi_field.proofs.DrawnLemmas.{drawn_sample_as, Drawn-none, Drawn-more, Drawn-all}
 use Rattle.vbi_field.proofs.drawing_fields.draw_line.Goals as goal

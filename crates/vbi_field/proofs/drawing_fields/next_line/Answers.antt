@@ -1,6 +1,6 @@
 use Rattle.std.proofs.Common.{ap, ◌∙◌, ◌-◌, length}
 use Rattle.vbi_field.specs.Drawing.{word_at}
-use Rattle.vbi_field.proofs.DrawnLemmas.{length-drawn_line_of, same_word}
+use Rattle.vbi_field.proofs.DrawnLemmas.{length-drawn_line_of}
 use Rattle.vbi_field.proofs.drawing_fields.next_line.Goals as goal
 
 pub draw_line-requires : goal.draw_line-requires

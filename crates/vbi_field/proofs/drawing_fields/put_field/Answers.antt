@@ -1,4 +1,4 @@
-use Rattle.std.proofs.Common.{◌≡◌, ap, ◌∙◌, arith, length}
+use Rattle.std.proofs.Common.{ap, ◌∙◌, arith, length}
 use Rattle.vbi_words.specs.Geometry.{height_of}
 use Rattle.vbi_field.specs.Drawing.{word_at}
 use Rattle.vbi_field.proofs.DrawnLemmas.{length-drawn_line_of, narrow}

@@ -1,6 +1,6 @@
-use Rattle.std.proofs.Common.{◌≡◌, ◌<◌, ◌≤◌, ◌+◌, ◌-◌, ◌*◌, [], ◌++◌, inl, inr, refl, sym, ap, ◌∙◌, arith, length, false}
+use Rattle.std.proofs.Common.{◌≡◌, ◌<◌, ◌≤◌, ◌+◌, ◌-◌, ◌*◌, refl, ◌∙◌, arith, false}
 use Rattle.std.proofs.Math.Nat.{zero-mul}
-use Rattle.vbi_words.specs.Geometry.{height_of, line_bytes, field_bytes}
+use Rattle.vbi_words.specs.Geometry.{height_of, line_bytes}
 use Rattle.vbi_field.proofs.Counts.{all_fields, some_bytes, within_rows, within_all}
 use Rattle.vbi_field.proofs.Going.{start, head_fault}
 use Rattle.vbi_field.proofs.RunSteps.{row_came, step_inside, step_field, field_fault, ended, read_fault, too_many}

@@ -1,4 +1,4 @@
-use Rattle.std.proofs.Common.{◌≡◌, ◌≤◌, ◌<◌, ◌^◌, ◌*◌, ◌+◌, arith, lit<}
+use Rattle.std.proofs.Common.{◌≤◌, ◌^◌, arith, lit<}
 use Rattle.std.proofs.Math.Nat.{pow-le-pow_right}
 use Rattle.vbi_field.proofs.word_row.hex_value.Goals as goal
 

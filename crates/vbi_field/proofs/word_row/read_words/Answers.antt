@@ -1,4 +1,3 @@
-use Rattle.std.proofs.Common.{sym, ◌∙◌}
 use Rattle.vbi_field.proofs.WordRowLemmas.{one_part, two_parts, three_parts, four_parts}
 use Rattle.vbi_field.proofs.word_row.read_words.Goals as goal
 

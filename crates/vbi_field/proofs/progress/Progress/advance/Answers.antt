@@ -1,4 +1,4 @@
-use Rattle.std.proofs.Common.{refl, arith, ◌<◌, ◌≤◌, ◌+◌}
+use Rattle.std.proofs.Common.{◌<◌, ◌≤◌, ◌+◌}
 use Rattle.vbi_words.specs.Geometry.{height_of}
 use Rattle.vbi_field.proofs.Growing.{within_field, past_field}
 use Rattle.vbi_field.proofs.progress.Progress.advance.Goals as goal

@@ -1,5 +1,5 @@
 use Rattle.std.proofs.Common.{◌≡◌, arith}
-use Rattle.vbi_field.proofs.RowSteps.{newline_came, bad_newline_came, end_came, bad_end_came, fault_came, too_long}
+use Rattle.vbi_field.proofs.RowSteps.{newline_came, bad_newline_came, too_long}
 use Rattle.vbi_field.proofs.row_intake.RowIntake.next_row.Goals as goal
 
 pub returns-in-Some : goal.returns-in-Some

@@ -1,0 +1,62 @@
+-- How a stream that is pushed begins and ends.
+use Rattle.std.proofs.Common.{◌≡◌, ℕ, ◌+◌, ◌-◌, ◌*◌, ◌/◌, ◌≤◌, List, ◌++◌, length, take, drop, refl, sym, ap, ◌∙◌}
+use Rattle.std.specs.Prelude.{Option, Result, Ok, Err, OnOk, IfOk, IfErr}
+use Rattle.std.proofs.lemmas.List.{take-append-drop}
+use Rattle.std.proofs.Math.Nat.{le_trans, le_of_eq}
+use Rattle.vbi_words.specs.Geometry.{width_of, line_bytes}
+use Rattle.vbi_line.specs.Line.{Line}
+use Rattle.vbi_field.specs.Kinds.{document}
+use Rattle.vbi_field.specs.Feed.{AppendsInPart, IsAt, IsFinished}
+use Rattle.vbi_field.specs.Outlet.{written_of, Puts}
+use Rattle.vbi_field.specs.Setup.{Setup}
+use Rattle.vbi_field.specs.Stand.{IsStand, place_of}
+use Rattle.vbi_field.specs.Stream.{fields_of, rest_of, cut_of, selected, selected_rows}
+use Rattle.vbi_field.specs.declared.outlet.Outlet.{Outlet}
+use Rattle.vbi_field.specs.declared.progress.Progress.{Progress}
+use Rattle.vbi_field.specs.declared.summary.RunFault.{RunFault}
+use Rattle.vbi_field.specs.declared.summary.RunFault.TheVariants.{Write}
+use Rattle.vbi_field.specs.declared.summary.Summary.{Summary}
+use Rattle.vbi_field.proofs.FeedPlaces.{Split, split_of, split_fields, split_rest, split_rows}
+use Rattle.vbi_field.proofs.Going.{put_whole}
+
+-- what was put is the first of it
+pub in_part : {W : Type 0} (contents : W → Option (List ℕ)) (o o' : Outlet W) (bytes whole : List ℕ) → bytes ≡ whole
+    → Puts contents o o' bytes → AppendsInPart contents o o' whole
+in_part contents o o' bytes whole is puts =
+    (take puts.count bytes, drop puts.count bytes, take-append-drop puts.count bytes ∙ is, puts.appended)
+
+module _ {W : Type 0} (contents : W → Option (List ℕ)) (c : Setup) (l : Line) (p : Progress) (st : IsStand c l p) (o o' : Outlet W)
+    (z : List ℕ) (at : IsAt c z (place_of c l p)) (held rest : ℕ) (hs : held ≡ length l.held)
+    (rs : rest ≡ p.row * line_bytes c.system + held) where
+  parts : Split c z l.held p
+  parts = split_of c z l p st.short st.inside at
+
+  fields : p.fields ≡ fields_of c z
+  fields = sym (split_fields c z l.held p parts)
+
+  past : rest ≡ rest_of c z
+  past = rs ∙ ap (λ n. p.row * line_bytes c.system + n) hs ∙ sym (split_rest c z l.held p parts)
+
+  tail : document.tail p.fields rest ≡ document.tail (fields_of c z) (rest_of c z)
+  tail = ap (λ n. document.tail n rest) fields ∙ ap (document.tail (fields_of c z)) past
+
+  few_looks : l.looked ≤ 2 * width_of c.system * selected_rows c z
+  few_looks =
+      let same : selected p.fields p.row ≡ selected_rows c z =
+      ap (λ n. selected n p.row) fields ∙ ap (selected (fields_of c z)) (sym (split_rows c z l.held p parts)) in
+      le_trans st.looked (le_of_eq (ap (λ n. 2 * width_of c.system * n) same))
+
+  -- the tail was put, or the first of it
+  pub finished : (looked : ℕ) (r : Result Summary RunFault) → looked ≡ l.looked → Puts contents o o' (document.tail p.fields rest)
+      → OnOk r (written_of o' ≡ written_of o + length (document.tail p.fields rest))
+      → IfOk r (λ s. s ≡ record { fields = p.fields; cut = cut_of rest; looked = looked })
+      → IfErr r (λ e. e ≡ Write (written_of o')) → IsFinished contents c o o' z r
+  finished looked (Ok s) ls puts whole says fails =
+      let same : s.looked ≡ l.looked = ap (λ s. s.looked) says ∙ ls in (
+        rw (← tail) (put_whole contents o o' (document.tail p.fields rest) puts whole),
+        ap (λ s. s.fields) says ∙ fields,
+        ap (λ s. s.cut) says ∙ ap cut_of past,
+        le_trans (le_of_eq same) few_looks,
+      )
+  finished looked (Err e) ls puts whole says fails =
+      rw fails (in_part contents o o' (document.tail p.fields rest) (document.tail (fields_of c z) (rest_of c z)) tail puts)

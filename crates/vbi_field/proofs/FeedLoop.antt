@@ -1,0 +1,185 @@
+-- What a piece keeps from row to row, and how it ends.
+use Rattle.std.proofs.Common.{◌≡◌, ℕ, ◌+◌, ◌-◌, ◌*◌, ◌≤◌, ◌<◌, false, List, [], ◌++◌, length, take, drop, refl, sym, ap, ◌∙◌, arith, subst, append_assoc, append-nil}
+use Rattle.std.specs.Prelude.{Option, Result, Err, Ok}
+use Rattle.std.specs.Io.KnownBytes.{Appends}
+use Rattle.std.proofs.lemmas.List.{length-append, length-drop, take_all, take-append-drop}
+use Rattle.std.proofs.Math.Nat.{le_refl, le_of_eq}
+use Rattle.std.proofs.Math.Seq.{take-add}
+use Rattle.vbi_field.specs.Kinds.{document}
+use Rattle.vbi_field.specs.Feed.{limit_of, Completes, IsAt, IsFed, Rises, StandsAt}
+use Rattle.vbi_field.specs.FeedView.{feeding_of}
+use Rattle.vbi_field.specs.Feeding.{Feeding}
+use Rattle.vbi_field.specs.Outlet.{IsSameDevice}
+use Rattle.vbi_field.specs.Position.{Position}
+use Rattle.vbi_field.specs.Setup.{Setup}
+use Rattle.vbi_field.specs.Stand.{IsStand, IsStep, place_of}
+use Rattle.vbi_field.specs.Texts.{begun_of}
+use Rattle.vbi_field.specs.declared.feeder.Feeder.TheInside.{Inside}
+use Rattle.vbi_line.specs.Line.{Line}
+use Rattle.vbi_field.specs.declared.progress.Progress.{Progress}
+use Rattle.vbi_field.specs.declared.outlet.Outlet.{Outlet}
+use Rattle.vbi_field.specs.declared.summary.RunFault.{RunFault}
+use Rattle.vbi_field.specs.declared.summary.RunFault.TheVariants.{Read, Write, TooManyFields, Failed}
+use Rattle.vbi_field.proofs.FeedTexts.{completes_twice}
+use Rattle.vbi_field.proofs.Known.{Appends-none, Appends-twice}
+
+module _ {W : Type 0} (contents : W → Option (List ℕ)) (c : Setup) where
+  -- nothing came
+  pub fed_none : (o : Outlet W) (z piece : List ℕ) (now : Position) → IsAt c z now → IsFed contents c o o z (take 0 piece) now (Ok tt)
+  fed_none o z piece now at =
+      let P : List ℕ → Type 0 = λ l. IsFed contents c o o z [] now (Ok tt) in
+      let Q : List ℕ → Type 0 = λ l. IsAt c l now in (
+        subst Q (sym (append-nil z)) at,
+        ([], append-nil (begun_of document c z) ∙ ap (begun_of document c) (sym (append-nil z)), Appends-none _),
+      )
+
+  module _ (o0 o o' : Outlet W) (z first bytes : List ℕ) (was now : Position) (before : IsFed contents c o0 o z first was (Ok tt)) where
+    -- the rest of a piece was fed whole
+    pub fed_more : IsFed contents c o o' (z ++ first) bytes now (Ok tt) → IsFed contents c o0 o' z (first ++ bytes) now (Ok tt)
+    fed_more after =
+        let all = append_assoc z first bytes in
+        let P : List ℕ → Type 0 = λ l. IsAt c l now in (
+          subst P all after.0,
+          (
+            before.1.0 ++ after.1.0,
+            completes_twice c z (z ++ first) ((z ++ first) ++ bytes) before.1.0 after.1.0 before.1.1 after.1.1 ∙ ap (begun_of document c) all,
+            Appends-twice _ _ _ before.1.0 after.1.0 before.1.2 after.1.2,
+          ),
+        )
+
+    -- or with a fault
+    pub fed_fault : (fault : RunFault) → IsFed contents c o o' (z ++ first) bytes now (Err fault) → IsFed contents c o0 o' z (first ++ bytes) now (Err fault)
+    fed_fault (Read field offset) after = after
+    fed_fault Failed after = after
+    fed_fault TooManyFields after =
+        let all = append_assoc z first bytes in
+        let long = ap length all in (
+          omega (arith, after.0),
+          (
+            before.1.0 ++ after.1.0,
+            completes_twice c z (z ++ first) (take (limit_of c) ((z ++ first) ++ bytes)) before.1.0 after.1.0 before.1.1 after.1.1
+            ∙ ap (λ l. begun_of document c (take (limit_of c) l)) all,
+            Appends-twice _ _ _ before.1.0 after.1.0 before.1.2 after.1.2,
+          ),
+        )
+    fed_fault (Write written) after =
+        let all = append_assoc z first bytes in (
+          before.1.0 ++ after.0,
+          after.1,
+          ap (λ l. begun_of document c z ++ l) (append_assoc before.1.0 after.0 after.1)
+          ∙ completes_twice c z (z ++ first) (take (limit_of c) ((z ++ first) ++ bytes)) before.1.0 (after.0 ++ after.1) before.1.1 after.2
+          ∙ ap (λ l. begun_of document c (take (limit_of c) l)) all,
+          Appends-twice _ _ _ before.1.0 after.0 before.1.2 after.3,
+        )
+
+-- so much of a piece was taken
+pub record Taken {W : Type 0} (contents : W → Option (List ℕ)) (old : Feeding) (now : Inside) (o0 o : Outlet W) (piece : List ℕ) (at : ℕ) : Type 0 where
+  pub config : now.config ≡ old.config
+  pub calm : now.has_failed ≡ false
+  pub started : old.has_failed ≡ false
+  pub stand : IsStand now.config now.line now.progress
+  pub within : at ≤ length piece
+  pub same : IsSameDevice o0 o
+  pub rises : Rises o0 o old.position.fields now.progress.fields
+  pub fed : (z : List ℕ) → StandsAt old z
+      → IsFed contents old.config o0 o z (take at piece) (place_of now.config now.line now.progress) (Ok tt)
+
+-- before the first row
+pub taken_none : {W : Type 0} (contents : W → Option (List ℕ)) (old : Feeding) (now : Inside) (o : Outlet W) (piece : List ℕ)
+    → feeding_of now ≡ old → now.has_failed ≡ false → IsStand now.config now.line now.progress → Taken contents old now o o piece 0
+taken_none contents old now o piece is calm stand =
+    let place : old.position ≡ place_of now.config now.line now.progress = ap (λ f. f.position) (sym is) in
+    let same : old.position.fields ≡ now.progress.fields = ap (λ q. q.fields) place in
+    let failed : old.has_failed ≡ now.has_failed = ap (λ f. f.has_failed) (sym is) in
+    record {
+      config = ap (λ f. f.config) is;
+      calm = calm;
+      started = failed ∙ calm;
+      stand = stand;
+      within = omega arith;
+      same = refl;
+      rises = record {
+        texts = le_of_eq same;
+        few = stand.most;
+        written = omega arith;
+        failures = omega arith;
+        least = le_refl _;
+      };
+      fed = λ z s.
+          let at = s.at in
+          let P : Position → Type 0 = λ q. IsAt old.config z q in
+          fed_none contents old.config o z piece _ (subst P place at);
+    }
+
+-- what a slice from a place on is
+rest_of_piece : (piece : List ℕ) (at : ℕ) → take (length piece - at) (drop at piece) ≡ drop at piece
+rest_of_piece piece at = let l = length-drop at piece in take_all (length piece - at) (drop at piece) (omega arith)
+
+module _ {W : Type 0} (contents : W → Option (List ℕ)) (old : Feeding) (was : Inside) (o0 o o' : Outlet W) (piece bytes : List ℕ) (at : ℕ)
+    (t : Taken contents old was o0 o piece at) (is : bytes ≡ take (length piece - at) (drop at piece)) (l : Line) (p : Progress)
+    (result : Result ℕ RunFault)
+    (step : (z : List ℕ) → IsAt was.config z (place_of was.config was.line was.progress)
+      → IsStep contents was.config o o' z bytes (place_of was.config l p) result) where
+  -- the piece so far
+  so_far : (z : List ℕ) → StandsAt old z
+      → IsFed contents was.config o0 o z (take at piece) (place_of was.config was.line was.progress) (Ok tt)
+  so_far z s =
+      let P : Setup → Type 0 = λ k. IsFed contents k o0 o z (take at piece) (place_of was.config was.line was.progress) (Ok tt) in
+      subst P (sym t.config) (t.fed z s)
+
+  -- the bytes of one row more
+  pub taken_more : (n : ℕ) → result ≡ Ok n → at ≤ length piece → n ≤ length bytes → IsSameDevice o o' → IsStand was.config l p
+      → Rises o o' was.progress.fields p.fields
+      → Taken contents old (record { config = was.config; line = l; progress = p; has_failed = was.has_failed }) o0 o' piece (at + n)
+  taken_more n took le few same stand rises =
+      let long = ap length (is ∙ rest_of_piece piece at) in
+      let dropped = length-drop at piece in
+      let all : take at piece ++ take n bytes ≡ take (at + n) piece =
+      ap (λ x. take at piece ++ take n x) (is ∙ rest_of_piece piece at) ∙ sym (take-add at n piece) in
+      record {
+        config = t.config;
+        calm = t.calm;
+        started = t.started;
+        stand = stand;
+        within = omega arith;
+        same = same ∙ t.same;
+        rises =
+            let before = t.rises in
+            record {
+              texts = omega arith;
+              few = rises.few;
+              written = omega arith;
+              failures = omega arith;
+              least = omega arith;
+            };
+        fed = λ z s.
+            let far = so_far z s in
+            let R : Result ℕ RunFault → Type 0 = λ r. IsStep contents was.config o o' (z ++ take at piece) bytes (place_of was.config l p) r in
+            let next = subst R took (step (z ++ take at piece) far.0) in
+            let P : Setup → Type 0 = λ k. IsFed contents k o0 o' z (take (at + n) piece) (place_of was.config l p) (Ok tt) in
+            let Q : List ℕ → Type 0 = λ x. IsFed contents was.config o0 o' z x (place_of was.config l p) (Ok tt) in
+            subst P t.config (subst Q all
+            (fed_more contents was.config o0 o o' z (take at piece) (take n bytes) (place_of was.config was.line was.progress) (place_of was.config l p) far next));
+      }
+
+  -- a fault in the next row
+  pub taken_fault : (fault : RunFault) → result ≡ Err fault → (z : List ℕ) → StandsAt old z
+      → IsFed contents old.config o0 o' z piece (place_of was.config l p) (Err fault)
+  taken_fault fault fails z s =
+      let far = so_far z s in
+      let all : take at piece ++ bytes ≡ piece =
+      ap (λ x. take at piece ++ x) (is ∙ rest_of_piece piece at) ∙ take-append-drop at piece in
+      let R : Result ℕ RunFault → Type 0 = λ r. IsStep contents was.config o o' (z ++ take at piece) bytes (place_of was.config l p) r in
+      let next = subst R fails (step (z ++ take at piece) far.0) in
+      let P : Setup → Type 0 = λ k. IsFed contents k o0 o' z piece (place_of was.config l p) (Err fault) in
+      let Q : List ℕ → Type 0 = λ x. IsFed contents was.config o0 o' z x (place_of was.config l p) (Err fault) in
+      subst P t.config (subst Q all
+      (fed_fault contents was.config o0 o o' z (take at piece) bytes (place_of was.config was.line was.progress) (place_of was.config l p) far fault next))
+
+-- the whole piece was taken
+pub taken_whole : {W : Type 0} (contents : W → Option (List ℕ)) (old : Feeding) (now : Inside) (o0 o : Outlet W) (piece : List ℕ) (at : ℕ)
+    → Taken contents old now o0 o piece at → length piece ≤ at → (z : List ℕ) → StandsAt old z
+    → IsFed contents old.config o0 o z piece (place_of now.config now.line now.progress) (Ok tt)
+taken_whole contents old now o0 o piece at t done z s =
+    let P : List ℕ → Type 0 = λ x. IsFed contents old.config o0 o z x (place_of now.config now.line now.progress) (Ok tt) in
+    subst P (take_all at piece done) (t.fed z s)

@@ -1,0 +1,167 @@
+-- What the bytes up to the end of a row do, where a feeder stands.
+use Rattle.std.proofs.Common.{◌≡◌, ℕ, ◌+◌, ◌-◌, ◌*◌, ◌≤◌, ◌<◌, Bool, false, List, [], ◌++◌, length, take, drop, refl, sym, ap, ◌∙◌, arith, subst, append_assoc, append-nil}
+use Rattle.std.specs.Prelude.{Option, Err, Ok, IsTrue, ◌↔◌}
+use Rattle.std.specs.Io.KnownBytes.{Appends}
+use Rattle.std.proofs.lemmas.List.{length-append, length-take, take-append-drop, take_at}
+use Rattle.vbi_words.specs.Geometry.{height_of, line_bytes, field_bytes}
+use Rattle.vbi_words.specs.Levels.{row_levels}
+use Rattle.vbi_words.specs.declared.system.System.{System}
+use Rattle.vbi_words.specs.declared.system.System.TheVariants.{Ntsc, Pal}
+use Rattle.vbi_words.specs.declared.outcome.Reading.{Reading}
+use Rattle.vbi_line.specs.Line.{Line}
+use Rattle.vbi_line.specs.OneReading.{reading_of}
+use Rattle.vbi_field.specs.Kinds.{document}
+use Rattle.vbi_field.specs.Feed.{limit_of, Completes, IsAt, IsFed}
+use Rattle.vbi_field.specs.Outlet.{device_of, Puts}
+use Rattle.vbi_field.specs.Progress.{IsPosition, IsRowOf}
+use Rattle.vbi_field.specs.Setup.{Setup}
+use Rattle.vbi_field.specs.Stand.{IsStand, place_of}
+use Rattle.vbi_field.specs.Stream.{fields_of, field_readings}
+use Rattle.vbi_field.specs.Texts.{begun_of, piece_of}
+use Rattle.vbi_field.specs.declared.outlet.Outlet.{Outlet}
+use Rattle.vbi_field.specs.declared.progress.Progress.{Progress}
+use Rattle.vbi_field.specs.declared.readings.FieldReadings.{FieldReadings}
+use Rattle.vbi_field.specs.declared.summary.RunFault.{RunFault}
+use Rattle.vbi_field.specs.declared.summary.RunFault.TheVariants.{Write, TooManyFields}
+use Rattle.vbi_field.proofs.Counts.{some_bytes}
+use Rattle.vbi_field.proofs.FeedPlaces.{Split, split_of, split_fields, split_long, at_of}
+use Rattle.vbi_field.proofs.FeedTexts.{begun_same, begun_next, begun_grows, completes_twice, cut_longer}
+use Rattle.vbi_field.proofs.Known.{Appends-none}
+
+-- a row more is allowed before the last field
+room_for_row : (s : System) (n f r h m : ℕ) → n ≡ (f * height_of s + r) * line_bytes s + h → r < height_of s → h ≤ line_bytes s
+    → f < m → n ≤ m * field_bytes s
+room_for_row Ntsc n f r h m e inside le lt = omega arith
+room_for_row Pal n f r h m e inside le lt = omega arith
+
+-- no row and no byte is past the last field
+no_more : (s : System) (n f r h : ℕ) → n ≡ (f * height_of s + r) * line_bytes s + h → n ≤ f * field_bytes s
+    → n ≡ f * field_bytes s
+no_more Ntsc n f r h e le = omega arith
+no_more Pal n f r h e le = omega arith
+
+pub not_full : (b : Bool) (P : Type 0) → (IsTrue b ↔ P) → b ≡ false → P → ⊥
+not_full b P iff e p = let t = iff.1 p in cc
+
+-- the line that is held is a row
+pub row_held : (c : Setup) (s : System) (sel : Bool) (b : List ℕ) (row : ℕ) (o : Reading)
+    → (IsTrue sel ↔ ((15 ≤ row) × (row ≤ 17))) → s ≡ c.system → length b ≡ line_bytes s
+    → (IsTrue sel → o ≡ reading_of c.system (row_levels c.levels b)) → IsRowOf c b row o
+row_held c s sel b row o sels ss whole shows =
+    record {
+      whole = whole ∙ ap line_bytes ss;
+      shows = λ x y. shows (sels.1 (x, y));
+    }
+
+module _ {W : Type 0} (contents : W → Option (List ℕ)) (c : Setup) (l : Line) (p : Progress) (st : IsStand c l p) (z : List ℕ)
+    (at : IsAt c z (place_of c l p)) where
+  pub before : Split c z l.held p
+  before = split_of c z l p st.short st.inside at
+
+  -- no byte more is allowed
+  pub too_many : (o : Outlet W) (bytes : List ℕ) → 0 < length bytes → p.fields ≡ c.max_fields
+      → IsFed contents c o o z bytes (place_of c l p) (Err TooManyFields)
+  too_many o bytes some last =
+      let m = limit_of c in
+      let le : length z ≤ p.fields * field_bytes c.system = rw last at.allowed in
+      let exact : length z ≡ m =
+      no_more c.system (length z) p.fields p.row (length l.held) (split_long c z l.held p before) le
+      ∙ ap (λ n. n * field_bytes c.system) last in
+      let long = length-append z bytes in (
+        omega arith,
+        ([], append-nil (begun_of document c z) ∙ ap (begun_of document c) (sym (take_at z bytes m exact)), Appends-none _),
+      )
+
+  module _ (more b : List ℕ) (bs : b ≡ l.held ++ more) (le : length b ≤ line_bytes c.system) (left : p.fields < c.max_fields) where
+    cut : z ++ more ≡ before.rows ++ b
+    cut = ap (λ x. x ++ more) before.split ∙ append_assoc before.rows l.held more ∙ ap (λ x. before.rows ++ x) (sym bs)
+
+    fits : length (z ++ more) ≤ limit_of c
+    fits =
+        let whole = before.position in
+        room_for_row c.system (length (z ++ more)) p.fields p.row (length b) c.max_fields
+        (ap length cut ∙ length-append before.rows b ∙ ap (λ n. n + length b) whole.whole) st.inside le left
+
+    -- nothing is written where no field is whole now
+    still : (l' : Line) (p' : Progress) → Split c (z ++ more) l'.held p' → p'.fields ≡ p.fields → (o : Outlet W)
+        → IsFed contents c o o z more (place_of c l' p') (Ok tt)
+    still l' p' after same o = (
+      at_of c (z ++ more) l'.held p' after l' refl fits,
+      (
+        [],
+        append-nil (begun_of document c z)
+        ∙ begun_same document c z more (split_fields c (z ++ more) l'.held p' after ∙ same ∙ sym (split_fields c z l.held p before)),
+        Appends-none _,
+      ),
+    )
+
+    -- the line isn't whole yet
+    pub fed_inside : (l' : Line) (o : Outlet W) → l'.held ≡ b → length b < line_bytes c.system
+        → IsFed contents c o o z more (place_of c l' p) (Ok tt)
+    fed_inside l' o e short =
+        let l1 = ap length e in
+        still l' p (record {
+          rows = before.rows;
+          split = cut ∙ ap (λ x. before.rows ++ x) (sym e);
+          position = before.position;
+          short = omega arith;
+        }) refl o
+
+    -- the row is whole
+    pub after_row : (l' : Line) (p' : Progress) → l'.held ≡ [] → IsPosition c (before.rows ++ b) p' → Split c (z ++ more) l'.held p'
+    after_row l' p' e whole =
+        let some = some_bytes c.system in
+        let l1 = ap length e in
+        record {
+          rows = before.rows ++ b;
+          split = cut ∙ sym (append-nil (before.rows ++ b)) ∙ ap (λ x. (before.rows ++ b) ++ x) (sym e);
+          position = whole;
+          short = omega arith;
+        }
+
+    -- and the field isn't
+    pub fed_row : (l' : Line) (p' : Progress) (o : Outlet W) → l'.held ≡ [] → IsPosition c (before.rows ++ b) p' → p'.fields ≡ p.fields
+        → IsFed contents c o o z more (place_of c l' p') (Ok tt)
+    fed_row l' p' o e whole same = still l' p' (after_row l' p' e whole) same o
+
+    module _ (l' : Line) (p' : Progress) (e : l'.held ≡ []) (whole : IsPosition c (before.rows ++ b) p') (one : p'.fields ≡ p.fields + 1)
+        (readings : FieldReadings) (reads : readings ≡ field_readings c (before.rows ++ b) p.fields) (text : List ℕ) (count : ℕ)
+        (counts : count ≡ p.fields) (is : text ≡ piece_of document count readings) where
+      -- the record of a field that is whole now
+      completed : Completes c z (z ++ more) text
+      completed =
+          let first = split_fields c z l.held p before in
+          let next : fields_of c (z ++ more) ≡ fields_of c z + 1 =
+          split_fields c (z ++ more) l'.held p' (after_row l' p' e whole) ∙ one ∙ ap (λ n. n + 1) (sym first) in
+          let same : text ≡ piece_of document (fields_of c z) (field_readings c (z ++ more) (fields_of c z)) =
+          is ∙ ap (piece_of document count) (reads ∙ ap (λ x. field_readings c x p.fields) (sym cut))
+          ∙ ap (λ n. piece_of document n (field_readings c (z ++ more) p.fields)) (counts ∙ sym first)
+          ∙ ap (λ n. piece_of document (fields_of c z) (field_readings c (z ++ more) n)) (sym first) in
+          ap (λ x. begun_of document c z ++ x) same ∙ begun_next document c z more next
+
+      -- was put whole
+      pub fed_field : (o o' : Outlet W) → Appends (contents (device_of o)) (contents (device_of o')) text
+          → IsFed contents c o o' z more (place_of c l' p') (Ok tt)
+      fed_field o o' put = (at_of c (z ++ more) l'.held p' (after_row l' p' e whole) l' refl fits, (text, completed, put))
+
+      -- or in part
+      pub fed_in_part : (o o' : Outlet W) (bytes : List ℕ) (n : ℕ) (fault : RunFault) (written : ℕ) → more ≡ take n bytes
+          → Puts contents o o' text → fault ≡ Write written → IsFed contents c o o' z bytes (place_of c l p) (Err fault)
+      fed_in_part o o' bytes n fault written front puts fails =
+          let front_text : List ℕ = take puts.count text in
+          let back : List ℕ = drop puts.count text in
+          let all : (z ++ more) ++ drop n bytes ≡ z ++ bytes =
+          append_assoc z more (drop n bytes) ∙ ap (λ x. z ++ (x ++ drop n bytes)) front ∙ ap (λ x. z ++ x) (take-append-drop n bytes) in
+          let further = cut_longer (z ++ more) (drop n bytes) (limit_of c) fits in
+          let grown = begun_grows document c (z ++ more) further.0 in
+          let longer : begun_of document c ((z ++ more) ++ further.0) ≡ begun_of document c (take (limit_of c) (z ++ bytes)) =
+          ap (begun_of document c) (further.1 ∙ ap (take (limit_of c)) all) in
+          let parts : front_text ++ (back ++ grown.0) ≡ text ++ grown.0 =
+          sym (append_assoc front_text back grown.0) ∙ ap (λ x. x ++ grown.0) (take-append-drop puts.count text) in
+          rw fails (
+            front_text,
+            back ++ grown.0,
+            ap (λ x. begun_of document c z ++ x) parts
+            ∙ completes_twice c z (z ++ more) ((z ++ more) ++ further.0) text grown.0 completed grown.1 ∙ longer,
+            puts.appended,
+          )

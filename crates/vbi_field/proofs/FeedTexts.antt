@@ -1,0 +1,85 @@
+-- The text of a stream that grows.
+use Rattle.std.proofs.Common.{◌≡◌, ℕ, zero, suc, ◌+◌, ◌-◌, ◌*◌, ◌/◌, ◌≤◌, List, [], ◌++◌, length, take, drop, refl, sym, ap, ◌∙◌, arith, append_assoc, append-nil, add-zero, add-one}
+use Rattle.std.proofs.lemmas.List.{length-append, take-append-drop}
+use Rattle.std.proofs.Math.Seq.{take-append-add}
+use Rattle.std.proofs.Math.Nat.{le_refl}
+use Rattle.vbi_words.specs.Geometry.{height_of, line_bytes, field_bytes}
+use Rattle.vbi_words.specs.declared.system.System.{System}
+use Rattle.vbi_words.specs.declared.system.System.TheVariants.{Ntsc, Pal}
+use Rattle.vbi_field.specs.Kinds.{document}
+use Rattle.vbi_field.specs.Feed.{Completes}
+use Rattle.vbi_field.specs.Setup.{Setup}
+use Rattle.vbi_field.specs.Stream.{fields_of, field_readings}
+use Rattle.vbi_field.specs.Texts.{Texts, begun_of, piece_of}
+use Rattle.vbi_field.proofs.Entries.{stood, stood-more, stood-stays, begun_of-stood}
+
+-- the rows of the whole fields of a stream are in it
+in_fields : (s : System) (n : ℕ) → n / field_bytes s * height_of s * line_bytes s ≤ n
+in_fields Ntsc n = omega arith
+in_fields Pal n = omega arith
+
+-- a longer stream has no fewer fields
+more_fields : (s : System) (n m : ℕ) → n / field_bytes s ≤ (n + m) / field_bytes s
+more_fields Ntsc n m = omega arith
+more_fields Pal n m = omega arith
+
+module _ (t : Texts) (c : Setup) (z b : List ℕ) where
+  -- the text of the fields that were whole
+  stays : stood t c (z ++ b) (fields_of c z) ≡ begun_of t c z
+  stays =
+      stood-stays t c z b (fields_of c z) (fields_of c z * height_of c.system) (le_refl _) (in_fields c.system (length z))
+      ∙ sym (begun_of-stood t c z (fields_of c z) refl)
+
+  -- no field more is whole
+  pub begun_same : fields_of c (z ++ b) ≡ fields_of c z → begun_of t c z ≡ begun_of t c (z ++ b)
+  begun_same e = sym (begun_of-stood t c (z ++ b) (fields_of c z) e ∙ stays)
+
+  -- one field more is
+  pub begun_next : fields_of c (z ++ b) ≡ fields_of c z + 1
+      → begun_of t c z ++ piece_of t (fields_of c z) (field_readings c (z ++ b) (fields_of c z)) ≡ begun_of t c (z ++ b)
+  begun_next e =
+      sym (begun_of-stood t c (z ++ b) (fields_of c z + 1) e
+      ∙ stood-more t c (z ++ b) (fields_of c z)
+      ∙ ap (λ l. l ++ piece_of t (fields_of c z) (field_readings c (z ++ b) (fields_of c z))) stays)
+
+-- the text of more fields begins with that of fewer
+stood-grows : (t : Texts) (c : Setup) (z : List ℕ) (n k : ℕ) → (rest : List ℕ) × (stood t c z n ++ rest ≡ stood t c z (n + k))
+stood-grows t c z n zero = ([], append-nil (stood t c z n) ∙ ap (stood t c z) (sym (add-zero n)))
+stood-grows t c z n (suc k) =
+    let before = stood-grows t c z n k in
+    let piece : List ℕ = piece_of t (n + k) (field_readings c z (n + k)) in
+    let next : n + k + 1 ≡ n + suc k = omega arith in (
+      before.0 ++ piece,
+      sym (append_assoc (stood t c z n) before.0 piece)
+      ∙ ap (λ l. l ++ piece) before.1
+      ∙ sym (stood-more t c z (n + k))
+      ∙ ap (stood t c z) next,
+    )
+
+-- the text of a longer stream begins with that of the shorter
+pub begun_grows : (t : Texts) (c : Setup) (z b : List ℕ) → (rest : List ℕ) × (begun_of t c z ++ rest ≡ begun_of t c (z ++ b))
+begun_grows t c z b =
+    let n = fields_of c z in
+    let m = fields_of c (z ++ b) in
+    let le : n ≤ m = rw length-append (more_fields c.system (length z) (length b)) in
+    let grown = stood-grows t c (z ++ b) n (m - n) in
+    let all : n + (m - n) ≡ m = omega arith in (
+      grown.0,
+      ap (λ l. l ++ grown.0) (sym (stays t c z b))
+      ∙ grown.1
+      ∙ ap (stood t c (z ++ b)) all
+      ∙ sym (begun_of-stood t c (z ++ b) m refl),
+    )
+
+-- one text after the other
+pub completes_twice : (c : Setup) (x y z s t : List ℕ) → Completes c x y s → Completes c y z t → Completes c x z (s ++ t)
+completes_twice c x y z s t h k =
+    sym (append_assoc (begun_of document c x) s t) ∙ ap (λ l. l ++ t) h ∙ k
+
+-- the stream up to a limit that it hasn't reached yet
+pub cut_longer : (z bytes : List ℕ) (m : ℕ) → length z ≤ m → (more : List ℕ) × (z ++ more ≡ take m (z ++ bytes))
+cut_longer z bytes m le =
+    let all : length z + (m - length z) ≡ m = omega arith in (
+      take (m - length z) bytes,
+      sym (ap (λ k. take k (z ++ bytes)) (sym all) ∙ take-append-add z bytes (m - length z)),
+    )

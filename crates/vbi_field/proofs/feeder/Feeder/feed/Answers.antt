@@ -1,0 +1,29 @@
+use Rattle.std.proofs.Common.{◌≡◌, ◌≤◌, ◌<◌, ◌-◌, length, take, drop, sym, refl, ap, arith}
+use Rattle.std.specs.Prelude.{Err}
+use Rattle.vbi_field.proofs.FeedLoop.{taken_none, taken_more, taken_fault, taken_whole}
+use Rattle.vbi_field.specs.declared.summary.RunFault.TheVariants.{Failed}
+use Rattle.vbi_field.proofs.feeder.Feeder.feed.Goals as goal
+
+pub loop-at-init : goal.loop-at-init
+loop-at-init g c = taken_none _ _ c.self.inside _ _ c.self.view_is c.if-self.false c.self.invariant
+
+pub loop-at-preserved : goal.loop-at-preserved
+loop-at-preserved g c =
+    let e = c.in-Ok.ensures in
+    let le : c.loop-at.at ≤ length c.args.piece.now = omega (arith, c.loop-at-test.true) in
+    taken_more _ _ c.loop-at.self-inside _ _ _ _ _ _ c.loop-at.invariant refl _ _ _ c.take_bytes.ensures.step c.in-Ok.count c.in-Ok.is le e.some.1 e.same e.stand e.rises
+
+pub returns-in-Err-clause-refused : goal.returns-in-Err-clause-refused
+returns-in-Err-clause-refused g c =
+    let t = c.loop-at.invariant.started in (
+      λ failed. absurd (cc),
+      λ e. let is : c.in-Err.fault ≡ Failed = cc in absurd (c.in-Err.ensures.calm (ap Err is)),
+    )
+
+pub returns-in-Err-clause-fed : goal.returns-in-Err-clause-fed
+returns-in-Err-clause-fed g c = λ z s.
+    taken_fault _ _ c.loop-at.self-inside _ c.loop-at.outlet c.take_bytes.new.outlet c.args.piece.now _ c.loop-at.at c.loop-at.invariant refl
+    c.take_bytes.new.line c.take_bytes.new.progress _ c.take_bytes.ensures.step c.in-Err.fault c.in-Err.is z s
+
+pub returns-clause-fed : goal.returns-clause-fed
+returns-clause-fed g c = λ z s. taken_whole _ _ c.loop-at.self-inside _ _ _ _ c.loop-at.invariant c.loop-at-test.false z s
