@@ -1,0 +1,24 @@
+# ldvbi: `make` proves and builds the program, `make test` is the whole gate, `make install PREFIX=DIR` copies it to DIR/bin.
+# The toolchain's command `rt` has to be on the PATH; `make test` needs a C compiler as well (cc, or CC=..).
+
+PREFIX ?= /usr/local
+SOURCES := $(shell find crates -name out -prune -o \( -name '*.rt' -o -name '*.antt' \) -print)
+
+ldvbi: crates.txt $(SOURCES) | toolchain
+	cd crates/vbi_cli && rt run -- --help > /dev/null
+	cp crates/vbi_cli/out/vbi_cli ldvbi
+
+test: toolchain
+	sh tests/gate.sh
+
+install: ldvbi
+	install -D -m 755 ldvbi $(DESTDIR)$(PREFIX)/bin/ldvbi
+
+clean:
+	rm -f ldvbi
+	rm -rf crates/*/out
+
+toolchain:
+	@command -v rt > /dev/null || { echo "make: the command rt of the Rattle toolchain is not on the PATH" >&2; exit 1; }
+
+.PHONY: test install clean toolchain

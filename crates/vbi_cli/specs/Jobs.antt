@@ -1,0 +1,121 @@
+-- What a job does (this project's own): what metadata and options settle, what each command does with it, and when each fault
+-- comes. A reader is seen by the bytes that it has yet to give, and a writer by those that it has taken, where they tell them,
+-- as those over memory do.
+use Rattle.std.specs.Prelude.{◌≡◌, ◌⊎◌, ℕ, ◌*◌, ◌<◌, ◌≤◌, List, [], length, Option, Some, None, Result, Ok, Err, IfSome, ⊤}
+use Rattle.std.specs.Io.KnownBytes.{Consumes, Appends, IsAtEnd}
+use Rattle.vbi_words.specs.Geometry.{line_bytes, field_bytes}
+use Rattle.vbi_field.specs.Kinds.{document, report}
+use Rattle.vbi_field.specs.Setup.{Setup}
+use Rattle.vbi_field.specs.Stream.{rest_of, cut_of}
+use Rattle.vbi_field.specs.Texts.{Texts, document_of}
+use Rattle.vbi_field.specs.declared.drawing_fields.DrawFault.{DrawFault}
+use Rattle.vbi_field.specs.declared.drawing_fields.DrawFault.TheVariants as draw
+use Rattle.vbi_field.specs.declared.summary.Summary.{Summary}
+use Rattle.vbi_field.specs.declared.summary.RunFault.{RunFault}
+use Rattle.vbi_field.specs.declared.summary.RunFault.TheVariants as run
+use Rattle.vbi_meta.specs.Data.{Data}
+use Rattle.vbi_meta.specs.Metadata.{IsDocument, IsUnread}
+use Rattle.vbi_meta.specs.Settings.{IsSettled, IsRefused}
+use Rattle.vbi_meta.specs.declared.choosing.Overrides.{Overrides}
+use Rattle.vbi_meta.specs.declared.fault.MetaFault.{MetaFault}
+use Rattle.vbi_cli.specs.Drew.{DrewAll, MetTooMany}
+use Rattle.vbi_cli.specs.OneLine.{outcome_read, line_text}
+use Rattle.vbi_cli.specs.declared.fault.AppFault.{AppFault}
+use Rattle.vbi_cli.specs.declared.fault.AppFault.TheVariants.{Meta, ReadField, ReadLine, ReadRow, Write, TooManyFields, Row, Short}
+use Rattle.vbi_cli.specs.declared.job.Ended.{Ended}
+use Rattle.vbi_cli.specs.declared.job.Ended.TheVariants.{Whole, CutField}
+use Rattle.vbi_cli.specs.declared.words.Verb.{Verb}
+use Rattle.vbi_cli.specs.declared.words.Verb.TheVariants.{Line, Extract, Show, Draw}
+
+-- ---- the settings
+
+-- metadata, where it is given, is a document, and with the options it settles this
+abbrev pub Settles : Option (List ℕ) → Overrides → Setup → Type 0
+Settles None given setup = IsSettled None given setup
+Settles (Some bytes) given setup =
+    (value : Data) × IsDocument bytes value × IsSettled (Some value) given setup
+
+-- metadata, where it is given, isn't read for this reason, or it is a document and is refused for it with the options
+abbrev pub Refuses : Option (List ℕ) → Overrides → MetaFault → Type 0
+Refuses None given fault = IsRefused None given fault
+Refuses (Some bytes) given fault =
+    IsUnread bytes fault ⊎ ((value : Data) × IsDocument bytes value × IsRefused (Some value) given fault)
+
+-- with what metadata and options settle, P
+abbrev pub Under : Option (List ℕ) → Overrides → (Setup → Type 0) → Type 0
+Under meta given P = (c : Setup) × (Settles meta given c × P c)
+
+-- ---- the commands
+
+-- whole, or with a cut field where one was cut
+abbrev pub ended_of : Option ℕ → Ended
+ended_of None = Whole
+ended_of (Some bytes) = CutField
+
+-- how a run over a stream ended, for the program; a run doesn't answer `Failed`
+abbrev pub IsEndedBy : Result Summary RunFault → Result Ended AppFault → Type 0
+IsEndedBy (Ok summary) ended = ended ≡ Ok (ended_of summary.cut)
+IsEndedBy (Err (run.Read field offset)) ended = ended ≡ Err (ReadField field offset)
+IsEndedBy (Err (run.Write written)) ended = ended ≡ Err (Write written)
+IsEndedBy (Err run.TooManyFields) ended = ended ≡ Err TooManyFields
+IsEndedBy (Err run.Failed) ended = ⊥
+
+module _ (c : Setup) (input0 input output0 output : Option (List ℕ)) where
+  -- one line's bytes were read and no more, and the answer to it was written
+  abbrev pub DidLine : Ended → Type 0
+  DidLine ended = (z : List ℕ) × (Consumes input0 input z × (length z ≡ line_bytes c.system)
+      × Appends output0 output (line_text (outcome_read c z)) × (ended ≡ Whole))
+
+  -- the input, which was read to its end, had no more fields than are allowed, and its text of this kind was written
+  abbrev pub DidStream : Texts → Ended → Type 0
+  DidStream t ended = IsAtEnd input × IfSome input0 (λ z. (length z ≤ c.max_fields * field_bytes c.system)
+      × Appends output0 output (document_of t c z) × (ended ≡ ended_of (cut_of (rest_of c z))))
+
+  -- what a command that is done did
+  abbrev pub Did : Verb → Ended → Type 0
+  Did Line ended = DidLine ended
+  Did Extract ended = DidStream document ended
+  Did Show ended = DidStream report ended
+  Did Draw ended = DrewAll c input0 input output0 output × (ended ≡ Whole)
+
+  -- the input ended after these bytes, fewer than a line's, and nothing was written
+  abbrev pub WasShort : ℕ → ℕ → Type 0
+  WasShort bytes wanted = (z : List ℕ) × (Consumes input0 input z × (bytes ≡ length z) × (wanted ≡ line_bytes c.system)
+      × (bytes < wanted) × IsAtEnd input × Appends output0 output [])
+
+  -- the input goes on past the fields that are allowed
+  abbrev pub HadTooMany : Verb → Type 0
+  HadTooMany Line = ⊥
+  HadTooMany Extract = IfSome input0 (λ z. c.max_fields * field_bytes c.system < length z)
+  HadTooMany Show = IfSome input0 (λ z. c.max_fields * field_bytes c.system < length z)
+  HadTooMany Draw = MetTooMany c input0 input output0 output
+
+-- ---- the faults
+
+-- P of a fault of metadata or settings
+abbrev pub IfMeta : AppFault → (MetaFault → Type 0) → Type 0
+IfMeta (Meta fault) P = P fault
+IfMeta _ P = ⊤
+
+-- P of the bytes that came and those that were wanted, for a short line
+abbrev pub IfShort : AppFault → (ℕ → ℕ → Type 0) → Type 0
+IfShort (Short bytes wanted) P = P bytes wanted
+IfShort _ P = ⊤
+
+-- P, where too many fields came
+abbrev pub IfTooMany : AppFault → Type 0 → Type 0
+IfTooMany TooManyFields P = P
+IfTooMany _ P = ⊤
+
+-- P of the row's number, where a row is malformed
+abbrev pub IfRow : AppFault → (ℕ → Type 0) → Type 0
+IfRow (Row number) P = P number
+IfRow _ P = ⊤
+
+-- how drawing ended, for the program
+abbrev pub IsDrawnBy : Result ℕ DrawFault → Result Ended AppFault → Type 0
+IsDrawnBy (Ok fields) ended = ended ≡ Ok Whole
+IsDrawnBy (Err (draw.Row number)) ended = ended ≡ Err (Row number)
+IsDrawnBy (Err (draw.Read number)) ended = ended ≡ Err (ReadRow number)
+IsDrawnBy (Err (draw.Write written)) ended = ended ≡ Err (Write written)
+IsDrawnBy (Err draw.TooManyFields) ended = ended ≡ Err TooManyFields

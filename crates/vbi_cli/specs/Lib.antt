@@ -1,0 +1,4 @@
+pub mod Drew
+pub mod Jobs
+pub mod OneLine
+pub mod Statuses

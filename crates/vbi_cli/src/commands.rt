@@ -1,0 +1,158 @@
+//! The commands and options of the program, with the texts of their help.
+
+ghost use Rattle.std.specs.Prelude.{◌≡◌, IfOk, true, false};
+ghost use Rattle.clap.specs.declared.builder.command.Command.TheViews.{out-Command as fields_of};
+
+use clap::{Arg, ArgAction, Command, value_parser};
+use std::alloc::{AllocError, Global};
+
+/// What the program prints for `--version`, behind its name.
+const VERSION: &str = "0.1.0";
+
+const ABOUT: &str =
+    "Reads the biphase code words of LaserDiscs from fields in ld-decode's TBC format";
+
+const DETAILS: &str =
+    "Reads the 24-bit biphase code words (IEC 60857 and IEC 60856) that lines 16, 17 and 18 of each\nfield of a LaserDisc carry, from video in ld-decode's TBC format: picture numbers, chapters, times,\npicture stops. System and levels come from the capture's metadata or from options.";
+
+const EXAMPLES: &str =
+    "Examples:\n  ldvbi extract --meta disc.tbc.json disc.tbc > disc.vbi.json\n  ldvbi show --system PAL --black 16384 --white 54016 disc.tbc\n  echo '82CFFF F12345 F12345' | ldvbi draw --system NTSC --black 16384 --white 51200 > test.tbc\n\nExit status:\n  0  done, or help\n  1  a fault, named in one line on standard error\n  2  the command line was refused\n  3  extract or show is done, and the last field was cut";
+
+/// The texts of one command's help.
+struct Texts {
+    name: &'static str,
+    about: &'static str,
+    details: &'static str,
+    input: &'static str,
+    example: &'static str,
+}
+
+const LINE: Texts = Texts {
+    name: "line",
+    about: "Prints the word of one line, or why there is none",
+    details: "Reads the bytes of one line (1820 for NTSC, 2270 for PAL; samples of 16 bits, low byte first), and\nleaves the rest unread. Prints the word that the line shows as six hexadecimal digits, or why it\nshows none: blank (no sample is high), unfinished (the line ends within a word), change N or hold N\n(at column N, from 0, a change or a lasting level makes every word impossible).",
+    input: "The line's samples; standard input where there is none, or for -",
+    example: "Example:\n  ldvbi line --system NTSC --black 16384 --white 51200 line.raw\n\nExit status:\n  0  done\n  1  a fault, as a short line, named on standard error\n  2  the command line was refused",
+};
+
+const EXTRACT: Texts = Texts {
+    name: "extract",
+    about: "Writes the words of every field as a JSON document",
+    details: "Writes one JSON document for a TBC stream: for each field its number, the words of its lines 16, 17\nand 18 (vbiData, 0 where a line has none), why a line has none (vbiCause), and whether a word was\nread from the samples as they are or after short glitches were removed (vbiPass, 1 or 2).",
+    input: "The TBC stream; standard input where there is none, or for -",
+    example: "Example:\n  ldvbi extract --meta disc.tbc.json disc.tbc > disc.vbi.json\n\nExit status:\n  0  done\n  1  a fault, named in one line on standard error\n  2  the command line was refused\n  3  done, and the last field was cut (cutField has its bytes)",
+};
+
+const SHOW: Texts = Texts {
+    name: "show",
+    about: "Prints the words of every field and what they mean",
+    details: "Prints a report of a TBC stream: for each field its number, whether its codes are those of a CAV or\na CLV disc, and for its lines 16, 17 and 18 the word in hexadecimal with its meaning (as picture\n12345, chapter 07, time 1:09), or none and why.",
+    input: "The TBC stream; standard input where there is none, or for -",
+    example: "Example:\n  ldvbi show --meta disc.tbc.json disc.tbc\n\nExit status:\n  0  done\n  1  a fault, named in one line on standard error\n  2  the command line was refused\n  3  done, and the last field was cut",
+};
+
+const DRAW: Texts = Texts {
+    name: "draw",
+    about: "Turns rows of words into a TBC stream",
+    details: "Writes a TBC stream with one field for each row of text. A row has three items with one space between\nthem, for lines 16, 17 and 18: six hexadecimal digits (a word, 800000 to FFFFFF), or - for a line\nwithout a word. Every other line is black; sync and colour burst aren't drawn.",
+    input: "The rows of words; standard input where there is none, or for -",
+    example: "Example:\n  echo '82CFFF F12345 F12345' | ldvbi draw --system NTSC --black 16384 --white 51200 > test.tbc\n\nExit status:\n  0  done\n  1  a fault, as a malformed row, named on standard error\n  2  the command line was refused",
+};
+
+/// The program's command line: a command has to be given, and no option is shared by all.
+pub(crate) fn program<'a>(alloc: Global) -> Result<Command<'a>, AllocError>
+    ensures { IfOk result (λ c. ((fields_of c).has_globals ≡ false)
+        × ((fields_of c).subcommand_required ≡ true)) }
+{
+    let program = Command::new(alloc, "ldvbi")
+        .version(VERSION)
+        .about(ABOUT)
+        .long_about(DETAILS)
+        .after_help(EXAMPLES)
+        .subcommand(command(alloc, &LINE)?)?
+        .subcommand(command(alloc, &EXTRACT)?)?
+        .subcommand(command(alloc, &SHOW)?)?
+        .subcommand(command(alloc, &DRAW)?)?;
+    Ok(program.subcommand_required(true))
+}
+
+static SYSTEMS: [&str; 2] = ["NTSC", "PAL"];
+
+/// One command with its options, which are the same in all of them.
+fn command<'a>(alloc: Global, texts: &Texts) -> Result<Command<'a>, AllocError>
+    ensures { IfOk result (λ c. (fields_of c).has_globals ≡ false) }
+{
+    let command = Command::new(alloc, texts.name)
+        .about(texts.about)
+        .long_about(texts.details)
+        .after_help(texts.example);
+    let command = with(command, meta(alloc))?;
+    let command = with(command, system(alloc))?;
+    let command = with(command, level(alloc, "black", BLACK))?;
+    let command = with(command, level(alloc, "white", WHITE))?;
+    let command = with(command, max_fields(alloc))?;
+    with(command, input(alloc, texts.input))
+}
+
+/// The command with one more argument of its own.
+fn with<'a>(command: Command<'a>, arg: Arg<'a>) -> Result<Command<'a>, AllocError>
+    requires command { (fields_of command).has_globals ≡ false }
+    requires arg { arg.global ≡ false }
+    ensures { IfOk result (λ c. (fields_of c).has_globals ≡ false) }
+{
+    command.arg(arg)
+}
+
+fn meta<'a>(alloc: Global) -> Arg<'a>
+    ensures { result.global ≡ false }
+{
+    Arg::new(alloc, "meta").long("meta").value_name("PATH").help(
+        "ld-decode's .tbc.json of the capture, whose videoParameters give system and levels",
+    )
+}
+
+fn system<'a>(alloc: Global) -> Arg<'a>
+    ensures { result.global ≡ false }
+{
+    Arg::new(alloc, "system")
+        .long("system")
+        .value_name("NAME")
+        .value_parser(SYSTEMS.as_slice())
+        .help(
+            "NTSC (fields of 910x263 samples) or PAL (1135x313), in place of the metadata's system",
+        )
+}
+
+const BLACK: &str = "The sample of black, 0 to 65535, in place of the metadata's black16bIre";
+
+const WHITE: &str =
+    "The sample of white, 0 to 65535 and above black, in place of the metadata's white16bIre";
+
+fn level<'a>(alloc: Global, name: &'a str, help: &'a str) -> Arg<'a>
+    ensures { result.global ≡ false }
+{
+    Arg::new(alloc, name)
+        .long(name)
+        .value_name("N")
+        .value_parser(value_parser!(u16))
+        .help(help)
+}
+
+fn max_fields<'a>(alloc: Global) -> Arg<'a>
+    ensures { result.global ≡ false }
+{
+    Arg::new(alloc, "max-fields")
+        .long("max-fields")
+        .value_name("N")
+        .value_parser(value_parser!(u32))
+        .help("The most fields of a run, 1 to 1000000; 1000000 where it isn't given")
+}
+
+fn input<'a>(alloc: Global, help: &'a str) -> Arg<'a>
+    ensures { result.global ≡ false }
+{
+    Arg::new(alloc, "input")
+        .value_name("INPUT")
+        .action(ArgAction::Set)
+        .help(help)
+}

@@ -1,0 +1,219 @@
+//! A job: settings from metadata and options, and then the command.
+
+ghost use Rattle.std.specs.Prelude.{◌≡◌, ◌≢◌, IfOk, IfErr, Err, option_map};
+ghost use Rattle.vbi_field.specs.Kinds.{document, report};
+ghost use Rattle.vbi_cli.specs.Drew.{DrewAll, MetMalformed, MetTooMany};
+ghost use Rattle.vbi_cli.specs.Jobs.{Settles, Refuses, Under, Did, DidLine, DidStream, WasShort, HadTooMany, IfMeta, IfShort, IfRow, IfTooMany, IsEndedBy, IsDrawnBy};
+ghost use Rattle.vbi_cli.specs.Statuses.{app_status};
+
+use crate::fault::AppFault;
+use crate::one_line::{LineFault, run_line};
+use crate::words::{Job, Verb};
+use std::alloc::Global;
+use std::io::{Read, Write};
+use vbi_field::{Config, DrawFault, Outlet, RowIntake, RunFault, Summary, draw, extract, show};
+use vbi_line::Intake;
+use vbi_meta::{MetaFault, read_meta, settings};
+
+/// How a job ended that is done.
+#[derive(Clone, Copy, Debug, PartialEq, Eq)]
+pub enum Ended {
+    /// The input was whole.
+    Whole,
+    /// The last field of the input was cut.
+    CutField,
+}
+
+/// The status that the program ends with.
+pub fn status(ended: &Result<Ended, AppFault>) -> u8
+    ensures { result ≡ app_status ended.now }
+{
+    match ended {
+        Ok(Ended::Whole) => 0,
+        Ok(Ended::CutField) => 3,
+        Err(_) => 1,
+    }
+}
+
+/// Settles the settings from metadata and the job's options, and then does what the job says. The paths in the job aren't
+/// looked at. Memory is taken for the metadata document alone. It doesn't flush.
+pub fn run_job<R: Read, W: Write>(
+    alloc: Global,
+    job: &Job,
+    meta: Option<&[u8]>,
+    input: &mut R,
+    output: &mut W,
+) -> Result<Ended, AppFault>
+    ensures done { IfOk result (λ ended. Under (option_map (λ b. b.now) meta.entry) job.now.overrides (λ c.
+        Did c (R.remaining input.old) (R.remaining input.new) (W.contents output.old) (W.contents output.new)
+        job.now.verb ended)) }
+
+    // Nothing was read or written then.
+    ensures refused { IfErr result (λ e. IfMeta e (λ fault.
+        Refuses (option_map (λ b. b.now) meta.entry) job.now.overrides fault
+        × (input.new ≡ input.old) × (output.new ≡ output.old))) }
+
+    // When the faults of the input come, and what stands then.
+    ensures short { IfErr result (λ e. IfShort e (λ bytes wanted. (job.now.verb ≡ Verb.Line)
+        × Under (option_map (λ b. b.now) meta.entry) job.now.overrides (λ c.
+        WasShort c (R.remaining input.old) (R.remaining input.new) (W.contents output.old) (W.contents output.new)
+        bytes wanted))) }
+    ensures row { IfErr result (λ e. IfRow e (λ number. (job.now.verb ≡ Verb.Draw)
+        × Under (option_map (λ b. b.now) meta.entry) job.now.overrides (λ c.
+        MetMalformed c (R.remaining input.old) (R.remaining input.new) (W.contents output.old) (W.contents output.new)
+        number))) }
+    ensures too_many { IfErr result (λ e. IfTooMany e (Under (option_map (λ b. b.now) meta.entry) job.now.overrides (λ c.
+        HadTooMany c (R.remaining input.old) (R.remaining input.new) (W.contents output.old) (W.contents output.new)
+        job.now.verb))) }
+{
+    let config = match config_of(alloc, job, meta) {
+        Ok(config) => config,
+        Err(fault) => return Err(AppFault::Meta(fault)),
+    };
+    match job.verb {
+        Verb::Line => line_job(&config, input, output),
+        Verb::Extract => extract_job(&config, input, output),
+        Verb::Show => show_job(&config, input, output),
+        Verb::Draw => draw_job(&config, input, output),
+    }
+}
+
+/// What metadata and the job's options settle.
+fn config_of(alloc: Global, job: &Job, meta: Option<&[u8]>) -> Result<Config, MetaFault>
+    ensures ok { IfOk result (Settles (option_map (λ b. b.now) meta.entry) job.now.overrides) }
+    ensures err { IfErr result (Refuses (option_map (λ b. b.now) meta.entry) job.now.overrides) }
+{
+    match meta {
+        None => settings(None, &job.overrides),
+        Some(bytes) => match read_meta(alloc, bytes) {
+            Ok(value) => settings(Some(&value), &job.overrides),
+            Err(fault) => Err(fault),
+        },
+    }
+}
+
+/// The command `line`.
+fn line_job<R: Read, W: Write>(
+    config: &Config,
+    input: &mut R,
+    output: &mut W,
+) -> Result<Ended, AppFault>
+    ensures done { IfOk result
+        (DidLine config.now (R.remaining input.old) (R.remaining input.new) (W.contents output.old) (W.contents output.new)) }
+    ensures short { IfErr result (λ e. IfShort e
+        (WasShort config.now (R.remaining input.old) (R.remaining input.new) (W.contents output.old) (W.contents output.new))) }
+    ensures refused { IfErr result (λ e. IfMeta e (λ _. ⊥)) }
+    ensures row { IfErr result (λ e. IfRow e (λ _. ⊥)) }
+    ensures too_many { IfErr result (λ e. IfTooMany e ⊥) }
+{
+    let system = config.system();
+    let mut intake = Intake::new(input, system);
+    let mut outlet = Outlet::new(output);
+    let outcome = run_line(config, &mut intake, &mut outlet);
+    let _ = intake.into_reader();
+    let _ = outlet.into_writer();
+    match outcome {
+        Ok(_) => Ok(Ended::Whole),
+        Err(LineFault::Short { bytes }) => Err(AppFault::Short {
+            bytes,
+            wanted: 2 * system.width() as u16,
+        }),
+        Err(LineFault::Read { offset }) => Err(AppFault::ReadLine { offset }),
+        Err(LineFault::Write { written }) => Err(AppFault::Write { written }),
+    }
+}
+
+/// The command `extract`.
+fn extract_job<R: Read, W: Write>(
+    config: &Config,
+    input: &mut R,
+    output: &mut W,
+) -> Result<Ended, AppFault>
+    ensures done { IfOk result (DidStream config.now (R.remaining input.old) (R.remaining input.new)
+        (W.contents output.old) (W.contents output.new) document) }
+    ensures too_many { IfErr result (λ e. IfTooMany e (HadTooMany config.now (R.remaining input.old) (R.remaining input.new)
+        (W.contents output.old) (W.contents output.new) Verb.Extract)) }
+    ensures refused { IfErr result (λ e. IfMeta e (λ _. ⊥)) }
+    ensures short { IfErr result (λ e. IfShort e (λ _ _. ⊥)) }
+    ensures row { IfErr result (λ e. IfRow e (λ _. ⊥)) }
+{
+    let mut intake = Intake::new(input, config.system());
+    let mut outlet = Outlet::new(output);
+    let summary = extract(config, &mut intake, &mut outlet);
+    let _ = intake.into_reader();
+    let _ = outlet.into_writer();
+    end_of(summary)
+}
+
+/// The command `show`.
+fn show_job<R: Read, W: Write>(
+    config: &Config,
+    input: &mut R,
+    output: &mut W,
+) -> Result<Ended, AppFault>
+    ensures done { IfOk result (DidStream config.now (R.remaining input.old) (R.remaining input.new)
+        (W.contents output.old) (W.contents output.new) report) }
+    ensures too_many { IfErr result (λ e. IfTooMany e (HadTooMany config.now (R.remaining input.old) (R.remaining input.new)
+        (W.contents output.old) (W.contents output.new) Verb.Show)) }
+    ensures refused { IfErr result (λ e. IfMeta e (λ _. ⊥)) }
+    ensures short { IfErr result (λ e. IfShort e (λ _ _. ⊥)) }
+    ensures row { IfErr result (λ e. IfRow e (λ _. ⊥)) }
+{
+    let mut intake = Intake::new(input, config.system());
+    let mut outlet = Outlet::new(output);
+    let summary = show(config, &mut intake, &mut outlet);
+    let _ = intake.into_reader();
+    let _ = outlet.into_writer();
+    end_of(summary)
+}
+
+/// How a run over a stream ended, for the program.
+fn end_of(summary: Result<Summary, RunFault>) -> Result<Ended, AppFault>
+    requires { summary ≢ Err RunFault.Failed }
+    ensures { IsEndedBy summary result }
+{
+    match summary {
+        Ok(summary) if summary.cut.is_some() => Ok(Ended::CutField),
+        Ok(_) => Ok(Ended::Whole),
+        Err(RunFault::Read { field, offset }) => Err(AppFault::ReadField { field, offset }),
+        Err(RunFault::Write { written }) => Err(AppFault::Write { written }),
+        Err(RunFault::TooManyFields) => Err(AppFault::TooManyFields),
+        Err(RunFault::Failed) => unreachable!("a run never answers it"),
+    }
+}
+
+/// The command `draw`.
+fn draw_job<R: Read, W: Write>(
+    config: &Config,
+    input: &mut R,
+    output: &mut W,
+) -> Result<Ended, AppFault>
+    ensures done { IfOk result (λ ended. DrewAll config.now (R.remaining input.old) (R.remaining input.new)
+        (W.contents output.old) (W.contents output.new) × (ended ≡ Ended.Whole)) }
+    ensures row { IfErr result (λ e. IfRow e (MetMalformed config.now (R.remaining input.old) (R.remaining input.new)
+        (W.contents output.old) (W.contents output.new))) }
+    ensures too_many { IfErr result (λ e. IfTooMany e (MetTooMany config.now (R.remaining input.old) (R.remaining input.new)
+        (W.contents output.old) (W.contents output.new))) }
+    ensures refused { IfErr result (λ e. IfMeta e (λ _. ⊥)) }
+    ensures short { IfErr result (λ e. IfShort e (λ _ _. ⊥)) }
+{
+    let mut rows = RowIntake::new(input);
+    let mut outlet = Outlet::new(output);
+    let fields = draw(config, &mut rows, &mut outlet);
+    let _ = rows.into_reader();
+    let _ = outlet.into_writer();
+    drawing_end(fields)
+}
+
+/// How drawing ended, for the program.
+fn drawing_end(fields: Result<u32, DrawFault>) -> Result<Ended, AppFault>
+    ensures { IsDrawnBy fields result }
+{
+    match fields {
+        Ok(_) => Ok(Ended::Whole),
+        Err(DrawFault::Row { number }) => Err(AppFault::Row { number }),
+        Err(DrawFault::Read { number }) => Err(AppFault::ReadRow { number }),
+        Err(DrawFault::Write { written }) => Err(AppFault::Write { written }),
+        Err(DrawFault::TooManyFields) => Err(AppFault::TooManyFields),
+    }
+}

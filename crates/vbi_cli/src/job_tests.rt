@@ -1,0 +1,386 @@
+//! Jobs over memory: what is written, how they end, and the texts of their faults.
+
+use crate::fault::AppFault;
+use crate::job::{Ended, run_job, status};
+use crate::words::{Job, Verb};
+use std::alloc::{AllocError, Global};
+use std::io;
+use std::io::{Read, Write};
+use std::test::Fail;
+use vbi_meta::{MetaFault, Overrides};
+use vbi_words::{Levels, System, Word24, drawn_sample};
+
+const NONE: Overrides = Overrides {
+    system: None,
+    black: None,
+    white: None,
+    max_fields: None,
+};
+
+/// The levels of the stored run, whose samples are two spaces or two `@`.
+const STORED: Overrides = Overrides {
+    system: Some(System::Ntsc),
+    black: Some(8224),
+    white: Some(16448),
+    max_fields: None,
+};
+
+const SAME_LEVELS: Overrides = Overrides {
+    system: Some(System::Ntsc),
+    black: Some(5),
+    white: Some(5),
+    max_fields: None,
+};
+
+const PAL: Overrides = Overrides {
+    system: Some(System::Pal),
+    black: Some(16384),
+    white: Some(54016),
+    max_fields: None,
+};
+
+/// Metadata of an NTSC capture.
+const FULL: &[u8] =
+    b"{\"videoParameters\":{\"system\":\"NTSC\",\"fieldWidth\":910,\"fieldHeight\":263,\"black16bIre\":16384,\"white16bIre\":51200,\"sampleRate\":14318181.5},\"fields\":[]}";
+
+const BLACK_FIELD: &str =
+    "{\"version\":2,\"videoParameters\":{\"system\":\"NTSC\",\"fieldWidth\":910,\"fieldHeight\":263,\"black16bIre\":16384,\"white16bIre\":51200},\"fields\":[\n{\"seqNo\":1,\"vbi\":{\"vbiData\":[0,0,0]},\"vbiCause\":[\"blank\",\"blank\",\"blank\"],\"vbiPass\":[0,0,0]}\n],\"cutField\":null}\n";
+
+const DRAWN_FIELD: &str =
+    "{\"version\":2,\"videoParameters\":{\"system\":\"NTSC\",\"fieldWidth\":910,\"fieldHeight\":263,\"black16bIre\":16384,\"white16bIre\":51200},\"fields\":[\n{\"seqNo\":1,\"vbi\":{\"vbiData\":[8572927,15803205,15803205]},\"vbiCause\":[\"word\",\"word\",\"word\"],\"vbiPass\":[1,1,1]}\n],\"cutField\":null}\n";
+
+const REPORT: &str =
+    "system NTSC 910x263 black 16384 white 51200\nfield 1 cav\n16 82CFFF picture stop\n17 F12345 picture 12345\n18 F12345 picture 12345\nfields 1 cut none\n";
+
+fn job(verb: Verb, overrides: Overrides) -> Job {
+    Job {
+        verb,
+        overrides,
+        meta: None,
+        input: None,
+    }
+}
+
+/// The bytes of a line on which a word is drawn.
+fn drawn(
+    alloc: Global,
+    system: System,
+    levels: Levels,
+    word: Word24,
+) -> Result<Vec<u8>, AllocError> {
+    let mut bytes = Vec::new(alloc);
+    for column in 0..system.width() {
+        let sample = drawn_sample(system, levels, Some(word), column);
+        bytes.push((sample % 256) as u8)?;
+        bytes.push((sample / 256) as u8)?;
+    }
+    Ok(bytes)
+}
+
+/// The input of the stored run.
+fn stored_line(alloc: Global) -> Result<Vec<u8>, Fail> {
+    let levels = Levels::new(8224, 16448)?;
+    Ok(drawn(alloc, System::Ntsc, levels, Word24::new(0x82_CFFF)?)?)
+}
+
+/// A reader of some bytes that fails after them.
+#[derive(Drop)]
+struct Breaks<'a> {
+    rest: &'a [u8],
+}
+
+impl Read for Breaks<'_> {
+    fn read(&mut self, buf: &mut [u8]) -> io::Result<usize> {
+        if self.rest.is_empty() {
+            return Err(io::Error::from(io::ErrorKind::Other));
+        }
+        let mut rest = self.rest;
+        let count = rest.read(buf)?;
+        self.rest = rest;
+        Ok(count)
+    }
+}
+
+/// A writer that takes so many bytes more, and then fails.
+#[derive(Drop)]
+struct Fills {
+    taken: Vec<u8>,
+    room: usize,
+}
+
+impl Write for Fills {
+    fn write(&mut self, buf: &[u8]) -> io::Result<usize> {
+        if self.room == 0 {
+            return Err(io::Error::from(io::ErrorKind::Other));
+        }
+        let count = buf.len().min(self.room);
+        self.taken.extend_from_slice(&buf[..count])?;
+        self.room -= count;
+        Ok(count)
+    }
+
+    fn flush(&mut self) -> io::Result<()> {
+        Ok(())
+    }
+}
+
+/// What a job did over memory.
+#[derive(Drop)]
+struct Ran {
+    ended: Result<Ended, AppFault>,
+    /// How many bytes of the input weren't read.
+    left: usize,
+    written: Vec<u8>,
+}
+
+/// Does a job over memory.
+fn ran(alloc: Global, job: &Job, meta: Option<&[u8]>, input: &[u8]) -> Ran {
+    let mut rest = input;
+    let mut written = Vec::new(alloc);
+    let ended = run_job(alloc, job, meta, &mut rest, &mut written);
+    Ran {
+        ended,
+        left: rest.len(),
+        written,
+    }
+}
+
+/// Does a job over a reader that fails after these bytes.
+fn ran_broken(alloc: Global, job: &Job, input: &[u8]) -> Ran {
+    let mut reader = Breaks { rest: input };
+    let mut written = Vec::new(alloc);
+    let ended = run_job(alloc, job, None, &mut reader, &mut written);
+    Ran {
+        ended,
+        left: reader.rest.len(),
+        written,
+    }
+}
+
+/// Does a job over a writer that takes so many bytes and then fails.
+fn ran_full(alloc: Global, job: &Job, input: &[u8], room: usize) -> Ran {
+    let mut rest = input;
+    let mut writer = Fills {
+        taken: Vec::new(alloc),
+        room,
+    };
+    let ended = run_job(alloc, job, None, &mut rest, &mut writer);
+    let Fills { taken, room: _ } = writer;
+    Ran {
+        ended,
+        left: rest.len(),
+        written: taken,
+    }
+}
+
+/// So many bytes, all alike.
+fn alike(alloc: Global, byte: u8, count: usize) -> Result<Vec<u8>, AllocError> {
+    vec![in alloc; byte; count]
+}
+
+#[test]
+fn answers_a_line(rt: HostRuntime) -> Result<(), Fail> {
+    let alloc = rt.alloc();
+    let stored = job(Verb::Line, STORED);
+    let line = stored_line(alloc)?;
+    let ran_line = ran(alloc, &stored, None, line.as_slice());
+    assert_eq!(rt; ran_line.ended, Ok(Ended::Whole));
+    assert_eq!(rt; ran_line.written.as_slice(), b"82CFFF\n".as_slice());
+    assert_eq!(rt; ran_line.left, 0);
+
+    // One byte more than a line's is left unread.
+    let spaces = alike(alloc, b' ', 1821)?;
+    let ran_line = ran(alloc, &stored, None, spaces.as_slice());
+    assert_eq!(rt; ran_line.ended, Ok(Ended::Whole));
+    assert_eq!(rt; ran_line.written.as_slice(), b"blank\n".as_slice());
+    assert_eq!(rt; ran_line.left, 1);
+
+    let levels = Levels::new(16384, 54016)?;
+    let line = drawn(alloc, System::Pal, levels, Word24::new(0x8A_E012)?)?;
+    let ran_line = ran(alloc, &job(Verb::Line, PAL), None, line.as_slice());
+    assert_eq!(rt; ran_line.ended, Ok(Ended::Whole));
+    assert_eq!(rt; ran_line.written.as_slice(), b"8AE012\n".as_slice());
+    Ok(())
+}
+
+#[test]
+fn names_the_faults_of_a_line(rt: HostRuntime) -> Result<(), Fail> {
+    let alloc = rt.alloc();
+    let stored = job(Verb::Line, STORED);
+    let spaces = alike(alloc, b' ', 1819)?;
+    let ran_line = ran(alloc, &stored, None, spaces.as_slice());
+    let short = AppFault::Short {
+        bytes: 1819,
+        wanted: 1820,
+    };
+    assert_eq!(rt; ran_line.ended, Err(short));
+    assert!(rt; ran_line.written.is_empty());
+
+    let ran_line = ran_broken(alloc, &stored, b"7 bytes");
+    assert_eq!(rt; ran_line.ended, Err(AppFault::ReadLine { offset: 7 }));
+    assert!(rt; ran_line.written.is_empty());
+
+    let line = stored_line(alloc)?;
+    let ran_line = ran_full(alloc, &stored, line.as_slice(), 3);
+    assert_eq!(rt; ran_line.ended, Err(AppFault::Write { written: 3 }));
+    assert_eq!(rt; ran_line.written.as_slice(), b"82C".as_slice());
+    Ok(())
+}
+
+/// Options and metadata that settle nothing, and why.
+const UNSETTLED: [(Overrides, Option<&[u8]>, MetaFault); 4] = [
+    (SAME_LEVELS, None, MetaFault::LevelsOrder),
+    (NONE, None, MetaFault::NoSystem),
+    (STORED, Some(b"{\"a\":NaN}"), MetaFault::NotJson),
+    (STORED, Some(b"[]"), MetaFault::NoVideoParameters),
+];
+
+#[test]
+fn settles_before_it_reads(rt: HostRuntime) {
+    for (overrides, meta, fault) in &UNSETTLED {
+        for verb in [Verb::Line, Verb::Extract, Verb::Show, Verb::Draw] {
+            let refused = ran(rt.alloc(), &job(verb, *overrides), *meta, b"some bytes");
+            assert_eq!(rt; refused.ended, Err(AppFault::Meta(*fault)));
+            assert_eq!(rt; refused.left, 10);
+            assert!(rt; refused.written.is_empty());
+        }
+    }
+}
+
+/// Some of a field of black samples.
+fn black_field(alloc: Global, bytes: usize) -> Result<Vec<u8>, AllocError> {
+    let mut field = Vec::new(alloc);
+    for i in 0..bytes {
+        field.push(if i % 2 == 0 { 0 } else { 64 })?;
+    }
+    Ok(field)
+}
+
+#[test]
+fn extracts_with_metadata(rt: HostRuntime) -> Result<(), Fail> {
+    let alloc = rt.alloc();
+    let extract = job(Verb::Extract, NONE);
+    let field = black_field(alloc, 478_660)?;
+    let whole = ran(alloc, &extract, Some(FULL), field.as_slice());
+    assert_eq!(rt; whole.ended, Ok(Ended::Whole));
+    assert_eq!(rt; whole.written.as_slice(), BLACK_FIELD.as_bytes());
+
+    let field = black_field(alloc, 478_659)?;
+    let cut = ran(alloc, &extract, Some(FULL), field.as_slice());
+    assert_eq!(rt; cut.ended, Ok(Ended::CutField));
+    Ok(())
+}
+
+#[test]
+fn names_the_faults_of_a_stream(rt: HostRuntime) -> Result<(), Fail> {
+    let alloc = rt.alloc();
+    let few = Overrides {
+        system: Some(System::Ntsc),
+        black: Some(16384),
+        white: Some(51200),
+        max_fields: Some(1),
+    };
+    let extract = job(Verb::Extract, few);
+    let field = black_field(alloc, 478_661)?;
+    let too_many = ran(alloc, &extract, None, field.as_slice());
+    assert_eq!(rt; too_many.ended, Err(AppFault::TooManyFields));
+    assert_eq!(rt; too_many.written.len(), 227);
+
+    let field = black_field(alloc, 1819)?;
+    let broken = ran_broken(alloc, &extract, field.as_slice());
+    let read = AppFault::ReadField {
+        field: 1,
+        offset: 1819,
+    };
+    assert_eq!(rt; broken.ended, Err(read));
+    assert_eq!(rt; broken.written.len(), 135);
+
+    let field = black_field(alloc, 478_660)?;
+    let full = ran_full(alloc, &extract, field.as_slice(), 150);
+    assert_eq!(rt; full.ended, Err(AppFault::Write { written: 150 }));
+    assert_eq!(rt; full.written.len(), 150);
+    Ok(())
+}
+
+#[test]
+fn shows_what_was_drawn(rt: HostRuntime) -> Result<(), Fail> {
+    let alloc = rt.alloc();
+    let field = ran(
+        alloc,
+        &job(Verb::Draw, NONE),
+        Some(FULL),
+        b"82CFFF F12345 F12345\n",
+    );
+    assert_eq!(rt; field.ended, Ok(Ended::Whole));
+    assert_eq!(rt; field.written.len(), 478_660);
+    let field = field.written.as_slice();
+
+    let document = ran(alloc, &job(Verb::Extract, NONE), Some(FULL), field);
+    assert_eq!(rt; document.ended, Ok(Ended::Whole));
+    assert_eq!(rt; document.written.as_slice(), DRAWN_FIELD.as_bytes());
+    let report = ran(alloc, &job(Verb::Show, NONE), Some(FULL), field);
+    assert_eq!(rt; report.ended, Ok(Ended::Whole));
+    assert_eq!(rt; report.written.as_slice(), REPORT.as_bytes());
+    Ok(())
+}
+
+#[test]
+fn names_the_faults_of_drawing(rt: HostRuntime) {
+    let alloc = rt.alloc();
+    let malformed = ran(
+        alloc,
+        &job(Verb::Draw, NONE),
+        Some(FULL),
+        b"82CFFF  F12345 -",
+    );
+    assert_eq!(rt; malformed.ended, Err(AppFault::Row { number: 1 }));
+    assert!(rt; malformed.written.is_empty());
+    let broken = ran_broken(alloc, &job(Verb::Draw, STORED), b"82CFFF - -\n");
+    assert_eq!(rt; broken.ended, Err(AppFault::ReadRow { number: 2 }));
+    assert_eq!(rt; broken.written.len(), 478_660);
+    let full = ran_full(alloc, &job(Verb::Draw, STORED), b"82CFFF - -", 1000);
+    assert_eq!(rt; full.ended, Err(AppFault::Write { written: 1000 }));
+    assert_eq!(rt; full.written.len(), 1000);
+}
+
+#[test]
+fn gives_the_statuses(rt: HostRuntime) {
+    assert_eq!(rt; status(&Ok(Ended::Whole)), 0);
+    assert_eq!(rt; status(&Ok(Ended::CutField)), 3);
+    assert_eq!(rt; status(&Err(AppFault::TooManyFields)), 1);
+}
+
+const TEXTS: [(AppFault, &str); 9] = [
+    (AppFault::Meta(MetaFault::NoBlack), "no black level given"),
+    (AppFault::Meta(MetaFault::OutOfMemory), "out of memory"),
+    (
+        AppFault::ReadField {
+            field: 2,
+            offset: 1000,
+        },
+        "read failed in field 2 at byte 1000",
+    ),
+    (AppFault::ReadLine { offset: 7 }, "read failed at byte 7"),
+    (AppFault::ReadRow { number: 3 }, "read failed in row 3"),
+    (
+        AppFault::Write { written: 150 },
+        "write failed after 150 bytes",
+    ),
+    (AppFault::TooManyFields, "too many fields"),
+    (AppFault::Row { number: 2 }, "row 2 is malformed"),
+    (
+        AppFault::Short {
+            bytes: 1819,
+            wanted: 1820,
+        },
+        "short line: 1819 of 1820 bytes",
+    ),
+];
+
+#[test]
+fn faults_have_their_texts(rt: HostRuntime) -> Result<(), Fail> {
+    for (fault, text) in &TEXTS {
+        assert_eq!(rt; fault.to_string(rt.alloc())?.as_str(), *text);
+    }
+    Ok(())
+}

@@ -1,0 +1,143 @@
+//! The words of the command line, read into a job.
+
+ghost use Rattle.std.specs.Prelude.{◌≡◌};
+ghost use Rattle.vbi_cli.specs.Statuses.{words_status};
+
+use crate::commands::program;
+use clap::ArgMatches;
+use clap::error::ErrorKind;
+use std::alloc::{AllocError, AllocFailed, Global};
+use thiserror::Error;
+use vbi_meta::Overrides;
+use vbi_words::System;
+
+/// What the program is to do.
+#[derive(Clone, Copy, Debug, PartialEq, Eq)]
+pub enum Verb {
+    /// Print the word of one line.
+    Line,
+    /// Write the words of each field as a document.
+    Extract,
+    /// Print the words of each field and what they mean.
+    Show,
+    /// Write fields drawn from rows of words.
+    Draw,
+}
+
+/// A command line, read.
+#[derive(Debug, Drop)]
+pub struct Job {
+    /// What is to be done.
+    pub verb: Verb,
+    /// The options that stand in place of metadata.
+    pub overrides: Overrides,
+    /// The path of the metadata file, where one is given.
+    pub meta: Option<String>,
+    /// The path of the input; None for standard input.
+    pub input: Option<String>,
+}
+
+/// Why a command line gives no job.
+#[derive(Debug, Drop, Error)]
+pub enum WordsFault {
+    /// The words are refused, with the text that says why.
+    #[error("{0}")]
+    Refused(String),
+    /// Help or the version is asked for, with its text.
+    #[error("{0}")]
+    Help(String),
+    /// Memory was refused.
+    #[error("out of memory")]
+    OutOfMemory,
+}
+
+impl WordsFault {
+    /// The status that the program ends with.
+    pub fn status(&self) -> u8
+        ensures { result ≡ words_status self.now }
+    {
+        match self {
+            WordsFault::Refused(_) => 2,
+            WordsFault::Help(_) => 0,
+            WordsFault::OutOfMemory => 1,
+        }
+    }
+}
+
+impl From<AllocError> for WordsFault {
+    fn from(_refused: AllocError) -> WordsFault {
+        WordsFault::OutOfMemory
+    }
+}
+
+impl<T: Drop> From<AllocFailed<T>> for WordsFault {
+    fn from(_refused: AllocFailed<T>) -> WordsFault {
+        WordsFault::OutOfMemory
+    }
+}
+
+/// Reads a command line, whose first word is the program's name.
+pub fn read_words(alloc: Global, words: &[String]) -> Result<Job, WordsFault> {
+    let matches = match program(alloc)?.try_get_matches_from(words) {
+        Ok(matches) => matches,
+        Err(error) => return Err(refusal(alloc, &error)?),
+    };
+    match matches.subcommand() {
+        Some((name, options)) => job_of(alloc, name, options),
+        None => unreachable!("the program asks for a command"),
+    }
+}
+
+/// The fault that an error of `clap` is.
+fn refusal(alloc: Global, error: &clap::Error) -> Result<WordsFault, AllocError> {
+    Ok(match error.kind() {
+        ErrorKind::OutOfMemory => WordsFault::OutOfMemory,
+        ErrorKind::DisplayHelp | ErrorKind::DisplayVersion => {
+            WordsFault::Help(error.to_string(alloc)?)
+        }
+        _ => WordsFault::Refused(error.to_string(alloc)?),
+    })
+}
+
+/// The job of a command and its options.
+fn job_of(alloc: Global, name: &str, options: &ArgMatches<'_>) -> Result<Job, WordsFault> {
+    let overrides = Overrides {
+        system: options.get_str("system").map(system_named),
+        black: options.get_one::<u16>("black"),
+        white: options.get_one::<u16>("white"),
+        max_fields: options.get_one::<u32>("max-fields"),
+    };
+    let meta = owned(alloc, options.get_str("meta"))?;
+    let input = owned(alloc, options.get_str("input").filter(|path| *path != "-"))?;
+    Ok(Job {
+        verb: verb_named(name),
+        overrides,
+        meta,
+        input,
+    })
+}
+
+/// The command of one of the four names; `clap` has refused every other.
+fn verb_named(name: &str) -> Verb {
+    match name {
+        "line" => Verb::Line,
+        "extract" => Verb::Extract,
+        "show" => Verb::Show,
+        _ => Verb::Draw,
+    }
+}
+
+/// The system named `NTSC` or `PAL`; `clap` has refused every other.
+fn system_named(name: &str) -> System {
+    match name {
+        "NTSC" => System::Ntsc,
+        _ => System::Pal,
+    }
+}
+
+fn owned(alloc: Global, text: Option<&str>) -> Result<Option<String>, AllocError> {
+    match text {
+        None => Ok(None),
+        Some(text) => Ok(Some(String::from_str(alloc, text)?)),
+    }
+}

@@ -1,0 +1,4 @@
+pub mod Metadata
+pub mod Settings
+pub use Rattle.serde_json.specs.Data
+pub use Rattle.serde_json.specs.Read

@@ -1,0 +1,25 @@
+-- When the bytes of a metadata file are a document, and why they are none (JSON of RFC 8259, in serde_json's reading;
+-- the limits are this project's own).
+use Rattle.std.specs.Prelude.{◌≡◌, ℕ, ◌<◌, ◌≤◌, List, length, Option, Some, IsUtf8}
+use Rattle.serde_json.specs.Data.{Data, depth}
+use Rattle.serde_json.specs.Read.{read}
+use Rattle.vbi_meta.specs.declared.fault.MetaFault.{MetaFault}
+use Rattle.vbi_meta.specs.declared.fault.MetaFault.TheVariants.{TooLarge, NotJson, OutOfMemory, NoVideoParameters, NoSystem, UnknownSystem, SystemsDisagree, NoBlack, BadBlack, NoWhite, BadWhite, LevelsOrder, WidthDiffers, HeightDiffers, BadMaxFields}
+
+-- the most bytes of a document
+abbrev pub most_bytes : ℕ
+most_bytes = 268435456
+
+-- the bytes are JSON in UTF-8, nested at most 127 deep, and this is what it says
+pub record IsDocument (bytes : List ℕ) (document : Data) : Type 0 where
+  pub short : length bytes ≤ most_bytes
+  pub utf8 : IsUtf8 bytes
+  pub reading : read bytes ≡ Some document
+  pub nested : depth document ≤ 127
+
+-- these bytes give no document for this reason: there are too many, or they are none, or memory (of which no bytes want none)
+abbrev pub IsUnread : List ℕ → MetaFault → Type 0
+IsUnread bytes TooLarge = most_bytes < length bytes
+IsUnread bytes NotJson = (document : Data) → ¬ IsDocument bytes document
+IsUnread bytes OutOfMemory = 0 < length bytes
+IsUnread bytes _ = ⊥

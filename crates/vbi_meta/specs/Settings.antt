@@ -1,0 +1,161 @@
+-- The settings that metadata and options give together: refusals in their order, of which the first that holds counts, and
+-- the values where none holds. The members are those of ld-decode's `.tbc.json`; the order is this project's own.
+use Rattle.std.specs.Prelude.{◌≡◌, ℕ, ◌^◌, ◌==◌, ◌&&◌, ◌||◌, Bool, true, false, not, nat_lt, nat_le, is_some, is_none, List, [], ◌∷◌, ◌++◌, codes, Option, Some, None, option_map, option_and_then, unwrap_or, if◌then◌else◌}
+use Rattle.std.specs.Str.{bytes_eq}
+use Rattle.serde_json.specs.Data.{Data}
+use Rattle.serde_json.specs.Find.{get, as_bool, as_number, as_str, as_object, as_u64}
+use Rattle.vbi_words.specs.declared.system.System.{System}
+use Rattle.vbi_words.specs.declared.system.System.TheVariants.{Ntsc, Pal}
+use Rattle.vbi_words.specs.Geometry.{width_of, height_of}
+use Rattle.vbi_field.specs.Setup.{Setup}
+use Rattle.vbi_meta.specs.declared.choosing.Overrides.{Overrides}
+use Rattle.vbi_meta.specs.declared.fault.MetaFault.{MetaFault}
+use Rattle.vbi_meta.specs.declared.fault.MetaFault.TheVariants.{NoVideoParameters, NoSystem, UnknownSystem, SystemsDisagree, NoBlack, BadBlack, NoWhite, BadWhite, LevelsOrder, WidthDiffers, HeightDiffers, BadMaxFields}
+
+-- ---- the members
+
+-- a document's `videoParameters`, where it is an object
+abbrev pub parameters_of : Data → Option Data
+parameters_of document =
+    option_and_then (λ p. if is_some (as_object p) then Some p else None) (get (codes "videoParameters") document)
+
+-- the member of this name, where there are parameters and it is there
+abbrev pub member_of : Option Data → List ℕ → Option Data
+member_of parameters name = option_and_then (get name) parameters
+
+-- an unsigned whole number
+abbrev pub whole : Data → Option ℕ
+whole member = option_and_then as_u64 (as_number member)
+
+-- whether a member is this text
+abbrev pub is_text : List ℕ → Data → Bool
+is_text text member = unwrap_or (option_map (bytes_eq text) (as_str member)) false
+
+-- the system that `system` names
+abbrev pub named_system : Data → Option System
+named_system member = if is_text (codes "NTSC") member then Some Ntsc else (if is_text (codes "PAL") member then Some Pal else None)
+
+-- the system that `isSourcePal` tells
+abbrev pub flagged_system : Data → Option System
+flagged_system member = option_map (λ pal. if pal then Pal else Ntsc) (as_bool member)
+
+-- the level that a member is: a whole number from 0 to 65,535
+abbrev pub level_of : Data → Option ℕ
+level_of member = option_and_then (λ n. if nat_lt n (2 ^ 16) then Some n else None) (whole member)
+
+-- ---- what is chosen
+
+-- the first of two values that is there
+abbrev pub or_else : {A : Type 0} → Option A → Option A → Option A
+or_else (Some a) b = Some a
+or_else None b = b
+
+-- the option's system, else that of `system`, else that of `isSourcePal`
+abbrev pub chosen_system : Option System → Option Data → Option Data → Option System
+chosen_system given name flag = or_else given (or_else (option_and_then named_system name) (option_and_then flagged_system flag))
+
+-- the option's level, else the member's
+abbrev pub chosen_level : Option ℕ → Option Data → Option ℕ
+chosen_level given member = or_else given (option_and_then level_of member)
+
+-- the option's limit of fields, else 1,000,000
+abbrev pub chosen_limit : Option ℕ → ℕ
+chosen_limit given = unwrap_or given 1000000
+
+-- ---- the tests of the refusals
+
+-- it is there, and gives no value
+abbrev pub is_bad : {A B : Type 0} → (A → Option B) → Option A → Bool
+is_bad value None = false
+is_bad value (Some a) = is_none (value a)
+
+-- it is there, and isn't this whole number
+abbrev pub is_other : ℕ → Option Data → Bool
+is_other n None = false
+is_other n (Some member) = not (unwrap_or (option_map (λ m. m == n) (whole member)) false)
+
+-- two systems are one
+abbrev pub same_system : System → System → Bool
+same_system Ntsc Ntsc = true
+same_system Ntsc Pal = false
+same_system Pal Ntsc = false
+same_system Pal Pal = true
+
+-- both are there, and differ
+abbrev pub disagree : Option System → Option System → Bool
+disagree (Some s) (Some t) = not (same_system s t)
+disagree (Some s) None = false
+disagree None t = false
+
+-- ---- the refusals in order
+
+-- one refusal, and whether it holds
+abbrev pub Refusal : Type 0
+Refusal = MetaFault × Bool
+
+-- the first refusal that holds
+unfoldable pub first_refusal : List Refusal → Option MetaFault
+first_refusal [] = None
+first_refusal (refusal ∷ refusals) = if refusal.1 then Some refusal.0 else first_refusal refusals
+
+-- of the document, where one is given
+unfoldable pub document_refusals : Option Data → List Refusal
+document_refusals document = (NoVideoParameters, is_bad parameters_of document) ∷ []
+
+-- of the system: the option, `system` and `isSourcePal`
+unfoldable pub system_refusals : Option System → Option Data → Option Data → List Refusal
+system_refusals given name flag =
+    (NoSystem, is_none given && (is_none name && is_none flag))
+    ∷ (UnknownSystem, is_none given && (is_bad named_system name || is_bad flagged_system flag))
+    ∷ (SystemsDisagree, is_none given && disagree (option_and_then named_system name) (option_and_then flagged_system flag))
+    ∷ []
+
+-- of one level, where its two faults are these: the option and the member
+unfoldable pub level_refusals : MetaFault → MetaFault → Option ℕ → Option Data → List Refusal
+level_refusals missing bad given member =
+    (missing, is_none given && is_none member)
+    ∷ (bad, is_none given && is_bad level_of member)
+    ∷ []
+
+-- of both levels
+unfoldable pub order_refusals : ℕ → ℕ → List Refusal
+order_refusals black white = (LevelsOrder, not (nat_lt black white)) ∷ []
+
+-- of one size, where its fault is this: the system's number and the member
+unfoldable pub size_refusals : MetaFault → ℕ → Option Data → List Refusal
+size_refusals differs size member = (differs, is_other size member) ∷ []
+
+-- of the limit: the option
+unfoldable pub limit_refusals : Option ℕ → List Refusal
+limit_refusals given = (BadMaxFields, not (nat_le 1 (chosen_limit given) && nat_le (chosen_limit given) 1000000)) ∷ []
+
+-- all twelve. A system or a level that isn't chosen is refused by then, so what stands for it in the later ones is never seen
+unfoldable pub refusals_of : Option Data → Overrides → List Refusal
+refusals_of document given =
+    let member = member_of (option_and_then parameters_of document) in
+    let name = member (codes "system") in
+    let flag = member (codes "isSourcePal") in
+    let black = member (codes "black16bIre") in
+    let white = member (codes "white16bIre") in
+    let system = unwrap_or (chosen_system given.system name flag) Ntsc in
+    document_refusals document
+    ++ (system_refusals given.system name flag
+    ++ (level_refusals NoBlack BadBlack given.black black
+    ++ (level_refusals NoWhite BadWhite given.white white
+    ++ (order_refusals (unwrap_or (chosen_level given.black black) 0) (unwrap_or (chosen_level given.white white) 0)
+    ++ (size_refusals WidthDiffers (width_of system) (member (codes "fieldWidth"))
+    ++ (size_refusals HeightDiffers (height_of system) (member (codes "fieldHeight"))
+    ++ limit_refusals given.max_fields))))))
+
+-- a document, or none, and options are refused for this reason
+abbrev pub IsRefused : Option Data → Overrides → MetaFault → Type 0
+IsRefused document given fault = first_refusal (refusals_of document given) ≡ Some fault
+
+-- they are not refused, and this is what they settle
+pub record IsSettled (document : Option Data) (given : Overrides) (setup : Setup) : Type 0 where
+  pub unrefused : first_refusal (refusals_of document given) ≡ None
+  pub system : (let member = member_of (option_and_then parameters_of document) in
+      chosen_system given.system (member (codes "system")) (member (codes "isSourcePal"))) ≡ Some setup.system
+  pub black : chosen_level given.black (member_of (option_and_then parameters_of document) (codes "black16bIre")) ≡ Some setup.levels.black
+  pub white : chosen_level given.white (member_of (option_and_then parameters_of document) (codes "white16bIre")) ≡ Some setup.levels.white
+  pub max_fields : setup.max_fields ≡ chosen_limit given.max_fields

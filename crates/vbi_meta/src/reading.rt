@@ -1,0 +1,28 @@
+//! The bytes of a metadata file as a JSON document.
+
+ghost use Rattle.std.specs.Prelude.{◌<◌, ◌↔◌, length, IfOk, IfErr, IsErrOf};
+ghost use Rattle.serde_json.specs.View.{view};
+ghost use Rattle.vbi_meta.specs.Metadata.{IsDocument, IsUnread};
+
+use crate::fault::MetaFault;
+use serde_json::Value;
+use std::alloc::Global;
+
+/// The most bytes of metadata that are read.
+pub const META_LIMIT: usize = 268_435_456;
+
+/// Reads a metadata document. A document near the limit may want twenty times its bytes of memory.
+pub fn read_meta(alloc: Global, bytes: &[u8]) -> Result<Value, MetaFault>
+    ensures ok { IfOk result (λ v. IsDocument bytes.now (view v)) }
+    ensures too_large { IsErrOf result MetaFault.TooLarge ↔ (META_LIMIT < length bytes.now) }
+    ensures err { IfErr result (IsUnread bytes.now) }
+{
+    if bytes.len() > META_LIMIT {
+        return Err(MetaFault::TooLarge);
+    }
+    match Value::from_slice(alloc, bytes) {
+        Ok(value) => Ok(value),
+        Err(fault) if fault.is_memory() => Err(MetaFault::OutOfMemory),
+        Err(_) => Err(MetaFault::NotJson),
+    }
+}

@@ -1,0 +1,433 @@
+//! The vectors of `settings` and `read_meta`, and the texts of the faults.
+
+use crate::{META_LIMIT, MetaFault, Overrides, read_meta, settings};
+use std::alloc::{AllocError, Global};
+use std::test::Fail;
+use vbi_words::System;
+
+const NONE: Overrides = Overrides {
+    system: None,
+    black: None,
+    white: None,
+    max_fields: None,
+};
+
+const NTSC: Overrides = Overrides {
+    system: Some(System::Ntsc),
+    black: None,
+    white: None,
+    max_fields: None,
+};
+
+const BLACK: Overrides = Overrides {
+    system: None,
+    black: Some(16384),
+    white: None,
+    max_fields: None,
+};
+
+const ALL: Overrides = Overrides {
+    system: Some(System::Ntsc),
+    black: Some(16384),
+    white: Some(51200),
+    max_fields: Some(5),
+};
+
+const LEVELS: Overrides = Overrides {
+    system: Some(System::Ntsc),
+    black: Some(16384),
+    white: Some(51200),
+    max_fields: None,
+};
+
+/// No override but this limit.
+fn limit(max_fields: u32) -> Overrides {
+    Overrides {
+        system: None,
+        black: None,
+        white: None,
+        max_fields: Some(max_fields),
+    }
+}
+
+/// What settings hold: system, black, white and limit.
+type Settled = (System, u16, u16, u32);
+
+/// The settings of a document.
+fn settled(alloc: Global, text: &str, overrides: &Overrides) -> Result<Settled, MetaFault> {
+    let value = read_meta(alloc, text.as_bytes())?;
+    let config = settings(Some(&value), overrides)?;
+    let levels = config.levels();
+    Ok((
+        config.system(),
+        levels.black(),
+        levels.white(),
+        config.max_fields(),
+    ))
+}
+
+/// The document with this inner text of `videoParameters`.
+fn document(alloc: Global, members: &str) -> Result<String, AllocError> {
+    format!(in alloc; "{{\"videoParameters\":{{{members}}}}}")
+}
+
+/// The full metadata of an NTSC capture, with these four members.
+fn full(
+    alloc: Global,
+    width: &str,
+    height: &str,
+    black: &str,
+    white: &str,
+) -> Result<String, AllocError> {
+    format!(in alloc;
+        "{{\"videoParameters\":{{\"system\":\"NTSC\",\"fieldWidth\":{width},\"fieldHeight\":{height},\"black16bIre\":{black},\"white16bIre\":{white},\"sampleRate\":14318181.5}},\"fields\":[]}}"
+    )
+}
+
+/// Documents that have no settings at all.
+const EMPTY: [&str; 5] = [
+    "[]",
+    "{\"videoParameters\":3}",
+    "{}",
+    "3",
+    "{\"videoParameters\":[]}",
+];
+
+#[test]
+fn refuses_documents_without_parameters(rt: HostRuntime) -> Result<(), Fail> {
+    for text in &EMPTY {
+        for overrides in [NONE, ALL] {
+            let fault = settled(rt.alloc(), text, &overrides).err();
+            assert_eq!(rt; fault, Some(MetaFault::NoVideoParameters), "{text}");
+        }
+    }
+    Ok(())
+}
+
+/// Inner texts of `videoParameters` that are refused with these overrides.
+const REFUSED: [(&str, Overrides, MetaFault); 26] = [
+    ("", NONE, MetaFault::NoSystem),
+    ("\"system\":\"PAL_M\"", NONE, MetaFault::UnknownSystem),
+    (
+        "\"system\":null,\"isSourcePal\":true",
+        NONE,
+        MetaFault::UnknownSystem,
+    ),
+    (
+        "\"system\":\"NTSC\",\"isSourcePal\":\"no\"",
+        NONE,
+        MetaFault::UnknownSystem,
+    ),
+    (
+        "\"system\":\"NTSC\",\"isSourcePal\":\"no\"",
+        NTSC,
+        MetaFault::NoBlack,
+    ),
+    (
+        "\"system\":\"X\",\"black16bIre\":-1",
+        NONE,
+        MetaFault::UnknownSystem,
+    ),
+    ("\"isSourcePal\":null", NONE, MetaFault::UnknownSystem),
+    (
+        "\"system\":\"PAL\",\"isSourcePal\":false",
+        NONE,
+        MetaFault::SystemsDisagree,
+    ),
+    (
+        "\"system\":\"NTSC\",\"isSourcePal\":true",
+        NONE,
+        MetaFault::SystemsDisagree,
+    ),
+    ("\"system\":\"PAL\"", NONE, MetaFault::NoBlack),
+    (
+        "\"system\":\"PAL\",\"white16bIre\":\"x\"",
+        NONE,
+        MetaFault::NoBlack,
+    ),
+    (
+        "\"system\":\"PAL\",\"black16bIre\":-1",
+        NONE,
+        MetaFault::BadBlack,
+    ),
+    (
+        "\"system\":\"PAL\",\"black16bIre\":65536",
+        NONE,
+        MetaFault::BadBlack,
+    ),
+    (
+        "\"system\":\"NTSC\",\"black16bIre\":null",
+        NONE,
+        MetaFault::BadBlack,
+    ),
+    (
+        "\"system\":\"NTSC\",\"black16bIre\":16384e0",
+        NONE,
+        MetaFault::BadBlack,
+    ),
+    (
+        "\"system\":\"NTSC\",\"black16bIre\":16384.0",
+        NONE,
+        MetaFault::BadBlack,
+    ),
+    (
+        "\"system\":\"PAL\",\"black16bIre\":16384",
+        NONE,
+        MetaFault::NoWhite,
+    ),
+    (
+        "\"system\":\"PAL\",\"black16bIre\":16384,\"white16bIre\":\"x\"",
+        NONE,
+        MetaFault::BadWhite,
+    ),
+    (
+        "\"system\":\"PAL\",\"black16bIre\":65535",
+        NONE,
+        MetaFault::NoWhite,
+    ),
+    (
+        "\"system\":\"PAL\",\"black16bIre\":16384,\"white16bIre\":16384",
+        NONE,
+        MetaFault::LevelsOrder,
+    ),
+    (
+        "\"isSourcePal\":true,\"black16bIre\":16384,\"white16bIre\":54016,\"fieldWidth\":910",
+        NONE,
+        MetaFault::WidthDiffers,
+    ),
+    (
+        "\"isSourcePal\":true,\"black16bIre\":16384,\"white16bIre\":54016,\"fieldHeight\":312",
+        NONE,
+        MetaFault::HeightDiffers,
+    ),
+    (
+        "\"fieldHeight\":312,\"fieldWidth\":null",
+        LEVELS,
+        MetaFault::WidthDiffers,
+    ),
+    ("\"fieldHeight\":null", LEVELS, MetaFault::HeightDiffers),
+    ("\"system\":3,\"black16bIre\":{}", NTSC, MetaFault::BadBlack),
+    (
+        "\"system\":\"PAL\",\"black16bIre\":-1",
+        BLACK,
+        MetaFault::NoWhite,
+    ),
+];
+
+#[test]
+fn refuses_in_order(rt: HostRuntime) -> Result<(), Fail> {
+    let alloc = rt.alloc();
+    for (members, overrides, fault) in &REFUSED {
+        let text = document(alloc, members)?;
+        let found = settled(alloc, text.as_str(), overrides).err();
+        assert_eq!(rt; found, Some(*fault), "{members}");
+    }
+    Ok(())
+}
+
+#[test]
+fn takes_the_flag_alone(rt: HostRuntime) -> Result<(), Fail> {
+    let alloc = rt.alloc();
+    let text = document(
+        alloc,
+        "\"isSourcePal\":true,\"black16bIre\":16384,\"white16bIre\":54016",
+    )?;
+    let text = text.as_str();
+    assert_eq!(rt;
+        settled(alloc, text, &NONE)?,
+        (System::Pal, 16384, 54016, 1_000_000)
+    );
+    assert_eq!(rt;
+        settled(alloc, text, &limit(0)).err(),
+        Some(MetaFault::BadMaxFields)
+    );
+    let text = document(
+        alloc,
+        "\"isSourcePal\":true,\"black16bIre\":16384,\"white16bIre\":54016,\"fieldWidth\":910",
+    )?;
+    let found = settled(alloc, text.as_str(), &NTSC)?;
+    assert_eq!(rt; found, (System::Ntsc, 16384, 54016, 1_000_000));
+    let text = document(
+        alloc,
+        "\"isSourcePal\":false,\"black16bIre\":0,\"white16bIre\":65535",
+    )?;
+    let found = settled(alloc, text.as_str(), &NONE)?;
+    assert_eq!(rt; found, (System::Ntsc, 0, 65535, 1_000_000));
+    Ok(())
+}
+
+#[test]
+fn an_option_replaces_any_member(rt: HostRuntime) -> Result<(), Fail> {
+    let alloc = rt.alloc();
+    let text = document(
+        alloc,
+        "\"system\":[],\"isSourcePal\":null,\"black16bIre\":null,\"white16bIre\":\"x\"",
+    )?;
+    let found = settled(alloc, text.as_str(), &ALL)?;
+    assert_eq!(rt; found, (System::Ntsc, 16384, 51200, 5));
+    Ok(())
+}
+
+/// Texts of width, height, black and white in the full metadata, the overrides, and what is refused.
+const FULL_REFUSED: [(&str, &str, &str, &str, MetaFault); 4] = [
+    ("910", "263", "16384.0", "51200", MetaFault::BadBlack),
+    ("910", "263", "16384", "16384", MetaFault::LevelsOrder),
+    ("910.0", "263", "16384", "51200", MetaFault::WidthDiffers),
+    ("910", "\"263\"", "16384", "51200", MetaFault::HeightDiffers),
+];
+
+#[test]
+fn settles_the_full_metadata(rt: HostRuntime) -> Result<(), Fail> {
+    let alloc = rt.alloc();
+    let text = full(alloc, "910", "263", "16384", "51200")?;
+    let text = text.as_str();
+    assert_eq!(rt;
+        settled(alloc, text, &NONE)?,
+        (System::Ntsc, 16384, 51200, 1_000_000)
+    );
+    assert_eq!(rt;
+        settled(alloc, text, &limit(0)).err(),
+        Some(MetaFault::BadMaxFields)
+    );
+    assert_eq!(rt; settled(alloc, text, &limit(1))?.3, 1);
+    assert_eq!(rt; settled(alloc, text, &limit(1_000_000))?.3, 1_000_000);
+    assert_eq!(rt;
+        settled(alloc, text, &limit(1_000_001)).err(),
+        Some(MetaFault::BadMaxFields)
+    );
+    for (width, height, black, white, fault) in &FULL_REFUSED {
+        let text = full(alloc, width, height, black, white)?;
+        let found = settled(alloc, text.as_str(), &NONE).err();
+        assert_eq!(rt; found, Some(*fault), "{width} {height} {black} {white}");
+    }
+    let text = full(alloc, "910", "263", "16384.0", "51200")?;
+    let found = settled(alloc, text.as_str(), &BLACK)?;
+    assert_eq!(rt; found, (System::Ntsc, 16384, 51200, 1_000_000));
+    Ok(())
+}
+
+#[test]
+fn needs_no_metadata(rt: HostRuntime) -> Result<(), Fail> {
+    assert_eq!(rt; settings(None, &NONE).err(), Some(MetaFault::NoSystem));
+    assert_eq!(rt; settings(None, &NTSC).err(), Some(MetaFault::NoBlack));
+    let config = settings(None, &LEVELS)?;
+    assert_eq!(rt; config.system(), System::Ntsc);
+    assert_eq!(rt; config.levels().black(), 16384);
+    assert_eq!(rt; config.levels().white(), 51200);
+    assert_eq!(rt; config.max_fields(), 1_000_000);
+    assert_eq!(rt; settings(None, &ALL)?.max_fields(), 5);
+    Ok(())
+}
+
+/// Bytes that are no document.
+const NOT_JSON: [&[u8]; 4] = [b"", b"{\"a\":NaN}", b"{\"a\":\"\xff\"}", b"{} {}"];
+
+#[test]
+fn refuses_what_is_not_json(rt: HostRuntime) -> Result<(), Fail> {
+    for bytes in &NOT_JSON {
+        assert_eq!(rt;
+            read_meta(rt.alloc(), bytes).err(),
+            Some(MetaFault::NotJson)
+        );
+    }
+    assert!(rt; read_meta(rt.alloc(), b"{}").is_ok());
+    Ok(())
+}
+
+/// Arrays nested this deep, the innermost empty.
+fn nested(alloc: Global, depth: usize) -> Result<Vec<u8>, AllocError> {
+    let mut text = Vec::new(alloc);
+    for _ in 0..depth {
+        text.push(b'[')?;
+    }
+    for _ in 0..depth {
+        text.push(b']')?;
+    }
+    Ok(text)
+}
+
+#[test]
+fn reads_127_levels_and_no_more(rt: HostRuntime) -> Result<(), Fail> {
+    let alloc = rt.alloc();
+    let value = read_meta(alloc, nested(alloc, 127)?.as_slice())?;
+    let found = settings(Some(&value), &NONE).err();
+    assert_eq!(rt; found, Some(MetaFault::NoVideoParameters));
+    let found = read_meta(alloc, nested(alloc, 128)?.as_slice()).err();
+    assert_eq!(rt; found, Some(MetaFault::NotJson));
+    Ok(())
+}
+
+fn zeros(alloc: Global, count: usize) -> Result<Vec<u8>, AllocError> {
+    vec![in alloc; 0; count]
+}
+
+#[test]
+fn reads_no_more_than_the_limit(rt: HostRuntime) -> Result<(), Fail> {
+    let alloc = rt.alloc();
+    let bytes = zeros(alloc, META_LIMIT + 1)?;
+    let found = read_meta(alloc, bytes.as_slice()).err();
+    assert_eq!(rt; found, Some(MetaFault::TooLarge));
+    let bytes = zeros(alloc, META_LIMIT)?;
+    let found = read_meta(alloc, bytes.as_slice()).err();
+    assert_eq!(rt; found, Some(MetaFault::NotJson));
+    Ok(())
+}
+
+const TEXTS: [(MetaFault, &str); 15] = [
+    (MetaFault::TooLarge, "metadata too large"),
+    (MetaFault::NotJson, "metadata is not JSON"),
+    (MetaFault::OutOfMemory, "out of memory"),
+    (
+        MetaFault::NoVideoParameters,
+        "metadata has no videoParameters",
+    ),
+    (MetaFault::NoSystem, "no system given"),
+    (MetaFault::UnknownSystem, "unknown system"),
+    (
+        MetaFault::SystemsDisagree,
+        "system and isSourcePal disagree",
+    ),
+    (MetaFault::NoBlack, "no black level given"),
+    (
+        MetaFault::BadBlack,
+        "black level is not a whole number from 0 to 65535",
+    ),
+    (MetaFault::NoWhite, "no white level given"),
+    (
+        MetaFault::BadWhite,
+        "white level is not a whole number from 0 to 65535",
+    ),
+    (
+        MetaFault::LevelsOrder,
+        "black level is not below white level",
+    ),
+    (MetaFault::WidthDiffers, "field width differs"),
+    (MetaFault::HeightDiffers, "field height differs"),
+    (
+        MetaFault::BadMaxFields,
+        "max fields is not from 1 to 1000000",
+    ),
+];
+
+#[test]
+fn faults_have_their_texts(rt: HostRuntime) -> Result<(), Fail> {
+    for (fault, text) in &TEXTS {
+        assert_eq!(rt; fault.to_string(rt.alloc())?.as_str(), *text);
+    }
+    Ok(())
+}
+
+/// To be run with each allocation failing in turn: the answer is that of ample memory, or want of memory.
+#[test]
+fn answers_want_of_memory_as_such(rt: HostRuntime) -> Result<(), Fail> {
+    let alloc = rt.alloc();
+    let text =
+        b"{\"videoParameters\":{\"system\":\"NTSC\",\"fieldWidth\":910,\"fieldHeight\":263,\"black16bIre\":16384,\"white16bIre\":51200,\"sampleRate\":14318181.5},\"fields\":[]}";
+    match read_meta(alloc, text) {
+        Ok(value) => assert!(rt; settings(Some(&value), &NONE).is_ok()),
+        Err(fault) => assert_eq!(rt; fault, MetaFault::OutOfMemory),
+    }
+    let fault = read_meta(alloc, b"{\"a\":NaN}").err();
+    assert!(rt; matches!(fault, Some(MetaFault::NotJson | MetaFault::OutOfMemory)));
+    Ok(())
+}

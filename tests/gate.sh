@@ -1,0 +1,16 @@
+#!/bin/sh
+# The whole gate, at the top of the repository: every proof, must-fail edit, test and stored run by `rt ci`, then the built
+# program on its own. The last line is that of `rt ci`, 'N passed, M failed'; the status is 0 only where all of it passed.
+set -eu
+
+work=$(mktemp -d)
+trap 'rm -rf "$work"' EXIT
+
+{ rt ci 2>&1 && echo 0 > "$work/status" || echo 1 > "$work/status"; } | tee "$work/log"
+if [ "$(cat "$work/status")" != 0 ]; then
+    exit 1
+fi
+make ldvbi
+sh tests/program.sh ./ldvbi
+sh tests/want_of_memory.sh ./ldvbi
+tail -n 1 "$work/log"
