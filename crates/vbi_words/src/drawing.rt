@@ -1,21 +1,25 @@
 //! How a word is drawn on a row.
 
-ghost use Rattle.std.specs.Prelude.{◌≡◌, ◌≤◌, ◌<◌, Some};
+ghost use Rattle.std.specs.Prelude.{◌≡◌, ◌+◌, ◌≤◌, ◌<◌, Some};
 ghost use Rattle.vbi_words.specs.Drawn.{boundary, IsDrawn};
-ghost use Rattle.vbi_words.specs.Geometry.{width_of};
+ghost use Rattle.vbi_words.specs.Geometry.{width_of, start_of};
 
 use crate::levels::Levels;
 use crate::system::System;
 use crate::word::Word24;
 
-/// The column at which half cell j of a drawn word begins.
-fn boundary_column(system: System, j: usize) -> usize
-    requires { j ≤ 48 }
-    ensures { result ≡ boundary system j }
+/// The half cell of a drawn word, counted from 0, in which a column lies; from 48 on the word has ended. A half cell covers
+/// the columns from j times a microsecond on, so column c of the word lies in the last j that has j times 315/22 below c + 1.
+fn half_at(system: System, column: usize) -> usize
+    requires from_start { start_of system ≤ column }
+    requires on_line { column < width_of system }
+    ensures begun { boundary system result ≤ column }
+    ensures not_ended { column < boundary system (result + 1) }
 {
+    let columns = column - system.start() + 1;
     match system {
-        System::Ntsc => 150 + j * 315 / 22,
-        System::Pal => 190 + j * 709379 / 40000,
+        System::Ntsc => (columns * 22 - 1) / 315,
+        System::Pal => (columns * 40000 - 1) / 709379,
     }
 }
 
@@ -31,16 +35,16 @@ pub fn drawn_sample(system: System, levels: Levels, word: Option<Word24>, column
 }
 
 fn word_sample(system: System, levels: Levels, word: Word24, column: usize) -> u16
+    requires { column < width_of system }
     ensures { IsDrawn system levels (Some word) column result }
 {
-    for j in 0..48_usize {
-        if boundary_column(system, j) <= column && column < boundary_column(system, j + 1) {
-            return if word.half(j) {
-                levels.white()
-            } else {
-                levels.black()
-            };
-        }
+    if column < system.start() {
+        return levels.black();
     }
-    levels.black()
+    let half = half_at(system, column);
+    if half < 48 && word.half(half) {
+        levels.white()
+    } else {
+        levels.black()
+    }
 }
