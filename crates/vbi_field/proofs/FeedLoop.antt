@@ -1,12 +1,11 @@
 -- What a piece keeps from row to row, and how it ends.
-use Rattle.std.proofs.Common.{◌≡◌, ℕ, ◌+◌, ◌-◌, ◌*◌, ◌≤◌, ◌<◌, false, List, [], ◌++◌, length, take, drop, refl, sym, ap, ◌∙◌, arith, subst, append_assoc, append-nil}
+use Rattle.std.proofs.Common.{◌≡◌, ℕ, ◌+◌, ◌-◌, ◌≤◌, false, List, [], ◌++◌, length, take, drop, refl, sym, ap, ◌∙◌, arith, subst, append_assoc, append-nil}
 use Rattle.std.specs.Prelude.{Option, Result, Err, Ok}
-use Rattle.std.specs.Io.KnownBytes.{Appends}
-use Rattle.std.proofs.lemmas.List.{length-append, length-drop, take_all, take-append-drop}
+use Rattle.std.proofs.lemmas.List.{length-drop, take_all, take-append-drop}
 use Rattle.std.proofs.Math.Nat.{le_refl, le_of_eq}
 use Rattle.std.proofs.Math.Seq.{take-add}
 use Rattle.vbi_field.specs.Kinds.{document}
-use Rattle.vbi_field.specs.Feed.{limit_of, Completes, IsAt, IsFed, Rises, StandsAt}
+use Rattle.vbi_field.specs.Feed.{limit_of, IsAt, IsFed, Rises, StandsAt}
 use Rattle.vbi_field.specs.FeedView.{feeding_of}
 use Rattle.vbi_field.specs.Feeding.{Feeding}
 use Rattle.vbi_field.specs.Outlet.{IsSameDevice}

@@ -2,7 +2,7 @@
 use Rattle.std.specs.Prelude.{◌≡◌, ℕ, ◌+◌, ◌-◌, ◌*◌, ◌<◌, ◌≤◌, List, [], ◌∷◌, length, take, Option, Result, Ok, Err}
 use Rattle.vbi_words.specs.Geometry.{width_of, height_of, line_bytes}
 use Rattle.vbi_line.specs.Line.{Line}
-use Rattle.vbi_field.specs.Feed.{IsAt, IsFed}
+use Rattle.vbi_field.specs.Feed.{IsFed}
 use Rattle.vbi_field.specs.Position.{Position}
 use Rattle.vbi_field.specs.Setup.{Setup}
 use Rattle.vbi_field.specs.Stream.{selected}

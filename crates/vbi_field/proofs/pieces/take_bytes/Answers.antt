@@ -1,4 +1,4 @@
-use Rattle.std.proofs.Common.{◌≡◌, ◌+◌, ◌-◌, ◌≤◌, ◌<◌, length, take, refl, ap, ◌∙◌, arith}
+use Rattle.std.proofs.Common.{◌-◌, ◌≤◌, ◌<◌, length, take, refl, ap, ◌∙◌, arith}
 use Rattle.std.proofs.Math.Nat.{le_trans, le_of_eq}
 use Rattle.vbi_words.specs.Geometry.{line_bytes}
 use Rattle.vbi_field.proofs.FeedSteps.{too_many, row_held, not_full, fed_inside, fed_row, fed_field, fed_in_part, before}

@@ -1,4 +1,4 @@
-use Rattle.std.proofs.Common.{◌≡◌, ◌≤◌, ◌<◌, ◌-◌, length, take, drop, sym, refl, ap, arith}
+use Rattle.std.proofs.Common.{◌≡◌, ◌≤◌, length, refl, ap, arith}
 use Rattle.std.specs.Prelude.{Err}
 use Rattle.vbi_field.proofs.FeedLoop.{taken_none, taken_more, taken_fault, taken_whole}
 use Rattle.vbi_field.specs.declared.summary.RunFault.TheVariants.{Failed}
