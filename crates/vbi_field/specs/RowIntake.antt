@@ -1,4 +1,4 @@
--- What a contract sees of an intake of rows of words, and what its calls take from the reader.
+-- What a contract sees of an intake of rows of words, and what its calls take from the reader (this project's own).
 use Rattle.std.specs.Prelude.{◌≡◌, ◌≢◌, ℕ, ◌+◌, ◌<◌, ◌≤◌, ◌⊎◌, List, [], ◌∷◌, ◌++◌, All, length, ⊤, Option, Some, None}
 use Rattle.std.specs.Io.KnownBytes.{Consumes, IsAtEnd}
 use Rattle.vbi_line.specs.Counted as counted
@@ -23,6 +23,10 @@ module _ {R : Type 0} where
   -- the reader
   abbrev pub device_of : RowIntake R → R
   device_of i = counted.device_of i.device
+
+  -- the ghost name of the reference to it, by which a caller knows the reader again
+  abbrev pub name_of : RowIntake R → ℕ
+  name_of i = counted.name_of i.device
 
   -- how often it failed
   abbrev pub failures_of : RowIntake R → ℕ

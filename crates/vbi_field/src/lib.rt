@@ -8,7 +8,6 @@ mod cause_texts;
 mod code_texts;
 mod config;
 mod document;
-pub mod draw_laws;
 mod drawing_fields;
 mod feeder;
 mod form;

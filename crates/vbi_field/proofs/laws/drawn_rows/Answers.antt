@@ -1,6 +1,6 @@
 use Rattle.vbi_field.proofs.DrawnReadsLemmas
 use Rattle.vbi_field.proofs.WordRowLaw.{rows_drawable}
-use Rattle.vbi_field.proofs.draw_laws.drawn_rows.Goals as goal
+use Rattle.vbi_field.proofs.laws.drawn_rows.Goals as goal
 
 pub returns : goal.returns
 returns c = λ setup text rows i words order are e.
