@@ -1,6 +1,6 @@
 -- Fields and rows of a TBC stream (ld-decode's TBC format: samples of 16 bits, low byte first, line after line and field after
 -- field), and the readings of its fields. Fields and rows are counted from 0; a stream is the list of its bytes.
-use Rattle.std.specs.Prelude.{ℕ, ◌+◌, ◌*◌, ◌/◌, ◌%◌, ◌==◌, if◌then◌else◌, List, take, drop, Option, Some, None}
+use Rattle.std.specs.Prelude.{ℕ, ◌+◌, ◌-◌, ◌*◌, ◌/◌, ◌%◌, ◌==◌, min, if◌then◌else◌, List, length, take, drop, Option, Some, None}
 use Rattle.vbi_words.specs.Geometry.{line_bytes, field_bytes}
 use Rattle.vbi_words.specs.Levels.{row_levels}
 use Rattle.vbi_words.specs.declared.system.System.{System}
@@ -8,7 +8,6 @@ use Rattle.vbi_words.specs.declared.outcome.Reading.{Reading}
 use Rattle.vbi_line.specs.OneReading.{reading_of}
 use Rattle.vbi_field.specs.Setup.{Setup}
 use Rattle.vbi_field.specs.declared.readings.FieldReadings.{FieldReadings}
-use Rattle.std.specs.Prelude.{length}
 
 -- the bytes of row r of field i
 abbrev pub row_of : System → List ℕ → ℕ → ℕ → List ℕ
@@ -33,3 +32,11 @@ row_reading c z i r = reading_of c.system (row_levels c.levels (row_of c.system 
 -- the readings of field i: those of its rows 15, 16 and 17, which are lines 16, 17 and 18
 abbrev pub field_readings : Setup → List ℕ → ℕ → FieldReadings
 field_readings c z i = record { first = row_reading c z i 15; second = row_reading c z i 16; third = row_reading c z i 17 }
+
+-- how many of the rows 15, 16 and 17 are among the rows of f fields and r rows more
+abbrev pub selected : ℕ → ℕ → ℕ
+selected f r = 3 * f + min 3 (r - 15)
+
+-- how many of the rows 15, 16 and 17 of its fields a stream has whole
+abbrev pub selected_rows : Setup → List ℕ → ℕ
+selected_rows c z = selected (fields_of c z) (rest_of c z / line_bytes c.system)

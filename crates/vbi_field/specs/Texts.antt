@@ -1,5 +1,5 @@
 -- The text that is written for a TBC stream, for any kind of text: its head, an entry for each whole field, and its tail.
-use Rattle.std.specs.Prelude.{ℕ, ◌+◌, List, ◌++◌}
+use Rattle.std.specs.Prelude.{ℕ, ◌+◌, ◌==◌, if◌then◌else◌, List, [], ◌++◌}
 use Rattle.std.specs.List.{join_by, range_with_len}
 use Rattle.vbi_field.specs.Setup.{Setup}
 use Rattle.vbi_field.specs.Stream.{fields_of, rest_of, field_readings}
@@ -24,3 +24,7 @@ begun_of t c z = t.head c ++ join_by (entry_of t c z) t.joint (range_with_len 0 
 -- the whole text of a stream that ended
 abbrev pub document_of : Texts → Setup → List ℕ → List ℕ
 document_of t c z = begun_of t c z ++ t.tail (fields_of c z) (rest_of c z)
+
+-- what is written for a field when it is whole, where so many fields came before it: the joint, if there is an entry before, and the entry
+abbrev pub piece_of : Texts → ℕ → FieldReadings → List ℕ
+piece_of t before readings = (if before == 0 then [] else t.joint) ++ t.entry (before + 1) readings

@@ -1,6 +1,6 @@
 //! What a run is given.
 ghost use Rattle.std.specs.Prelude.{◌≡◌, ◌*◌, ◌<◌, ◌≤◌, ◌↔◌, ◌⊎◌, IfOk, Err};
-ghost use Rattle.vbi_words.specs.Geometry.{height_of};
+ghost use Rattle.vbi_words.specs.Geometry.{height_of, line_bytes};
 
 use std::marker::Model;
 use vbi_words::{Levels, System};
@@ -79,10 +79,18 @@ impl Config {
     pub(crate) fn row_limit(&self) -> u64
         ensures value { result ≡ self.now.max_fields * height_of self.now.system }
         ensures few { result ≤ 313000000 }
+        ensures fields { self.now.max_fields ≤ 1000000 }
     {
         match self.system {
             System::Ntsc => u64::from(self.max_fields) * 263,
             System::Pal => u64::from(self.max_fields) * 313,
         }
+    }
+
+    /// The bytes of a line: two a sample.
+    pub(crate) fn line_bytes(&self) -> usize
+        ensures { result ≡ line_bytes self.now.system }
+    {
+        2 * self.system.width()
     }
 }

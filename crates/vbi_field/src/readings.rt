@@ -1,14 +1,14 @@
-//! The readings of a field's lines.
+//! The readings of a field.
 
 use vbi_words::Reading;
 
-/// The readings of lines 16, 17 and 18 of a field, which are its rows 15, 16 and 17 counted from 0.
+/// The readings of a field's lines 16, 17 and 18.
 #[derive(Clone, Copy, Debug, PartialEq, Eq)]
 pub struct FieldReadings {
-    /// The reading of line 16.
+    /// Line 16.
     pub first: Reading,
-    /// The reading of line 17.
+    /// Line 17.
     pub second: Reading,
-    /// The reading of line 18.
+    /// Line 18.
     pub third: Reading,
 }

@@ -45,11 +45,11 @@ pub struct RowIntake<'a, R> {
 }
 
 impl<'a, R: Read> RowIntake<'a, R> {
-    ghost use Rattle.vbi_field.specs.RowIntake.{device_of, failures_of, fetched_of, IsFresh, IsSameDevice, TakesByte, TakesRow};
+    ghost use Rattle.vbi_field.specs.RowIntake.{device_of, failures_of, fetched_of, name_of, IsFresh, IsSameDevice, TakesByte, TakesRow};
 
     /// An intake that has fetched nothing.
     pub fn new(reader: &'a mut R) -> Self
-        ensures same { result.device.device.ghost_name ≡ reader.entry.ghost_name }
+        ensures same { name_of result ≡ reader.entry.ghost_name }
         ensures reader { device_of result ≡ reader.old }
         ensures fresh { IsFresh result }
     {
@@ -61,7 +61,7 @@ impl<'a, R: Read> RowIntake<'a, R> {
 
     /// The reader again. A caller that lent it knows by this what the reader is now.
     pub fn into_reader(self) -> &'a mut R
-        ensures same { result.ghost_name ≡ self.entry.device.device.ghost_name }
+        ensures same { result.ghost_name ≡ name_of self.entry }
         ensures reader { result.now ≡ device_of self.entry }
     {
         let RowIntake { device, fetched: _ } = self;

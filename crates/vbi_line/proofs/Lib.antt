@@ -1,2 +1,13 @@
+pub mod Ending
+pub mod FillSteps
+pub mod OneOutcome
+pub mod OneReading
+pub mod Packs
 pub mod Parts
+pub mod RunLoop
+pub mod RunSteps
 pub mod Sizes
+pub mod Slicing
+pub mod SmoothRuns
+pub mod Steps
+pub mod StoreMemory

@@ -1,5 +1,5 @@
 -- Bounds on the sizes of a field.
-use Rattle.std.proofs.Common.{ℕ, ◌≤◌, ◌<◌, lit≤, lit<}
+use Rattle.std.proofs.Common.{◌≡◌, ◌*◌, ◌≤◌, ◌<◌, refl, lit≤, lit<}
 use Rattle.vbi_words.specs.declared.system.System.{System}
 use Rattle.vbi_words.specs.declared.system.System.TheVariants.{Ntsc, Pal}
 use Rattle.vbi_words.specs.Geometry.{width_of, line_bytes}
@@ -13,3 +13,8 @@ line_bytes-le Pal = lit≤ tt
 pub line_bytes-pos : (s : System) → 0 < line_bytes s
 line_bytes-pos Ntsc = lit< tt
 line_bytes-pos Pal = lit< tt
+
+-- a line has two bytes a sample
+pub line_bytes-twice : (s : System) → line_bytes s ≡ 2 * width_of s
+line_bytes-twice Ntsc = refl
+line_bytes-twice Pal = refl

@@ -1,4 +1,12 @@
 pub mod Counted
+pub mod Intake
 pub mod Line
+pub mod LineLends
 pub mod LineView
+pub mod OneOutcome
 pub mod OneReading
+pub mod PackedView
+pub mod Packing
+pub mod Progress
+pub mod Runs
+pub mod StoreLends

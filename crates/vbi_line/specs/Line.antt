@@ -1,4 +1,5 @@
--- What a contract sees of the buffer of a line.
+-- What a contract sees of the buffer of a line: the bytes held, the room, the cursors of its passes and the
+-- samples looked at (this project's own; samples of two bytes, low byte first, as in ld-decode's TBC files).
 use Rattle.std.specs.Prelude.{◌≡◌, ℕ, ◌+◌, ◌*◌, ◌<◌, ◌≤◌, List, [], ◌∷◌, length, slice_index, ⊤, Option, Some, None}
 use Rattle.vbi_words.specs.declared.system.System.{System}
 use Rattle.vbi_words.specs.Geometry.{width_of, line_bytes}

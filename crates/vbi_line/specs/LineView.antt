@@ -1,5 +1,5 @@
--- How the fields of the buffer are seen.
-use Rattle.std.specs.Prelude.{◌≡◌, ℕ, ◌+◌, ◌-◌, ◌*◌, ◌^◌, ◌<◌, ◌≤◌, List, [], ◌∷◌, length, take, drop}
+-- How the fields of the buffer of a line are seen (this project's own).
+use Rattle.std.specs.Prelude.{◌≡◌, ◌+◌, ◌-◌, ◌^◌, ◌<◌, ◌≤◌, [], ◌∷◌, length, take, drop}
 use Rattle.vbi_words.specs.Geometry.{width_of, line_bytes}
 use Rattle.vbi_line.specs.Line.{Line}
 use Rattle.vbi_line.specs.declared.line.LineBuf.TheInside.{Inside}
@@ -8,14 +8,15 @@ use Rattle.vbi_line.specs.declared.line.LineBuf.TheInside.{Inside}
 abbrev pub line_of : Inside → Line
 line_of b = record {
   system = b.system;
-  held = take b.held b.bytes;
-  room = take (line_bytes b.system - b.held) (drop b.held b.bytes);
+  held = take b.held b.store.bytes;
+  room = take (line_bytes b.system - b.held) (drop b.held b.store.bytes);
   cursors = take b.passes (b.cursor ∷ b.earlier ∷ []);
   looked = b.looked;
 }
 
+-- the bytes fit, a pass needs a whole line, and the count of looks has room for the rest of a pass
 pub record IsLine (b : Inside) : Type 0 where
-  pub bytes : length b.bytes ≡ 2270
+  pub bytes : length b.store.bytes ≡ 2270
   pub held : b.held ≤ line_bytes b.system
   pub passes : b.passes ≤ 2
   pub cursor : b.cursor ≤ width_of b.system

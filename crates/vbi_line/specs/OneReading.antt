@@ -1,9 +1,11 @@
--- STAND-IN, to be dropped by the merger: the reading of a line's levels as a function.
+-- The reading of a line's levels as a function (this project's own).
 use Rattle.std.specs.Prelude.{List, Bool}
 use Rattle.vbi_words.specs.declared.system.System.{System}
 use Rattle.vbi_words.specs.declared.outcome.Reading.{Reading}
-use Rattle.vbi_words.specs.declared.outcome.Outcome.TheVariants.{Blank}
+use Rattle.vbi_words.specs.Smooth.{smooth_of}
+use Rattle.vbi_words.specs.Readings.{reading_from}
+use Rattle.vbi_line.specs.OneOutcome.{outcome_of}
 
--- the reading of the levels
+-- the reading of the levels, which `laws::one_reading` shows to be the only one
 unfoldable pub reading_of : System → List Bool → Reading
-reading_of system levels = record { outcome = Blank; pass = 0 }
+reading_of system levels = reading_from (outcome_of system levels) (outcome_of system (smooth_of levels))

@@ -1,16 +1,19 @@
 //! The bytes of one line, and the passes over its samples.
-ghost use Rattle.std.specs.Prelude.{◌≡◌, ◌+◌, ◌-◌, ◌*◌, ◌^◌, ◌<◌, ◌≤◌, ◌==◌, ◌↔◌, [], ◌∷◌, ◌++◌, length, take, drop, sum, IsTrue, MatchOption};
+ghost use Rattle.std.specs.Prelude.{◌≡◌, ◌+◌, ◌*◌, ◌^◌, ◌<◌, ◌≤◌, ◌↔◌, [], ◌∷◌, ◌++◌, length, take, drop, sum, IsTrue};
+ghost use Rattle.std.specs.Borrow.{sem};
 ghost use Rattle.vbi_words.specs.Geometry.{width_of, line_bytes};
 
+use crate::store::LineBytes;
 use byteorder::{ByteOrder, LittleEndian};
 use std::marker::Model;
 use vbi_words::System;
 
-/// The bytes of one line as they come, the cursors of at most two passes, and counters.
+/// The bytes of one line as they come, the cursors of at most two passes over its samples, and
+/// counts of the samples that were looked at. A line has two bytes a sample, low byte first.
 #[derive(Drop)]
 pub struct LineBuf {
     system: System,
-    bytes: [u8; 2270],
+    store: LineBytes,
     held: usize,
     passes: usize,
     cursor: usize,
@@ -31,9 +34,10 @@ impl Model for LineBuf {
 }
 
 impl LineBuf {
+    ghost use Rattle.vbi_line.specs.LineLends.{LendsRoom};
     ghost use Rattle.vbi_line.specs.Line.{IsCleared, IsFull, IsNextBlock, IsNextSample, Keeps, KeepsBytes};
 
-    /// Holds nothing.
+    /// The buffer of a line of this system, which holds nothing and has all counts 0.
     pub fn new(system: System) -> Self
         ensures system { result.system ≡ system }
         ensures held { result.held ≡ [] }
@@ -43,7 +47,7 @@ impl LineBuf {
     {
         LineBuf {
             system,
-            bytes: [0; 2270],
+            store: LineBytes { bytes: [0; 2270] },
             held: 0,
             passes: 0,
             cursor: 0,
@@ -52,7 +56,19 @@ impl LineBuf {
         }
     }
 
-    /// Holds the first `n` bytes of the room.
+    /// Lends the part that isn't filled, in bytes the line's less those held. What is written there
+    /// without a commit isn't held.
+    pub fn room(&mut self) -> &mut [u8]
+        ensures* writes_back { sem 𝓛 (LendsRoom self.entry result) }
+        ensures value { result.now ≡ self.old.room }
+        ensures fits { length self.old.held + length result.now ≡ line_bytes self.old.system }
+    {
+        let held = self.held;
+        let end = 2 * self.system.width();
+        self.store.part_mut(held, end)
+    }
+
+    /// Makes the first `n` bytes of the room held.
     pub fn commit(&mut self, n: usize)
         requires { n ≤ length self.old.room }
         ensures held { self.new.held ≡ self.old.held ++ take n self.old.room }
@@ -62,7 +78,7 @@ impl LineBuf {
         self.held += n;
     }
 
-    /// Whether the line is whole.
+    /// Whether all bytes of the line are held.
     pub fn is_full(&self) -> bool
         ensures { IsTrue result ↔ IsFull self.now }
     {
@@ -78,13 +94,13 @@ impl LineBuf {
     }
 
     /// The system that the line is made for.
-    pub fn system(&self) -> System
+    pub(crate) fn system(&self) -> System
         ensures { result ≡ self.now.system }
     {
         self.system
     }
 
-    /// Holds nothing again.
+    /// Holds nothing again, and has no passes and no looks. `looked` stays.
     pub fn clear(&mut self)
         ensures { IsCleared self.old self.new }
     {
@@ -92,7 +108,8 @@ impl LineBuf {
         self.passes = 0;
     }
 
-    /// Starts a pass over the samples.
+    /// Starts a pass over the samples, from column 0. A held line has at most two passes, so none of
+    /// its samples is looked at more than twice.
     pub fn start_pass(&mut self)
         requires full { IsFull self.old }
         requires room { length self.old.cursors < 2 }
@@ -116,13 +133,14 @@ impl LineBuf {
             return None;
         }
         let at = 2 * self.cursor;
-        let sample = LittleEndian::read_u16(&self.bytes[at..]);
+        let sample = LittleEndian::read_u16(&self.store.bytes[at..]);
         self.cursor += 1;
         self.looked += 1;
         Some(sample)
     }
 
-    /// The next sixteen samples of the latest pass, or `None` where fewer are left, and then nothing moves.
+    /// The next sixteen samples of the latest pass, whose cursor moves past them, or `None` where fewer
+    /// are left, and then nothing moves.
     pub fn next_block(&mut self) -> Option<[u16; 16]>
         requires { 0 < length self.old.cursors }
         ensures gives { IsNextBlock self.old result self.new }
@@ -133,7 +151,7 @@ impl LineBuf {
         }
         let at = 2 * self.cursor;
         let mut block = [0; 16];
-        LittleEndian::read_u16_into(&self.bytes[at..at + 32], &mut block);
+        LittleEndian::read_u16_into(&self.store.bytes[at..at + 32], &mut block);
         self.cursor += 16;
         self.looked += 16;
         Some(block)
@@ -141,14 +159,16 @@ impl LineBuf {
 
     /// How many passes were started since the line was cleared.
     pub fn passes(&self) -> usize
-        ensures { result ≡ length self.now.cursors }
+        ensures count { result ≡ length self.now.cursors }
+        ensures most { result ≤ 2 }
     {
         self.passes
     }
 
-    /// How many samples were looked at since the line was cleared.
+    /// How many samples were given since the line was cleared: the sum of the cursors.
     pub fn looks(&self) -> usize
-        ensures { result ≡ sum self.now.cursors }
+        ensures sum { result ≡ sum self.now.cursors }
+        ensures most { result ≤ 2 * width_of self.now.system }
     {
         match self.passes {
             0 => 0,
@@ -157,7 +177,7 @@ impl LineBuf {
         }
     }
 
-    /// How many samples were looked at since the buffer was made.
+    /// How many samples were given since the buffer was made.
     pub fn looked(&self) -> u64
         ensures { result ≡ self.now.looked }
     {

@@ -1,6 +1,6 @@
 -- The numbers of the two systems. Line and field sizes are those of ld-decode's TBC files (samples at four times the colour
 -- subcarrier, so 315/22 or 17.734475 million a second); the tolerance of a half cell and the drawn start are this project's own.
-use Rattle.std.specs.Prelude.{ℕ, ◌*◌, List, codes}
+use Rattle.std.specs.Prelude.{ℕ, List, codes}
 use Rattle.vbi_words.specs.declared.system.System.{System}
 use Rattle.vbi_words.specs.declared.system.System.TheVariants.{Ntsc, Pal}
 

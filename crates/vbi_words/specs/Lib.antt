@@ -7,3 +7,7 @@ pub mod RunLimits
 pub mod Smooth
 pub mod Readings
 pub mod Drawn
+pub mod WorkedLines
+pub mod Codes
+pub mod Formats
+pub mod CodeTable

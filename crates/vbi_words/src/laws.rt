@@ -1,16 +1,23 @@
 //! Laws over the definitions: each function's contract is one, for every system, list of levels, word and pair of levels.
 
-ghost use Rattle.std.specs.Prelude.{◌≡◌, ℕ, ◌≤◌, ◌<◌, ◌+◌, ◌-◌, List, Bool, false, [], ◌∷◌, ◌++◌, replicate, Some, None};
+ghost use Rattle.std.specs.Prelude.{◌≡◌, ℕ, ◌≤◌, ◌<◌, ◌+◌, ◌-◌, List, Bool, false, [], ◌∷◌, ◌++◌, replicate, Option, Some, None};
 ghost use Rattle.vbi_words.specs.declared.system.System.{System};
-ghost use Rattle.vbi_words.specs.declared.outcome.Outcome.TheVariants.{Word};
+ghost use Rattle.vbi_words.specs.declared.system.System.TheVariants.{Ntsc};
+ghost use Rattle.vbi_words.specs.declared.outcome.Outcome.TheVariants.{Word, Unfinished, Change, Hold};
 ghost use Rattle.vbi_words.specs.Levels.{Slicing, levels_of};
 ghost use Rattle.vbi_words.specs.Words.{IsWord};
 ghost use Rattle.vbi_words.specs.Shows.{Shows, ShowsNone, Viable};
-ghost use Rattle.vbi_words.specs.Outcomes.{AllLow};
+ghost use Rattle.vbi_words.specs.Outcomes.{AllLow, IsOutcome};
 ghost use Rattle.vbi_words.specs.RunLimits.{EndsOtherwise, HasRunLimit};
 ghost use Rattle.vbi_words.specs.Smooth.{IsSmooth, smooth_of, Glitch};
 ghost use Rattle.vbi_words.specs.Readings.{IsReading};
 ghost use Rattle.vbi_words.specs.Drawn.{IsDrawnRow};
+ghost use Rattle.vbi_words.specs.declared.code.Code.{Code};
+ghost use Rattle.vbi_words.specs.declared.format.Format.{Format};
+ghost use Rattle.vbi_words.specs.Codes.{IsCode};
+ghost use Rattle.vbi_words.specs.Formats.{IsFormat};
+ghost use Rattle.vbi_words.specs.CodeTable.{code_of, format_of_lines};
+ghost use Rattle.vbi_words.specs.WorkedLines.{run_of_20, low_cell, long_lows, late_high, ones_of_11};
 
 /// A list of levels shows at most one word.
 pub fn one_word()
@@ -52,4 +59,25 @@ pub fn glitch_gone()
     ensures { (system : System) (levels turned : List Bool) (word : ℕ) (cut : Shows system levels word) → 3 ≤ cut.after
         → Glitch levels turned → (smooth_of turned ≡ smooth_of levels) × ShowsNone system turned
         × IsReading system turned (record { outcome = Word word; pass = 2 }) }
+{}
+
+/// A word has one code: no two patterns of the table have a word in common.
+pub fn one_code()
+    ensures is { (word : ℕ) → IsCode word (code_of word) }
+    ensures only { (word : ℕ) (code : Code) → IsCode word code → code ≡ code_of word }
+{}
+
+/// A field has one format.
+pub fn one_format()
+    ensures is { (lines : List (Option ℕ)) → IsFormat lines (format_of_lines lines) }
+    ensures only { (lines : List (Option ℕ)) (format : Format) → IsFormat lines format → format ≡ format_of_lines lines }
+{}
+
+/// The outcomes of a few lines, computed from the definitions alone.
+pub fn worked_lines()
+    ensures change { IsOutcome Ntsc run_of_20 (Change 34) }
+    ensures hold { IsOutcome Ntsc low_cell (Hold 46) }
+    ensures long { IsOutcome Ntsc long_lows (Hold 72) }
+    ensures unfinished { IsOutcome Ntsc late_high Unfinished }
+    ensures word { IsOutcome Ntsc ones_of_11 (Word 16777215) }
 {}

@@ -4,14 +4,22 @@
 //! line shows at most one word. No call allocates, and none can fail but by a refusal that its contract names.
 #![tactic(auto)]
 
+pub mod code;
 pub mod drawing;
+pub mod format;
 pub mod laws;
 pub mod levels;
 pub mod outcome;
 pub mod system;
+#[cfg(test)]
+mod tests_classes;
+#[cfg(test)]
+mod tests_values;
 pub mod word;
 
+pub use code::{Code, classify};
 pub use drawing::drawn_sample;
+pub use format::{Format, format_of};
 pub use levels::{Levels, LevelsFault};
 pub use outcome::{Outcome, Reading};
 pub use system::System;

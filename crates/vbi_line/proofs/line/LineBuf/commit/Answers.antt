@@ -1,6 +1,7 @@
-use Rattle.std.proofs.Common.{length, arith, ap, ◌≤◌, ◌+◌, ◌∙◌}
+use Rattle.std.proofs.Common.{arith}
 use Rattle.vbi_words.specs.Geometry.{line_bytes}
-use Rattle.vbi_line.proofs.Parts.{length-part, drop-part}
+use Rattle.vbi_line.proofs.Parts.{drop-part}
+use Rattle.vbi_line.proofs.StoreMemory.{length-part}
 use Rattle.vbi_line.proofs.Sizes.{line_bytes-le}
 use Rattle.vbi_line.proofs.line.LineBuf.commit.Goals as goal
 
@@ -8,6 +9,6 @@ pub returns-clause-room : goal.returns-clause-room
 returns-clause-room c =
     let b = c.self.inside in
     let full = line_bytes-le b.system in
-    let counted = length-part b.bytes b.held (line_bytes b.system) (omega arith) (omega arith) in
+    let counted = length-part b.store.bytes b.held (line_bytes b.system) (omega arith) (omega arith) in
     let few = rw (← c.self.view_is) at c.requires in
-    rw (← c.self.view_is) (drop-part b.bytes b.held (line_bytes b.system) c.args.n (omega arith))
+    rw (← c.self.view_is) (drop-part b.store.bytes b.held (line_bytes b.system) c.args.n (omega arith))

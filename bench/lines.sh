@@ -1,0 +1,25 @@
+#!/bin/sh
+# Nanoseconds per line of `read_line` beside a plain reader in Rust on the same lines, in one run. Works in a folder of its own.
+set -eu
+here=$(cd "$(dirname "$0")" && pwd)
+for tool in rt rustc; do
+    command -v $tool > /dev/null || { echo "bench: $tool isn't there" >&2; exit 1; }
+done
+work=$(mktemp -d)
+trap 'rm -rf "$work"' EXIT
+mkdir -p "$work/crates/line_bench/src"
+cp -r "$here/../crates/vbi_words" "$here/../crates/vbi_line" "$work/crates/"
+cp "$here/line_bench/main.rt" "$work/crates/line_bench/src/"
+printf 'vbi_words:\nvbi_line: vbi_words byteorder\nline_bench: vbi_words vbi_line\n' > "$work/crates.txt"
+rustc -O -o "$work/plain" "$here/plain_lines.rs"
+(cd "$work/crates/line_bench" && rt run > "$work/log" 2>&1) || { cat "$work/log" >&2; exit 1; }
+for turn in 1 2 3; do
+    "$work/crates/line_bench/out/line_bench" > "$work/ours"
+    "$work/plain" > "$work/theirs"
+    cat "$work/ours" "$work/theirs" | awk '
+        NR == 1 { lines = $1; ours = $2; sum = $3 }
+        NR == 2 {
+            if ($3 != sum) { print "bench: the readers differ"; exit 1 }
+            printf "read_line %.0f ns a line, plain reader %.0f ns a line, ratio %.2f\n", ours * 1e6 / lines, $2 * 1e6 / lines, ours / $2
+        }'
+done

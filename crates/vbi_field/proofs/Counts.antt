@@ -1,0 +1,102 @@
+-- Whole fields, rows and bytes of a stream.
+use Rattle.std.proofs.Common.{◌≡◌, ℕ, ◌+◌, ◌*◌, ◌/◌, ◌%◌, ◌≤◌, ◌<◌, Bool, true, false, cond, refl, arith, lit<}
+use Rattle.std.specs.Prelude.{IsTrue, ◌↔◌}
+use Rattle.vbi_field.specs.Stream.{selected}
+use Rattle.vbi_words.specs.Geometry.{width_of, height_of, line_bytes, field_bytes}
+use Rattle.vbi_words.specs.declared.system.System.{System}
+use Rattle.vbi_words.specs.declared.system.System.TheVariants.{Ntsc, Pal}
+
+-- the whole fields of f fields, r rows and h bytes
+pub whole_fields : (s : System) (n f r h : ℕ) → r < height_of s → h < line_bytes s
+    → n ≡ (f * height_of s + r) * line_bytes s + h → n / field_bytes s ≡ f
+whole_fields Ntsc n f r h inside short e = omega arith
+whole_fields Pal n f r h inside short e = omega arith
+
+-- and the bytes past them
+pub past_fields : (s : System) (n f r h : ℕ) → r < height_of s → h < line_bytes s
+    → n ≡ (f * height_of s + r) * line_bytes s + h → n % field_bytes s ≡ r * line_bytes s + h
+past_fields Ntsc n f r h inside short e = omega arith
+past_fields Pal n f r h inside short e = omega arith
+
+-- as many rows as fit some fields are in these fields
+pub few_fields : (s : System) (f r m : ℕ) → f * height_of s + r ≤ m * height_of s → f ≤ m
+few_fields Ntsc f r m le = omega arith
+few_fields Pal f r m le = omega arith
+
+-- after the last row of the last field
+pub all_fields : (s : System) (f r m : ℕ) → r < height_of s → f * height_of s + r ≡ m * height_of s → (f ≡ m) × (r ≡ 0)
+all_fields Ntsc f r m inside e = (omega arith, omega arith)
+all_fields Pal f r m inside e = (omega arith, omega arith)
+
+-- the bytes of whole rows, roughly
+pub few_bytes : (s : System) (k : ℕ) → k * line_bytes s ≤ 2270 * k
+few_bytes Ntsc k = omega arith
+few_bytes Pal k = omega arith
+
+pub few_bytes_row : (s : System) → line_bytes s ≤ 2270
+few_bytes_row Ntsc = omega arith
+few_bytes_row Pal = omega arith
+
+pub few_looks : (s : System) → 2 * width_of s ≤ 2270
+few_looks Ntsc = omega arith
+few_looks Pal = omega arith
+
+pub some_rows : (s : System) → 0 < height_of s
+some_rows Ntsc = lit< tt
+some_rows Pal = lit< tt
+
+-- the bytes of some fields
+pub bytes_of_fields : (s : System) (m : ℕ) → m * field_bytes s ≡ m * height_of s * line_bytes s
+bytes_of_fields Ntsc m = omega arith
+bytes_of_fields Pal m = omega arith
+
+-- a field before the last ends before it
+pub field_rows : (s : System) (n f r : ℕ) → n < f → (n + 1) * height_of s ≤ f * height_of s + r
+field_rows Ntsc n f r lt = omega arith
+field_rows Pal n f r lt = omega arith
+
+pub some_bytes : (s : System) → 0 < line_bytes s
+some_bytes Ntsc = lit< tt
+some_bytes Pal = lit< tt
+
+-- the looks after a row that is read at most twice
+looks_some : (s : System) (f r old new : ℕ) → 15 ≤ r → r ≤ 17 → old ≤ 2 * width_of s * selected f r → new ≤ old + 2 * width_of s
+    → new ≤ 2 * width_of s * selected f (r + 1)
+looks_some Ntsc f r old new a b h k = omega arith
+looks_some Pal f r old new a b h k = omega arith
+
+looks_none : (s : System) (f r old new : ℕ) → old ≤ 2 * width_of s * selected f r → new ≤ old + 0 → new ≤ 2 * width_of s * selected f (r + 1)
+looks_none Ntsc f r old new h k = omega arith
+looks_none Pal f r old new h k = omega arith
+
+-- the looks after one row more
+pub looks_next : (s : System) (f r old new : ℕ) (sel : Bool) → (IsTrue sel ↔ ((15 ≤ r) × (r ≤ 17)))
+    → old ≤ 2 * width_of s * selected f r → new ≤ old + cond sel (2 * width_of s) 0 → new ≤ 2 * width_of s * selected f (r + 1)
+looks_next s f r old new true sels h k = let at = sels.0 refl in looks_some s f r old new at.0 at.1 h k
+looks_next s f r old new false sels h k = looks_none s f r old new h k
+
+-- the looks after the last row of a field
+pub looks_field : (s : System) (f r new : ℕ) → r + 1 ≡ height_of s → new ≤ 2 * width_of s * selected f (r + 1)
+    → new ≤ 2 * width_of s * selected (f + 1) 0
+looks_field Ntsc f r new e h = omega arith
+looks_field Pal f r new e h = omega arith
+
+-- the looks of all fields, the unfinished one among them
+pub looks_in_all : (s : System) (x f r : ℕ) → x ≤ 2 * width_of s * selected f r → x ≤ 6 * width_of s * (f + 1)
+looks_in_all Ntsc x f r h = omega arith
+looks_in_all Pal x f r h = omega arith
+
+-- the whole rows past the whole fields
+pub rows_past : (s : System) (r h : ℕ) → h < line_bytes s → (r * line_bytes s + h) / line_bytes s ≡ r
+rows_past Ntsc r h lt = omega arith
+rows_past Pal r h lt = omega arith
+
+-- the bytes of rows before the last of some fields, and of an unfinished row behind them, are no more than these fields'
+pub within_rows : (s : System) (k m n : ℕ) → k < m * height_of s → n < line_bytes s → k * line_bytes s + n ≤ m * field_bytes s
+within_rows Ntsc k m n lt short = omega arith
+within_rows Pal k m n lt short = omega arith
+
+-- nor are those of all rows
+pub within_all : (s : System) (k m n : ℕ) → k ≡ m * height_of s → n ≡ 0 → k * line_bytes s + n ≤ m * field_bytes s
+within_all Ntsc k m n e none = omega arith
+within_all Pal k m n e none = omega arith

@@ -1,0 +1,82 @@
+-- The text that stands after some whole fields.
+use Rattle.std.proofs.Common.{◌≡◌, ℕ, zero, suc, ◌+◌, ◌*◌, ◌≤◌, ◌<◌, List, [], ◌∷◌, ◌++◌, length, refl, sym, ap, ◌∙◌, arith, append_assoc, append-nil, add-zero, zero-add, add-one, cond}
+use Rattle.std.specs.Prelude.{◌==◌}
+use Rattle.std.specs.List.{join_by, flat_map, range_with_len}
+use Rattle.std.proofs.lemmas.Grind.{flat_map-append}
+use Rattle.std.proofs.Math.Dec.{eqb-suc-zero}
+use Rattle.vbi_words.specs.Geometry.{height_of, line_bytes}
+use Rattle.vbi_field.specs.Setup.{Setup}
+use Rattle.vbi_field.specs.Stream.{fields_of, field_readings}
+use Rattle.vbi_field.specs.Texts.{Texts, entry_of, begun_of, piece_of}
+use Rattle.vbi_field.proofs.Growing.{field_readings-more}
+
+-- one number more
+range-push : (a n : ℕ) → range_with_len a (suc n) ≡ range_with_len a n ++ (a + n) ∷ []
+range-push a zero = ap (λ m. m ∷ []) (sym (add-zero a))
+range-push a (suc n) =
+    let e : a + 1 + n ≡ a + suc n = omega arith in
+    ap (λ l. a ∷ l) (range-push (a + 1) n ∙ ap (λ m. range_with_len (a + 1) n ++ m ∷ []) e)
+
+-- one piece more
+joined-push : {X : Type 0} (f : X → List ℕ) (joint : List ℕ) (x : X) (xs : List X) (y : X)
+    → join_by f joint ((x ∷ xs) ++ y ∷ []) ≡ join_by f joint (x ∷ xs) ++ (joint ++ f y)
+joined-push f joint x xs y =
+    ap (λ l. f x ++ l) (flat_map-append (λ y. joint ++ f y) xs (y ∷ []) ∙ ap (λ l. flat_map (λ y. joint ++ f y) xs ++ l) (append-nil (joint ++ f y)))
+    ∙ sym (append_assoc (f x) (flat_map (λ y. joint ++ f y) xs) (joint ++ f y))
+
+-- one number more, joined
+joined-more : (f : ℕ → List ℕ) (joint : List ℕ) (n : ℕ)
+    → join_by f joint (range_with_len 0 (n + 1)) ≡ join_by f joint (range_with_len 0 n) ++ (cond (n == 0) [] joint ++ f n)
+joined-more f joint zero = append-nil (f 0)
+joined-more f joint (suc m) =
+    ap (λ k. join_by f joint (range_with_len 0 k)) (add-one (suc m))
+    ∙ ap (join_by f joint) (range-push 0 (suc m))
+    ∙ joined-push f joint 0 (range_with_len (0 + 1) m) (0 + suc m)
+    ∙ ap (λ k. join_by f joint (range_with_len 0 (suc m)) ++ (joint ++ f k)) (zero-add (suc m))
+    ∙ ap (λ b. join_by f joint (range_with_len 0 (suc m)) ++ (cond b [] joint ++ f (suc m))) (sym (eqb-suc-zero m))
+
+-- pieces that are the same give the same text
+pieces-same : (f g : ℕ → List ℕ) (joint : List ℕ) (a n : ℕ) → ((i : ℕ) → i < a + n → f i ≡ g i)
+    → flat_map (λ y. joint ++ f y) (range_with_len a n) ≡ flat_map (λ y. joint ++ g y) (range_with_len a n)
+pieces-same f g joint a zero same = refl
+pieces-same f g joint a (suc n) same =
+    let rest = pieces-same f g joint (a + 1) n (λ i lt. same i (omega arith)) in
+    let here : f a ≡ g a = same a (omega arith) in
+    ap (λ l. (joint ++ l) ++ flat_map (λ y. joint ++ f y) (range_with_len (a + 1) n)) here ∙ ap (λ l. (joint ++ g a) ++ l) rest
+
+-- and so joined
+pub joined-same : (f g : ℕ → List ℕ) (joint : List ℕ) (n : ℕ) → ((i : ℕ) → i < n → f i ≡ g i)
+    → join_by f joint (range_with_len 0 n) ≡ join_by g joint (range_with_len 0 n)
+joined-same f g joint zero same = refl
+joined-same f g joint (suc n) same =
+    let rest = pieces-same f g joint (0 + 1) n (λ i lt. same i (omega arith)) in
+    ap (λ l. l ++ flat_map (λ y. joint ++ f y) (range_with_len (0 + 1) n)) (same 0 (omega arith)) ∙ ap (λ l. g 0 ++ l) rest
+
+-- the head and the entries of the first n fields
+unfoldable pub stood : Texts → Setup → List ℕ → ℕ → List ℕ
+stood t c z n = t.head c ++ join_by (entry_of t c z) t.joint (range_with_len 0 n)
+
+pub stood-none : (t : Texts) (c : Setup) (z : List ℕ) → stood t c z 0 ≡ t.head c
+unfolding stood
+stood-none t c z = append-nil (t.head c)
+
+-- one field more
+pub stood-more : (t : Texts) (c : Setup) (z : List ℕ) (n : ℕ) → stood t c z (n + 1) ≡ stood t c z n ++ piece_of t n (field_readings c z n)
+unfolding stood
+stood-more t c z n =
+    ap (λ l. t.head c ++ l) (joined-more (entry_of t c z) t.joint n)
+    ∙ sym (append_assoc (t.head c) (join_by (entry_of t c z) t.joint (range_with_len 0 n)) (piece_of t n (field_readings c z n)))
+
+-- the text of whole fields stays as the stream grows
+pub stood-stays : (t : Texts) (c : Setup) (z b : List ℕ) (n rows : ℕ) → n * height_of c.system ≤ rows
+    → rows * line_bytes c.system ≤ length z → stood t c (z ++ b) n ≡ stood t c z n
+unfolding stood
+stood-stays t c z b n rows le long =
+    let same : (i : ℕ) → i < n → entry_of t c (z ++ b) i ≡ entry_of t c z i =
+    λ i lt. ap (t.entry (i + 1)) (field_readings-more c z b i rows (grind (arith, lt, le)) long) in
+    ap (λ l. t.head c ++ l) (joined-same (entry_of t c (z ++ b)) (entry_of t c z) t.joint n same)
+
+-- it is the text that stands where the stream has so many whole fields
+pub begun_of-stood : (t : Texts) (c : Setup) (z : List ℕ) (n : ℕ) → fields_of c z ≡ n → begun_of t c z ≡ stood t c z n
+unfolding begun_of stood
+begun_of-stood t c z n e = ap (λ k. t.head c ++ join_by (entry_of t c z) t.joint (range_with_len 0 k)) e

@@ -1,0 +1,54 @@
+-- The report of `show` (this project's own): a head line, four lines a whole field, and a last line; lists of ASCII codes.
+use Rattle.std.specs.Prelude.{ℕ, ◌+◌, List, [], ◌∷◌, ◌++◌, ◌==◌, if◌then◌else◌, codes, decimal, Option, Some, None}
+use Rattle.vbi_words.specs.declared.system.System.{System}
+use Rattle.vbi_words.specs.declared.outcome.Outcome.{Outcome}
+use Rattle.vbi_words.specs.declared.outcome.Outcome.TheVariants.{Word}
+use Rattle.vbi_words.specs.declared.format.Format.{Format}
+use Rattle.vbi_words.specs.declared.format.Format.TheVariants.{Cav, Clv, Both, Neither}
+use Rattle.vbi_words.specs.Geometry.{name_of, width_of, height_of}
+use Rattle.vbi_words.specs.Levels.{Slicing}
+use Rattle.vbi_words.specs.CodeTable.{code_of, format_of_lines}
+use Rattle.vbi_field.specs.declared.readings.FieldReadings.{FieldReadings}
+use Rattle.vbi_field.specs.CodeTexts.{hex_text_of, code_text_of}
+use Rattle.vbi_field.specs.CauseTexts.{cause_text_of}
+
+-- the first line
+unfoldable pub report_head_of : System → Slicing → List ℕ
+report_head_of system slicing =
+    codes "system " ++ name_of system ++ codes " " ++ decimal (width_of system) ++ codes "x" ++ decimal (height_of system)
+    ++ codes " black " ++ decimal slicing.black ++ codes " white " ++ decimal slicing.white ++ codes "\n"
+
+-- the word of a line, if it has one
+abbrev pub word_of : Outcome → Option ℕ
+word_of (Word word) = Some word
+word_of _ = None
+
+-- a field's words
+abbrev pub words_of : FieldReadings → List (Option ℕ)
+words_of readings = word_of readings.first.outcome ∷ word_of readings.second.outcome ∷ word_of readings.third.outcome ∷ []
+
+-- what a format is called
+abbrev pub format_text_of : Format → List ℕ
+format_text_of Cav = codes "cav"
+format_text_of Clv = codes "clv"
+format_text_of Both = codes "both"
+format_text_of Neither = codes "neither"
+
+-- what stands behind the number of a line: its word and what it says, or why it has none
+unfoldable pub shown_of : Outcome → List ℕ
+shown_of (Word word) = hex_text_of word ++ codes " " ++ code_text_of (code_of word)
+shown_of outcome = codes "none " ++ cause_text_of outcome
+
+-- the four lines of a whole field, from its number and its readings
+unfoldable pub report_entry_of : ℕ → FieldReadings → List ℕ
+report_entry_of number readings =
+    codes "field " ++ decimal number ++ codes " " ++ format_text_of (format_of_lines (words_of readings))
+    ++ codes "\n16 " ++ shown_of readings.first.outcome
+    ++ codes "\n17 " ++ shown_of readings.second.outcome
+    ++ codes "\n18 " ++ shown_of readings.third.outcome ++ codes "\n"
+
+-- the last line, from the number of whole fields and the bytes of a field that was cut; 0 where none was
+unfoldable pub report_tail_of : ℕ → ℕ → List ℕ
+report_tail_of fields cut =
+    codes "fields " ++ decimal fields ++ (if cut == 0 then codes " cut none\n"
+    else codes " cut field " ++ decimal (fields + 1) ++ codes " bytes " ++ decimal cut ++ codes "\n")

@@ -1,0 +1,150 @@
+//! The texts of the document.
+ghost use Rattle.std.specs.Prelude.{◌≡◌, ◌-◌, ◌^◌, ◌<◌};
+ghost use Rattle.vbi_field.specs.Document.{value_of, data_of, causes_of, passes_of, head_of, tail_of};
+ghost use Rattle.vbi_field.specs.Kinds.{document};
+ghost use Rattle.vbi_field.specs.Texts.{piece_of};
+
+use crate::cause_texts::cause_text;
+use crate::config::Config;
+use crate::form::{Form, TEXT_SIZE};
+use crate::numbers::push_number;
+use crate::readings::FieldReadings;
+use arrayvec::ArrayString;
+use vbi_words::Outcome;
+
+/// The document of `extract`.
+pub(crate) struct Document;
+
+impl Form for Document {
+    ghost texts = { document };
+
+    fn head(config: &Config) -> ArrayString<TEXT_SIZE> {
+        head_text(config)
+    }
+
+    fn piece(before: u32, readings: &FieldReadings) -> ArrayString<TEXT_SIZE> {
+        record_text(before, readings)
+    }
+
+    fn tail(fields: u32, rest: u32) -> ArrayString<TEXT_SIZE> {
+        tail_text(fields, rest)
+    }
+}
+
+/// The number of the word, or 0 where there is none.
+fn value(outcome: Outcome) -> u32
+    ensures { result ≡ value_of outcome }
+{
+    match outcome {
+        Outcome::Word(word) => word.value(),
+        _ => 0,
+    }
+}
+
+/// What stands before the first record.
+#[tactic(auto, unfolding(crate::specs::Document::head_of))]
+pub(crate) fn head_text(config: &Config) -> ArrayString<TEXT_SIZE>
+    ensures { result.bytes ≡ head_of config.now }
+{
+    let system = config.system();
+    let levels = config.levels();
+    let mut text = ArrayString::new();
+    text.push_str("{\"version\":2,\"videoParameters\":{\"system\":\"");
+    text.push_str(system.name());
+    text.push_str("\",\"fieldWidth\":");
+    push_number(&mut text, system.width() as u16);
+    text.push_str(",\"fieldHeight\":");
+    push_number(&mut text, system.height() as u16);
+    text.push_str(",\"black16bIre\":");
+    push_number(&mut text, levels.black());
+    text.push_str(",\"white16bIre\":");
+    push_number(&mut text, levels.white());
+    text.push_str("},\"fields\":[\n");
+    text
+}
+
+/// The three words, each its number or 0.
+#[tactic(auto, unfolding(crate::specs::Document::data_of))]
+fn data_text(readings: &FieldReadings) -> ArrayString<56>
+    ensures { result.bytes ≡ data_of readings.now }
+{
+    let mut text = ArrayString::new();
+    text.push_str(",\"vbi\":{\"vbiData\":[");
+    push_number(&mut text, value(readings.first.outcome));
+    text.push_str(",");
+    push_number(&mut text, value(readings.second.outcome));
+    text.push_str(",");
+    push_number(&mut text, value(readings.third.outcome));
+    text.push_str("]}");
+    text
+}
+
+/// The three causes.
+#[tactic(auto, unfolding(crate::specs::Document::causes_of))]
+fn causes_text(readings: &FieldReadings) -> ArrayString<72>
+    ensures { result.bytes ≡ causes_of readings.now }
+{
+    let mut text = ArrayString::new();
+    text.push_str(",\"vbiCause\":[\"");
+    text.push_str(cause_text(readings.first.outcome).as_str());
+    text.push_str("\",\"");
+    text.push_str(cause_text(readings.second.outcome).as_str());
+    text.push_str("\",\"");
+    text.push_str(cause_text(readings.third.outcome).as_str());
+    text.push_str("\"]");
+    text
+}
+
+/// The three passes.
+#[tactic(auto, unfolding(crate::specs::Document::passes_of))]
+fn passes_text(readings: &FieldReadings) -> ArrayString<24>
+    ensures { result.bytes ≡ passes_of readings.now }
+{
+    let mut text = ArrayString::new();
+    text.push_str(",\"vbiPass\":[");
+    push_number(&mut text, readings.first.pass);
+    text.push_str(",");
+    push_number(&mut text, readings.second.pass);
+    text.push_str(",");
+    push_number(&mut text, readings.third.pass);
+    text.push_str("]");
+    text
+}
+
+/// The record of a field that has so many fields before it, after the joint where there are any.
+#[tactic(auto, unfolding(crate::specs::Document::record_of))]
+pub(crate) fn record_text(before: u32, readings: &FieldReadings) -> ArrayString<TEXT_SIZE>
+    requires { before < 2 ^ 32 - 1 }
+    ensures { result.bytes ≡ piece_of document before readings.now }
+{
+    let mut text = ArrayString::new();
+    if before != 0 {
+        text.push_str(",\n");
+    }
+    text.push_str("{\"seqNo\":");
+    push_number(&mut text, before + 1);
+    text.push_str(data_text(readings).as_str());
+    text.push_str(causes_text(readings).as_str());
+    text.push_str(passes_text(readings).as_str());
+    text.push_str("}");
+    text
+}
+
+/// What stands after the last record.
+#[tactic(auto, unfolding(crate::specs::Document::tail_of))]
+pub(crate) fn tail_text(fields: u32, rest: u32) -> ArrayString<TEXT_SIZE>
+    requires { fields < 2 ^ 32 - 1 }
+    ensures { result.bytes ≡ tail_of fields rest }
+{
+    let mut text = ArrayString::new();
+    if rest == 0 {
+        text.push_str("\n],\"cutField\":null}\n");
+        return text;
+    }
+    text.push_str("\n],\"cutField\":{\"seqNo\":");
+    push_number(&mut text, fields + 1);
+    text.push_str(",\"bytes\":");
+    push_number(&mut text, rest);
+    text.push_str("}}\n");
+    text
+}

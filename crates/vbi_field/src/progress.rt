@@ -1,0 +1,103 @@
+//! How far a stream has come, in whole rows.
+ghost use Rattle.std.specs.Prelude.{◌≡◌, ◌+◌, ◌*◌, ◌^◌, ◌↔◌, IsTrue, ◌<◌, ◌≤◌, List, ℕ, length, MatchOption};
+ghost use Rattle.vbi_words.specs.Geometry.{height_of, line_bytes};
+ghost use Rattle.vbi_field.specs.Progress.{Keeps};
+
+use crate::config::Config;
+use crate::readings::FieldReadings;
+use vbi_words::{Outcome, Reading};
+
+/// The number of whole fields, the row of the unfinished one, counted from 0, and its finished readings. No samples.
+#[derive(Clone, Copy, Debug)]
+pub(crate) struct Progress {
+    pub(crate) fields: u32,
+    pub(crate) row: usize,
+    pub(crate) readings: FieldReadings,
+}
+
+/// What stands for the reading of a row that hasn't come, or that isn't asked for.
+pub(crate) fn unread() -> Reading {
+    Reading {
+        outcome: Outcome::Blank,
+        pass: 0,
+    }
+}
+
+/// The same with the reading of a row in its place, if it has one.
+fn with_reading(readings: FieldReadings, row: usize, reading: Reading) -> FieldReadings
+    ensures { Keeps row reading readings result }
+{
+    match row {
+        15 => FieldReadings {
+            first: reading,
+            ..readings
+        },
+        16 => FieldReadings {
+            second: reading,
+            ..readings
+        },
+        17 => FieldReadings {
+            third: reading,
+            ..readings
+        },
+        _ => readings,
+    }
+}
+
+impl Progress {
+    ghost use Rattle.vbi_field.specs.Progress.{IsPosition, IsRowOf, AdvancesOver};
+
+    /// Before the first row.
+    pub(crate) fn new() -> Self
+        ensures fields { result.fields ≡ 0 }
+        ensures row { result.row ≡ 0 }
+    {
+        Progress {
+            fields: 0,
+            row: 0,
+            readings: FieldReadings {
+                first: unread(),
+                second: unread(),
+                third: unread(),
+            },
+        }
+    }
+
+    /// Whether the next row is line 16, 17 or 18.
+    pub(crate) fn is_selected(&self) -> bool
+        ensures { IsTrue result ↔ ((15 ≤ self.now.row) × (self.now.row ≤ 17)) }
+    {
+        15 <= self.row && self.row <= 17
+    }
+
+    /// The bytes of the unfinished field, with those of the unfinished row.
+    pub(crate) fn rest(&self, config: &Config, held: usize) -> u32
+        requires inside { self.now.row < height_of config.now.system }
+        requires held { held ≤ line_bytes config.now.system }
+        ensures { result ≡ self.now.row * line_bytes config.now.system + held }
+    {
+        (self.row * config.line_bytes() + held) as u32
+    }
+
+    /// Takes the reading of the next row, and gives the readings of a field that is whole now.
+    pub(crate) fn advance(&mut self, config: &Config, reading: Reading) -> Option<FieldReadings>
+        requires inside { self.old.row < height_of config.now.system }
+        requires few { self.old.fields ≤ 1000000 }
+        ensures inside { self.new.row < height_of config.now.system }
+        ensures counts { MatchOption result
+            ((self.new.fields ≡ self.old.fields) × (self.new.row ≡ self.old.row + 1))
+            (λ _. (self.new.fields ≡ self.old.fields + 1) × (self.new.row ≡ 0)) }
+        ensures over { (z b : List ℕ) → IsPosition config.now z self.old
+            → IsRowOf config.now b self.old.row reading
+            → AdvancesOver config.now z b self.old result self.new }
+    {
+        self.readings = with_reading(self.readings, self.row, reading);
+        self.row += 1;
+        if self.row < config.system().height() {
+            return None;
+        }
+        self.row = 0;
+        self.fields += 1;
+        Some(self.readings)
+    }
+}

@@ -1,0 +1,21 @@
+-- What a call of `fill_line` keeps from read to read.
+use Rattle.std.proofs.Common.{◌≡◌, ℕ, ◌+◌, ◌*◌, ◌<◌, ◌≤◌, List, ◌++◌, length}
+use Rattle.std.specs.Prelude.{Option}
+use Rattle.std.specs.Io.KnownBytes.{Consumes}
+use Rattle.vbi_words.specs.Geometry.{line_bytes}
+use Rattle.vbi_line.specs.Line.{Keeps}
+use Rattle.vbi_line.specs.Intake.{device_of, failures_of, held_of, IsSameDevice}
+use Rattle.vbi_line.specs.declared.intake.Intake.{Intake}
+
+-- the bytes so far, and the interruptions in a row since the last of them
+pub record Since {R : Type 0} (remaining : R → Option (List ℕ)) (old now : Intake R) (tries : ℕ) : Type 0 where
+  pub bytes : List ℕ
+  pub held : held_of now ≡ held_of old ++ bytes
+  pub consumed : Consumes (remaining (device_of old)) (remaining (device_of now)) bytes
+  pub fetched : now.fetched ≡ old.fetched + length bytes
+  pub least : failures_of old ≤ failures_of now
+  pub most : failures_of now ≤ failures_of old + 16 * length bytes + tries
+  pub few : tries ≤ 16
+  pub kept : Keeps old.line now.line
+  pub same : IsSameDevice old now
+  pub short : length (held_of now) < line_bytes now.line.system

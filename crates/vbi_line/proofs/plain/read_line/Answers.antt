@@ -1,0 +1,8 @@
+use Rattle.std.proofs.Common.{List, Bool, subst}
+use Rattle.vbi_words.specs.Outcomes.{IsOutcome}
+use Rattle.vbi_line.proofs.plain.read_line.Goals as goal
+
+pub returns-clause-outcome : goal.returns-clause-outcome
+returns-clause-outcome c =
+    subst (λ (levels : List Bool). IsOutcome c.args.system levels c.read_packed.result) c.slice_lanes-packed.ensures.levels
+    c.read_packed.ensures.outcome

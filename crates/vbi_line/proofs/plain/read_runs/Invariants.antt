@@ -1,0 +1,18 @@
+use Rattle.std.proofs.Common.{◌≡◌, ◌-◌, ◌<◌, ◌≤◌, length, take}
+use Rattle.vbi_words.specs.Levels.{level_at}
+use Rattle.vbi_words.proofs.Machine.{level_of}
+use Rattle.vbi_words.proofs.Shown.{state_after}
+use Rattle.vbi_line.specs.Progress.{state_of, IsSound, run_of}
+use Rattle.vbi_line.proofs.plain.read_runs.Given as goal
+
+abbrev pub invariant-loop-column : goal.invariant-loop-column
+invariant-loop-column l = record {
+  inside : l.column ≤ length l.packed;
+  state : state_of l.progress ≡ state_after l.system (take l.column l.packed);
+  sound : IsSound l.progress;
+  run : run_of l.progress ≤ l.column;
+  turns : 0 < l.column → l.column < length l.packed → level_at l.packed l.column ≡ level_of (state_of l.progress) → ⊥;
+}
+
+abbrev pub decreases-loop-column : goal.decreases-loop-column
+decreases-loop-column l = length l.packed - l.column

@@ -1,0 +1,13 @@
+use Rattle.std.proofs.Common.{List, Bool, subst}
+use Rattle.vbi_words.specs.Levels.{row_levels}
+use Rattle.vbi_words.specs.Readings.{IsReading}
+use Rattle.vbi_line.proofs.OneReading.{only_reading}
+use Rattle.vbi_line.proofs.twice.read_twice.Goals as goal
+
+pub returns-clause-reading : goal.returns-clause-reading
+returns-clause-reading c =
+    subst (λ (levels : List Bool). IsReading c.args.system levels c.read_both.result) c.slice_lanes-packed.ensures.levels c.read_both.ensures
+
+pub returns-clause-same : goal.returns-clause-same
+returns-clause-same c = only_reading c.args.system (row_levels c.args.levels c.args.line.now.held) c.read_both.result
+    (subst (λ (levels : List Bool). IsReading c.args.system levels c.read_both.result) c.slice_lanes-packed.ensures.levels c.read_both.ensures)

@@ -1,0 +1,15 @@
+use Rattle.std.proofs.Common.{◌-◌, ◌≤◌, length}
+use Rattle.vbi_line.specs.Progress.{state_of, IsSound, run_of}
+use Rattle.vbi_line.proofs.SmoothRuns.{Halfway}
+use Rattle.vbi_line.proofs.twice.smoothed_word.Given as goal
+
+abbrev pub invariant-loop-column : goal.invariant-loop-column
+invariant-loop-column l = record {
+  inside : l.column ≤ length l.packed;
+  halfway : Halfway l.system l.packed l.column l.settled (state_of l.progress);
+  sound : IsSound l.progress;
+  run : run_of l.progress ≤ l.column;
+}
+
+abbrev pub decreases-loop-column : goal.decreases-loop-column
+decreases-loop-column l = length l.packed - l.column

@@ -1,0 +1,26 @@
+-- Levels packed into words of 64 bits (this project's own): the level of column k is bit k mod 64 of word k div 64.
+use Rattle.std.specs.Prelude.{ℕ, ◌≡◌, ◌≢◌, ◌<◌, ◌≤◌, ◌+◌, ◌/◌, ◌%◌, Bool, List, map, nat_eq, slice_index}
+use Rattle.std.specs.List.{range_with_len}
+use Rattle.std.specs.Int.{bit_at}
+
+-- the level that a bit of a word stands for
+abbrev pub level_of_bit : ℕ → ℕ → Bool
+level_of_bit word place = nat_eq (bit_at word place) 1
+
+-- the levels in the lowest bits of a word, the lowest bit first
+abbrev pub levels_in : ℕ → ℕ → List Bool
+levels_in count word = map (level_of_bit word) (range_with_len 0 count)
+
+-- the level of a column
+abbrev pub packed_level : List ℕ → ℕ → Bool
+packed_level words column = level_of_bit (slice_index words (column / 64)) (column % 64)
+
+-- the levels of the first columns
+abbrev pub unpacked : List ℕ → ℕ → List Bool
+unpacked words width = map (packed_level words) (range_with_len 0 width)
+
+-- count bits of the word from a place on are this level, up to another one or up to the word's end
+pub record EqualBits (word place : ℕ) (level : Bool) (count : ℕ) : Type 0 where
+  pub inside : place + count ≤ 64
+  pub each : (i : ℕ) → i < count → level_of_bit word (place + i) ≡ level
+  pub ends : place + count < 64 → level_of_bit word (place + count) ≢ level

@@ -1,0 +1,10 @@
+-- Runs of equal levels in a list of them (this project's own).
+use Rattle.std.specs.Prelude.{ℕ, ◌<◌, ◌≤◌, ◌≡◌, ◌≢◌, ◌+◌, length, Bool, List}
+use Rattle.vbi_words.specs.Levels.{level_at}
+
+-- from the column on there are count levels like this one, and no more
+pub record IsRun (levels : List Bool) (column : ℕ) (level : Bool) (count : ℕ) : Type 0 where
+  pub some : 0 < count
+  pub inside : column + count ≤ length levels
+  pub each : (i : ℕ) → i < count → level_at levels (column + i) ≡ level
+  pub ends : column + count < length levels → level_at levels (column + count) ≢ level

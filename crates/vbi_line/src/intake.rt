@@ -1,0 +1,184 @@
+//! The intake of one line from a reader.
+ghost use Rattle.std.specs.Prelude.{◌≡◌, ◌+◌, ◌*◌, ◌^◌, ◌<◌, ◌≤◌, [], ◌∷◌, length, IfOk, OnErr};
+ghost use Rattle.vbi_words.specs.Geometry.{width_of, line_bytes};
+ghost use Rattle.vbi_words.specs.Levels.{row_levels};
+ghost use Rattle.vbi_words.specs.Outcomes.{IsOutcome};
+ghost use Rattle.vbi_words.specs.Readings.{IsReading};
+ghost use Rattle.vbi_line.specs.Line.{IsFull, KeepsBytes, IsCleared};
+ghost use Rattle.vbi_line.specs.OneOutcome.{outcome_of};
+ghost use Rattle.vbi_line.specs.OneReading.{reading_of};
+
+use crate::counted::{Counted, Fail};
+use crate::line::LineBuf;
+use crate::plain::read_line;
+use crate::twice::read_twice;
+use std::io::Read;
+use vbi_words::{Levels, Outcome, Reading, System};
+
+/// How a call of `fill_line` ended.
+#[derive(Clone, Copy, Debug, PartialEq, Eq)]
+pub enum Filled {
+    /// A whole line is held.
+    Full,
+    /// The reader said its end, with so many bytes held, fewer than a line's.
+    Ended(usize),
+}
+
+/// Why a line wasn't filled.
+#[derive(Clone, Copy, Debug, PartialEq, Eq)]
+pub enum IntakeFault {
+    /// The reader was interrupted seventeen times in a row, or failed in another way.
+    Read,
+}
+
+/// A reader beside the buffer of one line.
+#[derive(Drop)]
+pub struct Intake<'a, R> {
+    device: Counted<'a, R>,
+    line: LineBuf,
+    fetched: u64,
+}
+
+impl<'a, R: Read> Intake<'a, R> {
+    ghost use Rattle.vbi_line.specs.Intake.{device_of, failures_of, fetched_of, held_of, line_of, name_of, IsFresh, Fetches, IsFilled, IsSameDevice, KeepsReader};
+
+    /// An intake of lines of this system, which holds nothing and hasn't asked the reader.
+    pub fn new(reader: &'a mut R, system: System) -> Self
+        ensures same { name_of result ≡ reader.entry.ghost_name }
+        ensures reader { device_of result ≡ reader.old }
+        ensures fresh { IsFresh result system }
+    {
+        Intake {
+            device: Counted::new(reader),
+            line: LineBuf::new(system),
+            fetched: 0,
+        }
+    }
+
+    /// The reader again. A caller that lent it knows by this what the reader is now.
+    pub fn into_reader(self) -> &'a mut R
+        ensures same { result.ghost_name ≡ name_of self.entry }
+        ensures reader { result.now ≡ device_of self.entry }
+    {
+        let Intake {
+            device,
+            line: _,
+            fetched: _,
+        } = self;
+        device.into_inner()
+    }
+
+    /// Reads into the line until it is whole or the reader says its end. An interrupted read is
+    /// tried again at most sixteen times in a row. After `Read` the bytes stay, and a later call
+    /// goes on from there; after `Ended` a later call asks the reader again.
+    pub fn fill_line(&mut self) -> Result<Filled, IntakeFault>
+        requires room { length (held_of self.old) < line_bytes (line_of self.old).system }
+        requires fetched { fetched_of self.old ≤ 2 ^ 62 }
+        requires failures { failures_of self.old ≤ 2 ^ 62 }
+        ensures same { IsSameDevice self.old self.new }
+        ensures bytes { Fetches R.remaining self.old self.new }
+        ensures fits { length (held_of self.new) ≤ line_bytes (line_of self.old).system }
+        ensures ok { IfOk result (λ f. IsFilled R.remaining f self.new) }
+        ensures failed { OnErr result (failures_of self.old < failures_of self.new) }
+        ensures short { OnErr result (length (held_of self.new) < line_bytes (line_of self.old).system) }
+    {
+        let mut tries = 0u32;
+        loop {
+            let room = self.line.room();
+            match self.device.read_once(room) {
+                Ok(count) => {
+                    self.line.commit(count);
+                    self.fetched += count as u64;
+                    if self.line.is_full() {
+                        return Ok(Filled::Full);
+                    }
+                    if count == 0 {
+                        return Ok(Filled::Ended(self.line.held()));
+                    }
+                    tries = 0;
+                }
+                Err(Fail::Interrupted) if tries < 16 => tries += 1,
+                Err(_) => return Err(IntakeFault::Read),
+            }
+        }
+    }
+
+    /// The outcome of the line that is held, by one pass over its samples; columns in it are counted from 0.
+    pub fn outcome(&mut self, levels: Levels) -> Outcome
+        requires full { IsFull (line_of self.old) }
+        requires passes { (line_of self.old).cursors ≡ [] }
+        requires looked { (line_of self.old).looked ≤ 2 ^ 61 }
+        ensures outcome { IsOutcome (line_of self.old).system (row_levels levels (held_of self.old)) result }
+        ensures same { result ≡ outcome_of (line_of self.old).system (row_levels levels (held_of self.old)) }
+
+        // One pass has looked at each sample once.
+        ensures reader { KeepsReader self.old self.new }
+        ensures bytes { KeepsBytes (line_of self.old) (line_of self.new) }
+        ensures pass { (line_of self.new).cursors ≡ width_of (line_of self.old).system ∷ [] }
+        ensures looked { (line_of self.new).looked ≡ (line_of self.old).looked + width_of (line_of self.old).system }
+    {
+        let system = self.line.system();
+        read_line(&mut self.line, system, levels)
+    }
+
+    /// The reading of the line that is held: its outcome, or the word that its smoothed levels show.
+    pub fn reading(&mut self, levels: Levels) -> Reading
+        requires full { IsFull (line_of self.old) }
+        requires passes { (line_of self.old).cursors ≡ [] }
+        requires looked { (line_of self.old).looked ≤ 2 ^ 61 }
+        ensures reading { IsReading (line_of self.old).system (row_levels levels (held_of self.old)) result }
+        ensures same { result ≡ reading_of (line_of self.old).system (row_levels levels (held_of self.old)) }
+
+        // One pass has looked at each sample once.
+        ensures reader { KeepsReader self.old self.new }
+        ensures bytes { KeepsBytes (line_of self.old) (line_of self.new) }
+        ensures pass { (line_of self.new).cursors ≡ width_of (line_of self.old).system ∷ [] }
+        ensures looked { (line_of self.new).looked ≡ (line_of self.old).looked + width_of (line_of self.old).system }
+    {
+        let system = self.line.system();
+        read_twice(&mut self.line, system, levels)
+    }
+
+    /// Holds nothing again.
+    pub fn clear_line(&mut self)
+        ensures rest { KeepsReader self.old self.new }
+        ensures line { IsCleared (line_of self.old) (line_of self.new) }
+    {
+        self.line.clear();
+    }
+
+    /// How many bytes are held.
+    pub fn held(&self) -> usize
+        ensures { result ≡ length (held_of self.now) }
+    {
+        self.line.held()
+    }
+
+    /// How many passes over the line were started since it was cleared.
+    pub fn passes(&self) -> usize
+        ensures { result ≡ length (line_of self.now).cursors }
+    {
+        self.line.passes()
+    }
+
+    /// How many bytes the reader gave.
+    pub fn fetched(&self) -> u64
+        ensures { result ≡ fetched_of self.now }
+    {
+        self.fetched
+    }
+
+    /// How often the reader failed, interruptions among them.
+    pub fn failures(&self) -> u64
+        ensures { result ≡ failures_of self.now }
+    {
+        self.device.failures()
+    }
+
+    /// How many samples were looked at.
+    pub fn looked(&self) -> u64
+        ensures { result ≡ (line_of self.now).looked }
+    {
+        self.line.looked()
+    }
+}

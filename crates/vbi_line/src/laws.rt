@@ -1,0 +1,27 @@
+//! Laws over the definitions: each function's contract is one, for every system and list of levels.
+
+ghost use Rattle.std.specs.Prelude.{◌≡◌, List, Bool};
+ghost use Rattle.vbi_words.specs.declared.system.System.{System};
+ghost use Rattle.vbi_words.specs.declared.outcome.Outcome.{Outcome};
+ghost use Rattle.vbi_words.specs.declared.outcome.Reading.{Reading};
+ghost use Rattle.vbi_words.specs.Outcomes.{IsOutcome};
+ghost use Rattle.vbi_words.specs.Readings.{IsReading, reading_from};
+ghost use Rattle.vbi_words.specs.Smooth.{smooth_of};
+ghost use Rattle.vbi_line.specs.OneOutcome.{outcome_of};
+ghost use Rattle.vbi_line.specs.OneReading.{reading_of};
+
+/// A list of levels has one outcome, and only one.
+pub fn one_outcome()
+    ensures is { (system : System) (levels : List Bool) → IsOutcome system levels (outcome_of system levels) }
+    ensures only { (system : System) (levels : List Bool) (outcome : Outcome)
+        → IsOutcome system levels outcome → outcome ≡ outcome_of system levels }
+{}
+
+/// A list of levels has one reading, and only one: that of its own outcome and the outcome of its smoothed levels.
+pub fn one_reading()
+    ensures is { (system : System) (levels : List Bool) → IsReading system levels (reading_of system levels) }
+    ensures only { (system : System) (levels : List Bool) (reading : Reading)
+        → IsReading system levels reading → reading ≡ reading_of system levels }
+    ensures outcomes { (system : System) (levels : List Bool)
+        → reading_of system levels ≡ reading_from (outcome_of system levels) (outcome_of system (smooth_of levels)) }
+{}

@@ -1,0 +1,99 @@
+//! A line's levels as bits.
+
+ghost use Rattle.std.specs.Prelude.{◌≡◌, ◌+◌, ◌^◌, ◌<◌, ◌≤◌, ◌%◌, [], ◌++◌, length};
+ghost use Rattle.vbi_words.specs.Levels.{level_at};
+ghost use Rattle.vbi_line.specs.Packing.{levels_in, EqualBits};
+ghost use Rattle.vbi_line.specs.Runs.{IsRun};
+
+use std::marker::Model;
+
+/// The levels of a line, a bit for each column, set where the sample is high.
+#[derive(Drop)]
+pub struct Packed {
+    words: [u64; 18],
+    width: usize,
+}
+
+impl Model for Packed {
+    ghost use Rattle.std.specs.Prelude.{List, Bool};
+
+    ghost Value = { List Bool };
+
+    ghost use Rattle.vbi_line.specs.PackedView.{packed_levels, IsPacked};
+
+    ghost view = { packed_levels };
+
+    ghost invariant = { IsPacked };
+}
+
+/// How many bits of the word, from a place on, are this level.
+fn equal_bits(word: u64, place: usize, level: bool) -> usize
+    requires { place < 64 }
+    ensures { EqualBits word place level result }
+{
+    let other_bits = if level { !word } else { word };
+    let others = other_bits >> place;
+    if others == 0 {
+        64 - place
+    } else {
+        others.trailing_zeros() as usize
+    }
+}
+
+impl Packed {
+    /// No levels yet.
+    pub(crate) fn new() -> Self
+        ensures { result ≡ [] }
+    {
+        Packed {
+            words: [0; 18],
+            width: 0,
+        }
+    }
+
+    /// Adds the levels in the lowest `count` bits, which fit what is left of the last word.
+    pub(crate) fn push(&mut self, bits: u64, count: usize)
+        requires word { length self.old % 64 + count ≤ 64 }
+        requires room { length self.old + count ≤ 1152 }
+        requires some { 0 < count }
+        requires bits { bits < 2 ^ count }
+        ensures { self.new ≡ self.old ++ levels_in count bits }
+    {
+        let column = self.width;
+        self.words[column / 64] |= bits << (column % 64);
+        self.width = column + count;
+    }
+
+    /// How many columns the line has.
+    pub fn width(&self) -> usize
+        ensures { result ≡ length self.now }
+    {
+        self.width
+    }
+
+    /// The level of a column.
+    pub fn level(&self, column: usize) -> bool
+        requires { column < length self.now }
+        ensures { result ≡ level_at self.now column }
+    {
+        self.words[column / 64] >> (column % 64) & 1 == 1
+    }
+
+    /// The level of a column, and the number of equal levels from there on, the column's own among them.
+    pub fn next_run(&self, column: usize) -> (bool, u16)
+        requires { column < length self.now }
+        ensures { IsRun self.now column result.0 result.1 }
+    {
+        let level = self.level(column);
+        let mut end = column;
+        while end < self.width {
+            let place = end % 64;
+            let equal = equal_bits(self.words[end / 64], place, level);
+            end += equal;
+            if place + equal < 64 {
+                return (level, (end.min(self.width) - column) as u16);
+            }
+        }
+        (level, (self.width - column) as u16)
+    }
+}

@@ -1,0 +1,69 @@
+//! The outcome of a line, by its plain levels.
+
+ghost use Rattle.std.specs.Prelude.{◌≡◌, ◌+◌, ◌^◌, ◌<◌, ◌≤◌, [], ◌∷◌, length};
+ghost use Rattle.vbi_words.specs.Geometry.{width_of};
+ghost use Rattle.vbi_words.specs.Levels.{row_levels};
+ghost use Rattle.vbi_words.specs.Outcomes.{IsOutcome};
+ghost use Rattle.vbi_line.specs.Line.{IsFull, KeepsBytes};
+ghost use Rattle.vbi_line.specs.OneOutcome.{outcome_of};
+
+use crate::lanes::slice_lanes;
+use crate::line::LineBuf;
+use crate::packed::Packed;
+use crate::progress::Progress;
+use vbi_words::{Levels, Outcome, System};
+
+/// The outcome of a line made for the system, by one pass over its samples; columns in it are counted from 0.
+pub fn read_line(line: &mut LineBuf, system: System, levels: Levels) -> Outcome
+    requires full { IsFull line.old }
+    requires system { line.old.system ≡ system }
+    requires passes { line.old.cursors ≡ [] }
+    requires looked { line.old.looked ≤ 2 ^ 61 }
+    ensures outcome { IsOutcome system (row_levels levels line.old.held) result }
+    ensures same { result ≡ outcome_of system (row_levels levels line.old.held) }
+
+    // One pass has looked at each sample once.
+    ensures bytes { KeepsBytes line.old line.new }
+    ensures pass { line.new.cursors ≡ width_of system ∷ [] }
+    ensures looked { line.new.looked ≡ line.old.looked + width_of system }
+{
+    let packed = slice_lanes(line, levels);
+    read_packed(&packed, system)
+}
+
+/// The outcome of a line's levels; columns in it are counted from 0.
+pub fn read_packed(packed: &Packed, system: System) -> Outcome
+    requires { length packed.now ≡ width_of system }
+    ensures outcome { IsOutcome system packed.now result }
+    ensures same { result ≡ outcome_of system packed.now }
+{
+    read_runs(packed, system)
+}
+
+/// The outcome, run by run: each run's level and its number of columns take the reader on by one step.
+fn read_runs(packed: &Packed, system: System) -> Outcome
+    requires { length packed.now < 2 ^ 16 }
+    ensures { IsOutcome system packed.now result }
+{
+    let mut progress = Progress::Lead(0);
+    let mut column: usize = 0;
+    while column < packed.width() {
+        let (level, count) = packed.next_run(column);
+        let count = usize::from(count);
+        match progress.read_run(system, level, count) {
+            Ok(next) => {
+                progress = next;
+                column += count;
+            }
+            Err(lived) => {
+                let at = (column + lived) as u16;
+                return if lived == 0 {
+                    Outcome::Change(at)
+                } else {
+                    Outcome::Hold(at)
+                };
+            }
+        }
+    }
+    progress.end(system)
+}

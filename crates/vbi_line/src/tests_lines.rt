@@ -1,0 +1,194 @@
+//! Lines with their outcomes and readings.
+
+ghost use Rattle.std.specs.Prelude.{◌≡◌, []};
+ghost use Rattle.vbi_line.specs.Line.{IsFull};
+
+use crate::tests_cases::{Case, RUNS, Shape, TURNED, Told, WORDS};
+use crate::{LineBuf, read_line, read_twice};
+use byteorder::{ByteOrder, LittleEndian};
+use vbi_words::{Levels, Outcome, System, Word24, drawn_sample};
+
+/// The levels of the lines below.
+pub(crate) fn levels_of(system: System) -> Levels {
+    match system {
+        System::Ntsc => Levels::new(16384, 51200).unwrap(),
+        System::Pal => Levels::new(16384, 54016).unwrap(),
+    }
+}
+
+pub(crate) fn set(samples: &mut [u16; 1135], from: usize, to: usize, sample: u16) {
+    for column in from..to {
+        if column < 1135 {
+            samples[column] = sample;
+        }
+    }
+}
+
+/// The samples of a line with these levels.
+fn samples_of(case: &Case, levels: Levels) -> [u16; 1135] {
+    let mut samples = [levels.black(); 1135];
+    match case.shape {
+        Shape::Run { low, high } => {
+            set(&mut samples, low, low.saturating_add(high), levels.white());
+        }
+        Shape::Drawn(value) => {
+            for column in 0..case.system.width() {
+                samples[column] = drawn_sample(
+                    case.system,
+                    levels,
+                    Word24::new(value).ok(),
+                    column,
+                );
+            }
+        }
+        Shape::Halves {
+            lows,
+            word: value,
+            first,
+            length,
+        } => {
+            if let Ok(word) = Word24::new(value) {
+                let mut column = lows;
+                for half in first..48 {
+                    let end = column.saturating_add(length);
+                    if word.half(half) {
+                        set(&mut samples, column, end, levels.white());
+                    }
+                    column = end;
+                }
+            }
+        }
+    }
+    for (from, to, high) in case.turned {
+        let sample = if *high {
+            levels.white()
+        } else {
+            levels.black()
+        };
+        set(&mut samples, *from, *to, sample);
+    }
+    samples
+}
+
+/// A buffer that holds a line of these samples.
+pub(crate) fn line_of(system: System, samples: &[u16; 1135]) -> LineBuf
+    ensures system { result.system ≡ system }
+    ensures full { IsFull result }
+    ensures passes { result.cursors ≡ [] }
+    ensures looked { result.looked ≡ 0 }
+{
+    let mut line = LineBuf::new(system);
+    let mut bytes = [0; 2270];
+    LittleEndian::write_u16_into(samples, &mut bytes);
+    let length = 2 * system.width();
+    line.room().copy_from_slice(&bytes[..length]);
+    line.commit(length);
+    line
+}
+
+fn in_numbers(outcome: Outcome) -> Told {
+    match outcome {
+        Outcome::Word(word) => Told::Word(word.value()),
+        Outcome::Blank => Told::Blank,
+        Outcome::Unfinished => Told::Unfinished,
+        Outcome::Change(column) => Told::Change(column),
+        Outcome::Hold(column) => Told::Hold(column),
+    }
+}
+
+/// The outcome of a line of these samples.
+fn plain(system: System, levels: Levels, samples: &[u16; 1135]) -> Told {
+    in_numbers(read_line(&mut line_of(system, samples), system, levels))
+}
+
+/// The reading of a line of these samples, and its pass.
+fn reading(system: System, levels: Levels, samples: &[u16; 1135]) -> (Told, u8) {
+    let reading = read_twice(&mut line_of(system, samples), system, levels);
+    (in_numbers(reading.outcome), reading.pass)
+}
+
+/// Whether the line tells what is expected.
+fn is_told(case: &Case) -> bool {
+    let levels = levels_of(case.system);
+    let samples = samples_of(case, levels);
+    let plain_too = match case.plain {
+        Some(expected) => plain(case.system, levels, &samples) == expected,
+        None => true,
+    };
+    plain_too && reading(case.system, levels, &samples) == case.reading
+}
+
+#[test]
+fn words_are_read(rt: HostRuntime) {
+    for case in &WORDS {
+        let name = case.name;
+        assert!(rt; is_told(case), "{name}");
+    }
+}
+
+#[test]
+fn causes_have_the_first_hopeless_column(rt: HostRuntime) {
+    for (name, system, low, high, told) in RUNS {
+        let case = Case {
+            name,
+            system,
+            shape: Shape::Run { low, high },
+            turned: &[],
+            plain: Some(told),
+            reading: (told, 0),
+        };
+        assert!(rt; is_told(&case), "{name}");
+    }
+}
+
+#[test]
+fn few_turned_columns_are_smoothed_away(rt: HostRuntime) {
+    for case in &TURNED {
+        let name = case.name;
+        assert!(rt; is_told(case), "{name}");
+    }
+}
+
+/// The drawn row of 82CFFF with this sample in its high columns, read by black 16384 and white 51200.
+fn told_of_high(high: u16) -> Option<(Told, (Told, u8))> {
+    let drawn = Levels::new(16384, high).ok()?;
+    let levels = levels_of(System::Ntsc);
+    let mut samples = [16384; 1135];
+    for column in 0..910 {
+        samples[column] = drawn_sample(System::Ntsc, drawn, Word24::new(0x82CFFF).ok(), column);
+    }
+    Some((
+        plain(System::Ntsc, levels, &samples),
+        reading(System::Ntsc, levels, &samples),
+    ))
+}
+
+#[test]
+fn a_sample_midway_is_low(rt: HostRuntime) {
+    assert_eq!(rt; told_of_high(33792), Some((Told::Blank, (Told::Blank, 0))));
+    assert_eq!(rt;
+        told_of_high(33793),
+        Some((Told::Word(0x82CFFF), (Told::Word(0x82CFFF), 1)))
+    );
+}
+
+/// The passes and looks of a line with a high sample in column 0, after `read_line` and, on another, after `read_twice`.
+fn looks_of(system: System) -> [(usize, usize); 2] {
+    let levels = levels_of(system);
+    let mut samples = [levels.black(); 1135];
+    samples[0] = levels.white();
+    let mut plain_line = line_of(system, &samples);
+    read_line(&mut plain_line, system, levels);
+    let mut line = line_of(system, &samples);
+    read_twice(&mut line, system, levels);
+    [
+        (plain_line.passes(), plain_line.looks()),
+        (line.passes(), line.looks()),
+    ]
+}
+
+#[test]
+fn each_reader_makes_one_pass(rt: HostRuntime) {
+    assert_eq!(rt; looks_of(System::Ntsc), [(1, 910), (1, 910)]);
+    assert_eq!(rt; looks_of(System::Pal), [(1, 1135), (1, 1135)]);
+}

@@ -1,0 +1,84 @@
+//! Packed lines.
+
+ghost use Rattle.std.specs.Prelude.{◌≡◌, length};
+ghost use Rattle.vbi_words.specs.Geometry.{width_of};
+
+use crate::tests_lines::{levels_of, line_of, set};
+use crate::{Packed, slice_lanes};
+use vbi_words::{Levels, System};
+
+/// The line of these samples as bits.
+fn packed_of(system: System, levels: Levels, samples: &[u16; 1135]) -> Packed
+    ensures { length result ≡ width_of system }
+{
+    slice_lanes(&mut line_of(system, samples), levels)
+}
+
+/// How many levels are high, and the last of them.
+fn highs_of(packed: &Packed) -> (usize, Option<usize>) {
+    let mut count = 0_usize;
+    let mut last = None;
+    for column in 0..packed.width() {
+        if packed.level(column) {
+            count = count.saturating_add(1);
+            last = Some(column);
+        }
+    }
+    (count, last)
+}
+
+#[test]
+fn the_last_column_alone_is_high(rt: HostRuntime) {
+    for (system, last) in [(System::Ntsc, 909), (System::Pal, 1134)] {
+        let levels = levels_of(system);
+        let mut samples = [levels.black(); 1135];
+        samples[last] = levels.white();
+        let packed = packed_of(system, levels, &samples);
+        assert_eq!(rt; packed.width(), last + 1, "the width");
+        assert_eq!(rt; highs_of(&packed), (1, Some(last)), "one level at {last}");
+    }
+}
+
+#[test]
+fn the_comparison_does_not_wrap(rt: HostRuntime) {
+    for (black, white) in [(65534, 65535), (0, 1)] {
+        let levels = Levels::new(black, white).expect(&rt, "black is below white");
+        let mut samples = [black; 1135];
+        samples[1] = white;
+        let packed = packed_of(System::Ntsc, levels, &samples);
+        assert_eq!(rt; packed.level(0), false, "{black} is low");
+        assert_eq!(rt; packed.level(1), true, "{white} is high");
+    }
+}
+
+#[test]
+fn a_block_needs_sixteen_samples(rt: HostRuntime) {
+    let mut samples = [0; 1135];
+    samples[896] = 1896;
+    let mut line = line_of(System::Ntsc, &samples);
+    line.start_pass();
+    for _ in 0..56 {
+        assert!(rt; line.next_block().is_some());
+    }
+    assert_eq!(rt; line.next_block(), None);
+    assert_eq!(rt; line.next_sample(), Some(1896));
+}
+
+#[test]
+fn runs_go_on_across_words(rt: HostRuntime) {
+    let levels = levels_of(System::Ntsc);
+    let mut samples = [levels.black(); 1135];
+    set(&mut samples, 60, 70, levels.white());
+    let packed = packed_of(System::Ntsc, levels, &samples);
+    for (column, run) in [
+        (0, (false, 60)),
+        (60, (true, 10)),
+        (65, (true, 5)),
+        (70, (false, 840)),
+        (909, (false, 1)),
+    ] {
+        assert_eq!(rt; packed.next_run(column), run, "at column {column}");
+    }
+    let blank = packed_of(System::Pal, levels, &[0; 1135]);
+    assert_eq!(rt; blank.next_run(0), (false, 1135));
+}

@@ -1,0 +1,107 @@
+//! The reading of a line: its outcome, or the word that its smoothed levels show.
+
+ghost use Rattle.std.specs.Prelude.{◌≡◌, ◌+◌, ◌^◌, ◌<◌, ◌≤◌, [], ◌∷◌, length, IfSome, IfNone};
+ghost use Rattle.vbi_words.specs.Geometry.{width_of};
+ghost use Rattle.vbi_words.specs.Levels.{row_levels};
+ghost use Rattle.vbi_words.specs.Readings.{IsReading};
+ghost use Rattle.vbi_words.specs.Shows.{Shows, ShowsNone};
+ghost use Rattle.vbi_words.specs.Smooth.{smooth_of};
+ghost use Rattle.vbi_line.specs.Line.{IsFull, KeepsBytes};
+ghost use Rattle.vbi_line.specs.OneReading.{reading_of};
+
+use crate::lanes::slice_lanes;
+use crate::line::LineBuf;
+use crate::packed::Packed;
+use crate::plain::read_packed;
+use crate::progress::Progress;
+use vbi_words::{Levels, Outcome, Reading, System, Word24};
+
+/// The reading of a line made for the system. Two passes over its samples would be allowed; the levels of one are kept, and the
+/// smoothed levels are made of them.
+pub fn read_twice(line: &mut LineBuf, system: System, levels: Levels) -> Reading
+    requires full { IsFull line.old }
+    requires system { line.old.system ≡ system }
+    requires passes { line.old.cursors ≡ [] }
+    requires looked { line.old.looked ≤ 2 ^ 61 }
+    ensures reading { IsReading system (row_levels levels line.old.held) result }
+    ensures same { result ≡ reading_of system (row_levels levels line.old.held) }
+
+    // One pass has looked at each sample once.
+    ensures bytes { KeepsBytes line.old line.new }
+    ensures pass { line.new.cursors ≡ width_of system ∷ [] }
+    ensures looked { line.new.looked ≡ line.old.looked + width_of system }
+{
+    let packed = slice_lanes(line, levels);
+    read_both(&packed, system)
+}
+
+/// The reading of a line's levels: the smoothed ones are read only where the plain ones show neither a word nor a blank line.
+fn read_both(packed: &Packed, system: System) -> Reading
+    requires { length packed.now ≡ width_of system }
+    ensures { IsReading system packed.now result }
+{
+    let plain = read_packed(packed, system);
+    match plain {
+        Outcome::Word(_) => {
+            Reading {
+                outcome: plain,
+                pass: 1,
+            }
+        }
+        Outcome::Blank => {
+            Reading {
+                outcome: plain,
+                pass: 0,
+            }
+        }
+        Outcome::Unfinished | Outcome::Change(_) | Outcome::Hold(_) => {
+            match smoothed_word(packed, system) {
+                Some(word) => {
+                    Reading {
+                        outcome: Outcome::Word(word),
+                        pass: 2,
+                    }
+                }
+                None => {
+                    Reading {
+                        outcome: plain,
+                        pass: 0,
+                    }
+                }
+            }
+        }
+    }
+}
+
+/// The word that the smoothed levels show. The first three columns of a run still have the smoothed level before it; a run of
+/// three or fewer columns has no other.
+fn smoothed_word(packed: &Packed, system: System) -> Option<Word24>
+    requires { length packed.now < 2 ^ 16 }
+    ensures some { IfSome result (λ w. Shows system (smooth_of packed.now) w) }
+    ensures none { IfNone result (ShowsNone system (smooth_of packed.now)) }
+{
+    let mut settled = false;
+    let mut progress = Progress::Lead(0);
+    let mut column: usize = 0;
+    while column < packed.width() {
+        let (level, count) = packed.next_run(column);
+        let count = usize::from(count);
+        if count < 4 {
+            match progress.read_run(system, settled, count) {
+                Ok(next) => progress = next,
+                Err(_) => return None,
+            }
+        } else {
+            match progress.read_run(system, settled, 3) {
+                Ok(begun) => match begun.read_run(system, level, count - 3) {
+                    Ok(next) => progress = next,
+                    Err(_) => return None,
+                },
+                Err(_) => return None,
+            }
+            settled = level;
+        }
+        column += count;
+    }
+    progress.word(system)
+}

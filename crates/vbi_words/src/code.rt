@@ -1,0 +1,150 @@
+//! The classes of code words.
+
+ghost use Rattle.std.specs.Prelude.{◌≡◌, ◌↔◌, ◌≤◌, ◌<◌, ◌+◌, ◌-◌, ◌*◌, IsTrue};
+ghost use Rattle.vbi_words.specs.declared.code.Code.{Code};
+ghost use Rattle.vbi_words.specs.CodeTable.{code_of};
+ghost use Rattle.vbi_words.specs.Codes.{digit_of, IsBetween, last_three, HasNumbers, IsCode};
+
+use crate::word::Word24;
+
+/// What a code word says, by its six hexadecimal digits. In a code made by hand the numbers may be any.
+#[derive(Clone, Copy, Debug, PartialEq, Eq)]
+pub enum Code {
+    /// A CAV picture number, of five decimal digits, the first below 8.
+    Picture(u32),
+    /// A chapter number, from 0 to 79.
+    Chapter(u8),
+    /// A CLV time code.
+    Time {
+        /// Hours, from 0 to 9.
+        hours: u8,
+        /// Minutes, from 0 to 99.
+        minutes: u8,
+    },
+    /// A CLV picture number within a minute.
+    ClvPicture {
+        /// Seconds, from 0 to 59.
+        seconds: u8,
+        /// The picture within its second, from 0 to 99.
+        picture: u8,
+    },
+    /// A programme status code with CX noise reduction on: its last three hexadecimal digits.
+    CxOn(u16),
+    /// A programme status code with CX noise reduction off: its last three hexadecimal digits.
+    CxOff(u16),
+    /// A users' code.
+    Users {
+        /// Digit 2 of the word, from 0 to 7.
+        digit: u8,
+        /// The last three hexadecimal digits.
+        number: u16,
+    },
+    /// The lead-in of the disc.
+    LeadIn,
+    /// The lead-out of the disc.
+    LeadOut,
+    /// A picture at which a player may stop.
+    PictureStop,
+    /// The mark of a CLV disc.
+    ClvMark,
+    /// A word of no class above.
+    Other,
+}
+
+/// A number's hexadecimal digit at a place from 1 to 6, of which 1 is the sixth from the right and 6 the last.
+pub fn digit(word: u32, place: u32) -> u8
+    requires low { 1 ≤ place }
+    requires high { place ≤ 6 }
+    ensures digit { result ≡ digit_of word place }
+    ensures range { result < 16 }
+{
+    (word / 16_u32.pow(6 - place) % 16) as u8
+}
+
+/// Whether each digit of the word is from that of `least` to that of `greatest` at its place.
+fn is_between(word: u32, least: u32, greatest: u32) -> bool
+    ensures { IsTrue result ↔ IsBetween least greatest word }
+{
+    for place in 1..7 {
+        let here = digit(word, place);
+        if here < digit(least, place) || digit(greatest, place) < here {
+            return false;
+        }
+    }
+    true
+}
+
+/// The number of the word's last three hexadecimal digits.
+fn three_digits(word: u32) -> u16
+    ensures { result ≡ last_three word }
+{
+    256 * u16::from(digit(word, 4)) + 16 * u16::from(digit(word, 5)) + u16::from(digit(word, 6))
+}
+
+/// The picture number of a picture's word.
+fn picture(word: u32) -> u32
+    ensures { HasNumbers word (Code.Picture result) }
+{
+    10000 * u32::from(digit(word, 2) % 8)
+        + 1000 * u32::from(digit(word, 3))
+        + 100 * u32::from(digit(word, 4))
+        + 10 * u32::from(digit(word, 5))
+        + u32::from(digit(word, 6))
+}
+
+/// The seconds of a CLV picture's word.
+fn seconds(word: u32) -> u8
+    requires { IsBetween 0x8AE000 0x8FE999 word }
+    ensures { result ≡ 10 * (digit_of word 2 - 10) + digit_of word 4 }
+{
+    10 * (digit(word, 2) - 10) + digit(word, 4)
+}
+
+/// The code of the word.
+fn code_of_number(word: u32) -> Code
+    ensures { IsCode word result }
+{
+    if is_between(word, 0x88FFFF, 0x88FFFF) {
+        Code::LeadIn
+    } else if is_between(word, 0x80EEEE, 0x80EEEE) {
+        Code::LeadOut
+    } else if is_between(word, 0xF00000, 0xFF9999) {
+        Code::Picture(picture(word))
+    } else if is_between(word, 0x82CFFF, 0x82CFFF) {
+        Code::PictureStop
+    } else if is_between(word, 0x800DDD, 0x8F9DDD) {
+        Code::Chapter(10 * (digit(word, 2) % 8) + digit(word, 3))
+    } else if is_between(word, 0x87FFFF, 0x87FFFF) {
+        Code::ClvMark
+    } else if is_between(word, 0xF0DD00, 0xF9DD99) {
+        Code::Time {
+            hours: digit(word, 2),
+            minutes: 10 * digit(word, 5) + digit(word, 6),
+        }
+    } else if is_between(word, 0x8AE000, 0x8FE999) {
+        Code::ClvPicture {
+            seconds: seconds(word),
+            picture: 10 * digit(word, 5) + digit(word, 6),
+        }
+    } else if is_between(word, 0x8DC000, 0x8DCFFF) {
+        Code::CxOn(three_digits(word))
+    } else if is_between(word, 0x8BA000, 0x8BAFFF) {
+        Code::CxOff(three_digits(word))
+    } else if is_between(word, 0x80D000, 0x87DFFF) {
+        Code::Users {
+            digit: digit(word, 2),
+            number: three_digits(word),
+        }
+    } else {
+        Code::Other
+    }
+}
+
+/// The one code of the word.
+pub fn classify(word: Word24) -> Code
+    ensures is { IsCode word result }
+    ensures only { (code : Code) → IsCode word code → code ≡ result }
+    ensures value { result ≡ code_of word }
+{
+    code_of_number(word.value())
+}
