@@ -23,7 +23,7 @@ pub record IsWordRow (row : List ℕ) (words : WordRow) : Type 0 where
   pub second_is : IsItem second words.second
   pub third_is : IsItem third words.third
 
--- ---- the same as functions, to which the law `laws::one_word_row` ties them
+-- ---- the same as functions, to which the law `one_word_row` ties them
 
 -- the text is a single -
 abbrev pub is_none_item : List ℕ → Bool
