@@ -134,7 +134,7 @@ struct Ran {
 }
 
 /// Does a job over memory.
-fn ran(alloc: Global, job: &Job, meta: Option<&[u8]>, input: &[u8]) -> Ran {
+fn run_over(alloc: Global, job: &Job, meta: Option<&[u8]>, input: &[u8]) -> Ran {
     let mut rest = input;
     let mut written = Vec::new(alloc);
     let ended = run_job(alloc, job, meta, &mut rest, &mut written);
@@ -146,7 +146,7 @@ fn ran(alloc: Global, job: &Job, meta: Option<&[u8]>, input: &[u8]) -> Ran {
 }
 
 /// Does a job over a reader that fails after these bytes.
-fn ran_broken(alloc: Global, job: &Job, input: &[u8]) -> Ran {
+fn run_broken(alloc: Global, job: &Job, input: &[u8]) -> Ran {
     let mut reader = Breaks { rest: input };
     let mut written = Vec::new(alloc);
     let ended = run_job(alloc, job, None, &mut reader, &mut written);
@@ -158,7 +158,7 @@ fn ran_broken(alloc: Global, job: &Job, input: &[u8]) -> Ran {
 }
 
 /// Does a job over a writer that takes so many bytes and then fails.
-fn ran_full(alloc: Global, job: &Job, input: &[u8], room: usize) -> Ran {
+fn run_full(alloc: Global, job: &Job, input: &[u8], room: usize) -> Ran {
     let mut rest = input;
     let mut writer = Fills {
         taken: Vec::new(alloc),
@@ -183,21 +183,21 @@ fn answers_a_line(rt: HostRuntime) -> Result<(), Fail> {
     let alloc = rt.alloc();
     let stored = job(Verb::Line, STORED);
     let line = stored_line(alloc)?;
-    let ran_line = ran(alloc, &stored, None, line.as_slice());
+    let ran_line = run_over(alloc, &stored, None, line.as_slice());
     assert_eq!(rt; ran_line.ended, Ok(Ended::Whole));
     assert_eq!(rt; ran_line.written.as_slice(), b"82CFFF\n".as_slice());
     assert_eq!(rt; ran_line.left, 0);
 
     // One byte more than a line's is left unread.
     let spaces = alike(alloc, b' ', 1821)?;
-    let ran_line = ran(alloc, &stored, None, spaces.as_slice());
+    let ran_line = run_over(alloc, &stored, None, spaces.as_slice());
     assert_eq!(rt; ran_line.ended, Ok(Ended::Whole));
     assert_eq!(rt; ran_line.written.as_slice(), b"blank\n".as_slice());
     assert_eq!(rt; ran_line.left, 1);
 
     let levels = Levels::new(16384, 54016)?;
     let line = drawn(alloc, System::Pal, levels, Word24::new(0x8A_E012)?)?;
-    let ran_line = ran(alloc, &job(Verb::Line, PAL), None, line.as_slice());
+    let ran_line = run_over(alloc, &job(Verb::Line, PAL), None, line.as_slice());
     assert_eq!(rt; ran_line.ended, Ok(Ended::Whole));
     assert_eq!(rt; ran_line.written.as_slice(), b"8AE012\n".as_slice());
     Ok(())
@@ -208,7 +208,7 @@ fn names_the_faults_of_a_line(rt: HostRuntime) -> Result<(), Fail> {
     let alloc = rt.alloc();
     let stored = job(Verb::Line, STORED);
     let spaces = alike(alloc, b' ', 1819)?;
-    let ran_line = ran(alloc, &stored, None, spaces.as_slice());
+    let ran_line = run_over(alloc, &stored, None, spaces.as_slice());
     let short = AppFault::Short {
         bytes: 1819,
         wanted: 1820,
@@ -216,12 +216,12 @@ fn names_the_faults_of_a_line(rt: HostRuntime) -> Result<(), Fail> {
     assert_eq!(rt; ran_line.ended, Err(short));
     assert!(rt; ran_line.written.is_empty());
 
-    let ran_line = ran_broken(alloc, &stored, b"7 bytes");
+    let ran_line = run_broken(alloc, &stored, b"7 bytes");
     assert_eq!(rt; ran_line.ended, Err(AppFault::ReadLine { offset: 7 }));
     assert!(rt; ran_line.written.is_empty());
 
     let line = stored_line(alloc)?;
-    let ran_line = ran_full(alloc, &stored, line.as_slice(), 3);
+    let ran_line = run_full(alloc, &stored, line.as_slice(), 3);
     assert_eq!(rt; ran_line.ended, Err(AppFault::Write { written: 3 }));
     assert_eq!(rt; ran_line.written.as_slice(), b"82C".as_slice());
     Ok(())
@@ -239,7 +239,7 @@ const UNSETTLED: [(Overrides, Option<&[u8]>, MetaFault); 4] = [
 fn settles_before_it_reads(rt: HostRuntime) {
     for (overrides, meta, fault) in &UNSETTLED {
         for verb in [Verb::Line, Verb::Extract, Verb::Show, Verb::Draw] {
-            let refused = ran(rt.alloc(), &job(verb, *overrides), *meta, b"some bytes");
+            let refused = run_over(rt.alloc(), &job(verb, *overrides), *meta, b"some bytes");
             assert_eq!(rt; refused.ended, Err(AppFault::Meta(*fault)));
             assert_eq!(rt; refused.left, 10);
             assert!(rt; refused.written.is_empty());
@@ -261,12 +261,12 @@ fn extracts_with_metadata(rt: HostRuntime) -> Result<(), Fail> {
     let alloc = rt.alloc();
     let extract = job(Verb::Extract, NONE);
     let field = black_field(alloc, 478_660)?;
-    let whole = ran(alloc, &extract, Some(FULL), field.as_slice());
+    let whole = run_over(alloc, &extract, Some(FULL), field.as_slice());
     assert_eq!(rt; whole.ended, Ok(Ended::Whole));
     assert_eq!(rt; whole.written.as_slice(), BLACK_FIELD.as_bytes());
 
     let field = black_field(alloc, 478_659)?;
-    let cut = ran(alloc, &extract, Some(FULL), field.as_slice());
+    let cut = run_over(alloc, &extract, Some(FULL), field.as_slice());
     assert_eq!(rt; cut.ended, Ok(Ended::CutField));
     Ok(())
 }
@@ -282,12 +282,12 @@ fn names_the_faults_of_a_stream(rt: HostRuntime) -> Result<(), Fail> {
     };
     let extract = job(Verb::Extract, few);
     let field = black_field(alloc, 478_661)?;
-    let too_many = ran(alloc, &extract, None, field.as_slice());
+    let too_many = run_over(alloc, &extract, None, field.as_slice());
     assert_eq!(rt; too_many.ended, Err(AppFault::TooManyFields));
     assert_eq!(rt; too_many.written.len(), 227);
 
     let field = black_field(alloc, 1819)?;
-    let broken = ran_broken(alloc, &extract, field.as_slice());
+    let broken = run_broken(alloc, &extract, field.as_slice());
     let read = AppFault::ReadField {
         field: 1,
         offset: 1819,
@@ -296,7 +296,7 @@ fn names_the_faults_of_a_stream(rt: HostRuntime) -> Result<(), Fail> {
     assert_eq!(rt; broken.written.len(), 135);
 
     let field = black_field(alloc, 478_660)?;
-    let full = ran_full(alloc, &extract, field.as_slice(), 150);
+    let full = run_full(alloc, &extract, field.as_slice(), 150);
     assert_eq!(rt; full.ended, Err(AppFault::Write { written: 150 }));
     assert_eq!(rt; full.written.len(), 150);
     Ok(())
@@ -305,7 +305,7 @@ fn names_the_faults_of_a_stream(rt: HostRuntime) -> Result<(), Fail> {
 #[test]
 fn shows_what_was_drawn(rt: HostRuntime) -> Result<(), Fail> {
     let alloc = rt.alloc();
-    let field = ran(
+    let field = run_over(
         alloc,
         &job(Verb::Draw, NONE),
         Some(FULL),
@@ -315,10 +315,10 @@ fn shows_what_was_drawn(rt: HostRuntime) -> Result<(), Fail> {
     assert_eq!(rt; field.written.len(), 478_660);
     let field = field.written.as_slice();
 
-    let document = ran(alloc, &job(Verb::Extract, NONE), Some(FULL), field);
+    let document = run_over(alloc, &job(Verb::Extract, NONE), Some(FULL), field);
     assert_eq!(rt; document.ended, Ok(Ended::Whole));
     assert_eq!(rt; document.written.as_slice(), DRAWN_FIELD.as_bytes());
-    let report = ran(alloc, &job(Verb::Show, NONE), Some(FULL), field);
+    let report = run_over(alloc, &job(Verb::Show, NONE), Some(FULL), field);
     assert_eq!(rt; report.ended, Ok(Ended::Whole));
     assert_eq!(rt; report.written.as_slice(), REPORT.as_bytes());
     Ok(())
@@ -327,7 +327,7 @@ fn shows_what_was_drawn(rt: HostRuntime) -> Result<(), Fail> {
 #[test]
 fn names_the_faults_of_drawing(rt: HostRuntime) {
     let alloc = rt.alloc();
-    let malformed = ran(
+    let malformed = run_over(
         alloc,
         &job(Verb::Draw, NONE),
         Some(FULL),
@@ -335,10 +335,10 @@ fn names_the_faults_of_drawing(rt: HostRuntime) {
     );
     assert_eq!(rt; malformed.ended, Err(AppFault::Row { number: 1 }));
     assert!(rt; malformed.written.is_empty());
-    let broken = ran_broken(alloc, &job(Verb::Draw, STORED), b"82CFFF - -\n");
+    let broken = run_broken(alloc, &job(Verb::Draw, STORED), b"82CFFF - -\n");
     assert_eq!(rt; broken.ended, Err(AppFault::ReadRow { number: 2 }));
     assert_eq!(rt; broken.written.len(), 478_660);
-    let full = ran_full(alloc, &job(Verb::Draw, STORED), b"82CFFF - -", 1000);
+    let full = run_full(alloc, &job(Verb::Draw, STORED), b"82CFFF - -", 1000);
     assert_eq!(rt; full.ended, Err(AppFault::Write { written: 1000 }));
     assert_eq!(rt; full.written.len(), 1000);
 }
