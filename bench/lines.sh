@@ -9,7 +9,7 @@ work=$(mktemp -d)
 trap 'rm -rf "$work"' EXIT
 mkdir -p "$work/crates/line_bench/src"
 cp -r "$here/../crates/vbi_words" "$here/../crates/vbi_line" "$work/crates/"
-cp "$here/line_bench/main.rt" "$work/crates/line_bench/src/"
+cp "$here/read_line.rattle" "$work/crates/line_bench/src/main.rt"
 printf 'vbi_words:\nvbi_line: vbi_words byteorder\nline_bench: vbi_words vbi_line\n' > "$work/crates.txt"
 rustc -O -o "$work/plain" "$here/plain_lines.rs"
 (cd "$work/crates/line_bench" && rt run > "$work/log" 2>&1) || { cat "$work/log" >&2; exit 1; }
