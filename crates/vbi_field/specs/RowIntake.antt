@@ -36,10 +36,6 @@ module _ {R : Type 0} where
   abbrev pub fetched_of : RowIntake R → ℕ
   fetched_of i = i.fetched
 
-  -- the ghost name of the reference to it, by which a caller knows the reader again
-  abbrev pub name_of : RowIntake R → ℕ
-  name_of i = counted.name_of i.device
-
   -- both speak of the same reader
   abbrev pub IsSameDevice : RowIntake R → RowIntake R → Type 0
   IsSameDevice old new = counted.IsSameDevice old.device new.device
