@@ -1,4 +1,5 @@
-# ldvbi: `make` proves and builds the program, `make test` is the whole gate, `make install PREFIX=DIR` copies it to DIR/bin.
+# ldvbi: `make` proves and builds the program, `make test` is the whole gate, `make install PREFIX=DIR` copies it to DIR/bin,
+# and `make bench` measures it beside plain readers in Rust, for which it needs rustc.
 # The toolchain's command `rt` has to be on the PATH; `make test` needs a C compiler as well (cc, or CC=..).
 
 PREFIX ?= /usr/local
@@ -14,6 +15,10 @@ test: toolchain
 install: ldvbi
 	install -D -m 755 ldvbi $(DESTDIR)$(PREFIX)/bin/ldvbi
 
+bench: ldvbi
+	sh bench/lines.sh
+	python3 bench/stream.py ./ldvbi
+
 clean:
 	rm -f ldvbi
 	rm -rf crates/*/out
@@ -21,4 +26,4 @@ clean:
 toolchain:
 	@command -v rt > /dev/null || { echo "make: the command rt of the Rattle toolchain is not on the PATH" >&2; exit 1; }
 
-.PHONY: test install clean toolchain
+.PHONY: test install bench clean toolchain
