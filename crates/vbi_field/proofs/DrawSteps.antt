@@ -29,7 +29,8 @@ use Rattle.vbi_field.proofs.WordRowLemmas.{rows_of-append, rows_of-line, rows_of
 draw_out-more : (c : Setup) (rows : List WordRow) (words : WordRow) → draw_out c (rows ++ words ∷ []) ≡ draw_out c rows ++ drawn_field_of c words
 unfolding draw_out
 draw_out-more c rows words =
-    flat_map-append (drawn_field_of c) rows (words ∷ []) ∙ ap (λ (l : List ℕ). flat_map (drawn_field_of c) rows ++ l) (append-nil (drawn_field_of c words))
+    flat_map-append (drawn_field_of c) rows (words ∷ [])
+    ∙ ap (λ (l : List ℕ). flat_map (drawn_field_of c) rows ++ l) (append-nil (drawn_field_of c words))
 
 draw_out-none : (c : Setup) → draw_out c [] ≡ []
 unfolding draw_out
@@ -171,7 +172,8 @@ module _ {R W : Type 0} (remaining : R → Option (List ℕ)) (contents : W → 
 
     -- ---- a good row came, and its field is written, whole or in part
 
-    module _ (j : RowIntake R) (b : List ℕ) (words : WordRow) (f : Fetches remaining i j b) (one : rows_of b ≡ b ∷ []) (is : row_words b ≡ Some words) where
+    module _ (j : RowIntake R) (b : List ℕ) (words : WordRow) (f : Fetches remaining i j b)
+        (one : rows_of b ≡ b ∷ []) (is : row_words b ≡ Some words) where
       well_formed_more : AreRows (g.text ++ b) (g.rows ++ words ∷ [])
       well_formed_more = AreRows-more g.text b g.rows words g.well_formed g.ends one is
 
@@ -208,7 +210,8 @@ module _ {R W : Type 0} (remaining : R → Option (List ℕ)) (contents : W → 
           let P : DrawFault → Type 0 = λ x. Draws remaining contents c i0 j o0 p (Err x) in
           subst P (sym e) (stopped p puts rose few)
 
-      module _ (p : Outlet W) (puts : PutsField contents o p (drawn_field_of c words)) (ok : p.written ≡ o.written + length (drawn_field_of c words)) where
+      module _ (p : Outlet W) (puts : PutsField contents o p (drawn_field_of c words))
+          (ok : p.written ≡ o.written + length (drawn_field_of c words)) where
         appended_more : Appends (contents (outlets.device_of o0)) (contents (outlets.device_of p)) (draw_out c (g.rows ++ words ∷ []))
         appended_more =
             let field = drawn_field_of c words in
@@ -281,7 +284,8 @@ module _ {R W : Type 0} (remaining : R → Option (List ℕ)) (contents : W → 
       pub row_failed : (fault : DrawFault) → outlets.failures_of o < outlets.failures_of p → fault ≡ Write p.written
           → Draws remaining contents c i0 j o0 p (Err fault)
       row_failed fault rose e =
-          write_failed j t.bytes words t.fetches (line_one t.bytes t.told.0 t.told.1 t.told.2) (line_is t.bytes t.told.0 words t.told.1 t.told.2 t.told.3)
+          write_failed j t.bytes words t.fetches (line_one t.bytes t.told.0 t.told.1 t.told.2)
+          (line_is t.bytes t.told.0 words t.told.1 t.told.2 t.told.3)
           p fault puts rose e few
 
       pub row_drawn : (line : List ℕ) → p.written ≡ o.written + length (drawn_field_of c words) → outlets.IsSameDevice o p
@@ -295,11 +299,13 @@ module _ {R W : Type 0} (remaining : R → Option (List ℕ)) (contents : W → 
       pub last_row_failed : (fault : DrawFault) → outlets.failures_of o < outlets.failures_of p → fault ≡ Write p.written
           → Draws remaining contents c i0 j o0 p (Err fault)
       last_row_failed fault rose e =
-          write_failed j t.bytes words t.fetches (rows_of-part t.bytes t.told.0 t.told.1) (row_words-part t.bytes t.told.0 ∙ t.told.2) p fault puts rose e few
+          write_failed j t.bytes words t.fetches (rows_of-part t.bytes t.told.0 t.told.1) (row_words-part t.bytes t.told.0 ∙ t.told.2)
+          p fault puts rose e few
 
       pub last_row_drawn : p.written ≡ o.written + length (drawn_field_of c words) → DrawsAll remaining contents c i0 j o0 p (done + 1)
       last_row_drawn ok =
-          last_row j t.bytes words t.fetches (rows_of-part t.bytes t.told.0 t.told.1) (row_words-part t.bytes t.told.0 ∙ t.told.2) p puts ok t.told.3 few
+          last_row j t.bytes words t.fetches (rows_of-part t.bytes t.told.0 t.told.1) (row_words-part t.bytes t.told.0 ∙ t.told.2)
+          p puts ok t.told.3 few
 
     -- the reader ended after whole rows, or failed in the next
     pub row_ended : (j : RowIntake R) (t : TakesRow remaining i j Ended) → done ≤ c.max_fields → DrawsAll remaining contents c i0 j o0 o done

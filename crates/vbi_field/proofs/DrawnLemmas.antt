@@ -22,7 +22,8 @@ use Rattle.vbi_field.specs.Drawing.{is_drawn_in, is_drawn_high, drawn_sample_of,
 
 module _ {X : Type 0} (f : ℕ → List X) where
   -- the first and the others
-  pub flat_range_split : (a m n : ℕ) → flat_map f (range_with_len a (m + n)) ≡ flat_map f (range_with_len a m) ++ flat_map f (range_with_len (a + m) n)
+  pub flat_range_split : (a m n : ℕ)
+      → flat_map f (range_with_len a (m + n)) ≡ flat_map f (range_with_len a m) ++ flat_map f (range_with_len (a + m) n)
   flat_range_split a zero n = rw (zero-add n, add-zero a)
   flat_range_split a (suc m) n =
       let e : suc m + n ≡ suc (m + n) = omega arith in
@@ -49,7 +50,8 @@ module _ {X : Type 0} (f : ℕ → List X) where
 
 -- ---- samples
 
-high_there : (system : System) (word column : ℕ) → list_any (is_drawn_in system word column) (range_with_len 0 48) ≡ true → DrawnHigh system word column
+high_there : (system : System) (word column : ℕ) → list_any (is_drawn_in system word column) (range_with_len 0 48) ≡ true
+    → DrawnHigh system word column
 high_there system word column h =
     let a = Any-from_list_any (is_drawn_in system word column) (range_with_len 0 48) h in
     let inside : a.0 < 48 = omega (arith, a.2, length-range_with_len 0 48) in
@@ -59,7 +61,8 @@ high_there system word column h =
     let ends = and_parts (nat_le (boundary system a.1) column) (nat_lt column (boundary system (a.1 + 1))) both.0 in
     (a.1, omega arith, leb-true (boundary system a.1) column ends.0, ltb-true column (boundary system (a.1 + 1)) ends.1, both.1)
 
-low_there : (system : System) (word column : ℕ) → list_any (is_drawn_in system word column) (range_with_len 0 48) ≡ false → DrawnHigh system word column → ⊥
+low_there : (system : System) (word column : ℕ) → list_any (is_drawn_in system word column) (range_with_len 0 48) ≡ false
+    → DrawnHigh system word column → ⊥
 low_there system word column h d =
     let low : nat_le (boundary system d.0) column ≡ true = le-leb (boundary system d.0) column d.2 in
     let high : nat_lt column (boundary system (d.0 + 1)) ≡ true = lt-ltb column (boundary system (d.0 + 1)) d.3 in
@@ -67,7 +70,8 @@ low_there system word column h d =
     let at : is_drawn_in system word column d.0 ≡ true = rw (low, high, d.4) refl in
     let j : d.0 ≡ get_or (range_with_len 0 48) d.0 0 = sym (zero-add d.0) ∙ sym (get_or-range_with_len 0 48 d.0 0 d.1) in
     let P : ℕ → Type 0 = λ k. is_drawn_in system word column k ≡ true in
-    let any : list_any (is_drawn_in system word column) (range_with_len 0 48) ≡ true = list_any_at (is_drawn_in system word column) (range_with_len 0 48) d.0 0 inside (subst P j at) in
+    let any : list_any (is_drawn_in system word column) (range_with_len 0 48) ≡ true
+    = list_any_at (is_drawn_in system word column) (range_with_len 0 48) d.0 0 inside (subst P j at) in
     cc
 
 sample_by : (c : Setup) (word column s : ℕ) (b : Bool) → list_any (is_drawn_in c.system word column) (range_with_len 0 48) ≡ b
@@ -142,7 +146,8 @@ Drawn-more c word line column s d inside is =
       drawn =
           ap (λ (k : ℕ). take k (set once (2 * column + 1) (s / 256))) e
           ∙ take_more_set once (2 * column + 1) (s / 256) (omega arith)
-          ∙ ap (λ (l : List ℕ). l ++ s / 256 ∷ []) (take_more_set line (2 * column) (s % 256) (omega arith) ∙ ap (λ (l : List ℕ). l ++ s % 256 ∷ []) d.drawn)
+          ∙ ap (λ (l : List ℕ). l ++ s / 256 ∷ []) (take_more_set line (2 * column) (s % 256) (omega arith)
+          ∙ ap (λ (l : List ℕ). l ++ s % 256 ∷ []) d.drawn)
           ∙ append_assoc (columns_of c word column) (s % 256 ∷ []) (s / 256 ∷ [])
           ∙ ap (λ (v : ℕ). columns_of c word column ++ sample_bytes v) is
           ∙ sym (flat_range_more (λ k. sample_bytes (drawn_sample_of c word k)) column);
@@ -163,8 +168,12 @@ no_word words r a b c = grind (arith, nat_tests)
 
 -- a row that is as the row before
 pub same_word : (words : WordRow) (r : ℕ) → (r < 15) ⊎ (18 < r) → word_at words (r - 1) ≡ word_at words r
-same_word words r (inl l) = no_word words (r - 1) (omega arith) (omega arith) (omega arith) ∙ sym (no_word words r (omega arith) (omega arith) (omega arith))
-same_word words r (inr l) = no_word words (r - 1) (omega arith) (omega arith) (omega arith) ∙ sym (no_word words r (omega arith) (omega arith) (omega arith))
+same_word words r (inl l) =
+    no_word words (r - 1) (omega arith) (omega arith) (omega arith)
+    ∙ sym (no_word words r (omega arith) (omega arith) (omega arith))
+same_word words r (inr l) =
+    no_word words (r - 1) (omega arith) (omega arith) (omega arith)
+    ∙ sym (no_word words r (omega arith) (omega arith) (omega arith))
 
 -- ---- fields
 

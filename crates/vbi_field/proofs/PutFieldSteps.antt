@@ -59,7 +59,8 @@ module _ {W : Type 0} (contents : W → Option (List ℕ)) (c : Setup) (words : 
   Putting-more now new before line row p e puts ok same =
       let few = narrow c.system in
       let long = long_line line (word_at words row) e in
-      let joined : lines_of c words (row + 1) ≡ lines_of c words row ++ line = lines_of-more c words row ∙ ap (λ (l : List ℕ). lines_of c words row ++ l) (sym e) in
+      let joined : lines_of c words (row + 1) ≡ lines_of c words row ++ line
+      = lines_of-more c words row ∙ ap (λ (l : List ℕ). lines_of c words row ++ l) (sym e) in
       let longer = ap length joined ∙ length-append (lines_of c words row) line in
       let w = p.written in
       let small = p.small in
@@ -81,7 +82,8 @@ module _ {W : Type 0} (contents : W → Option (List ℕ)) (c : Setup) (words : 
 
   -- the field is written
   pub put_whole : (now : Outlet W) (line : List ℕ) (row : ℕ) → Putting now line row → row ≡ height_of c.system
-      → PutsField contents old now (drawn_field_of c words) × (now.written ≡ old.written + length (drawn_field_of c words)) × (line ≡ drawn_line_of c None)
+      → PutsField contents old now (drawn_field_of c words) × (now.written ≡ old.written + length (drawn_field_of c words))
+      × (line ≡ drawn_line_of c None)
   put_whole now line row p e =
       let whole : lines_of c words row ≡ drawn_field_of c words = ap (lines_of c words) e ∙ lines_of-all c words in
       let all = take_all (length (drawn_field_of c words)) (drawn_field_of c words) (omega arith) in

@@ -105,7 +105,8 @@ items_of (Some a) (Some b) (Some c) words e =
     let same : record { first = a; second = b; third = c } ≡ words = cc in
     subst (AreItems (Some a) (Some b) (Some c)) same (record { first = refl; second = refl; third = refl })
 
-row_from : (row : List ℕ) (words : WordRow) (parts : List (List ℕ)) → join_with_byte 32 parts ≡ row → row_of_parts parts ≡ Some words → IsWordRow row words
+row_from : (row : List ℕ) (words : WordRow) (parts : List (List ℕ)) → join_with_byte 32 parts ≡ row → row_of_parts parts ≡ Some words
+    → IsWordRow row words
 row_from row words [] j e = cc
 row_from row words (a ∷ []) j e = cc
 row_from row words (a ∷ b ∷ []) j e = cc
@@ -154,7 +155,8 @@ row_at [] (first ∷ all) i words e f = cc
 row_at (row ∷ rows) (first ∷ all) zero words e f = (row, let same : row_words row ≡ Some first = cc in let here : first ≡ words = cc in cc)
 row_at (row ∷ rows) (first ∷ all) (suc i) words e f = row_at rows all i words (let rest : map row_words rows ≡ map Some all = cc in rest) f
 
-pub rows_drawable : (text : List ℕ) (rows : List WordRow) (i : ℕ) (words : WordRow) → AreRows text rows → slice_get rows i ≡ Some words → AreDrawable words
+pub rows_drawable : (text : List ℕ) (rows : List WordRow) (i : ℕ) (words : WordRow) → AreRows text rows → slice_get rows i ≡ Some words
+    → AreDrawable words
 rows_drawable text rows i words are e =
     let row = row_at (rows_of text) rows i words are e in
     let is = is_word_row _ words row.1 in

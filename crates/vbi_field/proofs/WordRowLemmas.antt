@@ -35,7 +35,10 @@ cut_at text at e = cut_from text at _ _ refl refl e
 uncut_from : (text : List ℕ) (n : ℕ) (b : Bool) → position_or_len (λ c. c == 32) text ≡ n → nat_lt n (length text) ≡ b
     → cond b (Some n) None ≡ None → parts_of text ≡ text ∷ []
 uncut_from text n true p t e = cc
-uncut_from text n false p t e = slice_split_none (λ c. c == 32) text (All-from_get_or (λ c. (c == 32) ≡ false) text 0 (λ k l. fails_before_first (λ c. c == 32) text k 0 (omega (arith, ltb-false n (length text) t, p, l))))
+uncut_from text n false p t e =
+    slice_split_none (λ c. c == 32) text
+    (All-from_get_or (λ c. (c == 32) ≡ false) text 0
+    (λ k l. fails_before_first (λ c. c == 32) text k 0 (omega (arith, ltb-false n (length text) t, p, l))))
 
 -- without a space there is one part
 pub uncut : (text : List ℕ) → position (λ c. c == 32) text ≡ None → parts_of text ≡ text ∷ []
@@ -149,7 +152,8 @@ cut_cond false c both rows more e some = ap (onto_first c) e ∙ onto_append c r
 
 cut_after : (front more : List ℕ) → rows_of (front ++ 10 ∷ more) ≡ rows_of (front ++ 10 ∷ []) ++ rows_of more
 cut_after [] more = refl
-cut_after (c ∷ cs) more = cut_cond (c == 10) c (rows_of (cs ++ 10 ∷ more)) (rows_of (cs ++ 10 ∷ [])) (rows_of more) (cut_after cs more) (some_after cs)
+cut_after (c ∷ cs) more =
+    cut_cond (c == 10) c (rows_of (cs ++ 10 ∷ more)) (rows_of (cs ++ 10 ∷ [])) (rows_of more) (cut_after cs more) (some_after cs)
 
 -- more text adds rows to whole rows
 pub rows_of-append : (text more : List ℕ) → EndsRow text → rows_of (text ++ more) ≡ rows_of text ++ rows_of more
@@ -185,7 +189,8 @@ pub rows_of-part : (row : List ℕ) → HasNoNewline row → 0 < length row → 
 rows_of-part [] plain some = absurd (omega arith)
 rows_of-part (c ∷ []) plain some = one_cond (c == 10) c
 rows_of-part (c ∷ d ∷ cs) plain some =
-    onto_cond (c == 10) c (d ∷ cs) (rows_of (d ∷ cs)) (plain_first c (d ∷ cs) plain) (rows_of-part (d ∷ cs) (plain_rest c (d ∷ cs) plain) (omega arith))
+    onto_cond (c == 10) c (d ∷ cs) (rows_of (d ∷ cs)) (plain_first c (d ∷ cs) plain)
+    (rows_of-part (d ∷ cs) (plain_rest c (d ∷ cs) plain) (omega arith))
 
 -- the words of a row with its newline, and without
 pub row_words-line : (row : List ℕ) → HasNoNewline row → row_words (row ++ 10 ∷ []) ≡ words_of row
