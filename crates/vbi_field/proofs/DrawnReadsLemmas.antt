@@ -18,7 +18,8 @@ use Rattle.vbi_field.specs.Setup.{Setup}
 use Rattle.vbi_field.specs.Stream.{row_of}
 use Rattle.vbi_field.specs.declared.word_row.WordRow.{WordRow}
 use Rattle.vbi_field.specs.Drawing.{drawn_sample_of, sample_bytes, drawn_line_of, word_at, drawn_field_of, draw_out}
-use Rattle.vbi_field.specs.DrawnReadings.{IsDrawable, AreDrawable, drawn_reading, RowReads, FieldReads}
+use Rattle.vbi_field.specs.DrawnReadings.{IsDrawable, AreDrawable, drawn_reading, drawn_readings}
+use Rattle.vbi_field.specs.ByLines.{RowReads, FieldReads}
 use Rattle.vbi_field.proofs.DrawnLemmas.{IsDrawn-drawn_sample_of, length-drawn_line_of, length-drawn_field_of, lines_of, length-lines_of, lines_of-more, lines_of-split}
 
 -- ---- one line
@@ -108,7 +109,7 @@ row_of-draw_out c rows i r words e inside =
 
 -- the row is read as its word
 row_reads : (c : Setup) (rows : List WordRow) (i r : ℕ) (words : WordRow) → c.levels.black < c.levels.white
-    → slice_get rows i ≡ Some words → r < height_of c.system → IsDrawable (word_at words r) → RowReads c (draw_out c rows) i r (word_at words r)
+    → slice_get rows i ≡ Some words → r < height_of c.system → IsDrawable (word_at words r) → RowReads c (draw_out c rows) i r (drawn_reading (word_at words r))
 row_reads c rows i r words order e inside is =
     let P : List ℕ → Type 0 = λ l. IsReading c.system (levels_of c.levels l) (drawn_reading (word_at words r)) in
     let same = ap samples_of (row_of-draw_out c rows i r words e inside) ∙ samples_of-drawn_line_of c (word_at words r) in
@@ -119,7 +120,7 @@ high Ntsc = lit< tt
 high Pal = lit< tt
 
 pub drawn_field : (c : Setup) (rows : List WordRow) (i : ℕ) (words : WordRow) → c.levels.black < c.levels.white
-    → slice_get rows i ≡ Some words → AreDrawable words → FieldReads c (draw_out c rows) i words
+    → slice_get rows i ≡ Some words → AreDrawable words → FieldReads c (draw_out c rows) i (drawn_readings words)
 drawn_field c rows i words order e are =
     let many = high c.system in
     record {

@@ -40,6 +40,8 @@ pub use word_row::WordRow;
 #[cfg(test)]
 mod test_tapes;
 #[cfg(test)]
+mod tests_circle;
+#[cfg(test)]
 mod tests_draw;
 #[cfg(test)]
 mod tests_extract;

@@ -39,7 +39,7 @@ fn pushed(config: Config, pieces: &[&[u8]], paper: &mut Paper) -> Result<Summary
 }
 
 /// Pushes a stream in pieces of so many bytes and ends it.
-fn chunked(
+pub(crate) fn chunked(
     config: Config,
     stream: &[u8],
     size: usize,
