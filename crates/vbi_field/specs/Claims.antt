@@ -16,7 +16,7 @@ use Rattle.vbi_field.specs.declared.summary.RunFault.TheVariants.{Read, Write, T
 module _ {R : Type 0} where
   -- how many samples were looked at
   abbrev pub looked_of : Intake R → ℕ
-  looked_of i = i.line.looked
+  looked_of i = (intakes.line_of i).looked
 
   -- P of the bytes that the reader has
   abbrev pub Given : (R → Option (List ℕ)) → Intake R → (List ℕ → Type 0) → Type 0

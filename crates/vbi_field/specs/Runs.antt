@@ -23,7 +23,7 @@ module _ (t : Texts) {R W : Type 0} (remaining : R → Option (List ℕ)) (conte
   abbrev pub IsRun : List ℕ → List ℕ → Result Summary RunFault → Type 0
   IsRun z text (Ok s) =
       (text ≡ document_of t c z) × HasEnded × (length z ≤ c.max_fields * field_bytes c.system)
-      × (s.fields ≡ fields_of c z) × (s.cut ≡ cut_of (rest_of c z)) × (s.looked ≡ i.line.looked)
+      × (s.fields ≡ fields_of c z) × (s.cut ≡ cut_of (rest_of c z)) × (s.looked ≡ (intakes.line_of i).looked)
       × (s.looked ≤ 2 * width_of c.system * selected_rows c z) × (s.looked ≤ 6 * width_of c.system * (s.fields + 1))
   IsRun z text (Err (Read field offset)) =
       (text ≡ begun_of t c z) × (field ≡ fields_of c z + 1) × (offset ≡ rest_of c z)
