@@ -21,7 +21,7 @@ use Rattle.vbi_meta.specs.declared.fault.MetaFault.{MetaFault}
 use Rattle.vbi_cli.specs.Drew.{DrewAll, MetTooMany}
 use Rattle.vbi_cli.specs.OneLine.{outcome_read, line_text}
 use Rattle.vbi_cli.specs.declared.fault.AppFault.{AppFault}
-use Rattle.vbi_cli.specs.declared.fault.AppFault.TheVariants.{Meta, ReadField, ReadLine, ReadRow, Write, TooManyFields, Row, Short}
+use Rattle.vbi_cli.specs.declared.fault.AppFault.TheVariants.{Meta, ReadField, ReadRow, Write, TooManyFields, Row, Short}
 use Rattle.vbi_cli.specs.declared.job.Ended.{Ended}
 use Rattle.vbi_cli.specs.declared.job.Ended.TheVariants.{Whole, CutField}
 use Rattle.vbi_cli.specs.declared.words.Verb.{Verb}

@@ -1,10 +1,10 @@
 -- When the bytes of a metadata file are a document, and why they are none (JSON of RFC 8259, in serde_json's reading;
 -- the limits are this project's own).
-use Rattle.std.specs.Prelude.{◌≡◌, ℕ, ◌<◌, ◌≤◌, List, length, Option, Some, IsUtf8}
+use Rattle.std.specs.Prelude.{◌≡◌, ℕ, ◌<◌, ◌≤◌, List, length, Some, IsUtf8}
 use Rattle.serde_json.specs.Data.{Data, depth}
 use Rattle.serde_json.specs.Read.{read}
 use Rattle.vbi_meta.specs.declared.fault.MetaFault.{MetaFault}
-use Rattle.vbi_meta.specs.declared.fault.MetaFault.TheVariants.{TooLarge, NotJson, OutOfMemory, NoVideoParameters, NoSystem, UnknownSystem, SystemsDisagree, NoBlack, BadBlack, NoWhite, BadWhite, LevelsOrder, WidthDiffers, HeightDiffers, BadMaxFields}
+use Rattle.vbi_meta.specs.declared.fault.MetaFault.TheVariants.{TooLarge, NotJson, OutOfMemory}
 
 -- the most bytes of a document
 abbrev pub most_bytes : ℕ

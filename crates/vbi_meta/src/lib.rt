@@ -14,4 +14,6 @@ pub use fault::MetaFault;
 pub use reading::{META_LIMIT, read_meta};
 
 #[cfg(test)]
+mod reading_tests;
+#[cfg(test)]
 mod tests;
