@@ -8,6 +8,7 @@ import os
 import subprocess
 import sys
 import tempfile
+import threading
 import time
 
 LEVELS = ["--system", "NTSC", "--black", "16384", "--white", "51200"]
@@ -15,15 +16,29 @@ FIELD = 478660
 ROUNDS = 5
 
 
+def peak_of(pid):
+    """The peak memory so far of a running program, in kilobytes; 0 where it has ended."""
+    try:
+        with open(f"/proc/{pid}/status", encoding="ascii") as lines:
+            return next((int(line.split()[1]) for line in lines if line.startswith("VmHWM")), 0)
+    except OSError:
+        return 0
+
+
 def timed(command, source=None):
     """Seconds and peak memory in kilobytes of a command, whose output goes nowhere."""
     begin = time.monotonic()
     child = subprocess.Popen(command, stdin=source, stdout=subprocess.DEVNULL)
-    _, status, usage = os.wait4(child.pid, 0)
+    peak = 0
+    watch = threading.Thread(target=child.wait)
+    watch.start()
+    while watch.is_alive():
+        peak = max(peak, peak_of(child.pid))
+        watch.join(0.02)
     spent = time.monotonic() - begin
-    if status != 0:
+    if child.returncode != 0:
         sys.exit(f"bench: {command[0]} failed")
-    return spent, usage.ru_maxrss
+    return spent, peak
 
 
 def piped(command, path):
