@@ -13,7 +13,7 @@ import time
 
 LEVELS = ["--system", "NTSC", "--black", "16384", "--white", "51200"]
 FIELD = 478660
-ROUNDS = 5
+ROUNDS = 9
 
 
 def peak_of(pid):
