@@ -23,24 +23,15 @@ pub(crate) fn unread() -> Reading {
     }
 }
 
-/// The same with the reading of a row in its place, if it has one.
-fn with_reading(readings: FieldReadings, row: usize, reading: Reading) -> FieldReadings
-    ensures { Keeps row reading readings result }
+/// Puts the reading of a row in its place, if it has one.
+fn keep_reading(readings: &mut FieldReadings, row: usize, reading: Reading)
+    ensures { Keeps row reading readings.old readings.new }
 {
     match row {
-        15 => FieldReadings {
-            first: reading,
-            ..readings
-        },
-        16 => FieldReadings {
-            second: reading,
-            ..readings
-        },
-        17 => FieldReadings {
-            third: reading,
-            ..readings
-        },
-        _ => readings,
+        15 => readings.first = reading,
+        16 => readings.second = reading,
+        17 => readings.third = reading,
+        _ => {}
     }
 }
 
@@ -91,7 +82,7 @@ impl Progress {
             → IsRowOf config.now b self.old.row reading
             → AdvancesOver config.now z b self.old result self.new }
     {
-        self.readings = with_reading(self.readings, self.row, reading);
+        keep_reading(&mut self.readings, self.row, reading);
         self.row += 1;
         if self.row < config.system().height() {
             return None;

@@ -164,6 +164,7 @@ impl Progress {
     }
 
     /// After one more level, or `None` where nothing that begins so shows a word.
+    #[inline(always)]
     fn next(self, system: System, level: bool) -> Option<Progress>
         requires sound { IsSound self }
         requires room { run_of self + 1 < 2 ^ 32 }
@@ -300,6 +301,8 @@ impl Progress {
     }
 
     /// After a run of `count` equal levels; or how many of them can be read while a word is still to be hoped for.
+    // Inlined like `next`, so that what is known stays in registers from run to run.
+    #[inline(always)]
     pub(crate) fn read_run(
         self,
         system: System,
