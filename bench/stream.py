@@ -5,74 +5,84 @@ and from a pipe, and of `ldvbi draw` beside `head -c` of zeros into the same sin
 usage: stream.py PROGRAM [FIELDS]"""
 
 import os
+import statistics
 import subprocess
 import sys
 import tempfile
-import threading
 import time
 
 LEVELS = ["--system", "NTSC", "--black", "16384", "--white", "51200"]
 FIELD = 478660
-ROUNDS = 9
+ROUNDS = 25
 
 
-def peak_of(pid):
-    """The peak memory so far of a running program, in kilobytes; 0 where it has ended."""
-    try:
-        with open(f"/proc/{pid}/status", encoding="ascii") as lines:
-            return next((int(line.split()[1]) for line in lines if line.startswith("VmHWM")), 0)
-    except OSError:
-        return 0
+def succeeded(command, status):
+    """Stops the measurement where a command failed."""
+    if status != 0:
+        sys.exit(f"bench: {command[0]} failed")
 
 
 def timed(command, source=None):
-    """Seconds and peak memory in kilobytes of a command, whose output goes nowhere."""
-    begin = time.monotonic()
+    """Seconds of a command, whose output goes nowhere."""
+    begin = time.perf_counter()
     child = subprocess.Popen(command, stdin=source, stdout=subprocess.DEVNULL)
-    peak = 0
-    watch = threading.Thread(target=child.wait)
-    watch.start()
-    while watch.is_alive():
-        peak = max(peak, peak_of(child.pid))
-        watch.join(0.02)
-    spent = time.monotonic() - begin
-    if child.returncode != 0:
-        sys.exit(f"bench: {command[0]} failed")
-    return spent, peak
+    status = child.wait()
+    spent = time.perf_counter() - begin
+    succeeded(command, status)
+    return spent
 
 
 def piped(command, path):
     """The same, fed by `cat` through a pipe."""
     feed = subprocess.Popen(["cat", path], stdout=subprocess.PIPE)
-    answer = timed(command, feed.stdout)
+    spent = timed(command, feed.stdout)
     feed.stdout.close()
     feed.wait()
-    return answer
+    return spent
 
 
 def into_pipe(command):
     """Seconds of a command that writes into `cat` through a pipe."""
     sink = subprocess.Popen(["cat"], stdin=subprocess.PIPE, stdout=subprocess.DEVNULL)
-    begin = time.monotonic()
+    begin = time.perf_counter()
     subprocess.run(command, stdout=sink.stdin, check=True)
     sink.stdin.close()
     sink.wait()
-    return time.monotonic() - begin
+    return time.perf_counter() - begin
+
+
+def peak_memory(command):
+    """Kilobytes of a run at its peak: in all, with its text and the C library's, and of its own, in no file."""
+    child = subprocess.Popen(command, stdout=subprocess.DEVNULL)
+    peak = {"VmHWM": 0, "RssAnon": 0}
+    while child.poll() is None:
+        try:
+            with open(f"/proc/{child.pid}/status", encoding="ascii") as lines:
+                for name, value in (line.split(":", 1) for line in lines):
+                    if name in peak:
+                        peak[name] = max(peak[name], int(value.split()[0]))
+        except OSError:
+            pass
+        time.sleep(0.01)
+    succeeded(command, child.returncode)
+    return f"{peak['VmHWM']} kB, of which {peak['RssAnon']} kB are its own"
 
 
 def compared(name, ours, theirs, size):
-    """Runs both in turn, and prints the best of each. One run after another, so that both see the same machine."""
-    best = [float("inf"), float("inf")]
-    peak = 0
-    ratios = []
-    for _ in range(ROUNDS):
-        spent, memory = ours()
-        other, _ = theirs()
-        best = [min(best[0], spent), min(best[1], other)]
-        ratios.append(spent / other)
-        peak = max(peak, memory)
-    print(f"{name}: {best[0]:.2f} s ({size / best[0] / 1e9:.2f} GB/s), beside {best[1]:.2f} s: ratio of the best "
-          f"{best[0] / best[1]:.3f}, median ratio {sorted(ratios)[ROUNDS // 2]:.3f}, peak memory {peak} kB", flush=True)
+    """Runs both in turn, now the one first and now the other, so that both see the same machine, and prints how their times
+    compare. What to go by is the median of the rounds' ratios: a machine that others share is fast for one run by chance."""
+    rounds = []
+    for number in range(ROUNDS):
+        if number % 2 == 0:
+            rounds.append((ours(), theirs()))
+        else:
+            other = theirs()
+            rounds.append((ours(), other))
+    spent, other = zip(*rounds)
+    ratio = statistics.median(mine / plain for mine, plain in rounds)
+    print(f"{name}: median ratio {ratio:.3f}; medians {statistics.median(spent):.3f} s "
+          f"({size / statistics.median(spent) / 1e9:.2f} GB/s) beside {statistics.median(other):.3f} s; "
+          f"best {min(spent):.3f} s beside {min(other):.3f} s, ratio {min(spent) / min(other):.3f}", flush=True)
 
 
 def main():
@@ -95,9 +105,11 @@ def main():
         extract = [program, "extract", *LEVELS]
         compared("extract from a file", lambda: timed([*extract, stream]), lambda: timed([plain, stream]), size)
         compared("extract from a pipe", lambda: piped(extract, stream), lambda: piped([plain], stream), size)
+        print(f"peak memory of extract: {peak_memory([*extract, stream])}; of the plain reader: {peak_memory([plain, stream])}",
+              flush=True)
         draw = [program, "draw", *LEVELS, words]
         zeros = ["head", "-c", str(size), "/dev/zero"]
-        compared("draw into a pipe", lambda: (into_pipe(draw), 0), lambda: (into_pipe(zeros), 0), size)
+        compared("draw into a pipe", lambda: into_pipe(draw), lambda: into_pipe(zeros), size)
 
 
 if __name__ == "__main__":
