@@ -166,12 +166,12 @@ half_high w i l odd =
     ∙ bit_read 24 w (i / 2) (omega arith)
 
 -- as the code reads them
-module _ (w value p i : ℕ) (within : i < 48) (same : value ≡ w) (power : p ≡ 2 ^ (23 - i / 2)) where
-  read : eqb (value / p % 2) 1 ≡ eqb (bit_at w (23 - i / 2)) 1
-  read = ap (λ (x : ℕ). eqb (x / p % 2) 1) same ∙ ap (λ (x : ℕ). eqb (w / x % 2) 1) power
+module _ (w value i : ℕ) (within : i < 48) (same : value ≡ w) where
+  read : eqb (value / 2 ^ (23 - i / 2) % 2) 1 ≡ eqb (bit_at w (23 - i / 2)) 1
+  read = ap (λ (x : ℕ). eqb (x / 2 ^ (23 - i / 2) % 2) 1) same
 
-  pub half_even : i % 2 ≡ 0 → not (eqb (value / p % 2) 1) ≡ get_or (flat_map cell_of (lowest_bits 24 w)) i false
+  pub half_even : i % 2 ≡ 0 → not (eqb (value / 2 ^ (23 - i / 2) % 2) 1) ≡ get_or (flat_map cell_of (lowest_bits 24 w)) i false
   half_even even = ap not read ∙ sym (half_low w i within even)
 
-  pub half_odd : (i % 2 ≡ 0 → ⊥) → eqb (value / p % 2) 1 ≡ get_or (flat_map cell_of (lowest_bits 24 w)) i false
+  pub half_odd : (i % 2 ≡ 0 → ⊥) → eqb (value / 2 ^ (23 - i / 2) % 2) 1 ≡ get_or (flat_map cell_of (lowest_bits 24 w)) i false
   half_odd odd = read ∙ sym (half_high w i within odd)

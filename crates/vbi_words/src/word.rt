@@ -59,7 +59,7 @@ impl Word24 {
         requires { i < 48 }
         ensures { result ≡ slice_index_or (halves_of self) i false }
     {
-        let one = self.value / 2_u32.pow(23 - i as u32 / 2) % 2 == 1;
+        let one = (self.value >> (23 - i / 2)) % 2 == 1;
         if i % 2 == 0 { !one } else { one }
     }
 }
