@@ -230,18 +230,18 @@ code_of_is word = first_has (IsCode word) word (rows_of word) (
 ) other
   where
     other : Each (λ row. Fits word row → ⊥) (rows_of word) → (code : Code) → HasPattern word code → ⊥
-    other none LeadIn x = none.0 x
-    other none LeadOut x = none.1.0 x
-    other none (Picture n) x = none.1.1.0 x
-    other none PictureStop x = none.1.1.1.0 x
-    other none (Chapter n) x = none.1.1.1.1.0 x
-    other none ClvMark x = none.1.1.1.1.1.0 x
-    other none (Time h m) x = none.1.1.1.1.1.1.0 x
-    other none (ClvPicture s p) x = none.1.1.1.1.1.1.1.0 x
-    other none (CxOn n) x = none.1.1.1.1.1.1.1.1.0 x
-    other none (CxOff n) x = none.1.1.1.1.1.1.1.1.1.0 x
-    other none (Users d n) x = none.1.1.1.1.1.1.1.1.1.1.0 x
-    other none Other x = x
+    other unfit LeadIn x = unfit.0 x
+    other unfit LeadOut x = unfit.1.0 x
+    other unfit (Picture n) x = unfit.1.1.0 x
+    other unfit PictureStop x = unfit.1.1.1.0 x
+    other unfit (Chapter n) x = unfit.1.1.1.1.0 x
+    other unfit ClvMark x = unfit.1.1.1.1.1.0 x
+    other unfit (Time h m) x = unfit.1.1.1.1.1.1.0 x
+    other unfit (ClvPicture s p) x = unfit.1.1.1.1.1.1.1.0 x
+    other unfit (CxOn n) x = unfit.1.1.1.1.1.1.1.1.0 x
+    other unfit (CxOff n) x = unfit.1.1.1.1.1.1.1.1.1.0 x
+    other unfit (Users d n) x = unfit.1.1.1.1.1.1.1.1.1.1.0 x
+    other unfit Other x = x
 
 pub only_code_of : (word : ℕ) (code : Code) → IsCode word code → code ≡ code_of word
 only_code_of word code x = one_code word code (code_of word) x (code_of_is word)
