@@ -1,13 +1,13 @@
 -- What a user reads of a run (this project's own). The claims on bytes hold where the reader and the writer tell theirs, as those
 -- over memory do: z is then the list of the bytes that the reader had, or of those that were fetched.
-use Rattle.std.specs.Prelude.{◌≡◌, ℕ, ◌+◌, ◌*◌, ◌<◌, ◌⊎◌, ⊤, List, length, take, Option, IfSome}
+use Rattle.std.specs.Prelude.{◌≡◌, ℕ, ◌+◌, ◌*◌, ◌<◌, ◌≤◌, ◌⊎◌, ⊤, List, length, take, Option, IfSome}
 use Rattle.std.specs.Io.KnownBytes.{Appends, IsAtEnd}
 use Rattle.vbi_words.specs.Geometry.{field_bytes}
 use Rattle.vbi_line.specs.Intake as intakes
 use Rattle.vbi_line.specs.declared.intake.Intake.{Intake}
 use Rattle.vbi_field.specs.Outlet as outlets
 use Rattle.vbi_field.specs.Setup.{Setup}
-use Rattle.vbi_field.specs.Stream.{fields_of, rest_of}
+use Rattle.vbi_field.specs.Stream.{fields_in, rest_in}
 use Rattle.vbi_field.specs.Texts.{Texts, begun_of, document_of}
 use Rattle.vbi_field.specs.declared.outlet.Outlet.{Outlet}
 use Rattle.vbi_field.specs.declared.summary.RunFault.{RunFault}
@@ -22,17 +22,23 @@ module _ {R : Type 0} where
   abbrev pub Given : (R → Option (List ℕ)) → Intake R → (List ℕ → Type 0) → Type 0
   Given remaining i P = IfSome (remaining (intakes.device_of i)) P
 
-  -- P of those of the reader's bytes that were fetched, for an intake that was fresh
+  -- P of those of the reader's bytes that were fetched, of which there are as many as the intake counts, for one that was fresh
   abbrev pub GivenFetched : (R → Option (List ℕ)) → Intake R → Intake R → (List ℕ → Type 0) → Type 0
-  GivenFetched remaining old new P = IfSome (remaining (intakes.device_of old)) (λ all. P (take (intakes.fetched_of new) all))
+  GivenFetched remaining old new P =
+      IfSome (remaining (intakes.device_of old)) (λ all. (intakes.fetched_of new ≤ length all) × P (take (intakes.fetched_of new) all))
 
   -- the reader has no byte more
   abbrev pub HasEnded : (R → Option (List ℕ)) → Intake R → Type 0
   HasEnded remaining i = IsAtEnd (remaining (intakes.device_of i))
 
--- the writer took this text and nothing else
-abbrev pub Wrote : {W : Type 0} → (W → Option (List ℕ)) → Outlet W → Outlet W → List ℕ → Type 0
-Wrote contents old new text = Appends (contents (outlets.device_of old)) (contents (outlets.device_of new)) text
+module _ {W : Type 0} where
+  -- the writer took this text and nothing else
+  abbrev pub Wrote : (W → Option (List ℕ)) → Outlet W → Outlet W → List ℕ → Type 0
+  Wrote contents old new text = Appends (contents (outlets.device_of old)) (contents (outlets.device_of new)) text
+
+  -- the writer took the first so many bytes of this text and nothing else
+  abbrev pub WroteFirst : (W → Option (List ℕ)) → Outlet W → Outlet W → ℕ → List ℕ → Type 0
+  WroteFirst contents old new count text = (count ≤ length text) × Wrote contents old new (take count text)
 
 -- P of the field and the offset, for a read fault
 abbrev pub IfRead : RunFault → (ℕ → ℕ → Type 0) → Type 0
@@ -61,8 +67,8 @@ module _ (t : Texts) {R W : Type 0} (remaining : R → Option (List ℕ)) (conte
   -- fetched, and the text of the whole fields, without the tail
   pub record StandsAfterRead (field offset : ℕ) : Type 0 where
     pub rose : intakes.failures_of i0 < intakes.failures_of i
-    pub field_of : GivenFetched remaining i0 i (λ z. field ≡ fields_of c z + 1)
-    pub offset_of : GivenFetched remaining i0 i (λ z. offset ≡ rest_of c z)
+    pub field_of : field ≡ fields_in c (intakes.fetched_of i) + 1
+    pub offset_of : offset ≡ rest_in c (intakes.fetched_of i)
     pub begun : GivenFetched remaining i0 i (λ z. Wrote contents o0 o (begun_of t c z))
 
   -- after a write fault: the writer failed in the call, the bytes that it took in all, and that they are the first of the text
@@ -70,10 +76,10 @@ module _ (t : Texts) {R W : Type 0} (remaining : R → Option (List ℕ)) (conte
   pub record StandsAfterWrite (written : ℕ) : Type 0 where
     pub rose : outlets.failures_of o0 < outlets.failures_of o
     pub count : written ≡ outlets.written_of o
-    pub first : GivenFetched remaining i0 i (λ z.
-        Wrote contents o0 o (take written (begun_of t c z)) ⊎ (HasEnded remaining i × Wrote contents o0 o (take written (document_of t c z))))
+    pub first : GivenFetched remaining i0 i (λ z. WroteFirst contents o0 o written (begun_of t c z)
+        ⊎ (HasEnded remaining i × WroteFirst contents o0 o written (document_of t c z)))
 
   -- after too many fields: more bytes came than the fields that are allowed have, and the text of these fields, without the tail
   pub record StandsAfterTooMany : Type 0 where
-    pub more : GivenFetched remaining i0 i (λ z. c.max_fields * field_bytes c.system < length z)
+    pub more : c.max_fields * field_bytes c.system < intakes.fetched_of i
     pub begun : GivenFetched remaining i0 i (λ z. Wrote contents o0 o (begun_of t c (take (c.max_fields * field_bytes c.system) z)))

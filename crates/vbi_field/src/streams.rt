@@ -5,7 +5,7 @@ ghost use Rattle.vbi_line.specs.Intake.{fetched_of, IsFresh, IsSameDevice};
 ghost use Rattle.vbi_field.specs.Claims.{looked_of, Given, HasEnded, Wrote, IfRead, IfWrite, IfTooMany, StandsAfterRead, StandsAfterWrite, StandsAfterTooMany};
 ghost use Rattle.vbi_field.specs.Kinds.{document, report};
 ghost use Rattle.vbi_field.specs.Outlet.{IsFresh as IsFreshOutlet, IsSameDevice as IsSameOutlet};
-ghost use Rattle.vbi_field.specs.Stream.{fields_of, rest_of, cut_of, selected_rows};
+ghost use Rattle.vbi_field.specs.Stream.{fields_in, rest_in, cut_of, selected_in};
 ghost use Rattle.vbi_field.specs.Texts.{document_of};
 
 use crate::config::Config;
@@ -33,15 +33,13 @@ pub fn extract<R: Read, W: Write>(
     // What Ok says: of the text, the summary, and the reader.
     ensures document { OnOk result (Given R.remaining intake.old (λ z.
         Wrote W.contents outlet.old outlet.new (document_of document config.now z))) }
-    ensures fields { IfOk result (λ s. Given R.remaining intake.old (λ z. s.fields ≡ fields_of config.now z)) }
-    ensures cut { IfOk result (λ s. Given R.remaining intake.old (λ z. s.cut ≡ cut_of (rest_of config.now z))) }
+    ensures fields { IfOk result (λ s. s.fields ≡ fields_in config.now (fetched_of intake.new)) }
+    ensures cut { IfOk result (λ s. s.cut ≡ cut_of (rest_in config.now (fetched_of intake.new))) }
     ensures end { OnOk result (HasEnded R.remaining intake.new) }
     ensures fetched { OnOk result (Given R.remaining intake.old (λ z. fetched_of intake.new ≡ length z)) }
-    ensures within { OnOk result (Given R.remaining intake.old (λ z.
-        length z ≤ config.now.max_fields * field_bytes config.now.system)) }
+    ensures within { OnOk result (fetched_of intake.new ≤ config.now.max_fields * field_bytes config.now.system) }
     ensures looked { IfOk result (λ s. s.looked ≡ looked_of intake.new) }
-    ensures looks { IfOk result (λ s. Given R.remaining intake.old (λ z.
-        s.looked ≤ 2 * width_of config.now.system * selected_rows config.now z)) }
+    ensures looks { IfOk result (λ s. s.looked ≤ 2 * width_of config.now.system * selected_in config.now (fetched_of intake.new)) }
     ensures few_looks { IfOk result (λ s. s.looked ≤ 6 * width_of config.now.system * (s.fields + 1)) }
 
     // When each fault comes, and what stands then.
@@ -71,15 +69,13 @@ pub fn show<R: Read, W: Write>(
     // What Ok says: of the text, the summary, and the reader.
     ensures document { OnOk result (Given R.remaining intake.old (λ z.
         Wrote W.contents outlet.old outlet.new (document_of report config.now z))) }
-    ensures fields { IfOk result (λ s. Given R.remaining intake.old (λ z. s.fields ≡ fields_of config.now z)) }
-    ensures cut { IfOk result (λ s. Given R.remaining intake.old (λ z. s.cut ≡ cut_of (rest_of config.now z))) }
+    ensures fields { IfOk result (λ s. s.fields ≡ fields_in config.now (fetched_of intake.new)) }
+    ensures cut { IfOk result (λ s. s.cut ≡ cut_of (rest_in config.now (fetched_of intake.new))) }
     ensures end { OnOk result (HasEnded R.remaining intake.new) }
     ensures fetched { OnOk result (Given R.remaining intake.old (λ z. fetched_of intake.new ≡ length z)) }
-    ensures within { OnOk result (Given R.remaining intake.old (λ z.
-        length z ≤ config.now.max_fields * field_bytes config.now.system)) }
+    ensures within { OnOk result (fetched_of intake.new ≤ config.now.max_fields * field_bytes config.now.system) }
     ensures looked { IfOk result (λ s. s.looked ≡ looked_of intake.new) }
-    ensures looks { IfOk result (λ s. Given R.remaining intake.old (λ z.
-        s.looked ≤ 2 * width_of config.now.system * selected_rows config.now z)) }
+    ensures looks { IfOk result (λ s. s.looked ≤ 2 * width_of config.now.system * selected_in config.now (fetched_of intake.new)) }
     ensures few_looks { IfOk result (λ s. s.looked ≤ 6 * width_of config.now.system * (s.fields + 1)) }
 
     // When each fault comes, and what stands then.
