@@ -5,8 +5,7 @@ ghost use Rattle.vbi_field.specs.CodeTexts.{hex_text_of, code_text_of};
 
 use crate::numbers::{push_hex, push_hex_number, push_number, push_padded};
 use arrayvec::ArrayString;
-use vbi_words::code::digit;
-use vbi_words::{Code, Word24};
+use vbi_words::{Code, Word24, digit};
 
 /// The word in six upper-case hexadecimal digits.
 pub fn hex_text(word: Word24) -> ArrayString<6>

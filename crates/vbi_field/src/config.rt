@@ -81,10 +81,7 @@ impl Config {
         ensures few { result ≤ 313000000 }
         ensures fields { self.now.max_fields ≤ 1000000 }
     {
-        match self.system {
-            System::Ntsc => u64::from(self.max_fields) * 263,
-            System::Pal => u64::from(self.max_fields) * 313,
-        }
+        u64::from(self.max_fields) * self.system.height() as u64
     }
 
     /// The bytes of a line: two a sample.

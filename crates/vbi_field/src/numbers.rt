@@ -6,7 +6,7 @@ ghost use Rattle.vbi_field.specs.CodeTexts.{hex_digit, hex_number, padded};
 
 use arrayvec::ArrayString;
 use itoa::{Buffer, Integer};
-use vbi_words::code::digit;
+use vbi_words::digit;
 
 /// Appends a number in decimal.
 pub(crate) fn push_number<I: Integer, const N: usize>(text: &mut ArrayString<N>, number: I)

@@ -3,10 +3,7 @@ ghost use Rattle.std.specs.Prelude.{◌≡◌, ◌+◌, ◌*◌, ◌^◌, ◌<�
 
 use crate::word_row::{WordRow, read_words};
 use std::io::Read;
-use vbi_line::{Counted, Fail};
-
-/// How often a read is tried that is interrupted each time.
-const TRIES: u32 = 17;
+use vbi_line::{Counted, Fail, RETRIES};
 
 /// The bytes of a row at which it is malformed, whatever follows: a good one has at most 20 before its newline.
 const ROW_LIMIT: usize = 21;
@@ -89,7 +86,7 @@ impl<'a, R: Read> RowIntake<'a, R> {
         ensures { TakesByte R.remaining self.old self.new result }
     {
         let mut byte = [0u8; 1];
-        for _ in 0..TRIES {
+        for _ in 0..=RETRIES {
             match self.device.read_once(&mut byte) {
                 Ok(0) => return ByteCame::Ended,
                 Ok(_) => {

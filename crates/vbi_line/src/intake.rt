@@ -8,7 +8,7 @@ ghost use Rattle.vbi_line.specs.Line.{IsFull, KeepsBytes, IsCleared};
 ghost use Rattle.vbi_line.specs.OneOutcome.{outcome_of};
 ghost use Rattle.vbi_line.specs.OneReading.{reading_of};
 
-use crate::counted::{Counted, Fail};
+use crate::counted::{Counted, Fail, RETRIES};
 use crate::line::LineBuf;
 use crate::plain::read_line;
 use crate::twice::read_twice;
@@ -97,7 +97,7 @@ impl<'a, R: Read> Intake<'a, R> {
                     }
                     tries = 0;
                 }
-                Err(Fail::Interrupted) if tries < 16 => tries += 1,
+                Err(Fail::Interrupted) if tries < RETRIES => tries += 1,
                 Err(_) => return Err(IntakeFault::Read),
             }
         }

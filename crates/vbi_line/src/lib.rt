@@ -24,7 +24,7 @@ mod tests_lines;
 mod tests_packed;
 mod twice;
 
-pub use counted::{Counted, Fail};
+pub use counted::{Counted, Fail, RETRIES};
 pub use intake::{Filled, Intake, IntakeFault};
 pub use lanes::slice_lanes;
 pub use line::LineBuf;

@@ -55,6 +55,42 @@ fn word_of(bits: u32) -> Word24
     Word24::new(bits).unwrap()
 }
 
+/// After a change of level behind a run from the middle of a cell: it was the cell's second half alone, or with it the first half
+/// of a next cell.
+#[tactic(auto, using(crate::proofs::Steps::steps))]
+fn turn_second(system: System, level: bool, run: usize, cells: u32, bits: u32) -> Option<Progress>
+    requires sound { IsSound (Progress.Second level run cells bits) }
+    ensures some { IfSome result (λ r. state_of r ≡ turn_of system (state_of (Progress.Second level run cells bits))) }
+    ensures sound { IfSome result (λ r. IsSound r × (run_of r ≤ 1)) }
+    ensures none { IfNone result (turn_of system (state_of (Progress.Second level run cells bits)) ≡ dead) }
+{
+    if run <= system.half_max() {
+        if run < system.half_min() {
+            None
+        } else if cells < CELLS {
+            Some(Progress::First {
+                level: !level,
+                run: 1,
+                cells,
+                bits,
+            })
+        } else if level {
+            Some(Progress::Tail(bits))
+        } else {
+            None
+        }
+    } else if run >= 2 * system.half_min() && cells < CELLS {
+        Some(Progress::Second {
+            level: !level,
+            run: 1,
+            cells: cells + 1,
+            bits: with_bit(cells, bits, !level),
+        })
+    } else {
+        None
+    }
+}
+
 impl Progress {
     /// The level of the last run.
     fn level(self) -> bool
@@ -130,35 +166,7 @@ impl Progress {
                 run,
                 cells,
                 bits,
-            } => {
-                if run <= system.half_max() {
-                    if run >= system.half_min() {
-                        if cells < CELLS {
-                            Some(Progress::First {
-                                level: !level,
-                                run: 1,
-                                cells,
-                                bits,
-                            })
-                        } else if level {
-                            Some(Progress::Tail(bits))
-                        } else {
-                            None
-                        }
-                    } else {
-                        None
-                    }
-                } else if run >= 2 * system.half_min() && cells < CELLS {
-                    Some(Progress::Second {
-                        level: !level,
-                        run: 1,
-                        cells: cells + 1,
-                        bits: with_bit(cells, bits, !level),
-                    })
-                } else {
-                    None
-                }
-            }
+            } => turn_second(system, level, run, cells, bits),
             Progress::Tail(_) => None,
         }
     }

@@ -5,9 +5,9 @@
 //! has the refusals in the order in which they are tried, `specs/Metadata` what a document is. Only `read_meta` takes memory.
 #![tactic(auto)]
 
-pub mod choosing;
-pub mod fault;
-pub mod reading;
+mod choosing;
+mod fault;
+mod reading;
 
 pub use choosing::{Overrides, settings};
 pub use fault::MetaFault;

@@ -4,20 +4,20 @@
 //! line shows at most one word. No call allocates, and none can fail but by a refusal that its contract names.
 #![tactic(auto)]
 
-pub mod code;
-pub mod drawing;
-pub mod format;
+mod code;
+mod drawing;
+mod format;
 pub mod laws;
-pub mod levels;
-pub mod outcome;
-pub mod system;
+mod levels;
+mod outcome;
+mod system;
 #[cfg(test)]
 mod tests_classes;
 #[cfg(test)]
 mod tests_values;
-pub mod word;
+mod word;
 
-pub use code::{Code, classify};
+pub use code::{Code, classify, digit};
 pub use drawing::drawn_sample;
 pub use format::{Format, format_of};
 pub use levels::{Levels, LevelsFault};
