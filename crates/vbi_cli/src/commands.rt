@@ -38,7 +38,7 @@ const LINE: Texts = Texts {
 const EXTRACT: Texts = Texts {
     name: "extract",
     about: "Writes the words of every field as a JSON document",
-    details: "Writes one JSON document for a TBC stream: for each field its number, the words of its lines 16, 17\nand 18 (vbiData, 0 where a line has none), why a line has none (vbiCause), and whether a word was\nread from the samples as they are or after short glitches were removed (vbiPass, 1 or 2).",
+    details: "Writes one JSON document for a TBC stream: for each field its number, the words of its lines 16, 17\nand 18 (vbiData, 0 where a line has none), why a line has none (vbiCause), and whether a word was\nread from the samples as they are or after short glitches were removed (vbiPass, 1 or 2; 0 for none).",
     input: "The TBC stream; standard input where there is none, or for -",
     example: "Example:\n  ldvbi extract --meta disc.tbc.json disc.tbc > disc.vbi.json\n\nExit status:\n  0  done\n  1  a fault, named in one line on standard error\n  2  the command line was refused\n  3  done, and the last field was cut (cutField has its bytes)",
 };

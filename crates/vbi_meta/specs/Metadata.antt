@@ -17,7 +17,8 @@ pub record IsDocument (bytes : List ℕ) (document : Data) : Type 0 where
   pub reading : read bytes ≡ Some document
   pub nested : depth document ≤ 127
 
--- these bytes give no document for this reason: there are too many, or they are none, or memory (of which no bytes want none)
+-- these bytes give no document for this reason: there are too many, or they are none, or memory was refused, as it can be where
+-- there is a byte at all
 abbrev pub IsUnread : List ℕ → MetaFault → Type 0
 IsUnread bytes TooLarge = most_bytes < length bytes
 IsUnread bytes NotJson = (document : Data) → ¬ IsDocument bytes document

@@ -184,6 +184,7 @@ fn level(
     }
 }
 
+/// The levels, where black is below white.
 #[tactic(auto, unfolding(crate::specs::Settings::order_refusals, crate::specs::Settings::first_refusal))]
 fn ordered(black: u16, white: u16) -> Result<Levels, MetaFault>
     ensures ok { IfOk result (λ l. (first_refusal (order_refusals black white) ≡ None)
@@ -213,6 +214,7 @@ fn check_size(member: Option<&Value>, size: usize, differs: MetaFault) -> Result
     }
 }
 
+/// The settings with the option's limit on fields, or the usual one.
 #[tactic(auto, unfolding(crate::specs::Settings::limit_refusals, crate::specs::Settings::first_refusal))]
 fn config(system: System, levels: Levels, limit: Option<u32>) -> Result<Config, MetaFault>
     ensures ok { IfOk result (λ c. (first_refusal (limit_refusals limit) ≡ None)
