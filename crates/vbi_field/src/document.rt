@@ -43,7 +43,7 @@ fn value(outcome: Outcome) -> u32
 
 /// What stands before the first record.
 #[tactic(auto, unfolding(crate::specs::Document::head_of))]
-pub(crate) fn head_text(config: &Config) -> ArrayString<TEXT_SIZE>
+fn head_text(config: &Config) -> ArrayString<TEXT_SIZE>
     ensures { result.bytes ≡ head_of config.now }
 {
     let system = config.system();
@@ -113,7 +113,7 @@ fn passes_text(readings: &FieldReadings) -> ArrayString<24>
 
 /// The record of a field that has so many fields before it, after the joint where there are any.
 #[tactic(auto, unfolding(crate::specs::Document::record_of))]
-pub(crate) fn record_text(before: u32, readings: &FieldReadings) -> ArrayString<TEXT_SIZE>
+fn record_text(before: u32, readings: &FieldReadings) -> ArrayString<TEXT_SIZE>
     requires { before < 2 ^ 32 - 1 }
     ensures { result.bytes ≡ piece_of document before readings.now }
 {
@@ -132,7 +132,7 @@ pub(crate) fn record_text(before: u32, readings: &FieldReadings) -> ArrayString<
 
 /// What stands after the last record.
 #[tactic(auto, unfolding(crate::specs::Document::tail_of))]
-pub(crate) fn tail_text(fields: u32, rest: u32) -> ArrayString<TEXT_SIZE>
+fn tail_text(fields: u32, rest: u32) -> ArrayString<TEXT_SIZE>
     requires { fields < 2 ^ 32 - 1 }
     ensures { result.bytes ≡ tail_of fields rest }
 {

@@ -1,11 +1,9 @@
 //! A kind of text, as the run writes it.
 ghost use Rattle.std.specs.Prelude.{◌≡◌, ◌-◌, ◌^◌, ◌<◌};
-ghost use Rattle.vbi_field.specs.Kinds.{report};
 ghost use Rattle.vbi_field.specs.Texts.{Texts, piece_of};
 
 use crate::config::Config;
 use crate::readings::FieldReadings;
-use crate::report::{report_entry, report_head, report_tail};
 use arrayvec::ArrayString;
 
 /// The most bytes that one text may have: those of the head, of an entry, or of the tail.
@@ -29,30 +27,4 @@ pub(crate) trait Form {
     fn tail(fields: u32, rest: u32) -> ArrayString<TEXT_SIZE>
         requires { fields < 2 ^ 32 - 1 }
         ensures { result.bytes ≡ texts.tail fields rest };
-}
-
-/// The report of `show`.
-pub(crate) struct Report;
-
-impl Form for Report {
-    ghost texts = { report };
-
-    fn head(config: &Config) -> ArrayString<TEXT_SIZE> {
-        let mut text = ArrayString::new();
-        text.push_str(report_head(config.system(), config.levels()).as_str());
-        text
-    }
-
-    fn piece(before: u32, readings: &FieldReadings) -> ArrayString<TEXT_SIZE> {
-        let mut text = ArrayString::new();
-        text.push_str(report_entry(before + 1, readings).as_str());
-        text
-    }
-
-    fn tail(fields: u32, rest: u32) -> ArrayString<TEXT_SIZE> {
-        let cut = if rest == 0 { None } else { Some(rest) };
-        let mut text = ArrayString::new();
-        text.push_str(report_tail(fields, cut).as_str());
-        text
-    }
 }

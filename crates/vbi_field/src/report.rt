@@ -1,19 +1,41 @@
-//! The report of `show`.
+//! The texts of the report.
 
-ghost use Rattle.std.specs.Prelude.{◌≡◌, ◌+◌, ◌-◌, ◌≤◌, ◌<◌, ◌^◌, ◌++◌, unwrap_or, length};
+ghost use Rattle.std.specs.Prelude.{◌≡◌, ◌+◌, ◌-◌, ◌≤◌, ◌<◌, ◌^◌, ◌++◌, length};
 ghost use Rattle.arrayvec.specs.ArrayString.{array_string_len};
+ghost use Rattle.vbi_field.specs.Kinds.{report};
 ghost use Rattle.vbi_field.specs.Report.{report_head_of, report_entry_of, report_tail_of, shown_of, word_of, format_text_of};
 
 use crate::cause_texts::cause_text;
 use crate::code_texts::{code_text, hex_text};
+use crate::config::Config;
+use crate::form::{Form, TEXT_SIZE};
 use crate::numbers::push_number;
 use crate::readings::FieldReadings;
 use arrayvec::ArrayString;
 use vbi_words::{Format, Levels, Outcome, System, Word24, classify, format_of};
 
+/// The report of `show`.
+pub(crate) struct Report;
+
+impl Form for Report {
+    ghost texts = { report };
+
+    fn head(config: &Config) -> ArrayString<TEXT_SIZE> {
+        report_head(config.system(), config.levels())
+    }
+
+    fn piece(before: u32, readings: &FieldReadings) -> ArrayString<TEXT_SIZE> {
+        report_entry(before + 1, readings)
+    }
+
+    fn tail(fields: u32, rest: u32) -> ArrayString<TEXT_SIZE> {
+        report_tail(fields, rest)
+    }
+}
+
 /// The first line: the system, its width and height in samples and lines, and the levels.
 #[tactic(auto, unfolding(crate::specs::Report::report_head_of))]
-pub fn report_head(system: System, levels: Levels) -> ArrayString<64>
+pub(crate) fn report_head(system: System, levels: Levels) -> ArrayString<TEXT_SIZE>
     ensures { result.bytes ≡ report_head_of system levels }
 {
     let mut text = ArrayString::new();
@@ -76,7 +98,7 @@ fn shown_text(outcome: Outcome) -> ArrayString<31>
 
 /// The four lines of the whole field of this number, counted from 1.
 #[tactic(auto, unfolding(crate::specs::Report::report_entry_of))]
-pub fn report_entry(number: u32, readings: &FieldReadings) -> ArrayString<160>
+pub(crate) fn report_entry(number: u32, readings: &FieldReadings) -> ArrayString<TEXT_SIZE>
     ensures { result.bytes ≡ report_entry_of number readings.now }
 {
     let words = [
@@ -99,24 +121,23 @@ pub fn report_entry(number: u32, readings: &FieldReadings) -> ArrayString<160>
     text
 }
 
-/// The last line, from the number of whole fields and the bytes of a last field that was cut.
+/// The last line, from the number of whole fields and the bytes past them, which are those of a cut last field.
 #[tactic(auto, unfolding(crate::specs::Report::report_tail_of))]
-pub fn report_tail(fields: u32, cut: Option<u32>) -> ArrayString<80>
+pub(crate) fn report_tail(fields: u32, rest: u32) -> ArrayString<TEXT_SIZE>
     requires { fields < 2 ^ 32 - 1 }
-    ensures { result.bytes ≡ report_tail_of fields (unwrap_or cut 0) }
+    ensures { result.bytes ≡ report_tail_of fields rest }
 {
-    let bytes = cut.unwrap_or(0);
     let mut text = ArrayString::new();
     text.push_str("fields ");
     push_number(&mut text, fields);
-    if bytes == 0 {
+    if rest == 0 {
         text.push_str(" cut none\n");
         return text;
     }
     text.push_str(" cut field ");
     push_number(&mut text, fields + 1);
     text.push_str(" bytes ");
-    push_number(&mut text, bytes);
+    push_number(&mut text, rest);
     text.push_str("\n");
     text
 }

@@ -10,8 +10,8 @@ ghost use Rattle.vbi_field.specs.Texts.{document_of};
 
 use crate::config::Config;
 use crate::document::Document;
-use crate::form::Report;
 use crate::outlet::Outlet;
+use crate::report::Report;
 use crate::run::run;
 use crate::summary::{RunFault, Summary};
 use std::io::{Read, Write};

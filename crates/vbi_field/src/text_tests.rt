@@ -133,9 +133,9 @@ fn reports_a_field(rt: HostRuntime) -> Result<(), Fail> {
     };
     let causes = "field 4294967295 neither\n16 none blank\n17 none change 34\n18 none blank\n";
     assert_eq!(rt; report_entry(4294967295, &dark).as_str(), causes);
-    assert_eq!(rt; report_tail(1, None).as_str(), "fields 1 cut none\n");
+    assert_eq!(rt; report_tail(1, 0).as_str(), "fields 1 cut none\n");
     assert_eq!(rt;
-        report_tail(0, Some(478659)).as_str(),
+        report_tail(0, 478659).as_str(),
         "fields 0 cut field 1 bytes 478659\n"
     );
     Ok(())
