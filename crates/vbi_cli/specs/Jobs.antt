@@ -18,10 +18,11 @@ use Rattle.vbi_meta.specs.Metadata.{IsDocument, IsUnread}
 use Rattle.vbi_meta.specs.Settings.{IsSettled, IsRefused}
 use Rattle.vbi_meta.specs.declared.choosing.Overrides.{Overrides}
 use Rattle.vbi_meta.specs.declared.fault.MetaFault.{MetaFault}
-use Rattle.vbi_cli.specs.Drew.{DrewAll, MetTooMany}
+use Rattle.vbi_cli.specs.Drew.{DrewAll, MetMalformed, MetTooMany}
 use Rattle.vbi_cli.specs.OneLine.{outcome_read, line_text}
+use Rattle.vbi_cli.specs.Streams.{PassedLimit}
 use Rattle.vbi_cli.specs.declared.fault.AppFault.{AppFault}
-use Rattle.vbi_cli.specs.declared.fault.AppFault.TheVariants.{Meta, ReadField, ReadRow, Write, TooManyFields, Row, Short}
+use Rattle.vbi_cli.specs.declared.fault.AppFault.TheVariants.{Meta, ReadField, ReadLine, ReadRow, Write, TooManyFields, Row, Short}
 use Rattle.vbi_cli.specs.declared.job.Ended.{Ended}
 use Rattle.vbi_cli.specs.declared.job.Ended.TheVariants.{Whole, CutField}
 use Rattle.vbi_cli.specs.declared.words.Verb.{Verb}
@@ -83,12 +84,26 @@ module _ (c : Setup) (input0 input output0 output : Option (List ℕ)) where
   WasShort bytes wanted = (z : List ℕ) × (Consumes input0 input z × (bytes ≡ length z) × (wanted ≡ line_bytes c.system)
       × (bytes < wanted) × IsAtEnd input × Appends output0 output [])
 
-  -- the input goes on past the fields that are allowed
-  abbrev pub HadTooMany : Verb → Type 0
-  HadTooMany Line = ⊥
-  HadTooMany Extract = IfSome input0 (λ z. c.max_fields * field_bytes c.system < length z)
-  HadTooMany Show = IfSome input0 (λ z. c.max_fields * field_bytes c.system < length z)
-  HadTooMany Draw = MetTooMany c input0 input output0 output
+  -- when `extract` and `show` fail, and what stands then
+  abbrev pub StreamFailed : Texts → AppFault → Type 0
+  StreamFailed t TooManyFields = PassedLimit t c input0 input output0 output
+  StreamFailed t (ReadField field offset) = ⊤
+  StreamFailed t (Write written) = ⊤
+  StreamFailed t _ = ⊥
+
+  -- when each command fails, by its fault, and what stands then
+  abbrev pub Failed : Verb → AppFault → Type 0
+  Failed Line (Short bytes wanted) = WasShort bytes wanted
+  Failed Line (ReadLine offset) = ⊤
+  Failed Line (Write written) = ⊤
+  Failed Line _ = ⊥
+  Failed Extract fault = StreamFailed document fault
+  Failed Show fault = StreamFailed report fault
+  Failed Draw (Row number) = MetMalformed c input0 input output0 output number
+  Failed Draw TooManyFields = MetTooMany c input0 input output0 output
+  Failed Draw (ReadRow number) = ⊤
+  Failed Draw (Write written) = ⊤
+  Failed Draw _ = ⊥
 
 -- ---- the faults
 
@@ -97,20 +112,10 @@ abbrev pub IfMeta : AppFault → (MetaFault → Type 0) → Type 0
 IfMeta (Meta fault) P = P fault
 IfMeta _ P = ⊤
 
--- P of the bytes that came and those that were wanted, for a short line
-abbrev pub IfShort : AppFault → (ℕ → ℕ → Type 0) → Type 0
-IfShort (Short bytes wanted) P = P bytes wanted
-IfShort _ P = ⊤
-
--- P, where too many fields came
-abbrev pub IfTooMany : AppFault → Type 0 → Type 0
-IfTooMany TooManyFields P = P
-IfTooMany _ P = ⊤
-
--- P of the row's number, where a row is malformed
-abbrev pub IfRow : AppFault → (ℕ → Type 0) → Type 0
-IfRow (Row number) P = P number
-IfRow _ P = ⊤
+-- P, for every fault but those of metadata and settings
+abbrev pub UnlessMeta : AppFault → Type 0 → Type 0
+UnlessMeta (Meta fault) P = ⊤
+UnlessMeta _ P = P
 
 -- how drawing ended, for the program
 abbrev pub IsDrawnBy : Result ℕ DrawFault → Result Ended AppFault → Type 0

@@ -1,0 +1,21 @@
+-- What `extract` and `show` have done where a fault stops them (this project's own), over the bytes that the input has yet to give
+-- and those that the output has taken, before and after, where they are told; t is the kind of text that the command writes.
+use Rattle.std.specs.Prelude.{ℕ, ◌*◌, ◌<◌, List, length, take, Option, IfSome}
+use Rattle.std.specs.Io.KnownBytes.{Appends}
+use Rattle.vbi_words.specs.Geometry.{field_bytes}
+use Rattle.vbi_field.specs.Setup.{Setup}
+use Rattle.vbi_field.specs.Texts.{Texts, begun_of}
+
+-- how many bytes the fields have that are allowed
+abbrev pub allowed_bytes : Setup → ℕ
+allowed_bytes c = c.max_fields * field_bytes c.system
+
+-- P of the first bytes of the input, so many
+abbrev pub OfFirst : ℕ → Option (List ℕ) → (List ℕ → Type 0) → Type 0
+OfFirst count input P = IfSome input (λ all. P (take count all))
+
+module _ (t : Texts) (c : Setup) (input0 input output0 output : Option (List ℕ)) where
+  -- the input goes on past the fields that are allowed, and the text of these was written, without the tail
+  pub record PassedLimit : Type 0 where
+    pub more : IfSome input0 (λ all. allowed_bytes c < length all)
+    pub begun : OfFirst (allowed_bytes c) input0 (λ z. Appends output0 output (begun_of t c z))
