@@ -20,7 +20,7 @@ use Rattle.vbi_meta.specs.declared.choosing.Overrides.{Overrides}
 use Rattle.vbi_meta.specs.declared.fault.MetaFault.{MetaFault}
 use Rattle.vbi_cli.specs.Drew.{DrewAll, MetMalformed, MetTooMany}
 use Rattle.vbi_cli.specs.OneLine.{outcome_read, line_text}
-use Rattle.vbi_cli.specs.Streams.{PassedLimit}
+use Rattle.vbi_cli.specs.Streams.{PassedLimit, StoppedReading}
 use Rattle.vbi_cli.specs.declared.fault.AppFault.{AppFault}
 use Rattle.vbi_cli.specs.declared.fault.AppFault.TheVariants.{Meta, ReadField, ReadLine, ReadRow, Write, TooManyFields, Row, Short}
 use Rattle.vbi_cli.specs.declared.job.Ended.{Ended}
@@ -87,7 +87,7 @@ module _ (c : Setup) (input0 input output0 output : Option (List ℕ)) where
   -- when `extract` and `show` fail, and what stands then
   abbrev pub StreamFailed : Texts → AppFault → Type 0
   StreamFailed t TooManyFields = PassedLimit t c input0 input output0 output
-  StreamFailed t (ReadField field offset) = ⊤
+  StreamFailed t (ReadField field offset) = StoppedReading t c input0 input output0 output field offset
   StreamFailed t (Write written) = ⊤
   StreamFailed t _ = ⊥
 

@@ -1,9 +1,10 @@
 -- What `extract` and `show` have done where a fault stops them (this project's own), over the bytes that the input has yet to give
 -- and those that the output has taken, before and after, where they are told; t is the kind of text that the command writes.
-use Rattle.std.specs.Prelude.{ℕ, ◌*◌, ◌<◌, List, length, take, Option, IfSome}
+use Rattle.std.specs.Prelude.{◌≡◌, ℕ, ◌+◌, ◌*◌, ◌<◌, List, length, take, Option, IfSome}
 use Rattle.std.specs.Io.KnownBytes.{Appends}
 use Rattle.vbi_words.specs.Geometry.{field_bytes}
 use Rattle.vbi_field.specs.Setup.{Setup}
+use Rattle.vbi_field.specs.Stream.{fields_of, rest_of}
 use Rattle.vbi_field.specs.Texts.{Texts, begun_of}
 
 -- how many bytes the fields have that are allowed
@@ -19,3 +20,10 @@ module _ (t : Texts) (c : Setup) (input0 input output0 output : Option (List ℕ
   pub record PassedLimit : Type 0 where
     pub more : IfSome input0 (λ all. allowed_bytes c < length all)
     pub begun : OfFirst (allowed_bytes c) input0 (λ z. Appends output0 output (begun_of t c z))
+
+  -- the reader failed where this byte of this field was to come, and the text of the whole fields before it was written, without the tail
+  pub record StoppedReading (field offset : ℕ) : Type 0 where
+    pub fetched : ℕ
+    pub field_of : OfFirst fetched input0 (λ z. field ≡ fields_of c z + 1)
+    pub offset_of : OfFirst fetched input0 (λ z. offset ≡ rest_of c z)
+    pub begun : OfFirst fetched input0 (λ z. Appends output0 output (begun_of t c z))
