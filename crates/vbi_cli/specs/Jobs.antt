@@ -1,7 +1,7 @@
 -- What a job does (this project's own): what metadata and options settle, what each command does with it, and when each fault
 -- comes. A reader is seen by the bytes that it has yet to give, and a writer by those that it has taken, where they tell them,
 -- as those over memory do.
-use Rattle.std.specs.Prelude.{◌≡◌, ◌⊎◌, ℕ, ◌*◌, ◌<◌, ◌≤◌, List, [], length, Option, Some, None, Result, Ok, Err, IfSome, ⊤}
+use Rattle.std.specs.Prelude.{◌≡◌, ◌⊎◌, ℕ, ◌*◌, ◌<◌, ◌≤◌, List, [], length, take, Option, Some, None, Result, Ok, Err, IfSome, ⊤}
 use Rattle.std.specs.Io.KnownBytes.{Consumes, Appends, IsAtEnd}
 use Rattle.vbi_words.specs.Geometry.{line_bytes, field_bytes}
 use Rattle.vbi_field.specs.Kinds.{document, report}
@@ -18,9 +18,9 @@ use Rattle.vbi_meta.specs.Metadata.{IsDocument, IsUnread}
 use Rattle.vbi_meta.specs.Settings.{IsSettled, IsRefused}
 use Rattle.vbi_meta.specs.declared.choosing.Overrides.{Overrides}
 use Rattle.vbi_meta.specs.declared.fault.MetaFault.{MetaFault}
-use Rattle.vbi_cli.specs.Drew.{DrewAll, MetMalformed, MetTooMany}
+use Rattle.vbi_cli.specs.Drew.{DrewAll, MetMalformed, MetTooMany, StoppedInRow, StoppedDrawing}
 use Rattle.vbi_cli.specs.OneLine.{outcome_read, line_text}
-use Rattle.vbi_cli.specs.Streams.{PassedLimit, StoppedReading}
+use Rattle.vbi_cli.specs.Streams.{PassedLimit, StoppedReading, StoppedWriting}
 use Rattle.vbi_cli.specs.declared.fault.AppFault.{AppFault}
 use Rattle.vbi_cli.specs.declared.fault.AppFault.TheVariants.{Meta, ReadField, ReadLine, ReadRow, Write, TooManyFields, Row, Short}
 use Rattle.vbi_cli.specs.declared.job.Ended.{Ended}
@@ -84,25 +84,36 @@ module _ (c : Setup) (input0 input output0 output : Option (List ℕ)) where
   WasShort bytes wanted = (z : List ℕ) × (Consumes input0 input z × (bytes ≡ length z) × (wanted ≡ line_bytes c.system)
       × (bytes < wanted) × IsAtEnd input × Appends output0 output [])
 
+  -- the input failed after these bytes, fewer than a line's, and nothing was written
+  abbrev pub StoppedInLine : ℕ → Type 0
+  StoppedInLine offset = (z : List ℕ) × (Consumes input0 input z × (offset ≡ length z) × (offset < line_bytes c.system)
+      × Appends output0 output [])
+
+  -- one line's bytes were read and no more, and the output failed after so many bytes, which are the first of the answer
+  abbrev pub StoppedInAnswer : ℕ → Type 0
+  StoppedInAnswer written = (z : List ℕ) × (Consumes input0 input z × (length z ≡ line_bytes c.system)
+      × (written ≤ length (line_text (outcome_read c z)))
+      × Appends output0 output (take written (line_text (outcome_read c z))))
+
   -- when `extract` and `show` fail, and what stands then
   abbrev pub StreamFailed : Texts → AppFault → Type 0
   StreamFailed t TooManyFields = PassedLimit t c input0 input output0 output
   StreamFailed t (ReadField field offset) = StoppedReading t c input0 input output0 output field offset
-  StreamFailed t (Write written) = ⊤
+  StreamFailed t (Write written) = StoppedWriting t c input0 input output0 output written
   StreamFailed t _ = ⊥
 
   -- when each command fails, by its fault, and what stands then
   abbrev pub Failed : Verb → AppFault → Type 0
   Failed Line (Short bytes wanted) = WasShort bytes wanted
-  Failed Line (ReadLine offset) = ⊤
-  Failed Line (Write written) = ⊤
+  Failed Line (ReadLine offset) = StoppedInLine offset
+  Failed Line (Write written) = StoppedInAnswer written
   Failed Line _ = ⊥
   Failed Extract fault = StreamFailed document fault
   Failed Show fault = StreamFailed report fault
   Failed Draw (Row number) = MetMalformed c input0 input output0 output number
   Failed Draw TooManyFields = MetTooMany c input0 input output0 output
-  Failed Draw (ReadRow number) = ⊤
-  Failed Draw (Write written) = ⊤
+  Failed Draw (ReadRow number) = StoppedInRow c input0 input output0 output number
+  Failed Draw (Write written) = StoppedDrawing c input0 input output0 output written
   Failed Draw _ = ⊥
 
 -- ---- the faults

@@ -1,11 +1,11 @@
 -- What `extract` and `show` have done where a fault stops them (this project's own), over the bytes that the input has yet to give
 -- and those that the output has taken, before and after, where they are told; t is the kind of text that the command writes.
-use Rattle.std.specs.Prelude.{◌≡◌, ℕ, ◌+◌, ◌*◌, ◌<◌, List, length, take, Option, IfSome}
-use Rattle.std.specs.Io.KnownBytes.{Appends}
+use Rattle.std.specs.Prelude.{◌≡◌, ℕ, ◌+◌, ◌*◌, ◌<◌, ◌⊎◌, List, length, take, Option, IfSome}
+use Rattle.std.specs.Io.KnownBytes.{Appends, IsAtEnd}
 use Rattle.vbi_words.specs.Geometry.{field_bytes}
 use Rattle.vbi_field.specs.Setup.{Setup}
 use Rattle.vbi_field.specs.Stream.{fields_of, rest_of}
-use Rattle.vbi_field.specs.Texts.{Texts, begun_of}
+use Rattle.vbi_field.specs.Texts.{Texts, begun_of, document_of}
 
 -- how many bytes the fields have that are allowed
 abbrev pub allowed_bytes : Setup → ℕ
@@ -27,3 +27,10 @@ module _ (t : Texts) (c : Setup) (input0 input output0 output : Option (List ℕ
     pub field_of : OfFirst fetched input0 (λ z. field ≡ fields_of c z + 1)
     pub offset_of : OfFirst fetched input0 (λ z. offset ≡ rest_of c z)
     pub begun : OfFirst fetched input0 (λ z. Appends output0 output (begun_of t c z))
+
+  -- the writer failed after so many bytes, which are the first of the text of the whole fields fetched or, where the reader has
+  -- ended, of the whole text
+  pub record StoppedWriting (written : ℕ) : Type 0 where
+    pub fetched : ℕ
+    pub first : OfFirst fetched input0 (λ z. Appends output0 output (take written (begun_of t c z))
+        ⊎ (IsAtEnd input × Appends output0 output (take written (document_of t c z))))
