@@ -1,9 +1,9 @@
 -- What a job does (this project's own): what metadata and options settle, what each command does with it, and when each fault
 -- comes. A reader is seen by the bytes that it has yet to give, and a writer by those that it has taken, where they tell them,
 -- as those over memory do.
-use Rattle.std.specs.Prelude.{◌≡◌, ◌⊎◌, ℕ, ◌*◌, ◌<◌, ◌≤◌, List, [], length, take, Option, Some, None, Result, Ok, Err, IfSome, ⊤}
+use Rattle.std.specs.Prelude.{◌≡◌, ◌⊎◌, ℕ, ◌<◌, ◌≤◌, List, [], length, take, Option, Some, None, Result, Ok, Err, IfSome, ⊤}
 use Rattle.std.specs.Io.KnownBytes.{Consumes, Appends, IsAtEnd}
-use Rattle.vbi_words.specs.Geometry.{line_bytes, field_bytes}
+use Rattle.vbi_words.specs.Geometry.{line_bytes}
 use Rattle.vbi_field.specs.Kinds.{document, report}
 use Rattle.vbi_field.specs.Setup.{Setup}
 use Rattle.vbi_field.specs.Stream.{rest_of, cut_of}
@@ -20,7 +20,7 @@ use Rattle.vbi_meta.specs.declared.choosing.Overrides.{Overrides}
 use Rattle.vbi_meta.specs.declared.fault.MetaFault.{MetaFault}
 use Rattle.vbi_cli.specs.Drew.{DrewAll, MetMalformed, MetTooMany, StoppedInRow, StoppedDrawing}
 use Rattle.vbi_cli.specs.OneLine.{outcome_read, line_text}
-use Rattle.vbi_cli.specs.Streams.{PassedLimit, StoppedReading, StoppedWriting}
+use Rattle.vbi_cli.specs.Streams.{allowed_bytes, PassedLimit, StoppedReading, StoppedWriting}
 use Rattle.vbi_cli.specs.declared.fault.AppFault.{AppFault}
 use Rattle.vbi_cli.specs.declared.fault.AppFault.TheVariants.{Meta, ReadField, ReadLine, ReadRow, Write, TooManyFields, Row, Short}
 use Rattle.vbi_cli.specs.declared.job.Ended.{Ended}
@@ -69,7 +69,7 @@ module _ (c : Setup) (input0 input output0 output : Option (List ℕ)) where
 
   -- the input, which was read to its end, had no more fields than are allowed, and its text of this kind was written
   abbrev pub DidStream : Texts → Ended → Type 0
-  DidStream t ended = IsAtEnd input × IfSome input0 (λ z. (length z ≤ c.max_fields * field_bytes c.system)
+  DidStream t ended = IsAtEnd input × IfSome input0 (λ z. (length z ≤ allowed_bytes c)
       × Appends output0 output (document_of t c z) × (ended ≡ ended_of (cut_of (rest_of c z))))
 
   -- what a command that is done did
@@ -95,14 +95,14 @@ module _ (c : Setup) (input0 input output0 output : Option (List ℕ)) where
       × (written ≤ length (line_text (outcome_read c z)))
       × Appends output0 output (take written (line_text (outcome_read c z))))
 
-  -- when `extract` and `show` fail, and what stands then
+  -- when each fault of `extract` and `show` comes, and what stands then; they have no other
   abbrev pub StreamFailed : Texts → AppFault → Type 0
-  StreamFailed t TooManyFields = PassedLimit t c input0 input output0 output
   StreamFailed t (ReadField field offset) = StoppedReading t c input0 input output0 output field offset
+  StreamFailed t TooManyFields = PassedLimit t c input0 input output0 output
   StreamFailed t (Write written) = StoppedWriting t c input0 input output0 output written
   StreamFailed t _ = ⊥
 
-  -- when each command fails, by its fault, and what stands then
+  -- when each fault of a command comes, and what stands then; it has no other
   abbrev pub Failed : Verb → AppFault → Type 0
   Failed Line (Short bytes wanted) = WasShort bytes wanted
   Failed Line (ReadLine offset) = StoppedInLine offset
@@ -111,8 +111,8 @@ module _ (c : Setup) (input0 input output0 output : Option (List ℕ)) where
   Failed Extract fault = StreamFailed document fault
   Failed Show fault = StreamFailed report fault
   Failed Draw (Row number) = MetMalformed c input0 input output0 output number
-  Failed Draw TooManyFields = MetTooMany c input0 input output0 output
   Failed Draw (ReadRow number) = StoppedInRow c input0 input output0 output number
+  Failed Draw TooManyFields = MetTooMany c input0 input output0 output
   Failed Draw (Write written) = StoppedDrawing c input0 input output0 output written
   Failed Draw _ = ⊥
 

@@ -53,7 +53,7 @@ pub fn run_job<R: Read, W: Write>(
         Refuses (option_map (λ b. b.now) meta.entry) job.now.overrides fault
         × (input.new ≡ input.old) × (output.new ≡ output.old))) }
 
-    // Every other fault comes only where the command's own table says, and this stands then.
+    // Every other fault is one of the command's own, and this stands then.
     ensures failed { IfErr result (λ e. UnlessMeta e (Under (option_map (λ b. b.now) meta.entry) job.now.overrides (λ c.
         Failed c (R.remaining input.old) (R.remaining input.new) (W.contents output.old) (W.contents output.new)
         job.now.verb e))) }
