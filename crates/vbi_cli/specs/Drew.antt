@@ -1,8 +1,10 @@
 -- What the command `draw` does in a job (this project's own), over the bytes that the input has yet to give and those that the
 -- output has taken, before and after, where they are told.
-use Rattle.std.specs.Prelude.{◌≡◌, ℕ, ◌+◌, ◌≤◌, ◌⊎◌, List, [], ◌∷◌, ◌++◌, length, Option, None}
+use Rattle.std.specs.Prelude.{◌≡◌, ℕ, ◌+◌, ◌≤◌, ◌⊎◌, List, [], ◌∷◌, ◌++◌, length, take, Option, None}
 use Rattle.std.specs.Io.KnownBytes.{Consumes, Appends, IsAtEnd}
 use Rattle.vbi_field.specs.Drawing.{draw_out}
+use Rattle.vbi_field.specs.DrawRun.{EndsRow}
+use Rattle.vbi_field.specs.RowIntake.{HasNoNewline}
 use Rattle.vbi_field.specs.Setup.{Setup}
 use Rattle.vbi_field.specs.WordRows.{AreRows, rows_of, row_words}
 use Rattle.vbi_field.specs.declared.word_row.WordRow.{WordRow}
@@ -38,6 +40,29 @@ module _ (c : Setup) (input0 input output0 output : Option (List ℕ)) where
     pub byte : ℕ
     pub rows : List WordRow
     pub consumed : Consumes input0 input (before ++ byte ∷ [])
+    pub whole : EndsRow before
     pub well_formed : AreRows before rows
     pub number_of : length rows ≡ c.max_fields
     pub drew : Appends output0 output (draw_out c rows)
+
+  -- the input failed before this row was read whole; all before it are well formed, and their fields were written
+  pub record StoppedInRow (number : ℕ) : Type 0 where
+    pub before : List ℕ
+    pub part : List ℕ
+    pub rows : List WordRow
+    pub consumed : Consumes input0 input (before ++ part)
+    pub whole : EndsRow before
+    pub unfinished : HasNoNewline part
+    pub well_formed : AreRows before rows
+    pub number_of : number ≡ length rows + 1
+    pub drew : Appends output0 output (draw_out c rows)
+
+  -- the output failed after so many bytes, which are the first of the fields of the rows that were read
+  pub record StoppedDrawing (written : ℕ) : Type 0 where
+    pub text : List ℕ
+    pub rows : List WordRow
+    pub consumed : Consumes input0 input text
+    pub well_formed : AreRows text rows
+    pub few : length rows ≤ c.max_fields
+    pub within : written ≤ length (draw_out c rows)
+    pub drew : Appends output0 output (take written (draw_out c rows))

@@ -1,9 +1,9 @@
 -- What a job does (this project's own): what metadata and options settle, what each command does with it, and when each fault
 -- comes. A reader is seen by the bytes that it has yet to give, and a writer by those that it has taken, where they tell them,
 -- as those over memory do.
-use Rattle.std.specs.Prelude.{◌≡◌, ◌⊎◌, ℕ, ◌*◌, ◌<◌, ◌≤◌, List, [], length, Option, Some, None, Result, Ok, Err, IfSome, ⊤}
+use Rattle.std.specs.Prelude.{◌≡◌, ◌⊎◌, ℕ, ◌<◌, ◌≤◌, List, [], length, take, Option, Some, None, Result, Ok, Err, IfSome, ⊤}
 use Rattle.std.specs.Io.KnownBytes.{Consumes, Appends, IsAtEnd}
-use Rattle.vbi_words.specs.Geometry.{line_bytes, field_bytes}
+use Rattle.vbi_words.specs.Geometry.{line_bytes}
 use Rattle.vbi_field.specs.Kinds.{document, report}
 use Rattle.vbi_field.specs.Setup.{Setup}
 use Rattle.vbi_field.specs.Stream.{rest_of, cut_of}
@@ -18,10 +18,11 @@ use Rattle.vbi_meta.specs.Metadata.{IsDocument, IsUnread}
 use Rattle.vbi_meta.specs.Settings.{IsSettled, IsRefused}
 use Rattle.vbi_meta.specs.declared.choosing.Overrides.{Overrides}
 use Rattle.vbi_meta.specs.declared.fault.MetaFault.{MetaFault}
-use Rattle.vbi_cli.specs.Drew.{DrewAll, MetTooMany}
+use Rattle.vbi_cli.specs.Drew.{DrewAll, MetMalformed, MetTooMany, StoppedInRow, StoppedDrawing}
 use Rattle.vbi_cli.specs.OneLine.{outcome_read, line_text}
+use Rattle.vbi_cli.specs.Streams.{allowed_bytes, PassedLimit, StoppedReading, StoppedWriting}
 use Rattle.vbi_cli.specs.declared.fault.AppFault.{AppFault}
-use Rattle.vbi_cli.specs.declared.fault.AppFault.TheVariants.{Meta, ReadField, ReadRow, Write, TooManyFields, Row, Short}
+use Rattle.vbi_cli.specs.declared.fault.AppFault.TheVariants.{Meta, ReadField, ReadLine, ReadRow, Write, TooManyFields, Row, Short}
 use Rattle.vbi_cli.specs.declared.job.Ended.{Ended}
 use Rattle.vbi_cli.specs.declared.job.Ended.TheVariants.{Whole, CutField}
 use Rattle.vbi_cli.specs.declared.words.Verb.{Verb}
@@ -68,7 +69,7 @@ module _ (c : Setup) (input0 input output0 output : Option (List ℕ)) where
 
   -- the input, which was read to its end, had no more fields than are allowed, and its text of this kind was written
   abbrev pub DidStream : Texts → Ended → Type 0
-  DidStream t ended = IsAtEnd input × IfSome input0 (λ z. (length z ≤ c.max_fields * field_bytes c.system)
+  DidStream t ended = IsAtEnd input × IfSome input0 (λ z. (length z ≤ allowed_bytes c)
       × Appends output0 output (document_of t c z) × (ended ≡ ended_of (cut_of (rest_of c z))))
 
   -- what a command that is done did
@@ -83,12 +84,37 @@ module _ (c : Setup) (input0 input output0 output : Option (List ℕ)) where
   WasShort bytes wanted = (z : List ℕ) × (Consumes input0 input z × (bytes ≡ length z) × (wanted ≡ line_bytes c.system)
       × (bytes < wanted) × IsAtEnd input × Appends output0 output [])
 
-  -- the input goes on past the fields that are allowed
-  abbrev pub HadTooMany : Verb → Type 0
-  HadTooMany Line = ⊥
-  HadTooMany Extract = IfSome input0 (λ z. c.max_fields * field_bytes c.system < length z)
-  HadTooMany Show = IfSome input0 (λ z. c.max_fields * field_bytes c.system < length z)
-  HadTooMany Draw = MetTooMany c input0 input output0 output
+  -- the input failed after these bytes, fewer than a line's, and nothing was written
+  abbrev pub StoppedInLine : ℕ → Type 0
+  StoppedInLine offset = (z : List ℕ) × (Consumes input0 input z × (offset ≡ length z) × (offset < line_bytes c.system)
+      × Appends output0 output [])
+
+  -- one line's bytes were read and no more, and the output failed after so many bytes, which are the first of the answer
+  abbrev pub StoppedInAnswer : ℕ → Type 0
+  StoppedInAnswer written = (z : List ℕ) × (Consumes input0 input z × (length z ≡ line_bytes c.system)
+      × (written ≤ length (line_text (outcome_read c z)))
+      × Appends output0 output (take written (line_text (outcome_read c z))))
+
+  -- when each fault of `extract` and `show` comes, and what stands then; they have no other
+  abbrev pub StreamFailed : Texts → AppFault → Type 0
+  StreamFailed t (ReadField field offset) = StoppedReading t c input0 input output0 output field offset
+  StreamFailed t TooManyFields = PassedLimit t c input0 input output0 output
+  StreamFailed t (Write written) = StoppedWriting t c input0 input output0 output written
+  StreamFailed t _ = ⊥
+
+  -- when each fault of a command comes, and what stands then; it has no other
+  abbrev pub Failed : Verb → AppFault → Type 0
+  Failed Line (Short bytes wanted) = WasShort bytes wanted
+  Failed Line (ReadLine offset) = StoppedInLine offset
+  Failed Line (Write written) = StoppedInAnswer written
+  Failed Line _ = ⊥
+  Failed Extract fault = StreamFailed document fault
+  Failed Show fault = StreamFailed report fault
+  Failed Draw (Row number) = MetMalformed c input0 input output0 output number
+  Failed Draw (ReadRow number) = StoppedInRow c input0 input output0 output number
+  Failed Draw TooManyFields = MetTooMany c input0 input output0 output
+  Failed Draw (Write written) = StoppedDrawing c input0 input output0 output written
+  Failed Draw _ = ⊥
 
 -- ---- the faults
 
@@ -97,20 +123,10 @@ abbrev pub IfMeta : AppFault → (MetaFault → Type 0) → Type 0
 IfMeta (Meta fault) P = P fault
 IfMeta _ P = ⊤
 
--- P of the bytes that came and those that were wanted, for a short line
-abbrev pub IfShort : AppFault → (ℕ → ℕ → Type 0) → Type 0
-IfShort (Short bytes wanted) P = P bytes wanted
-IfShort _ P = ⊤
-
--- P, where too many fields came
-abbrev pub IfTooMany : AppFault → Type 0 → Type 0
-IfTooMany TooManyFields P = P
-IfTooMany _ P = ⊤
-
--- P of the row's number, where a row is malformed
-abbrev pub IfRow : AppFault → (ℕ → Type 0) → Type 0
-IfRow (Row number) P = P number
-IfRow _ P = ⊤
+-- P, for every fault but those of metadata and settings
+abbrev pub UnlessMeta : AppFault → Type 0 → Type 0
+UnlessMeta (Meta fault) P = ⊤
+UnlessMeta _ P = P
 
 -- how drawing ended, for the program
 abbrev pub IsDrawnBy : Result ℕ DrawFault → Result Ended AppFault → Type 0

@@ -2,3 +2,4 @@ pub mod Drew
 pub mod Jobs
 pub mod OneLine
 pub mod Statuses
+pub mod Streams

@@ -2,8 +2,8 @@
 
 ghost use Rattle.std.specs.Prelude.{◌≡◌, ◌≢◌, IfOk, IfErr, Err, option_map};
 ghost use Rattle.vbi_field.specs.Kinds.{document, report};
-ghost use Rattle.vbi_cli.specs.Drew.{DrewAll, MetMalformed, MetTooMany};
-ghost use Rattle.vbi_cli.specs.Jobs.{Settles, Refuses, Under, Did, DidLine, DidStream, WasShort, HadTooMany, IfMeta, IfShort, IfRow, IfTooMany, IsEndedBy, IsDrawnBy};
+ghost use Rattle.vbi_cli.specs.Drew.{DrewAll};
+ghost use Rattle.vbi_cli.specs.Jobs.{Settles, Refuses, Under, Did, DidLine, DidStream, Failed, IfMeta, UnlessMeta, IsEndedBy, IsDrawnBy};
 ghost use Rattle.vbi_cli.specs.Statuses.{app_status};
 
 use crate::fault::AppFault;
@@ -53,18 +53,10 @@ pub fn run_job<R: Read, W: Write>(
         Refuses (option_map (λ b. b.now) meta.entry) job.now.overrides fault
         × (input.new ≡ input.old) × (output.new ≡ output.old))) }
 
-    // When the faults of the input come, and what stands then.
-    ensures short { IfErr result (λ e. IfShort e (λ bytes wanted. (job.now.verb ≡ Verb.Line)
-        × Under (option_map (λ b. b.now) meta.entry) job.now.overrides (λ c.
-        WasShort c (R.remaining input.old) (R.remaining input.new) (W.contents output.old) (W.contents output.new)
-        bytes wanted))) }
-    ensures row { IfErr result (λ e. IfRow e (λ number. (job.now.verb ≡ Verb.Draw)
-        × Under (option_map (λ b. b.now) meta.entry) job.now.overrides (λ c.
-        MetMalformed c (R.remaining input.old) (R.remaining input.new) (W.contents output.old) (W.contents output.new)
-        number))) }
-    ensures too_many { IfErr result (λ e. IfTooMany e (Under (option_map (λ b. b.now) meta.entry) job.now.overrides (λ c.
-        HadTooMany c (R.remaining input.old) (R.remaining input.new) (W.contents output.old) (W.contents output.new)
-        job.now.verb))) }
+    // Every other fault is one of the command's own, and this stands then.
+    ensures failed { IfErr result (λ e. UnlessMeta e (Under (option_map (λ b. b.now) meta.entry) job.now.overrides (λ c.
+        Failed c (R.remaining input.old) (R.remaining input.new) (W.contents output.old) (W.contents output.new)
+        job.now.verb e))) }
 {
     let config = match config_of(alloc, job, meta) {
         Ok(config) => config,
@@ -100,11 +92,8 @@ fn line_job<R: Read, W: Write>(
 ) -> Result<Ended, AppFault>
     ensures done { IfOk result
         (DidLine config.now (R.remaining input.old) (R.remaining input.new) (W.contents output.old) (W.contents output.new)) }
-    ensures short { IfErr result (λ e. IfShort e
-        (WasShort config.now (R.remaining input.old) (R.remaining input.new) (W.contents output.old) (W.contents output.new))) }
-    ensures refused { IfErr result (λ e. IfMeta e (λ _. ⊥)) }
-    ensures row { IfErr result (λ e. IfRow e (λ _. ⊥)) }
-    ensures too_many { IfErr result (λ e. IfTooMany e ⊥) }
+    ensures failed { IfErr result (Failed config.now (R.remaining input.old) (R.remaining input.new)
+        (W.contents output.old) (W.contents output.new) Verb.Line) }
 {
     let system = config.system();
     let mut intake = Intake::new(input, system);
@@ -131,11 +120,8 @@ fn extract_job<R: Read, W: Write>(
 ) -> Result<Ended, AppFault>
     ensures done { IfOk result (DidStream config.now (R.remaining input.old) (R.remaining input.new)
         (W.contents output.old) (W.contents output.new) document) }
-    ensures too_many { IfErr result (λ e. IfTooMany e (HadTooMany config.now (R.remaining input.old) (R.remaining input.new)
-        (W.contents output.old) (W.contents output.new) Verb.Extract)) }
-    ensures refused { IfErr result (λ e. IfMeta e (λ _. ⊥)) }
-    ensures short { IfErr result (λ e. IfShort e (λ _ _. ⊥)) }
-    ensures row { IfErr result (λ e. IfRow e (λ _. ⊥)) }
+    ensures failed { IfErr result (Failed config.now (R.remaining input.old) (R.remaining input.new)
+        (W.contents output.old) (W.contents output.new) Verb.Extract) }
 {
     let mut intake = Intake::new(input, config.system());
     let mut outlet = Outlet::new(output);
@@ -153,11 +139,8 @@ fn show_job<R: Read, W: Write>(
 ) -> Result<Ended, AppFault>
     ensures done { IfOk result (DidStream config.now (R.remaining input.old) (R.remaining input.new)
         (W.contents output.old) (W.contents output.new) report) }
-    ensures too_many { IfErr result (λ e. IfTooMany e (HadTooMany config.now (R.remaining input.old) (R.remaining input.new)
-        (W.contents output.old) (W.contents output.new) Verb.Show)) }
-    ensures refused { IfErr result (λ e. IfMeta e (λ _. ⊥)) }
-    ensures short { IfErr result (λ e. IfShort e (λ _ _. ⊥)) }
-    ensures row { IfErr result (λ e. IfRow e (λ _. ⊥)) }
+    ensures failed { IfErr result (Failed config.now (R.remaining input.old) (R.remaining input.new)
+        (W.contents output.old) (W.contents output.new) Verb.Show) }
 {
     let mut intake = Intake::new(input, config.system());
     let mut outlet = Outlet::new(output);
@@ -190,12 +173,8 @@ fn draw_job<R: Read, W: Write>(
 ) -> Result<Ended, AppFault>
     ensures done { IfOk result (λ ended. DrewAll config.now (R.remaining input.old) (R.remaining input.new)
         (W.contents output.old) (W.contents output.new) × (ended ≡ Ended.Whole)) }
-    ensures row { IfErr result (λ e. IfRow e (MetMalformed config.now (R.remaining input.old) (R.remaining input.new)
-        (W.contents output.old) (W.contents output.new))) }
-    ensures too_many { IfErr result (λ e. IfTooMany e (MetTooMany config.now (R.remaining input.old) (R.remaining input.new)
-        (W.contents output.old) (W.contents output.new))) }
-    ensures refused { IfErr result (λ e. IfMeta e (λ _. ⊥)) }
-    ensures short { IfErr result (λ e. IfShort e (λ _ _. ⊥)) }
+    ensures failed { IfErr result (Failed config.now (R.remaining input.old) (R.remaining input.new)
+        (W.contents output.old) (W.contents output.new) Verb.Draw) }
 {
     let mut rows = RowIntake::new(input);
     let mut outlet = Outlet::new(output);
