@@ -12,21 +12,21 @@ use Rattle.vbi_field.specs.declared.summary.RunFault.{RunFault}
 use Rattle.vbi_field.specs.declared.summary.RunFault.TheVariants as run
 use Rattle.vbi_field.specs.declared.summary.Summary.{Summary}
 use Rattle.vbi_cli.specs.Jobs.{IsEndedBy, StreamFailed}
-use Rattle.vbi_cli.specs.Streams.{allowed_bytes}
+use Rattle.vbi_cli.specs.Streams.{allowed_bytes, OfFirst}
 use Rattle.vbi_cli.specs.declared.fault.AppFault.{AppFault}
 use Rattle.vbi_cli.specs.declared.fault.AppFault.TheVariants.{ReadField, Write, TooManyFields}
 use Rattle.vbi_cli.specs.declared.job.Ended.{Ended}
 
 -- of bytes that were fetched and pass a limit
-past_limit : (count limit : ℕ) (input : Option (List ℕ)) → IfSome input (λ all. limit < length (take count all))
+past_limit : (P : List ℕ → Type 0) (count limit : ℕ) (input : Option (List ℕ)) → limit < count → OfFirst count input P
     → IfSome input (λ all. limit < length all)
-past_limit count limit None h = h
-past_limit count limit (Some all) h = omega (arith, length-take count all)
+past_limit P count limit None more h = tt
+past_limit P count limit (Some all) more h = omega (arith, h.0)
 
-up_to_limit : (P : List ℕ → Type 0) (count limit : ℕ) (input : Option (List ℕ)) → IfSome input (λ all. limit < length (take count all))
-    → IfSome input (λ all. P (take limit (take count all))) → IfSome input (λ all. P (take limit all))
-up_to_limit P count limit None h k = k
-up_to_limit P count limit (Some all) h k = subst P (take-take limit count all (omega (arith, length-take count all))) k
+up_to_limit : (P : List ℕ → Type 0) (count limit : ℕ) (input : Option (List ℕ)) → limit < count
+    → OfFirst count input (λ z. P (take limit z)) → OfFirst limit input P
+up_to_limit P count limit None more h = tt
+up_to_limit P count limit (Some all) more h = (omega (arith, h.0), subst P (take-take limit count all (omega arith)) h.1)
 
 module _ {R W : Type 0} (t : Texts) (remaining : R → Option (List ℕ)) (contents : W → Option (List ℕ)) (c : Setup)
     (i0 i : Intake R) (o0 o : Outlet W) where
@@ -48,7 +48,7 @@ module _ {R W : Type 0} (t : Texts) (remaining : R → Option (List ℕ)) (conte
       let input : Option (List ℕ) = remaining (intakes.device_of i0) in
       let Begun = λ (z : List ℕ). Appends (contents (outlets.device_of o0)) (contents (outlets.device_of o)) (begun_of t c z) in
       record {
-        more = past_limit fetched (allowed_bytes c) input stands.more;
+        more = past_limit (λ z. Begun (take (allowed_bytes c) z)) fetched (allowed_bytes c) input stands.more stands.begun;
         begun = up_to_limit Begun fetched (allowed_bytes c) input stands.more stands.begun;
       }
 
