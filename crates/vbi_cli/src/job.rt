@@ -99,6 +99,7 @@ fn line_job<R: Read, W: Write>(
     let mut intake = Intake::new(input, system);
     let mut outlet = Outlet::new(output);
     let outcome = run_line(config, &mut intake, &mut outlet);
+    // Handed back, so that it is known what the two devices are now.
     let _ = intake.into_reader();
     let _ = outlet.into_writer();
     match outcome {
@@ -126,6 +127,7 @@ fn extract_job<R: Read, W: Write>(
     let mut intake = Intake::new(input, config.system());
     let mut outlet = Outlet::new(output);
     let summary = extract(config, &mut intake, &mut outlet);
+    // Handed back, so that it is known what the two devices are now.
     let _ = intake.into_reader();
     let _ = outlet.into_writer();
     end_of(summary)
@@ -145,6 +147,7 @@ fn show_job<R: Read, W: Write>(
     let mut intake = Intake::new(input, config.system());
     let mut outlet = Outlet::new(output);
     let summary = show(config, &mut intake, &mut outlet);
+    // Handed back, so that it is known what the two devices are now.
     let _ = intake.into_reader();
     let _ = outlet.into_writer();
     end_of(summary)
@@ -179,6 +182,7 @@ fn draw_job<R: Read, W: Write>(
     let mut rows = RowIntake::new(input);
     let mut outlet = Outlet::new(output);
     let fields = draw(config, &mut rows, &mut outlet);
+    // Handed back, so that it is known what the two devices are now.
     let _ = rows.into_reader();
     let _ = outlet.into_writer();
     drawing_end(fields)
