@@ -1,5 +1,5 @@
 //! Runs over the devices of tests, what they answer, and the fields and texts that are known.
-use crate::test_tapes::{Paper, Tape};
+use crate::test_tapes::{Paper, Tape, blank_paper, tape_of};
 use crate::{Config, DrawFault, Outlet, RowIntake, RunFault, Summary, draw, extract, show};
 use std::alloc::{AllocError, Global};
 use std::io::Read;
@@ -53,12 +53,15 @@ pub(crate) struct Drawn {
 pub(crate) fn drew(config: &Config, mut words: Tape, paper: &mut Paper) -> Drawn {
     let mut rows = RowIntake::new(&mut words);
     let mut outlet = Outlet::new(paper);
-    Drawn {
+    let answer = Drawn {
         result: draw(config, &mut rows, &mut outlet),
         fetched: rows.fetched(),
         failures: rows.failures(),
         written: outlet.written(),
-    }
+    };
+    rows.into_reader();
+    outlet.into_writer();
+    answer
 }
 
 /// What a whole run answers.
@@ -71,7 +74,7 @@ pub(crate) fn whole(fields: u32, cut: Option<u32>, looked: u64) -> Result<Summar
 }
 
 /// Whether a writer took so many bytes, and they begin these texts, one behind another.
-pub(crate) fn took(paper: &Paper, count: u64, texts: &[&str]) -> bool {
+fn took(paper: &Paper, count: u64, texts: &[&str]) -> bool {
     let mut rest = paper.taken.as_slice();
     for text in texts {
         let (front, more) = rest.split_at(rest.len().min(text.len()));
@@ -81,6 +84,11 @@ pub(crate) fn took(paper: &Paper, count: u64, texts: &[&str]) -> bool {
         rest = more;
     }
     rest.is_empty() && paper.taken.len() as u64 == count
+}
+
+/// Asserts that a writer took so many bytes of these texts.
+pub(crate) fn wrote(rt: &impl Abort, paper: &Paper, count: u64, texts: &[&str]) {
+    assert!(rt; took(paper, count, texts), "{count} bytes of {texts:?}");
 }
 
 /// The bytes of some short texts.
@@ -103,27 +111,35 @@ pub(crate) fn answers<R: Read + Drop>(
     texts: &[&str],
 ) {
     assert_eq!(rt; ran(verb, config, &mut reader, &mut paper), done);
-    assert!(rt; took(&paper, done.written, texts), "{done:?}");
+    wrote(rt, &paper, done.written, texts);
 }
 
-/// Asserts that a run takes all of a tape and ends so, that no device fails, and that just these texts are written.
+/// Asserts that a run takes all of a stream and ends so, that no device fails, and that just these texts are written.
 pub(crate) fn writes(
     rt: &impl Abort,
+    alloc: Global,
     verb: Verb,
     config: &Config,
-    tape: Tape,
-    paper: Paper,
+    stream: &[u8],
     ended: Result<Summary, RunFault>,
     texts: &[&str],
 ) {
     let done = Done {
         result: ended,
-        fetched: tape.rest.len() as u64,
+        fetched: stream.len() as u64,
         read_failures: 0,
         written: total(texts),
         write_failures: 0,
     };
-    answers(rt, verb, config, tape, paper, done, texts);
+    answers(
+        rt,
+        verb,
+        config,
+        tape_of(stream),
+        blank_paper(alloc),
+        done,
+        texts,
+    );
 }
 
 pub(crate) fn config(system: System, max_fields: u32) -> Result<Config, Fail> {

@@ -86,6 +86,20 @@ pub(crate) fn tape_of(bytes: &[u8]) -> Tape<'_> {
     }
 }
 
+/// So many bytes of a stream, or all of a shorter one.
+pub(crate) fn front(stream: &[u8], count: usize) -> &[u8] {
+    let (front, _) = stream.split_at(count.min(stream.len()));
+    front
+}
+
+/// So many bytes of a stream and then a fault.
+pub(crate) fn torn(stream: &[u8], count: usize) -> Tape<'_> {
+    Tape {
+        fails: true,
+        ..tape_of(front(stream, count))
+    }
+}
+
 pub(crate) fn blank_paper(alloc: Global) -> Paper {
     Paper {
         taken: Vec::new(alloc),

@@ -24,18 +24,8 @@ fn drawn_words_come_back(rt: HostRuntime) -> Result<(), Fail> {
         assert_eq!(rt; run.result, Ok(1));
         let field = stream.taken.as_slice();
         let ended = whole(1, None, 3 * system.width() as u64);
-        let paper = blank_paper(rt.alloc());
-        writes(
-            &rt,
-            Verb::Extract,
-            &config,
-            tape_of(field),
-            paper,
-            ended,
-            texts,
-        );
-        let paper = blank_paper(rt.alloc());
-        feeds_chunks(&rt, config, field, 1821, paper, ended, texts);
+        writes(&rt, rt.alloc(), Verb::Extract, &config, field, ended, texts);
+        feeds_chunks(&rt, rt.alloc(), config, field, 1821, ended, texts);
     }
     Ok(())
 }

@@ -1,6 +1,6 @@
 //! Texts of words as they are drawn, from readers that interrupt and fail to writers that cut, interrupt and fail.
 use crate::test_runs::{Drawn, config, drew};
-use crate::test_tapes::{Paper, Tape, blank_paper, tape_of};
+use crate::test_tapes::{Paper, Tape, blank_paper, tape_of, torn};
 use crate::{Config, DrawFault};
 use std::alloc::Global;
 use std::process::Abort;
@@ -103,10 +103,7 @@ fn lower_case_is_the_same(rt: HostRuntime) -> Result<(), Fail> {
 #[test]
 fn a_read_fault_leaves_whole_fields(rt: HostRuntime) -> Result<(), Fail> {
     let config = config(System::Ntsc, 9)?;
-    let words = Tape {
-        fails: true,
-        ..tape_of(b"82CFFF F12345 F12345\n- -")
-    };
+    let words = torn(b"82CFFF F12345 F12345\n- -", 24);
     let paper = Paper {
         piece: 1000,
         ..blank_paper(rt.alloc())
@@ -193,10 +190,10 @@ fn bears_sixteen_interruptions(rt: HostRuntime) -> Result<(), Fail> {
 /// The sample at a column of a row of the first field.
 fn sample(bytes: &[u8], line_bytes: usize, row: usize, column: usize) -> Option<u32> {
     let at = row
-        .checked_mul(line_bytes)?
-        .checked_add(column.checked_mul(2)?)?;
+        .wrapping_mul(line_bytes)
+        .wrapping_add(column.wrapping_mul(2));
     let low = *bytes.get(at)?;
-    let high = *bytes.get(at.checked_add(1)?)?;
+    let high = *bytes.get(at.wrapping_add(1))?;
     Some(u32::from(low) + 256 * u32::from(high))
 }
 
@@ -204,27 +201,34 @@ const BLACK: Option<u32> = Some(16384);
 
 const WHITE: Option<u32> = Some(51200);
 
-/// Asserts that a text draws so many bytes, and that the samples at rows and columns of its first field are so.
-fn has_samples(
+/// A row, a column and the sample there.
+type Point = (usize, usize, Option<u32>);
+
+/// Asserts that the first field has these samples.
+fn has_samples(rt: &impl Abort, bytes: &[u8], line_bytes: usize, points: &[Point]) {
+    for &(row, column, expected) in points {
+        assert_eq!(rt; sample(bytes, line_bytes, row, column), expected);
+    }
+}
+
+/// Asserts that a text draws so many bytes, with these samples.
+fn draws_samples(
     rt: &impl Abort,
     alloc: Global,
     system: System,
     words: &[u8],
     bytes: usize,
-    samples: &[(usize, usize, Option<u32>)],
+    points: &[Point],
 ) -> Result<(), Fail> {
     let config = Config::new(system, Levels::new(16384, 51200)?, 9)?;
     let mut paper = blank_paper(alloc);
     drew(&config, tape_of(words), &mut paper);
-    assert_eq!(rt; paper.taken.len(), bytes);
-    for &(row, column, expected) in samples {
-        let found = sample(paper.taken.as_slice(), 2 * system.width(), row, column);
-        assert_eq!(rt; found, expected);
-    }
+    assert!(rt; paper.taken.len() == bytes);
+    has_samples(rt, paper.taken.as_slice(), 2 * system.width(), points);
     Ok(())
 }
 
-const NTSC_SAMPLES: [(usize, usize, Option<u32>); 18] = [
+const NTSC_SAMPLES: [Point; 18] = [
     (14, 164, BLACK),
     (15, 164, BLACK),
     (16, 149, BLACK),
@@ -245,7 +249,7 @@ const NTSC_SAMPLES: [(usize, usize, Option<u32>); 18] = [
     (18, 164, BLACK),
 ];
 
-const PAL_SAMPLES: [(usize, usize, Option<u32>); 7] = [
+const PAL_SAMPLES: [Point; 7] = [
     (15, 206, BLACK),
     (15, 207, WHITE),
     (15, 224, WHITE),
@@ -258,7 +262,7 @@ const PAL_SAMPLES: [(usize, usize, Option<u32>); 7] = [
 // The boundaries of half cells of one microsecond from column 150 or 190 on: floor(j * 315 / 22) and floor(j * 709379 / 40000).
 #[test]
 fn draws_half_cells(rt: HostRuntime) -> Result<(), Fail> {
-    has_samples(
+    draws_samples(
         &rt,
         rt.alloc(),
         System::Ntsc,
@@ -266,7 +270,7 @@ fn draws_half_cells(rt: HostRuntime) -> Result<(), Fail> {
         478660,
         &NTSC_SAMPLES,
     )?;
-    has_samples(
+    draws_samples(
         &rt,
         rt.alloc(),
         System::Pal,

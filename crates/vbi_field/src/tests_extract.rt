@@ -1,10 +1,10 @@
 //! Documents and reports of known streams.
 use crate::test_runs::{
-    BLACK, CUT, CUT_END, DRAWN, HEAD, NONE, PAL_DRAWN, PAL_HEAD, PAL_REPORT_HEAD, PAL_REPORT_WORDS,
-    PAL_WORDS, RECOVERED, REPORT_BLACK, REPORT_HEAD, REPORT_TAIL, REPORT_WORDS, TAIL, Verb, WORDS,
-    config, field, whole, writes,
+    BLACK, CUT, CUT_END, DRAWN, Done, HEAD, NONE, PAL_DRAWN, PAL_HEAD, PAL_REPORT_HEAD,
+    PAL_REPORT_WORDS, PAL_WORDS, RECOVERED, REPORT_BLACK, REPORT_HEAD, REPORT_TAIL, REPORT_WORDS,
+    TAIL, Verb, WORDS, answers, config, field, total, whole, writes,
 };
-use crate::test_tapes::{Tape, blank_paper, tape_of};
+use crate::test_tapes::{Tape, blank_paper, front, tape_of};
 use crate::{Config, RunFault, Summary};
 use std::alloc::Global;
 use std::process::Abort;
@@ -21,24 +21,8 @@ fn writes_both(
     document: &[&str],
     report: &[&str],
 ) {
-    writes(
-        rt,
-        Verb::Extract,
-        config,
-        tape_of(stream),
-        blank_paper(alloc),
-        ended,
-        document,
-    );
-    writes(
-        rt,
-        Verb::Show,
-        config,
-        tape_of(stream),
-        blank_paper(alloc),
-        ended,
-        report,
-    );
+    writes(rt, alloc, Verb::Extract, config, stream, ended, document);
+    writes(rt, alloc, Verb::Show, config, stream, ended, report);
 }
 
 /// The words on lines 16, 17 and 18 of one field, its document and its report.
@@ -85,18 +69,23 @@ fn writes_documents_and_reports(rt: HostRuntime) -> Result<(), Fail> {
 #[test]
 fn writes_an_empty_document(rt: HostRuntime) -> Result<(), Fail> {
     let config = config(System::Ntsc, 5)?;
+    let done = Done {
+        result: whole(0, None, 0),
+        fetched: 0,
+        read_failures: 0,
+        written: 155,
+        write_failures: 0,
+    };
     let paper = blank_paper(rt.alloc());
-    let result = whole(0, None, 0);
-    writes(
+    answers(
         &rt,
         Verb::Extract,
         &config,
         tape_of(&[]),
         paper,
-        result,
+        done,
         &[HEAD, TAIL],
     );
-    assert!(rt; HEAD.len() + TAIL.len() == 155);
     Ok(())
 }
 
@@ -116,15 +105,15 @@ fn recovers_a_word(rt: HostRuntime) -> Result<(), Fail> {
     let config = config(System::Ntsc, 5)?;
     let mut stream = field(rt.alloc(), &config, [0x82CFFF, 0, 0])?;
     blacken(&mut stream).ok_or("short")?;
-    let tape = tape_of(stream.as_slice());
+    let ended = whole(1, None, 2730);
     let texts = [HEAD, RECOVERED, TAIL];
     writes(
         &rt,
+        rt.alloc(),
         Verb::Extract,
         &config,
-        tape,
-        blank_paper(rt.alloc()),
-        whole(1, None, 2730),
+        stream.as_slice(),
+        ended,
         &texts,
     );
     Ok(())
@@ -145,7 +134,7 @@ fn names_a_cut_field(rt: HostRuntime) -> Result<(), Fail> {
     let config = config(System::Ntsc, 5)?;
     let stream = field(rt.alloc(), &config, NONE)?;
     for &(length, bytes, looked) in &CUTS {
-        let cut = stream.get(..length as usize).ok_or("short")?;
+        let cut = front(stream.as_slice(), length as usize);
         let ended = whole(0, Some(length), looked);
         let document = [HEAD, CUT, bytes, CUT_END];
         let report = [REPORT_HEAD, "fields 0 cut field 1 bytes ", bytes, "\n"];
@@ -158,20 +147,26 @@ fn names_a_cut_field(rt: HostRuntime) -> Result<(), Fail> {
 fn reads_in_any_pieces(rt: HostRuntime) -> Result<(), Fail> {
     let config = config(System::Ntsc, 5)?;
     let stream = field(rt.alloc(), &config, DRAWN)?;
-    assert!(rt; stream.len() == 478660);
+    let texts = [HEAD, WORDS, TAIL];
+    let done = Done {
+        result: whole(1, None, 2730),
+        fetched: 478660,
+        read_failures: 0,
+        written: total(&texts),
+        write_failures: 0,
+    };
     for piece in [1, 3, 1821] {
         let tape = Tape {
             piece,
             ..tape_of(stream.as_slice())
         };
-        let texts = [HEAD, WORDS, TAIL];
-        writes(
+        answers(
             &rt,
             Verb::Extract,
             &config,
             tape,
             blank_paper(rt.alloc()),
-            whole(1, None, 2730),
+            done,
             &texts,
         );
     }

@@ -3,7 +3,7 @@ use crate::test_runs::{
     BLACK, Done, HEAD, NONE, SECOND_BLACK, TAIL, Verb, answers, config, draw_field, field, whole,
     writes,
 };
-use crate::test_tapes::{Paper, Tape, Zeros, blank_paper, tape_of};
+use crate::test_tapes::{Paper, Tape, Zeros, blank_paper, tape_of, torn};
 use crate::{RunFault, Summary};
 use std::test::Fail;
 use vbi_words::System;
@@ -19,29 +19,32 @@ const READ_FAULTS: [(usize, u32, u32, u64); 7] = [
     (479660, 2, 1000, 227),
 ];
 
+/// How a run ends where the reader fails at a byte of a field, after so many were fetched and others written.
+fn unread(field: u32, offset: u32, fetched: u64, written: u64) -> Done {
+    Done {
+        result: Err(RunFault::Read { field, offset }),
+        fetched,
+        read_failures: 1,
+        written,
+        write_failures: 0,
+    }
+}
+
 #[test]
 fn reports_read_faults(rt: HostRuntime) -> Result<(), Fail> {
     let config = config(System::Ntsc, 5)?;
     let mut stream = field(rt.alloc(), &config, NONE)?;
     draw_field(&mut stream, &config, NONE)?;
     for &(length, field, offset, written) in &READ_FAULTS {
-        let tape = Tape {
-            fails: true,
-            ..tape_of(stream.get(..length).ok_or("short")?)
-        };
-        let done = Done {
-            result: Err(RunFault::Read { field, offset }),
-            fetched: length as u64,
-            read_failures: 1,
-            written,
-            write_failures: 0,
-        };
+        let tape = torn(stream.as_slice(), length);
+        let done = unread(field, offset, length as u64, written);
+        let paper = blank_paper(rt.alloc());
         answers(
             &rt,
             Verb::Extract,
             &config,
             tape,
-            blank_paper(rt.alloc()),
+            paper,
             done,
             &[HEAD, BLACK],
         );
@@ -92,20 +95,20 @@ const BLACK_FIELD: Result<Summary, RunFault> = Ok(Summary {
     looked: 2730,
 });
 
-const UNREAD: Result<Summary, RunFault> = Err(RunFault::Read {
+const READ_FAULT: Result<Summary, RunFault> = Err(RunFault::Read {
     field: 1,
     offset: 0,
 });
 
-const UNWRITTEN: Result<Summary, RunFault> = Err(RunFault::Write { written: 0 });
+const WRITE_FAULT: Result<Summary, RunFault> = Err(RunFault::Write { written: 0 });
 
 /// The bytes that a write takes, the interruptions before the first read and before the first write, each of which is a failure,
 /// and how the run over a black field then ends: its result, the bytes fetched and those written.
 const INTERRUPTIONS: [(usize, usize, usize, Result<Summary, RunFault>, u64, u64); 4] = [
     (1, 16, 0, BLACK_FIELD, 478660, 247),
     (1_000_000, 0, 16, BLACK_FIELD, 478660, 247),
-    (1_000_000, 0, 17, UNWRITTEN, 0, 0),
-    (1_000_000, 17, 0, UNREAD, 0, 135),
+    (1_000_000, 0, 17, WRITE_FAULT, 0, 0),
+    (1_000_000, 17, 0, READ_FAULT, 0, 135),
 ];
 
 #[test]
@@ -147,28 +150,27 @@ fn keeps_the_limit(rt: HostRuntime) -> Result<(), Fail> {
     let config = config(System::Ntsc, 2)?;
     let mut stream = field(rt.alloc(), &config, NONE)?;
     draw_field(&mut stream, &config, NONE)?;
-    let tape = tape_of(stream.as_slice());
+    let ended = whole(2, None, 5460);
     let texts = [HEAD, BLACK, SECOND_BLACK, TAIL];
     writes(
         &rt,
+        rt.alloc(),
         Verb::Extract,
         &config,
-        tape,
-        blank_paper(rt.alloc()),
-        whole(2, None, 5460),
+        stream.as_slice(),
+        ended,
         &texts,
     );
 
     stream.push(0)?;
-    let tape = tape_of(stream.as_slice());
     let fault = Err(RunFault::TooManyFields);
     let texts = [HEAD, BLACK, SECOND_BLACK];
     writes(
         &rt,
+        rt.alloc(),
         Verb::Extract,
         &config,
-        tape,
-        blank_paper(rt.alloc()),
+        stream.as_slice(),
         fault,
         &texts,
     );
@@ -185,41 +187,30 @@ fn keeps_a_limit_of_one(rt: HostRuntime) -> Result<(), Fail> {
         written: 227,
         write_failures: 0,
     };
-    let texts = [HEAD, BLACK];
+    let paper = blank_paper(rt.alloc());
     answers(
         &rt,
         Verb::Extract,
         &config,
         Zeros,
-        blank_paper(rt.alloc()),
+        paper,
         done,
-        &texts,
+        &[HEAD, BLACK],
     );
 
     let mut stream = field(rt.alloc(), &config, NONE)?;
-    stream.extend_from_slice(&[0, 0x40, 0, 0x40, 0])?;
-    let tape = Tape {
-        fails: true,
-        ..tape_of(stream.as_slice())
-    };
-    let done = Done {
-        result: Err(RunFault::Read {
-            field: 2,
-            offset: 5,
-        }),
-        fetched: 478665,
-        read_failures: 1,
-        written: 227,
-        write_failures: 0,
-    };
+    draw_field(&mut stream, &config, NONE)?;
+    let tape = torn(stream.as_slice(), 478665);
+    let done = unread(2, 5, 478665, 227);
+    let paper = blank_paper(rt.alloc());
     answers(
         &rt,
         Verb::Extract,
         &config,
         tape,
-        blank_paper(rt.alloc()),
+        paper,
         done,
-        &texts,
+        &[HEAD, BLACK],
     );
     Ok(())
 }

@@ -1,9 +1,10 @@
 //! Known streams that are pushed in pieces.
 use crate::test_runs::{
-    BLACK, CUT, CUT_END, DRAWN, HEAD, NONE, TAIL, WORDS, config, field, took, total, whole,
+    BLACK, CUT, CUT_END, DRAWN, HEAD, NONE, TAIL, WORDS, config, field, total, whole, wrote,
 };
-use crate::test_tapes::{Paper, blank_paper};
+use crate::test_tapes::{Paper, blank_paper, front};
 use crate::{Config, Feeder, Outlet, RunFault, Summary};
+use std::alloc::Global;
 use std::process::Abort;
 use std::test::Fail;
 use vbi_words::System;
@@ -61,29 +62,30 @@ fn chunked(
 /// Asserts that a stream in pieces ends so, and that just these texts were written.
 fn feeds(
     rt: &impl Abort,
+    alloc: Global,
     config: Config,
     pieces: &[&[u8]],
-    mut paper: Paper,
     ended: Result<Summary, RunFault>,
     texts: &[&str],
 ) {
+    let mut paper = blank_paper(alloc);
     assert_eq!(rt; pushed(config, pieces, &mut paper), ended);
-    assert!(rt; took(&paper, total(texts), texts), "{texts:?}");
+    wrote(rt, &paper, total(texts), texts);
 }
 
 /// Asserts this of a stream in pieces of so many bytes.
 pub(crate) fn feeds_chunks(
     rt: &impl Abort,
+    alloc: Global,
     config: Config,
     stream: &[u8],
     size: usize,
-    mut paper: Paper,
     ended: Result<Summary, RunFault>,
     texts: &[&str],
 ) {
-    let result = chunked(config, stream, size, &mut paper);
-    let written = took(&paper, total(texts), texts);
-    assert_eq!(rt; (result, written), (ended, true), "{size}");
+    let mut paper = blank_paper(alloc);
+    assert_eq!(rt; chunked(config, stream, size, &mut paper), ended, "{size}");
+    wrote(rt, &paper, total(texts), texts);
 }
 
 /// What a piece, a piece of no bytes after it and then the end answer.
@@ -122,14 +124,14 @@ fn fails(
         end: Err(RunFault::Failed),
     };
     assert_eq!(rt; after_a_fault(config, piece, &mut paper), Ok(answers));
-    assert!(rt; took(&paper, written, texts), "{fault:?}");
+    wrote(rt, &paper, written, texts);
 }
 
 #[test]
 fn ends_an_empty_stream(rt: HostRuntime) -> Result<(), Fail> {
     let config = config(System::Ntsc, 5)?;
-    let paper = blank_paper(rt.alloc());
-    feeds(&rt, config, &[], paper, whole(0, None, 0), &[HEAD, TAIL]);
+    let ended = whole(0, None, 0);
+    feeds(&rt, rt.alloc(), config, &[], ended, &[HEAD, TAIL]);
     Ok(())
 }
 
@@ -137,16 +139,22 @@ fn ends_an_empty_stream(rt: HostRuntime) -> Result<(), Fail> {
 fn takes_any_pieces(rt: HostRuntime) -> Result<(), Fail> {
     let config = config(System::Ntsc, 5)?;
     let stream = field(rt.alloc(), &config, DRAWN)?;
-    let result = whole(1, None, 2730);
+    let ended = whole(1, None, 2730);
     let texts = [HEAD, WORDS, TAIL];
     for size in [1, 3, 1821] {
-        let paper = blank_paper(rt.alloc());
-        feeds_chunks(&rt, config, stream.as_slice(), size, paper, result, &texts);
+        feeds_chunks(
+            &rt,
+            rt.alloc(),
+            config,
+            stream.as_slice(),
+            size,
+            ended,
+            &texts,
+        );
     }
     // Inside the first sample of line 16, and a piece of no bytes.
     let (front, back) = stream.as_slice().split_at_checked(27301).ok_or("short")?;
-    let paper = blank_paper(rt.alloc());
-    feeds(&rt, config, &[front, &[], back], paper, result, &texts);
+    feeds(&rt, rt.alloc(), config, &[front, &[], back], ended, &texts);
     Ok(())
 }
 
@@ -154,28 +162,14 @@ fn takes_any_pieces(rt: HostRuntime) -> Result<(), Fail> {
 fn takes_a_stream_in_one_piece(rt: HostRuntime) -> Result<(), Fail> {
     let config = config(System::Ntsc, 1)?;
     let stream = field(rt.alloc(), &config, NONE)?;
-    let paper = blank_paper(rt.alloc());
-    let result = whole(1, None, 2730);
-    feeds(
-        &rt,
-        config,
-        &[stream.as_slice()],
-        paper,
-        result,
-        &[HEAD, BLACK, TAIL],
-    );
+    let ended = whole(1, None, 2730);
+    let texts = [HEAD, BLACK, TAIL];
+    feeds(&rt, rt.alloc(), config, &[stream.as_slice()], ended, &texts);
 
-    let cut = stream.get(..478659).ok_or("short")?;
-    let paper = blank_paper(rt.alloc());
-    let result = whole(0, Some(478659), 2730);
-    feeds(
-        &rt,
-        config,
-        &[cut],
-        paper,
-        result,
-        &[HEAD, CUT, "478659", CUT_END],
-    );
+    let cut = front(stream.as_slice(), 478659);
+    let ended = whole(0, Some(478659), 2730);
+    let texts = [HEAD, CUT, "478659", CUT_END];
+    feeds(&rt, rt.alloc(), config, &[cut], ended, &texts);
     Ok(())
 }
 
