@@ -3,7 +3,8 @@
 ghost use Rattle.std.specs.Prelude.{◌≡◌, ◌≢◌, IfOk, IfErr, Err, option_map};
 ghost use Rattle.vbi_field.specs.Kinds.{document, report};
 ghost use Rattle.vbi_cli.specs.Drew.{DrewAll, MetMalformed, MetTooMany};
-ghost use Rattle.vbi_cli.specs.Jobs.{Settles, Refuses, Under, Did, DidLine, DidStream, WasShort, HadTooMany, IfMeta, IfShort, IfRow, IfTooMany, IsEndedBy, IsDrawnBy};
+ghost use Rattle.vbi_cli.specs.Jobs.{Settles, Refuses, Under, Did, DidLine, DidStream, WasShort};
+ghost use Rattle.vbi_cli.specs.Jobs.{HadTooMany, IfMeta, IfShort, IfRow, IfTooMany, IsEndedBy, IsDrawnBy};
 ghost use Rattle.vbi_cli.specs.Statuses.{app_status};
 
 use crate::fault::AppFault;
