@@ -1,5 +1,6 @@
 -- A drawn field is read as the words that were drawn.
-use Rattle.std.proofs.Common.{◌≡◌, ℕ, zero, suc, ◌+◌, ◌*◌, ◌/◌, ◌%◌, ◌<◌, List, [], ◌∷◌, ◌++◌, length, take, drop, map, refl, sym, ap, subst, ◌∙◌, arith, append_assoc, inl, lit<}
+use Rattle.std.proofs.Common.{◌≡◌, ℕ, zero, suc, ◌+◌, ◌*◌, ◌/◌, ◌%◌, ◌<◌, List, [], ◌∷◌, ◌++◌, length}
+use Rattle.std.proofs.Common.{take, drop, map, refl, sym, ap, subst, ◌∙◌, arith, append_assoc, inl, lit<}
 use Rattle.std.specs.Prelude.{Option, Some, None, slice_get}
 use Rattle.std.specs.List.{flat_map, range_with_len}
 use Rattle.std.proofs.Math.Nat.{suc-mul, zero-mul}
@@ -20,7 +21,8 @@ use Rattle.vbi_field.specs.declared.word_row.WordRow.{WordRow}
 use Rattle.vbi_field.specs.Drawing.{drawn_sample_of, sample_bytes, drawn_line_of, word_at, drawn_field_of, draw_out}
 use Rattle.vbi_field.specs.DrawnReadings.{IsDrawable, AreDrawable, drawn_reading, drawn_readings}
 use Rattle.vbi_field.specs.ByLines.{RowReads, FieldReads}
-use Rattle.vbi_field.proofs.DrawnLemmas.{IsDrawn-drawn_sample_of, length-drawn_line_of, length-drawn_field_of, lines_of, length-lines_of, lines_of-more, lines_of-split}
+use Rattle.vbi_field.proofs.DrawnLemmas.{IsDrawn-drawn_sample_of, length-drawn_line_of, length-drawn_field_of}
+use Rattle.vbi_field.proofs.DrawnLemmas.{lines_of, length-lines_of, lines_of-more, lines_of-split}
 
 -- ---- one line
 

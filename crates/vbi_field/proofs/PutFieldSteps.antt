@@ -14,7 +14,8 @@ use Rattle.vbi_field.specs.Drawing.{drawn_line_of, drawn_field_of, word_at}
 use Rattle.vbi_field.specs.DrawRun.{PutsField}
 use Rattle.vbi_field.specs.declared.outlet.Outlet.{Outlet}
 use Rattle.vbi_field.specs.declared.word_row.WordRow.{WordRow}
-use Rattle.vbi_field.proofs.DrawnLemmas.{narrow, length-drawn_line_of, lines_of, lines_of-more, lines_of-none, lines_of-all, lines_of-split, last_word}
+use Rattle.vbi_field.proofs.DrawnLemmas.{narrow, length-drawn_line_of, lines_of, lines_of-more}
+use Rattle.vbi_field.proofs.DrawnLemmas.{lines_of-none, lines_of-all, lines_of-split, last_word}
 
 few_rows : (s : System) → height_of s ≤ 313
 few_rows Ntsc = lit≤ tt

@@ -1,5 +1,6 @@
 -- How a run goes on, and how it ends.
-use Rattle.std.proofs.Common.{◌≡◌, ℕ, ◌+◌, ◌*◌, ◌/◌, ◌≤◌, ◌<◌, inl, inr, Bool, true, false, List, ◌++◌, length, take, refl, sym, ap, ◌∙◌, arith, subst, cond, zero-le, add-zero, add_assoc}
+use Rattle.std.proofs.Common.{◌≡◌, ℕ, ◌+◌, ◌*◌, ◌/◌, ◌≤◌, ◌<◌, inl, inr, Bool, true, false, List, ◌++◌, length}
+use Rattle.std.proofs.Common.{take, refl, sym, ap, ◌∙◌, arith, subst, cond, zero-le, add-zero, add_assoc}
 use Rattle.std.specs.Prelude.{Option, Result, Ok, Err, OnOk, IfOk, OnErr, IfErr, IsTrue, ◌↔◌}
 use Rattle.std.specs.Io.KnownBytes.{Consumes, Appends, IsAtEnd}
 use Rattle.std.proofs.lemmas.List.{length-append, take_at}
@@ -25,7 +26,8 @@ use Rattle.vbi_field.specs.declared.rows.Row.TheVariants.{Whole, Ended, Failed}
 use Rattle.vbi_field.specs.declared.summary.RunFault.{RunFault}
 use Rattle.vbi_field.specs.declared.summary.Summary.{Summary}
 use Rattle.vbi_field.specs.declared.summary.RunFault.TheVariants.{Read, Write, TooManyFields}
-use Rattle.vbi_field.proofs.Counts.{few_fields, few_bytes_row, few_looks, some_bytes, bytes_of_fields, looks_next, looks_field, looks_in_all, rows_past, whole_fields}
+use Rattle.vbi_field.proofs.Counts.{few_fields, few_bytes_row, few_looks, some_bytes, bytes_of_fields}
+use Rattle.vbi_field.proofs.Counts.{looks_next, looks_field, looks_in_all, rows_past, whole_fields}
 use Rattle.vbi_field.proofs.Entries.{stood, stood-more, stood-stays, begun_of-stood}
 use Rattle.vbi_field.proofs.Going.{Going, put_whole, write_fault, fields_are, rest_is, begun_is, document_is}
 use Rattle.vbi_field.proofs.Growing.{whole_field}

@@ -1,5 +1,6 @@
 -- Parts and rows of the text of words.
-use Rattle.std.proofs.Common.{◌≡◌, ◌≢◌, ℕ, suc, ◌+◌, ◌-◌, ◌<◌, Bool, true, false, List, [], ◌∷◌, ◌++◌, length, take, drop, cond, refl, sym, ap, ◌∙◌, arith, inl, inr, map, append_assoc, get_or}
+use Rattle.std.proofs.Common.{◌≡◌, ◌≢◌, ℕ, suc, ◌+◌, ◌-◌, ◌<◌, Bool, true, false, List, [], ◌∷◌, ◌++◌, length}
+use Rattle.std.proofs.Common.{take, drop, cond, refl, sym, ap, ◌∙◌, arith, inl, inr, map, append_assoc, get_or}
 use Rattle.std.specs.Prelude.{Option, Some, None, nat_lt, ◌==◌, ◌⊎◌}
 use Rattle.std.specs.List.{position, position_or_len, count_by, join_with_byte, onto_first}
 use Rattle.std.proofs.lemmas.Bool.{ltb-true, ltb-false, cases_lt}

@@ -1,7 +1,8 @@
 -- The texts of code words and of their codes in the report (this project's own), as lists of ASCII codes.
 use Rattle.std.specs.Prelude.{ℕ, ◌+◌, ◌-◌, List, [], ◌∷◌, ◌++◌, length, replicate, nat_lt, if◌then◌else◌, codes, decimal}
 use Rattle.vbi_words.specs.declared.code.Code.{Code}
-use Rattle.vbi_words.specs.declared.code.Code.TheVariants.{Picture, Chapter, Time, ClvPicture, CxOn, CxOff, Users, LeadIn, LeadOut, PictureStop, ClvMark, Other}
+use Rattle.vbi_words.specs.declared.code.Code.TheVariants.{Picture, Chapter, Time, ClvPicture, CxOn, CxOff}
+use Rattle.vbi_words.specs.declared.code.Code.TheVariants.{Users, LeadIn, LeadOut, PictureStop, ClvMark, Other}
 use Rattle.vbi_words.specs.Codes.{digit_of}
 
 -- the hexadecimal digit: '0' to '9', and 'A' to 'F'

@@ -1,6 +1,7 @@
 -- The TBC stream that rows of words are drawn as: a field for each row, of this project's own picture (half cells of one microsecond,
 -- IEC 60857 and IEC 60856; no sync and no colour burst), in ld-decode's TBC format.
-use Rattle.std.specs.Prelude.{ℕ, ◌+◌, ◌/◌, ◌%◌, ◌==◌, ◌&&◌, if◌then◌else◌, Bool, false, List, [], ◌∷◌, nat_le, nat_lt, slice_index_or, Option, Some, None}
+use Rattle.std.specs.Prelude.{ℕ, ◌+◌, ◌/◌, ◌%◌, ◌==◌, ◌&&◌, if◌then◌else◌, Bool, false}
+use Rattle.std.specs.Prelude.{List, [], ◌∷◌, nat_le, nat_lt, slice_index_or, Option, Some, None}
 use Rattle.std.specs.List.{flat_map, list_any, range_with_len}
 use Rattle.vbi_words.specs.Geometry.{width_of, height_of}
 use Rattle.vbi_words.specs.Words.{halves_of}

@@ -4,7 +4,8 @@ ghost use Rattle.vbi_words.specs.Geometry.{line_bytes, height_of};
 ghost use Rattle.vbi_field.specs.Outlet.{failures_of as outlet_failures, written_of, IsFresh as IsFreshOutlet, IsSameDevice as IsSameOutlet};
 ghost use Rattle.vbi_field.specs.RowIntake.{IsFresh, IsSameDevice};
 ghost use Rattle.vbi_field.specs.Drawing.{drawn_line_of, drawn_field_of, word_at};
-ghost use Rattle.vbi_field.specs.DrawRun.{PutsField, Draws, DrawsAll, StopsAtRow, StopsAtRead, StopsAtWrite, StopsAtLimit, IfRow, IfRead, IfWrite, IfTooMany};
+ghost use Rattle.vbi_field.specs.DrawRun.{PutsField, Draws, DrawsAll, StopsAtRow, StopsAtRead};
+ghost use Rattle.vbi_field.specs.DrawRun.{StopsAtWrite, StopsAtLimit, IfRow, IfRead, IfWrite, IfTooMany};
 
 use crate::config::Config;
 use crate::outlet::Outlet;

@@ -38,6 +38,8 @@ pub use summary::{RunFault, Summary};
 pub use word_row::WordRow;
 
 #[cfg(test)]
+mod test_runs;
+#[cfg(test)]
 mod test_tapes;
 #[cfg(test)]
 mod tests_circle;

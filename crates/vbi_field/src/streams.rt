@@ -2,7 +2,8 @@
 ghost use Rattle.std.specs.Prelude.{◌≡◌, ◌≢◌, ◌+◌, ◌*◌, ◌≤◌, length, OnOk, IfOk, IfErr, Err};
 ghost use Rattle.vbi_words.specs.Geometry.{width_of, field_bytes};
 ghost use Rattle.vbi_line.specs.Intake.{fetched_of, IsFresh, IsSameDevice};
-ghost use Rattle.vbi_field.specs.Claims.{looked_of, Given, HasEnded, Wrote, IfRead, IfWrite, IfTooMany, StandsAfterRead, StandsAfterWrite, StandsAfterTooMany};
+ghost use Rattle.vbi_field.specs.Claims.{looked_of, Given, HasEnded, Wrote, IfRead, IfWrite, IfTooMany};
+ghost use Rattle.vbi_field.specs.Claims.{StandsAfterRead, StandsAfterWrite, StandsAfterTooMany};
 ghost use Rattle.vbi_field.specs.Kinds.{document, report};
 ghost use Rattle.vbi_field.specs.Outlet.{IsFresh as IsFreshOutlet, IsSameDevice as IsSameOutlet};
 ghost use Rattle.vbi_field.specs.Stream.{fields_in, rest_in, cut_of, selected_in};

@@ -1,136 +1,16 @@
 //! Texts of words as they are drawn, from readers that interrupt and fail to writers that cut, interrupt and fail.
-use crate::{Config, DrawFault, Outlet, RowIntake, draw};
+use crate::test_runs::{Drawn, config, drew};
+use crate::test_tapes::{Paper, Tape, blank_paper, tape_of, torn};
+use crate::{Config, DrawFault};
 use std::alloc::Global;
-use std::io::{self, Error, ErrorKind, Read, Write};
+use std::process::Abort;
 use std::test::Fail;
 use vbi_words::{Levels, System};
 
-/// A text, a byte in each read; so many interruptions come before each byte and before the end, and an error in place of the end.
-#[derive(Drop)]
-struct Text<'a> {
-    rest: &'a [u8],
-    interruptions: usize,
-    left: usize,
-    fails: bool,
-}
-
-impl Read for Text<'_> {
-    fn read(&mut self, buf: &mut [u8]) -> io::Result<usize> {
-        if self.left > 0 {
-            self.left -= 1;
-            return Err(Error::from(ErrorKind::Interrupted));
-        }
-        self.left = self.interruptions;
-        if self.rest.is_empty() && self.fails {
-            return Err(Error::from(ErrorKind::Other));
-        }
-        if self.rest.is_empty() || buf.is_empty() {
-            return Ok(0);
-        }
-        buf[0] = self.rest[0];
-        self.rest = &self.rest[1..];
-        Ok(1)
-    }
-}
-
-/// Takes so many bytes, at most `piece` in a write, each write after so many interruptions, and then fails.
-#[derive(Drop)]
-struct Narrow {
-    taken: Vec<u8>,
-    room: usize,
-    piece: usize,
-    interruptions: usize,
-    left: usize,
-}
-
-impl Write for Narrow {
-    fn write(&mut self, buf: &[u8]) -> io::Result<usize> {
-        if self.left > 0 {
-            self.left -= 1;
-            return Err(Error::from(ErrorKind::Interrupted));
-        }
-        self.left = self.interruptions;
-        if self.room == 0 {
-            return Err(Error::from(ErrorKind::Other));
-        }
-        let count = buf.len().min(self.piece).min(self.room);
-        self.taken.extend_from_slice(&buf[..count])?;
-        self.room -= count;
-        Ok(count)
-    }
-
-    fn flush(&mut self) -> io::Result<()> {
-        Ok(())
-    }
-}
-
-/// What a run gave, fetched and wrote.
-#[derive(Drop)]
-struct Drawn {
-    result: Result<u32, DrawFault>,
-    fetched: u64,
-    failures: u64,
-    written: u64,
-    bytes: Vec<u8>,
-}
-
-fn config(system: System, max_fields: u32) -> Result<Config, Fail> {
-    let levels = Levels::new(16384, 51200).ok().ok_or("order")?;
-    Ok(Config::new(system, levels, max_fields).ok().ok_or("limit")?)
-}
-
-fn draw_text(
-    alloc: Global,
-    config: &Config,
-    mut text: Text,
-    room: usize,
-    piece: usize,
-    interruptions: usize,
-) -> Drawn {
-    let mut writer = Narrow {
-        taken: Vec::new(alloc),
-        room,
-        piece,
-        interruptions,
-        left: interruptions,
-    };
-    let mut rows = RowIntake::new(&mut text);
-    let mut outlet = Outlet::new(&mut writer);
-    let result = draw(config, &mut rows, &mut outlet);
-    let fetched = rows.fetched();
-    let failures = rows.failures();
-    let written = outlet.written();
-    rows.into_reader();
-    outlet.into_writer();
-    let Narrow {
-        taken,
-        room: _,
-        piece: _,
-        interruptions: _,
-        left: _,
-    } = writer;
-    Drawn {
-        result,
-        fetched,
-        failures,
-        written,
-        bytes: taken,
-    }
-}
-
-fn text_of(rest: &[u8], fails: bool) -> Text<'_> {
-    Text {
-        rest,
-        interruptions: 0,
-        left: 0,
-        fails,
-    }
-}
-
-const FIELD: usize = 478660;
+const FIELD: u64 = 478660;
 
 /// A text, the limit of fields, the answer, the bytes fetched and the bytes written, of NTSC.
-const ROWS: [(&[u8], u32, Result<u32, DrawFault>, u64, usize); 13] = [
+const ROWS: [(&[u8], u32, Result<u32, DrawFault>, u64, u64); 13] = [
     (b"", 9, Ok(0), 0, 0),
     (b"82CFFF - -", 9, Ok(1), 10, FIELD),
     (b"82CFFF - -\n- - F12345", 2, Ok(2), 21, 2 * FIELD),
@@ -176,22 +56,29 @@ const ROWS: [(&[u8], u32, Result<u32, DrawFault>, u64, usize); 13] = [
     (b"- - -\n\n", 9, Err(DrawFault::Row { number: 2 }), 7, FIELD),
 ];
 
+/// Asserts that drawing a text of words answers so, and that the writer took the bytes that were counted.
+fn draws(rt: &impl Abort, config: &Config, words: Tape, mut paper: Paper, answer: Drawn) {
+    assert_eq!(rt; drew(config, words, &mut paper), answer);
+    assert!(rt; paper.taken.len() as u64 == answer.written, "{answer:?}");
+}
+
 #[test]
 fn answers_each_text(rt: HostRuntime) -> Result<(), Fail> {
-    for (bytes, limit, expected, fetched, written) in ROWS {
+    for &(bytes, limit, result, fetched, written) in &ROWS {
         let config = config(System::Ntsc, limit)?;
-        let run = draw_text(
-            rt.alloc(),
+        let answer = Drawn {
+            result,
+            fetched,
+            failures: 0,
+            written,
+        };
+        draws(
+            &rt,
             &config,
-            text_of(bytes, false),
-            10000000,
-            100000,
-            0,
+            tape_of(bytes),
+            blank_paper(rt.alloc()),
+            answer,
         );
-        assert_eq!(rt; run.result, expected);
-        assert_eq!(rt; run.fetched, fetched);
-        assert_eq!(rt; run.failures, 0);
-        assert_eq!(rt; run.bytes.len(), written);
     }
     Ok(())
 }
@@ -199,152 +86,196 @@ fn answers_each_text(rt: HostRuntime) -> Result<(), Fail> {
 #[test]
 fn lower_case_is_the_same(rt: HostRuntime) -> Result<(), Fail> {
     let config = config(System::Ntsc, 9)?;
-    let upper = draw_text(
-        rt.alloc(),
-        &config,
-        text_of(b"82CFFF ABCDEF -", false),
-        10000000,
-        100000,
-        0,
-    );
-    let lower = draw_text(
-        rt.alloc(),
-        &config,
-        text_of(b"82cfff aBcDeF -", false),
-        10000000,
-        1000,
-        16,
-    );
-    assert_eq!(rt; lower.result, Ok(1));
-    assert!(rt; upper.bytes.as_slice() == lower.bytes.as_slice());
+    let mut upper = blank_paper(rt.alloc());
+    drew(&config, tape_of(b"82CFFF ABCDEF -"), &mut upper);
+    let mut lower = Paper {
+        piece: 1000,
+        interrupts: 16,
+        again: 16,
+        ..blank_paper(rt.alloc())
+    };
+    let run = drew(&config, tape_of(b"82cfff aBcDeF -"), &mut lower);
+    assert_eq!(rt; run.result, Ok(1));
+    assert!(rt; upper.taken.as_slice() == lower.taken.as_slice());
     Ok(())
 }
 
 #[test]
 fn a_read_fault_leaves_whole_fields(rt: HostRuntime) -> Result<(), Fail> {
     let config = config(System::Ntsc, 9)?;
-    let run = draw_text(
-        rt.alloc(),
-        &config,
-        text_of(b"82CFFF F12345 F12345\n- -", true),
-        10000000,
-        1000,
-        0,
-    );
-    assert_eq!(rt; run.result, Err(DrawFault::Read { number: 2 }));
-    assert_eq!(rt; run.fetched, 24);
-    assert_eq!(rt; run.failures, 1);
-    assert_eq!(rt; run.bytes.len(), FIELD);
+    let words = torn(b"82CFFF F12345 F12345\n- -", 24);
+    let paper = Paper {
+        piece: 1000,
+        ..blank_paper(rt.alloc())
+    };
+    let answer = Drawn {
+        result: Err(DrawFault::Read { number: 2 }),
+        fetched: 24,
+        failures: 1,
+        written: FIELD,
+    };
+    draws(&rt, &config, words, paper, answer);
     Ok(())
 }
 
 #[test]
 fn a_write_fault_has_its_count(rt: HostRuntime) -> Result<(), Fail> {
     let config = config(System::Ntsc, 9)?;
-    let run = draw_text(
-        rt.alloc(),
+    let paper = Paper {
+        room: 1000,
+        piece: 7,
+        interrupts: 2,
+        again: 2,
+        ..blank_paper(rt.alloc())
+    };
+    let answer = Drawn {
+        result: Err(DrawFault::Write { written: 1000 }),
+        fetched: 21,
+        failures: 0,
+        written: 1000,
+    };
+    draws(
+        &rt,
         &config,
-        text_of(b"82CFFF F12345 F12345\n", false),
-        1000,
-        7,
-        2,
+        tape_of(b"82CFFF F12345 F12345\n"),
+        paper,
+        answer,
     );
-    assert_eq!(rt; run.result, Err(DrawFault::Write { written: 1000 }));
-    assert_eq!(rt; run.written, 1000);
-    assert_eq!(rt; run.bytes.len(), 1000);
     Ok(())
+}
+
+/// A row, with so many interruptions before its first byte, and before each other byte and the end.
+fn interrupted(interrupts: usize, again: usize) -> Tape<'static> {
+    Tape {
+        piece: 1,
+        interrupts,
+        again,
+        ..tape_of(b"- - -\n")
+    }
 }
 
 // Sixteen interruptions in a row before each byte and the end are borne, and the seventeenth is the fault.
 #[test]
 fn bears_sixteen_interruptions(rt: HostRuntime) -> Result<(), Fail> {
     let config = config(System::Ntsc, 9)?;
-    let borne = Text {
-        rest: b"- - -\n",
-        interruptions: 16,
-        left: 16,
-        fails: false,
+    let borne = Drawn {
+        result: Ok(1),
+        fetched: 6,
+        failures: 112,
+        written: FIELD,
     };
-    let run = draw_text(rt.alloc(), &config, borne, 10000000, 100000, 0);
-    assert_eq!(rt; run.result, Ok(1));
-    assert_eq!(rt; run.failures, 112);
-    let refused = Text {
-        rest: b"- - -\n",
-        interruptions: 17,
-        left: 0,
-        fails: false,
+    draws(
+        &rt,
+        &config,
+        interrupted(16, 16),
+        blank_paper(rt.alloc()),
+        borne,
+    );
+    let refused = Drawn {
+        result: Err(DrawFault::Read { number: 1 }),
+        fetched: 1,
+        failures: 17,
+        written: 0,
     };
-    let run = draw_text(rt.alloc(), &config, refused, 10000000, 100000, 0);
-    assert_eq!(rt; run.result, Err(DrawFault::Read { number: 1 }));
-    assert_eq!(rt; run.fetched, 1);
-    assert_eq!(rt; run.failures, 17);
+    draws(
+        &rt,
+        &config,
+        interrupted(0, 17),
+        blank_paper(rt.alloc()),
+        refused,
+    );
     Ok(())
 }
 
 /// The sample at a column of a row of the first field.
 fn sample(bytes: &[u8], line_bytes: usize, row: usize, column: usize) -> Option<u32> {
     let at = row
-        .checked_mul(line_bytes)?
-        .checked_add(column.checked_mul(2)?)?;
+        .wrapping_mul(line_bytes)
+        .wrapping_add(column.wrapping_mul(2));
     let low = *bytes.get(at)?;
-    let high = *bytes.get(at.checked_add(1)?)?;
+    let high = *bytes.get(at.wrapping_add(1))?;
     Some(u32::from(low) + 256 * u32::from(high))
 }
+
+const BLACK: Option<u32> = Some(16384);
+
+const WHITE: Option<u32> = Some(51200);
+
+/// A row, a column and the sample there.
+type Point = (usize, usize, Option<u32>);
+
+/// Asserts that the first field has these samples.
+fn has_samples(rt: &impl Abort, bytes: &[u8], line_bytes: usize, points: &[Point]) {
+    for &(row, column, expected) in points {
+        assert_eq!(rt; sample(bytes, line_bytes, row, column), expected);
+    }
+}
+
+/// Asserts that a text draws so many bytes, with these samples.
+fn draws_samples(
+    rt: &impl Abort,
+    alloc: Global,
+    system: System,
+    words: &[u8],
+    bytes: usize,
+    points: &[Point],
+) -> Result<(), Fail> {
+    let config = Config::new(system, Levels::new(16384, 51200)?, 9)?;
+    let mut paper = blank_paper(alloc);
+    drew(&config, tape_of(words), &mut paper);
+    assert!(rt; paper.taken.len() == bytes);
+    has_samples(rt, paper.taken.as_slice(), 2 * system.width(), points);
+    Ok(())
+}
+
+const NTSC_SAMPLES: [Point; 18] = [
+    (14, 164, BLACK),
+    (15, 164, BLACK),
+    (16, 149, BLACK),
+    (16, 163, BLACK),
+    (16, 164, WHITE),
+    (16, 177, WHITE),
+    (16, 178, BLACK),
+    (16, 191, BLACK),
+    (16, 192, WHITE),
+    (16, 206, WHITE),
+    (16, 207, BLACK),
+    (17, 164, WHITE),
+    (17, 178, WHITE),
+    (17, 191, WHITE),
+    (17, 192, BLACK),
+    (17, 821, WHITE),
+    (17, 822, BLACK),
+    (18, 164, BLACK),
+];
+
+const PAL_SAMPLES: [Point; 7] = [
+    (15, 206, BLACK),
+    (15, 207, WHITE),
+    (15, 224, WHITE),
+    (15, 225, BLACK),
+    (15, 1023, WHITE),
+    (15, 1041, BLACK),
+    (16, 207, BLACK),
+];
 
 // The boundaries of half cells of one microsecond from column 150 or 190 on: floor(j * 315 / 22) and floor(j * 709379 / 40000).
 #[test]
 fn draws_half_cells(rt: HostRuntime) -> Result<(), Fail> {
-    let black = Some(16384);
-    let white = Some(51200);
-    let ntsc = draw_text(
+    draws_samples(
+        &rt,
         rt.alloc(),
-        &config(System::Ntsc, 9)?,
-        text_of(b"- F12345 800000", false),
-        10000000,
-        100000,
-        0,
-    );
-    for (row, column, expected) in [
-        (14, 164, black),
-        (15, 164, black),
-        (16, 149, black),
-        (16, 163, black),
-        (16, 164, white),
-        (16, 177, white),
-        (16, 178, black),
-        (16, 191, black),
-        (16, 192, white),
-        (16, 206, white),
-        (16, 207, black),
-        (17, 164, white),
-        (17, 178, white),
-        (17, 191, white),
-        (17, 192, black),
-        (17, 821, white),
-        (17, 822, black),
-        (18, 164, black),
-    ] {
-        assert_eq!(rt; sample(ntsc.bytes.as_slice(), 1820, row, column), expected);
-    }
-    let pal = draw_text(
+        System::Ntsc,
+        b"- F12345 800000",
+        478660,
+        &NTSC_SAMPLES,
+    )?;
+    draws_samples(
+        &rt,
         rt.alloc(),
-        &config(System::Pal, 9)?,
-        text_of(b"F12345 - -", false),
-        10000000,
-        100000,
-        0,
-    );
-    assert_eq!(rt; pal.bytes.len(), 710510);
-    for (row, column, expected) in [
-        (15, 206, black),
-        (15, 207, white),
-        (15, 224, white),
-        (15, 225, black),
-        (15, 1023, white),
-        (15, 1041, black),
-        (16, 207, black),
-    ] {
-        assert_eq!(rt; sample(pal.bytes.as_slice(), 2270, row, column), expected);
-    }
-    Ok(())
+        System::Pal,
+        b"F12345 - -",
+        710510,
+        &PAL_SAMPLES,
+    )
 }

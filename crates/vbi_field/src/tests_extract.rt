@@ -1,50 +1,67 @@
 //! Documents and reports of known streams.
-use crate::test_tapes::{
-    BLACK, CUT_TAIL, DRAWN, HEAD, NONE, PAL_DRAWN, PAL_HEAD, PAL_REPORT_HEAD, PAL_REPORT_WORDS,
-    PAL_WORDS, RECOVERED, REPORT_BLACK, REPORT_HEAD, REPORT_TAIL, REPORT_WORDS, TAIL, Tape, Verb,
-    WORDS, blank_paper, config, field, ran, tape_of, whole,
+use crate::test_runs::{
+    BLACK, CUT, CUT_END, DRAWN, Done, HEAD, NONE, PAL_DRAWN, PAL_HEAD, PAL_REPORT_HEAD,
+    PAL_REPORT_WORDS, PAL_WORDS, RECOVERED, REPORT_BLACK, REPORT_HEAD, REPORT_TAIL, REPORT_WORDS,
+    TAIL, Verb, WORDS, answers, config, field, total, whole, writes,
 };
+use crate::test_tapes::{Tape, blank_paper, front, tape_of};
+use crate::{Config, RunFault, Summary};
+use std::alloc::Global;
+use std::process::Abort;
 use std::test::Fail;
 use vbi_words::System;
 
+/// Asserts that a stream ends so, and just the texts of its document and of its report.
+fn writes_both(
+    rt: &impl Abort,
+    alloc: Global,
+    config: &Config,
+    stream: &[u8],
+    ended: Result<Summary, RunFault>,
+    document: &[&str],
+    report: &[&str],
+) {
+    writes(rt, alloc, Verb::Extract, config, stream, ended, document);
+    writes(rt, alloc, Verb::Show, config, stream, ended, report);
+}
+
+/// The words on lines 16, 17 and 18 of one field, its document and its report.
+const FIELDS: [(System, [u32; 3], &[&str], &[&str]); 3] = [
+    (
+        System::Ntsc,
+        NONE,
+        &[HEAD, BLACK, TAIL],
+        &[REPORT_HEAD, REPORT_BLACK, REPORT_TAIL],
+    ),
+    (
+        System::Ntsc,
+        DRAWN,
+        &[HEAD, WORDS, TAIL],
+        &[REPORT_HEAD, REPORT_WORDS, REPORT_TAIL],
+    ),
+    (
+        System::Pal,
+        PAL_DRAWN,
+        &[PAL_HEAD, PAL_WORDS, TAIL],
+        &[PAL_REPORT_HEAD, PAL_REPORT_WORDS, REPORT_TAIL],
+    ),
+];
+
 #[test]
 fn writes_documents_and_reports(rt: HostRuntime) -> Result<(), Fail> {
-    let cases = [
-        (System::Ntsc, NONE, HEAD, BLACK, REPORT_HEAD, REPORT_BLACK),
-        (System::Ntsc, DRAWN, HEAD, WORDS, REPORT_HEAD, REPORT_WORDS),
-        (
-            System::Pal,
-            PAL_DRAWN,
-            PAL_HEAD,
-            PAL_WORDS,
-            PAL_REPORT_HEAD,
-            PAL_REPORT_WORDS,
-        ),
-    ];
-    for (system, words, head, record, report_head, lines) in cases {
+    for &(system, words, document, report) in &FIELDS {
         let config = config(system, 5)?;
         let stream = field(rt.alloc(), &config, words)?;
-        let looked = 3 * config.system().width() as u64;
-        let mut document = blank_paper(rt.alloc());
-        let extracted = ran(
-            Verb::Extract,
+        let ended = whole(1, None, 3 * system.width() as u64);
+        writes_both(
+            &rt,
+            rt.alloc(),
             &config,
-            &mut tape_of(stream.as_slice()),
-            &mut document,
+            stream.as_slice(),
+            ended,
+            document,
+            report,
         );
-        assert_eq!(rt; extracted.result, whole(1, None, looked), "{record}");
-        let text = format!(in rt.alloc(); "{head}{record}{TAIL}")?;
-        assert!(rt; document.taken.as_slice() == text.as_bytes(), "{record}");
-        let mut report = blank_paper(rt.alloc());
-        let shown = ran(
-            Verb::Show,
-            &config,
-            &mut tape_of(stream.as_slice()),
-            &mut report,
-        );
-        assert_eq!(rt; shown.result, whole(1, None, looked), "{lines}");
-        let text = format!(in rt.alloc(); "{report_head}{lines}{REPORT_TAIL}")?;
-        assert!(rt; report.taken.as_slice() == text.as_bytes(), "{lines}");
     }
     Ok(())
 }
@@ -52,66 +69,77 @@ fn writes_documents_and_reports(rt: HostRuntime) -> Result<(), Fail> {
 #[test]
 fn writes_an_empty_document(rt: HostRuntime) -> Result<(), Fail> {
     let config = config(System::Ntsc, 5)?;
-    let mut document = blank_paper(rt.alloc());
-    let extracted = ran(Verb::Extract, &config, &mut tape_of(&[]), &mut document);
-    assert_eq!(rt; extracted.result, whole(0, None, 0));
-    assert_eq!(rt; extracted.written, 155);
-    let text = format!(in rt.alloc(); "{HEAD}{TAIL}")?;
-    assert!(rt; document.taken.as_slice() == text.as_bytes());
+    let done = Done {
+        result: whole(0, None, 0),
+        fetched: 0,
+        read_failures: 0,
+        written: 155,
+        write_failures: 0,
+    };
+    let paper = blank_paper(rt.alloc());
+    answers(
+        &rt,
+        Verb::Extract,
+        &config,
+        tape_of(&[]),
+        paper,
+        done,
+        &[HEAD, TAIL],
+    );
     Ok(())
+}
+
+/// Columns 170 and 171 of row 15, black.
+fn blacken(stream: &mut Vec<u8>) -> Option<()> {
+    let columns = stream
+        .as_mut_slice()
+        .get_mut(15 * 1820 + 2 * 170..15 * 1820 + 2 * 172)?;
+    for column in columns.chunks_exact_mut(2) {
+        column.copy_from_slice(&[0, 0x40]);
+    }
+    Some(())
 }
 
 #[test]
 fn recovers_a_word(rt: HostRuntime) -> Result<(), Fail> {
     let config = config(System::Ntsc, 5)?;
     let mut stream = field(rt.alloc(), &config, [0x82CFFF, 0, 0])?;
-    // Columns 170 and 171 of row 15, black.
-    let at = 15 * 1820 + 2 * 170;
-    assert!(rt; at + 4 <= stream.len());
-    stream[at] = 0;
-    stream[at + 1] = 0x40;
-    stream[at + 2] = 0;
-    stream[at + 3] = 0x40;
-    let mut document = blank_paper(rt.alloc());
-    let extracted = ran(
+    blacken(&mut stream).ok_or("short")?;
+    let ended = whole(1, None, 2730);
+    let texts = [HEAD, RECOVERED, TAIL];
+    writes(
+        &rt,
+        rt.alloc(),
         Verb::Extract,
         &config,
-        &mut tape_of(stream.as_slice()),
-        &mut document,
+        stream.as_slice(),
+        ended,
+        &texts,
     );
-    assert_eq!(rt; extracted.result, whole(1, None, 2730));
-    let text = format!(in rt.alloc(); "{HEAD}{RECOVERED}{TAIL}")?;
-    assert!(rt; document.taken.as_slice() == text.as_bytes());
     Ok(())
 }
+
+/// Bytes that a field is cut to, and the columns looked at.
+const CUTS: [(u32, &str, u64); 6] = [
+    (1, "1", 0),
+    (27299, "27299", 0),
+    (27300, "27300", 0),
+    (27301, "27301", 0),
+    (32760, "32760", 2730),
+    (478659, "478659", 2730),
+];
 
 #[test]
 fn names_a_cut_field(rt: HostRuntime) -> Result<(), Fail> {
     let config = config(System::Ntsc, 5)?;
     let stream = field(rt.alloc(), &config, NONE)?;
-    let cases = [
-        (1, 0),
-        (27299, 0),
-        (27300, 0),
-        (27301, 0),
-        (32760, 2730),
-        (478659, 2730),
-    ];
-    for (length, looked) in cases {
-        let cut = stream.get(..length).ok_or("short")?;
-        let mut document = blank_paper(rt.alloc());
-        let extracted = ran(Verb::Extract, &config, &mut tape_of(cut), &mut document);
-        assert_eq!(rt; extracted.result, whole(0, Some(length as u32), looked));
+    for &(length, bytes, looked) in &CUTS {
+        let cut = front(stream.as_slice(), length as usize);
+        let ended = whole(0, Some(length), looked);
+        let document = [HEAD, CUT, bytes, CUT_END];
+        let report = [REPORT_HEAD, "fields 0 cut field 1 bytes ", bytes, "\n"];
+        writes_both(&rt, rt.alloc(), &config, cut, ended, &document, &report);
     }
-    let cut = stream.get(..478659).ok_or("short")?;
-    let mut document = blank_paper(rt.alloc());
-    ran(Verb::Extract, &config, &mut tape_of(cut), &mut document);
-    let text = format!(in rt.alloc(); "{HEAD}{CUT_TAIL}")?;
-    assert!(rt; document.taken.as_slice() == text.as_bytes());
-    let mut report = blank_paper(rt.alloc());
-    ran(Verb::Show, &config, &mut tape_of(cut), &mut report);
-    let text = format!(in rt.alloc(); "{REPORT_HEAD}fields 0 cut field 1 bytes 478659\n")?;
-    assert!(rt; report.taken.as_slice() == text.as_bytes());
     Ok(())
 }
 
@@ -119,17 +147,28 @@ fn names_a_cut_field(rt: HostRuntime) -> Result<(), Fail> {
 fn reads_in_any_pieces(rt: HostRuntime) -> Result<(), Fail> {
     let config = config(System::Ntsc, 5)?;
     let stream = field(rt.alloc(), &config, DRAWN)?;
-    let text = format!(in rt.alloc(); "{HEAD}{WORDS}{TAIL}")?;
+    let texts = [HEAD, WORDS, TAIL];
+    let done = Done {
+        result: whole(1, None, 2730),
+        fetched: 478660,
+        read_failures: 0,
+        written: total(&texts),
+        write_failures: 0,
+    };
     for piece in [1, 3, 1821] {
-        let mut document = blank_paper(rt.alloc());
-        let mut reader = Tape {
+        let tape = Tape {
             piece,
             ..tape_of(stream.as_slice())
         };
-        let extracted = ran(Verb::Extract, &config, &mut reader, &mut document);
-        assert_eq!(rt; extracted.result, whole(1, None, 2730));
-        assert_eq!(rt; extracted.fetched, 478660);
-        assert!(rt; document.taken.as_slice() == text.as_bytes());
+        answers(
+            &rt,
+            Verb::Extract,
+            &config,
+            tape,
+            blank_paper(rt.alloc()),
+            done,
+            &texts,
+        );
     }
     Ok(())
 }

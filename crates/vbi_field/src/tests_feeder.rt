@@ -1,8 +1,11 @@
 //! Known streams that are pushed in pieces.
-use crate::test_tapes::{
-    BLACK, CUT_TAIL, DRAWN, HEAD, NONE, Paper, TAIL, WORDS, blank_paper, config, field, whole,
+use crate::test_runs::{
+    BLACK, CUT, CUT_END, DRAWN, HEAD, NONE, TAIL, WORDS, config, field, total, whole, wrote,
 };
+use crate::test_tapes::{Paper, blank_paper, front};
 use crate::{Config, Feeder, Outlet, RunFault, Summary};
+use std::alloc::Global;
+use std::process::Abort;
 use std::test::Fail;
 use vbi_words::System;
 
@@ -39,7 +42,7 @@ fn pushed(config: Config, pieces: &[&[u8]], paper: &mut Paper) -> Result<Summary
 }
 
 /// Pushes a stream in pieces of so many bytes and ends it.
-pub(crate) fn chunked(
+fn chunked(
     config: Config,
     stream: &[u8],
     size: usize,
@@ -54,6 +57,35 @@ pub(crate) fn chunked(
         rest = more;
     }
     end(feeder, &mut outlet)
+}
+
+/// Asserts that a stream in pieces ends so, and that just these texts were written.
+fn feeds(
+    rt: &impl Abort,
+    alloc: Global,
+    config: Config,
+    pieces: &[&[u8]],
+    ended: Result<Summary, RunFault>,
+    texts: &[&str],
+) {
+    let mut paper = blank_paper(alloc);
+    assert_eq!(rt; pushed(config, pieces, &mut paper), ended);
+    wrote(rt, &paper, total(texts), texts);
+}
+
+/// Asserts this of a stream in pieces of so many bytes.
+pub(crate) fn feeds_chunks(
+    rt: &impl Abort,
+    alloc: Global,
+    config: Config,
+    stream: &[u8],
+    size: usize,
+    ended: Result<Summary, RunFault>,
+    texts: &[&str],
+) {
+    let mut paper = blank_paper(alloc);
+    assert_eq!(rt; chunked(config, stream, size, &mut paper), ended, "{size}");
+    wrote(rt, &paper, total(texts), texts);
 }
 
 /// What a piece, a piece of no bytes after it and then the end answer.
@@ -76,13 +108,30 @@ fn after_a_fault(config: Config, piece: &[u8], paper: &mut Paper) -> Result<Answ
     })
 }
 
+/// Asserts that a piece answers a fault and all calls after it `Failed`, and that so many bytes of these texts were written.
+fn fails(
+    rt: &impl Abort,
+    config: Config,
+    piece: &[u8],
+    mut paper: Paper,
+    fault: RunFault,
+    written: u64,
+    texts: &[&str],
+) {
+    let answers = Answers {
+        piece: Err(fault),
+        next: Err(RunFault::Failed),
+        end: Err(RunFault::Failed),
+    };
+    assert_eq!(rt; after_a_fault(config, piece, &mut paper), Ok(answers));
+    wrote(rt, &paper, written, texts);
+}
+
 #[test]
 fn ends_an_empty_stream(rt: HostRuntime) -> Result<(), Fail> {
-    let mut document = blank_paper(rt.alloc());
-    let result = pushed(config(System::Ntsc, 5)?, &[], &mut document);
-    assert_eq!(rt; result, whole(0, None, 0));
-    let text = format!(in rt.alloc(); "{HEAD}{TAIL}")?;
-    assert!(rt; document.taken.as_slice() == text.as_bytes());
+    let config = config(System::Ntsc, 5)?;
+    let ended = whole(0, None, 0);
+    feeds(&rt, rt.alloc(), config, &[], ended, &[HEAD, TAIL]);
     Ok(())
 }
 
@@ -90,19 +139,22 @@ fn ends_an_empty_stream(rt: HostRuntime) -> Result<(), Fail> {
 fn takes_any_pieces(rt: HostRuntime) -> Result<(), Fail> {
     let config = config(System::Ntsc, 5)?;
     let stream = field(rt.alloc(), &config, DRAWN)?;
-    let text = format!(in rt.alloc(); "{HEAD}{WORDS}{TAIL}")?;
+    let ended = whole(1, None, 2730);
+    let texts = [HEAD, WORDS, TAIL];
     for size in [1, 3, 1821] {
-        let mut document = blank_paper(rt.alloc());
-        let result = chunked(config, stream.as_slice(), size, &mut document);
-        assert_eq!(rt; result, whole(1, None, 2730), "{size}");
-        assert!(rt; document.taken.as_slice() == text.as_bytes(), "{size}");
+        feeds_chunks(
+            &rt,
+            rt.alloc(),
+            config,
+            stream.as_slice(),
+            size,
+            ended,
+            &texts,
+        );
     }
     // Inside the first sample of line 16, and a piece of no bytes.
     let (front, back) = stream.as_slice().split_at_checked(27301).ok_or("short")?;
-    let mut document = blank_paper(rt.alloc());
-    let result = pushed(config, &[front, &[], back], &mut document);
-    assert_eq!(rt; result, whole(1, None, 2730));
-    assert!(rt; document.taken.as_slice() == text.as_bytes());
+    feeds(&rt, rt.alloc(), config, &[front, &[], back], ended, &texts);
     Ok(())
 }
 
@@ -110,18 +162,14 @@ fn takes_any_pieces(rt: HostRuntime) -> Result<(), Fail> {
 fn takes_a_stream_in_one_piece(rt: HostRuntime) -> Result<(), Fail> {
     let config = config(System::Ntsc, 1)?;
     let stream = field(rt.alloc(), &config, NONE)?;
-    let mut document = blank_paper(rt.alloc());
-    let result = pushed(config, &[stream.as_slice()], &mut document);
-    assert_eq!(rt; result, whole(1, None, 2730));
-    let text = format!(in rt.alloc(); "{HEAD}{BLACK}{TAIL}")?;
-    assert!(rt; document.taken.as_slice() == text.as_bytes());
+    let ended = whole(1, None, 2730);
+    let texts = [HEAD, BLACK, TAIL];
+    feeds(&rt, rt.alloc(), config, &[stream.as_slice()], ended, &texts);
 
-    let cut = stream.get(..478659).ok_or("short")?;
-    let mut document = blank_paper(rt.alloc());
-    let result = pushed(config, &[cut], &mut document);
-    assert_eq!(rt; result, whole(0, Some(478659), 2730));
-    let text = format!(in rt.alloc(); "{HEAD}{CUT_TAIL}")?;
-    assert!(rt; document.taken.as_slice() == text.as_bytes());
+    let cut = front(stream.as_slice(), 478659);
+    let ended = whole(0, Some(478659), 2730);
+    let texts = [HEAD, CUT, "478659", CUT_END];
+    feeds(&rt, rt.alloc(), config, &[cut], ended, &texts);
     Ok(())
 }
 
@@ -129,34 +177,17 @@ fn takes_a_stream_in_one_piece(rt: HostRuntime) -> Result<(), Fail> {
 fn fails_for_good(rt: HostRuntime) -> Result<(), Fail> {
     let config = config(System::Ntsc, 1)?;
     let mut stream = field(rt.alloc(), &config, NONE)?;
-    let text = format!(in rt.alloc(); "{HEAD}{BLACK}")?;
-    let mut document = Paper {
+    let paper = Paper {
         room: 150,
         ..blank_paper(rt.alloc())
     };
-    let write = Ok(Answers {
-        piece: Err(RunFault::Write { written: 150 }),
-        next: Err(RunFault::Failed),
-        end: Err(RunFault::Failed),
-    });
-    assert_eq!(rt;
-        after_a_fault(config, stream.as_slice(), &mut document),
-        write
-    );
-    assert_eq!(rt; document.taken.len(), 150);
-    assert!(rt; text.as_bytes().starts_with(document.taken.as_slice()));
+    let fault = RunFault::Write { written: 150 };
+    let texts = [HEAD, BLACK];
+    fails(&rt, config, stream.as_slice(), paper, fault, 150, &texts);
 
     stream.push(0)?;
-    let mut document = blank_paper(rt.alloc());
-    let too_many = Ok(Answers {
-        piece: Err(RunFault::TooManyFields),
-        next: Err(RunFault::Failed),
-        end: Err(RunFault::Failed),
-    });
-    assert_eq!(rt;
-        after_a_fault(config, stream.as_slice(), &mut document),
-        too_many
-    );
-    assert!(rt; document.taken.as_slice() == text.as_bytes());
+    let paper = blank_paper(rt.alloc());
+    let fault = RunFault::TooManyFields;
+    fails(&rt, config, stream.as_slice(), paper, fault, 227, &texts);
     Ok(())
 }

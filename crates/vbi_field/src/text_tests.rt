@@ -2,6 +2,7 @@
 
 use crate::report::{report_entry, report_head, report_tail};
 use crate::{FieldReadings, cause_text, code_text, hex_text};
+use std::process::Abort;
 use std::test::Fail;
 use vbi_words::{Code, Levels, Outcome, Reading, System, Word24, WordFault, classify};
 
@@ -66,77 +67,65 @@ const CAUSES: [(Outcome, &str); 5] = [
     (Outcome::Hold(65535), "hold 65535"),
 ];
 
+fn is_text(rt: &impl Abort, text: &str, expected: &str) {
+    assert_eq!(rt; text, expected);
+}
+
 #[test]
 fn texts_of_known_words(rt: HostRuntime) -> Result<(), WordFault> {
-    for (value, hex, text) in WORDS {
+    for &(value, hex, text) in &WORDS {
         let word = Word24::new(value)?;
-        assert_eq!(rt; hex_text(word).as_str(), hex);
-        assert_eq!(rt; code_text(classify(word)).as_str(), text);
+        is_text(&rt, hex_text(word).as_str(), hex);
+        is_text(&rt, code_text(classify(word)).as_str(), text);
     }
     Ok(())
 }
 
 #[test]
 fn wide_numbers_have_all_digits(rt: HostRuntime) {
-    for (code, text) in BY_HAND {
-        assert_eq!(rt; code_text(code).as_str(), text);
+    for &(code, text) in &BY_HAND {
+        is_text(&rt, code_text(code).as_str(), text);
     }
 }
 
 #[test]
 fn texts_of_causes(rt: HostRuntime) -> Result<(), WordFault> {
-    for (outcome, text) in CAUSES {
-        assert_eq!(rt; cause_text(outcome).as_str(), text);
+    for &(outcome, text) in &CAUSES {
+        is_text(&rt, cause_text(outcome).as_str(), text);
     }
-    assert_eq!(rt;
-        cause_text(Outcome::Word(Word24::new(0x82CFFF)?)).as_str(),
-        "word"
-    );
+    let word = Outcome::Word(Word24::new(0x82CFFF)?);
+    is_text(&rt, cause_text(word).as_str(), "word");
     Ok(())
+}
+
+fn read_as(outcome: Outcome, pass: u8) -> Reading {
+    Reading { outcome, pass }
 }
 
 #[test]
 fn reports_a_field(rt: HostRuntime) -> Result<(), Fail> {
-    let levels = Levels::new(16384, 51200)?;
-    assert_eq!(rt;
-        report_head(System::Ntsc, levels).as_str(),
-        "system NTSC 910x263 black 16384 white 51200\n"
-    );
-    let stop = Reading {
-        outcome: Outcome::Word(Word24::new(0x82CFFF)?),
-        pass: 1,
-    };
-    let picture = Reading {
-        outcome: Outcome::Word(Word24::new(0xF12345)?),
-        pass: 1,
-    };
+    let head = report_head(System::Ntsc, Levels::new(16384, 51200)?);
+    let first = "system NTSC 910x263 black 16384 white 51200\n";
+    is_text(&rt, head.as_str(), first);
+    let picture = read_as(Outcome::Word(Word24::new(0xF12345)?), 1);
     let drawn = FieldReadings {
-        first: stop,
+        first: read_as(Outcome::Word(Word24::new(0x82CFFF)?), 1),
         second: picture,
         third: picture,
     };
     let lines =
         "field 1 cav\n16 82CFFF picture stop\n17 F12345 picture 12345\n18 F12345 picture 12345\n";
-    assert_eq!(rt; report_entry(1, &drawn).as_str(), lines);
-    let blank = Reading {
-        outcome: Outcome::Blank,
-        pass: 0,
-    };
-    let change = Reading {
-        outcome: Outcome::Change(34),
-        pass: 0,
-    };
+    is_text(&rt, report_entry(1, &drawn).as_str(), lines);
+    let blank = read_as(Outcome::Blank, 0);
     let dark = FieldReadings {
         first: blank,
-        second: change,
+        second: read_as(Outcome::Change(34), 0),
         third: blank,
     };
     let causes = "field 4294967295 neither\n16 none blank\n17 none change 34\n18 none blank\n";
-    assert_eq!(rt; report_entry(4294967295, &dark).as_str(), causes);
-    assert_eq!(rt; report_tail(1, 0).as_str(), "fields 1 cut none\n");
-    assert_eq!(rt;
-        report_tail(0, 478659).as_str(),
-        "fields 0 cut field 1 bytes 478659\n"
-    );
+    is_text(&rt, report_entry(4294967295, &dark).as_str(), causes);
+    is_text(&rt, report_tail(1, 0).as_str(), "fields 1 cut none\n");
+    let cut = report_tail(0, 478659);
+    is_text(&rt, cut.as_str(), "fields 0 cut field 1 bytes 478659\n");
     Ok(())
 }

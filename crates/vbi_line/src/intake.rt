@@ -40,7 +40,8 @@ pub struct Intake<'a, R> {
 }
 
 impl<'a, R: Read> Intake<'a, R> {
-    ghost use Rattle.vbi_line.specs.Intake.{device_of, failures_of, fetched_of, held_of, line_of, name_of, IsFresh, Fetches, IsFilled, IsSameDevice, KeepsReader};
+    ghost use Rattle.vbi_line.specs.Intake.{device_of, failures_of, fetched_of, held_of, line_of, name_of};
+    ghost use Rattle.vbi_line.specs.Intake.{IsFresh, Fetches, IsFilled, IsSameDevice, KeepsReader};
 
     /// An intake of lines of this system, which holds nothing and hasn't asked the reader.
     pub fn new(reader: &'a mut R, system: System) -> Self

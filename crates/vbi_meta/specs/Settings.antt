@@ -1,6 +1,7 @@
 -- The settings that metadata and options give together: refusals in their order, of which the first that holds counts, and
 -- the values where none holds. The members are those of ld-decode's `.tbc.json`; the order is this project's own.
-use Rattle.std.specs.Prelude.{◌≡◌, ℕ, ◌^◌, ◌==◌, ◌&&◌, ◌||◌, Bool, true, false, not, nat_lt, nat_le, is_some, is_none, List, [], ◌∷◌, ◌++◌, codes, Option, Some, None, option_map, option_and_then, unwrap_or, if◌then◌else◌}
+use Rattle.std.specs.Prelude.{◌≡◌, ℕ, ◌^◌, ◌==◌, ◌&&◌, ◌||◌, Bool, true, false, not, nat_lt, nat_le, is_some, is_none, List}
+use Rattle.std.specs.Prelude.{[], ◌∷◌, ◌++◌, codes, Option, Some, None, option_map, option_and_then, unwrap_or, if◌then◌else◌}
 use Rattle.std.specs.Str.{bytes_eq}
 use Rattle.serde_json.specs.Data.{Data}
 use Rattle.serde_json.specs.Find.{get, as_bool, as_number, as_str, as_object, as_u64}
@@ -10,7 +11,8 @@ use Rattle.vbi_words.specs.Geometry.{width_of, height_of}
 use Rattle.vbi_field.specs.Setup.{Setup}
 use Rattle.vbi_meta.specs.declared.choosing.Overrides.{Overrides}
 use Rattle.vbi_meta.specs.declared.fault.MetaFault.{MetaFault}
-use Rattle.vbi_meta.specs.declared.fault.MetaFault.TheVariants.{NoVideoParameters, NoSystem, UnknownSystem, SystemsDisagree, NoBlack, BadBlack, NoWhite, BadWhite, LevelsOrder, WidthDiffers, HeightDiffers, BadMaxFields}
+use Rattle.vbi_meta.specs.declared.fault.MetaFault.TheVariants.{NoVideoParameters, NoSystem, UnknownSystem, SystemsDisagree, NoBlack, BadBlack}
+use Rattle.vbi_meta.specs.declared.fault.MetaFault.TheVariants.{NoWhite, BadWhite, LevelsOrder, WidthDiffers, HeightDiffers, BadMaxFields}
 
 -- ---- the members
 

@@ -1,5 +1,6 @@
 -- Each list of levels has one outcome.
-use Rattle.std.proofs.Common.{◌≡◌, ℕ, suc, zero, ◌≤◌, ◌<◌, ◌+◌, Bool, true, false, eqb, leb, ◌&&◌, List, ◌⊎◌, Option, Some, None, inl, inr, refl, ap, sym, ◌∙◌, subst, arith, add-one, length, take}
+use Rattle.std.proofs.Common.{◌≡◌, ℕ, suc, zero, ◌≤◌, ◌<◌, ◌+◌, Bool, true, false, eqb, leb, ◌&&◌, List, ◌⊎◌}
+use Rattle.std.proofs.Common.{Option, Some, None, inl, inr, refl, ap, sym, ◌∙◌, subst, arith, add-one, length, take}
 use Rattle.std.proofs.lemmas.List.{take_all}
 use Rattle.std.proofs.lemmas.Bool.{cond_both, cases_order, eqb-true, and_parts}
 use Rattle.vbi_words.specs.declared.system.System.{System}

@@ -1,5 +1,6 @@
 -- What the machine says of the outcome of a list of levels.
-use Rattle.std.proofs.Common.{◌≡◌, ℕ, suc, zero, ◌<◌, ◌+◌, ◌-◌, Bool, true, false, List, [], ◌∷◌, Some, None, refl, ap, sym, ◌∙◌, subst, arith, length, take, drop, get_or}
+use Rattle.std.proofs.Common.{◌≡◌, ℕ, suc, zero, ◌<◌, ◌+◌, ◌-◌, Bool, true, false, List, [], ◌∷◌, Some}
+use Rattle.std.proofs.Common.{None, refl, ap, sym, ◌∙◌, subst, arith, length, take, drop, get_or}
 use Rattle.std.proofs.Math.ListN.{take-append-drop}
 use Rattle.std.proofs.lemmas.List.{take_more, take-take}
 use Rattle.vbi_words.specs.declared.system.System.{System}

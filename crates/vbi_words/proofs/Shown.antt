@@ -1,5 +1,6 @@
 -- What the machine says of the words that a list of levels shows, and of the lists that begin with it.
-use Rattle.std.proofs.Common.{◌≡◌, ℕ, ◌≤◌, ◌<◌, ◌+◌, ◌^◌, Bool, true, false, List, [], ◌++◌, ◌↔◌, Option, Some, None, ap, sym, ◌∙◌, subst, arith, append_assoc, length, take, drop}
+use Rattle.std.proofs.Common.{◌≡◌, ℕ, ◌≤◌, ◌<◌, ◌+◌, ◌^◌, Bool, true, false, List, [], ◌++◌, ◌↔◌, Option}
+use Rattle.std.proofs.Common.{Some, None, ap, sym, ◌∙◌, subst, arith, append_assoc, length, take, drop}
 use Rattle.std.proofs.Math.ListN.{replicate, take-append-drop}
 use Rattle.std.proofs.lemmas.List.{append-nil}
 use Rattle.std.proofs.lemmas.List.Elements.{All-from_recursion, recursion_from_All}

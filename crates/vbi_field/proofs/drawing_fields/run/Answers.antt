@@ -1,5 +1,6 @@
 use Rattle.std.proofs.Common.{arith}
-use Rattle.vbi_field.proofs.DrawSteps.{start, row_failed, row_drawn, last_row_failed, last_row_drawn, bad_row, row_ended, row_read_failed, byte_ended, byte_read_failed, too_many}
+use Rattle.vbi_field.proofs.DrawSteps.{start, row_failed, row_drawn, last_row_failed, last_row_drawn, bad_row}
+use Rattle.vbi_field.proofs.DrawSteps.{row_ended, row_read_failed, byte_ended, byte_read_failed, too_many}
 use Rattle.vbi_field.proofs.drawing_fields.run.Goals as goal
 
 pub loop-done-init : goal.loop-done-init
