@@ -5,10 +5,11 @@ use crate::test_runs::{
     TAIL, Verb, WORDS, answers, config, field, total, whole, writes,
 };
 use crate::test_tapes::{Tape, blank_paper, front, tape_of};
-use crate::{Config, RunFault, Summary};
+use crate::{Config, Outlet, RunFault, Summary, extract};
 use std::alloc::Global;
 use std::process::Abort;
 use std::test::Fail;
+use vbi_line::Intake;
 use vbi_words::System;
 
 /// Asserts that a stream ends so, and just the texts of its document and of its report.
@@ -86,6 +87,18 @@ fn writes_an_empty_document(rt: HostRuntime) -> Result<(), Fail> {
         done,
         &[HEAD, TAIL],
     );
+    Ok(())
+}
+
+#[test]
+fn holds_nothing_of_an_empty_stream(rt: HostRuntime) -> Result<(), Fail> {
+    let config = config(System::Ntsc, 5)?;
+    let mut tape = tape_of(&[]);
+    let mut paper = blank_paper(rt.alloc());
+    let mut intake = Intake::new(&mut tape, System::Ntsc);
+    let mut outlet = Outlet::new(&mut paper);
+    assert!(rt; extract(&config, &mut intake, &mut outlet).is_ok());
+    assert_eq!(rt; intake.held(), 0);
     Ok(())
 }
 
