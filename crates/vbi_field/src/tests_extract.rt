@@ -95,7 +95,7 @@ fn holds_nothing_of_an_empty_stream(rt: HostRuntime) -> Result<(), Fail> {
     let config = config(System::Ntsc, 5)?;
     let mut tape = tape_of(&[]);
     let mut paper = blank_paper(rt.alloc());
-    let mut intake = Intake::new(&mut tape, System::Ntsc);
+    let mut intake = Intake::new(&mut tape, config.system());
     let mut outlet = Outlet::new(&mut paper);
     assert!(rt; extract(&config, &mut intake, &mut outlet).is_ok());
     assert_eq!(rt; intake.held(), 0);
