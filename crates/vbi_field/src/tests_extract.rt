@@ -102,14 +102,10 @@ fn holds_nothing_of_an_empty_stream(rt: HostRuntime) -> Result<(), Fail> {
     Ok(())
 }
 
-/// Columns 170 and 171 of row 15, black.
-fn blacken(stream: &mut Vec<u8>) -> Option<()> {
-    let columns = stream
-        .as_mut_slice()
-        .get_mut(15 * 1820 + 2 * 170..15 * 1820 + 2 * 172)?;
-    for column in columns.chunks_exact_mut(2) {
-        column.copy_from_slice(&[0, 0x40]);
-    }
+/// Makes columns 170 and 171 of row 15 black.
+fn blacken(stream: &mut [u8]) -> Option<()> {
+    let columns = stream.get_mut(15 * 1820 + 2 * 170..15 * 1820 + 2 * 172)?;
+    columns.copy_from_slice(&[0, 0x40, 0, 0x40]);
     Some(())
 }
 
@@ -117,7 +113,7 @@ fn blacken(stream: &mut Vec<u8>) -> Option<()> {
 fn recovers_a_word(rt: HostRuntime) -> Result<(), Fail> {
     let config = config(System::Ntsc, 5)?;
     let mut stream = field(rt.alloc(), &config, [0x82CFFF, 0, 0])?;
-    blacken(&mut stream).ok_or("short")?;
+    blacken(stream.as_mut_slice()).ok_or("short")?;
     let ended = whole(1, None, 2730);
     let texts = [HEAD, RECOVERED, TAIL];
     writes(
