@@ -13,10 +13,19 @@ const ABOUT: &str =
     "Reads the biphase code words of LaserDiscs from fields in ld-decode's TBC format";
 
 const DETAILS: &str =
-    "Reads the 24-bit biphase code words (IEC 60857 and IEC 60856) that lines 16, 17 and 18 of each\nfield of a LaserDisc carry, from video in ld-decode's TBC format: picture numbers, chapters, times,\npicture stops. System and levels come from the capture's metadata or from options.";
+    "Reads the 24-bit biphase code words (IEC 60857 and IEC 60856) that lines 16, 17 and 18 of each\n\
+        field of a LaserDisc carry, from video in ld-decode's TBC format: picture numbers, chapters, times,\n\
+        picture stops. System and levels come from the capture's metadata or from options.";
 
-const EXAMPLES: &str =
-    "Examples:\n  ldvbi extract --meta disc.tbc.json disc.tbc > disc.vbi.json\n  ldvbi show --system PAL --black 16384 --white 54016 disc.tbc\n  echo '82CFFF F12345 F12345' | ldvbi draw --system NTSC --black 16384 --white 51200 > test.tbc\n\nExit status:\n  0  done, or help\n  1  a fault, named in one line on standard error\n  2  the command line was refused\n  3  extract or show is done, and the last field was cut";
+const EXAMPLES: &str = "Examples:\n\
+        \x20 ldvbi extract --meta disc.tbc.json disc.tbc > disc.vbi.json\n\
+        \x20 ldvbi show --system PAL --black 16384 --white 54016 disc.tbc\n\
+        \x20 echo '82CFFF F12345 F12345' | ldvbi draw --system NTSC --black 16384 --white 51200 > test.tbc\n\n\
+        Exit status:\n\
+        \x20 0  done, or help\n\
+        \x20 1  a fault, named in one line on standard error\n\
+        \x20 2  the command line was refused\n\
+        \x20 3  extract or show is done, and the last field was cut";
 
 /// The texts of one command's help.
 struct Texts {
@@ -30,33 +39,64 @@ struct Texts {
 const LINE: Texts = Texts {
     name: "line",
     about: "Prints the word of one line, or why there is none",
-    details: "Reads the bytes of one line (1820 for NTSC, 2270 for PAL; samples of 16 bits, low byte first), and\nleaves the rest unread. Prints the word that the line shows as six hexadecimal digits, or why it\nshows none: blank (no sample is high), unfinished (the line ends within a word), change N or hold N\n(at column N, from 0, a change or a lasting level makes every word impossible).",
+    details: "Reads the bytes of one line (1820 for NTSC, 2270 for PAL; samples of 16 bits, low byte first), and\n\
+        leaves the rest unread. Prints the word that the line shows as six hexadecimal digits, or why it\n\
+        shows none: blank (no sample is high), unfinished (the line ends within a word), change N or hold N\n\
+        (at column N, from 0, a change or a lasting level makes every word impossible).",
     input: "The line's samples; standard input where there is none, or for -",
-    example: "Example:\n  ldvbi line --system NTSC --black 16384 --white 51200 line.raw\n\nExit status:\n  0  done\n  1  a fault, as a short line, named on standard error\n  2  the command line was refused",
+    example: "Example:\n\
+        \x20 ldvbi line --system NTSC --black 16384 --white 51200 line.raw\n\n\
+        Exit status:\n\
+        \x20 0  done\n\
+        \x20 1  a fault, as a short line, named on standard error\n\
+        \x20 2  the command line was refused",
 };
 
 const EXTRACT: Texts = Texts {
     name: "extract",
     about: "Writes the words of every field as a JSON document",
-    details: "Writes one JSON document for a TBC stream: for each field its number, the words of its lines 16, 17\nand 18 (vbiData, 0 where a line has none), why a line has none (vbiCause), and whether a word was\nread from the samples as they are or after short glitches were removed (vbiPass, 1 or 2; 0 for none).",
+    details: "Writes one JSON document for a TBC stream: for each field its number, the words of its lines 16, 17\n\
+        and 18 (vbiData, 0 where a line has none), why a line has none (vbiCause), and whether a word was\n\
+        read from the samples as they are or after short glitches were removed (vbiPass 1 or 2, else 0).",
     input: "The TBC stream; standard input where there is none, or for -",
-    example: "Example:\n  ldvbi extract --meta disc.tbc.json disc.tbc > disc.vbi.json\n\nExit status:\n  0  done\n  1  a fault, named in one line on standard error\n  2  the command line was refused\n  3  done, and the last field was cut (cutField has its bytes)",
+    example: "Example:\n\
+        \x20 ldvbi extract --meta disc.tbc.json disc.tbc > disc.vbi.json\n\n\
+        Exit status:\n\
+        \x20 0  done\n\
+        \x20 1  a fault, named in one line on standard error\n\
+        \x20 2  the command line was refused\n\
+        \x20 3  done, and the last field was cut (cutField has its bytes)",
 };
 
 const SHOW: Texts = Texts {
     name: "show",
     about: "Prints the words of every field and what they mean",
-    details: "Prints a report of a TBC stream: for each field its number, whether its codes are those of a CAV or\na CLV disc, and for its lines 16, 17 and 18 the word in hexadecimal with its meaning (as picture\n12345, chapter 07, time 1:09), or none and why.",
+    details: "Prints a report of a TBC stream: for each field its number, whether its codes are those of a CAV or\n\
+        a CLV disc, and for its lines 16, 17 and 18 the word in hexadecimal with its meaning (as picture\n\
+        12345, chapter 07, time 1:09), or none and why.",
     input: "The TBC stream; standard input where there is none, or for -",
-    example: "Example:\n  ldvbi show --meta disc.tbc.json disc.tbc\n\nExit status:\n  0  done\n  1  a fault, named in one line on standard error\n  2  the command line was refused\n  3  done, and the last field was cut",
+    example: "Example:\n\
+        \x20 ldvbi show --meta disc.tbc.json disc.tbc\n\n\
+        Exit status:\n\
+        \x20 0  done\n\
+        \x20 1  a fault, named in one line on standard error\n\
+        \x20 2  the command line was refused\n\
+        \x20 3  done, and the last field was cut",
 };
 
 const DRAW: Texts = Texts {
     name: "draw",
     about: "Turns rows of words into a TBC stream",
-    details: "Writes a TBC stream with one field for each row of text. A row has three items with one space between\nthem, for lines 16, 17 and 18: six hexadecimal digits (a word, 800000 to FFFFFF), or - for a line\nwithout a word. Every other line is black; sync and colour burst aren't drawn.",
+    details: "Writes a TBC stream with one field for each row of text. A row has three items with one space between\n\
+        them, for lines 16, 17 and 18: six hexadecimal digits (a word, 800000 to FFFFFF), or - for a line\n\
+        without a word. Every other line is black; sync and colour burst aren't drawn.",
     input: "The rows of words; standard input where there is none, or for -",
-    example: "Example:\n  echo '82CFFF F12345 F12345' | ldvbi draw --system NTSC --black 16384 --white 51200 > test.tbc\n\nExit status:\n  0  done\n  1  a fault, as a malformed row, named on standard error\n  2  the command line was refused",
+    example: "Example:\n\
+        \x20 echo '82CFFF F12345 F12345' | ldvbi draw --system NTSC --black 16384 --white 51200 > test.tbc\n\n\
+        Exit status:\n\
+        \x20 0  done\n\
+        \x20 1  a fault, as a malformed row, named on standard error\n\
+        \x20 2  the command line was refused",
 };
 
 /// The program's command line: a command has to be given, and no option is shared by all.

@@ -32,7 +32,8 @@ latest levels (suc d) = settle (level_at levels d) (level_at levels (d + 1)) (le
 unfoldable pub smooth_of : List Bool → List Bool
 smooth_of levels = map (λ c. latest levels (c - 2)) (range_with_len 0 (length levels))
 
--- Columns g to g + m - 1 of levels are turned over, one to three columns among equal ones: the four columns before them and the four behind them have the same level.
+-- Columns g to g + m - 1 of levels are turned over, one to three columns among equal ones: the four columns before them and the four
+-- behind them have the same level.
 pub record Glitch (levels turned : List Bool) : Type 0 where
   pub g : ℕ
   pub m : ℕ
