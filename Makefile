@@ -1,5 +1,5 @@
 # ldvbi: `make` proves and builds the program, `make test` is the whole gate, `make install PREFIX=DIR` copies it to DIR/bin,
-# and `make bench` measures it beside plain readers in Rust, for which it needs rustc.
+# and `make bench` measures it beside plain readers in Rust, for which it needs rustc and python3.
 # The toolchain's command `rt` has to be on the PATH; `make test` needs a C compiler as well (cc, or CC=..).
 
 PREFIX ?= /usr/local
