@@ -1,7 +1,7 @@
 -- What a user reads of a run (this project's own). The claims on bytes hold where the reader and the writer tell theirs, as those
 -- over memory do: z is then the list of the bytes that the reader had, or of those that were fetched.
 use Rattle.std.specs.Prelude.{◌≡◌, ℕ, ◌+◌, ◌*◌, ◌<◌, ◌≤◌, ◌⊎◌, ⊤, List, length, take, Option, IfSome}
-use Rattle.std.specs.Io.KnownBytes.{Appends, IsAtEnd}
+use Rattle.std.specs.Io.KnownBytes.{Consumes, Appends, IsAtEnd}
 use Rattle.vbi_words.specs.Geometry.{field_bytes}
 use Rattle.vbi_line.specs.Intake as intakes
 use Rattle.vbi_line.specs.declared.intake.Intake.{Intake}
@@ -26,6 +26,11 @@ module _ {R : Type 0} where
   abbrev pub GivenFetched : (R → Option (List ℕ)) → Intake R → Intake R → (List ℕ → Type 0) → Type 0
   GivenFetched remaining old new P =
       IfSome (remaining (intakes.device_of old)) (λ all. (intakes.fetched_of new ≤ length all) × P (take (intakes.fetched_of new) all))
+
+  -- the bytes that were fetched are those that the reader had first and has no more
+  abbrev pub TookFetched : (R → Option (List ℕ)) → Intake R → Intake R → Type 0
+  TookFetched remaining old new =
+      GivenFetched remaining old new (Consumes (remaining (intakes.device_of old)) (remaining (intakes.device_of new)))
 
   -- the reader has no byte more
   abbrev pub HasEnded : (R → Option (List ℕ)) → Intake R → Type 0

@@ -2,7 +2,7 @@
 ghost use Rattle.std.specs.Prelude.{◌≡◌, ◌≢◌, ◌+◌, ◌*◌, ◌≤◌, length, OnOk, IfOk, IfErr, Err};
 ghost use Rattle.vbi_words.specs.Geometry.{width_of, field_bytes};
 ghost use Rattle.vbi_line.specs.Intake.{fetched_of, IsFresh, IsSameDevice};
-ghost use Rattle.vbi_field.specs.Claims.{looked_of, Given, HasEnded, Wrote, IfRead, IfWrite, IfTooMany};
+ghost use Rattle.vbi_field.specs.Claims.{looked_of, Given, TookFetched, HasEnded, Wrote, IfRead, IfWrite, IfTooMany};
 ghost use Rattle.vbi_field.specs.Claims.{StandsAfterRead, StandsAfterWrite, StandsAfterTooMany};
 ghost use Rattle.vbi_field.specs.Kinds.{document, report};
 ghost use Rattle.vbi_field.specs.Outlet.{IsFresh as IsFreshOutlet, IsSameDevice as IsSameOutlet};
@@ -30,6 +30,7 @@ pub fn extract<R: Read, W: Write>(
     requires outlet { IsFreshOutlet outlet.old }
     ensures same_reader { IsSameDevice intake.old intake.new }
     ensures same_writer { IsSameOutlet outlet.old outlet.new }
+    ensures took { TookFetched R.remaining intake.old intake.new }
 
     // What Ok says: of the text, the summary, and the reader.
     ensures document { OnOk result (Given R.remaining intake.old (λ z.
@@ -66,6 +67,7 @@ pub fn show<R: Read, W: Write>(
     requires outlet { IsFreshOutlet outlet.old }
     ensures same_reader { IsSameDevice intake.old intake.new }
     ensures same_writer { IsSameOutlet outlet.old outlet.new }
+    ensures took { TookFetched R.remaining intake.old intake.new }
 
     // What Ok says: of the text, the summary, and the reader.
     ensures document { OnOk result (Given R.remaining intake.old (λ z.
