@@ -1,4 +1,5 @@
 pub mod Drew
+pub mod Inputs
 pub mod Jobs
 pub mod OneLine
 pub mod Statuses

@@ -13,6 +13,10 @@ pub(crate) enum Input<F, S> {
 }
 
 impl<F: Read, S: Read> Read for Input<F, S> {
+    ghost use Rattle.vbi_cli.specs.Inputs.{input_remaining};
+
+    ghost remaining = { input_remaining F.remaining S.remaining };
+
     fn read(&mut self, buf: &mut [u8]) -> io::Result<usize> {
         match self {
             Input::File(file) => file.read(buf),
