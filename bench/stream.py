@@ -1,6 +1,7 @@
 #!/usr/bin/env python3
 """Time and peak memory of `ldvbi extract` beside a plain reader of the same stream in reads of one line's bytes, from a file
-and from a pipe, and of `ldvbi draw` beside `head -c` of zeros into the same sink, all in one run. Works in a folder of its own.
+and from a pipe, and of `ldvbi draw` beside `head -c` of zeros and a plain writer of as many lines into the same sink, all in one
+run. Works in a folder of its own.
 
 usage: stream.py PROGRAM [FIELDS]"""
 
@@ -13,6 +14,7 @@ import time
 
 LEVELS = ["--system", "NTSC", "--black", "16384", "--white", "51200"]
 FIELD = 478660
+LINE = 1820
 ROUNDS = 25
 
 
@@ -93,6 +95,8 @@ def main():
     with tempfile.TemporaryDirectory() as work:
         plain = os.path.join(work, "plain")
         subprocess.run(["rustc", "-O", "-o", plain, os.path.join(here, "plain_stream.rs")], check=True)
+        writer = os.path.join(work, "writer")
+        subprocess.run(["rustc", "-O", "-o", writer, os.path.join(here, "plain_writer.rs")], check=True)
         words = os.path.join(work, "words")
         with open(words, "w", encoding="ascii") as rows:
             for field in range(fields):
@@ -109,7 +113,9 @@ def main():
               flush=True)
         draw = [program, "draw", *LEVELS, words]
         zeros = ["head", "-c", str(size), "/dev/zero"]
-        compared("draw into a pipe", lambda: into_pipe(draw), lambda: into_pipe(zeros), size)
+        lines = [writer, str(size // LINE)]
+        compared("draw into a pipe, beside head", lambda: into_pipe(draw), lambda: into_pipe(zeros), size)
+        compared("draw into a pipe, beside lines of zeros", lambda: into_pipe(draw), lambda: into_pipe(lines), size)
 
 
 if __name__ == "__main__":
