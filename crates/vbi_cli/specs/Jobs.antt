@@ -1,13 +1,14 @@
 -- What a job does (this project's own): what metadata and options settle, what each command does with it, and when each fault
 -- comes. A reader is seen by the bytes that it has yet to give, and a writer by those that it has taken, where they tell them,
 -- as those over memory do.
-use Rattle.std.specs.Prelude.{◌≡◌, ◌⊎◌, ℕ, ◌<◌, ◌≤◌, List, [], length, take, Option, Some, None, Result, Ok, Err, IfSome, ⊤}
+use Rattle.std.specs.Prelude.{◌≡◌, ◌⊎◌, ℕ, ◌<◌, ◌≤◌, List, [], length, take, Option, Some, None, Result, Ok, Err, ⊤}
 use Rattle.std.specs.Io.KnownBytes.{Consumes, Appends, IsAtEnd}
 use Rattle.vbi_words.specs.Geometry.{line_bytes}
+use Rattle.vbi_field.specs.Extracts.{Extracts}
 use Rattle.vbi_field.specs.Kinds.{document, report}
+use Rattle.vbi_field.specs.Ran.{Counts, Ran}
 use Rattle.vbi_field.specs.Setup.{Setup}
-use Rattle.vbi_field.specs.Stream.{rest_of, cut_of}
-use Rattle.vbi_field.specs.Texts.{Texts, document_of}
+use Rattle.vbi_field.specs.Texts.{Texts}
 use Rattle.vbi_field.specs.declared.drawing_fields.DrawFault.{DrawFault}
 use Rattle.vbi_field.specs.declared.drawing_fields.DrawFault.TheVariants as draw
 use Rattle.vbi_field.specs.declared.summary.Summary.{Summary}
@@ -20,7 +21,6 @@ use Rattle.vbi_meta.specs.declared.choosing.Overrides.{Overrides}
 use Rattle.vbi_meta.specs.declared.fault.MetaFault.{MetaFault}
 use Rattle.vbi_cli.specs.Drew.{DrewAll, MetMalformed, MetTooMany, StoppedInRow, StoppedDrawing}
 use Rattle.vbi_cli.specs.OneLine.{outcome_read, line_text}
-use Rattle.vbi_cli.specs.Streams.{allowed_bytes, PassedLimit, StoppedReading, StoppedWriting}
 use Rattle.vbi_cli.specs.declared.fault.AppFault.{AppFault}
 use Rattle.vbi_cli.specs.declared.fault.AppFault.TheVariants.{Meta, ReadField, ReadLine, ReadRow, Write, TooManyFields, Row, Short}
 use Rattle.vbi_cli.specs.declared.job.Ended.{Ended}
@@ -67,17 +67,12 @@ module _ (c : Setup) (input0 input output0 output : Option (List ℕ)) where
   DidLine ended = (z : List ℕ) × (Consumes input0 input z × (length z ≡ line_bytes c.system)
       × Appends output0 output (line_text (outcome_read c z)) × (ended ≡ Whole))
 
-  -- the input, which was read to its end, had no more fields than are allowed, and its text of this kind was written
-  abbrev pub DidStream : Texts → Ended → Type 0
-  DidStream t ended = IsAtEnd input × IfSome input0 (λ z. (length z ≤ allowed_bytes c)
-      × Appends output0 output (document_of t c z) × (ended ≡ ended_of (cut_of (rest_of c z))))
-
-  -- what a command that is done did
-  abbrev pub Did : Verb → Ended → Type 0
-  Did Line ended = DidLine ended
-  Did Extract ended = DidStream document ended
-  Did Show ended = DidStream report ended
-  Did Draw ended = DrewAll c input0 input output0 output × (ended ≡ Whole)
+  -- what was read and written is what `extract` or `show` says with some answer, and the job's answer is that answer's
+  pub record DidStream (t : Texts) (answer : Result Ended AppFault) : Type 0 where
+    pub counts : Counts
+    pub result : Result Summary RunFault
+    pub ran : Ran input0 input output0 output counts (Extracts t c input counts result)
+    pub ended : IsEndedBy result answer
 
   -- the input ended after these bytes, fewer than a line's, and nothing was written
   abbrev pub WasShort : ℕ → ℕ → Type 0
@@ -95,38 +90,35 @@ module _ (c : Setup) (input0 input output0 output : Option (List ℕ)) where
       × (written ≤ length (line_text (outcome_read c z)))
       × Appends output0 output (take written (line_text (outcome_read c z))))
 
-  -- when each fault of `extract` and `show` comes, and what stands then; they have no other
-  abbrev pub StreamFailed : Texts → AppFault → Type 0
-  StreamFailed t (ReadField field offset) = StoppedReading t c input0 input output0 output field offset
-  StreamFailed t TooManyFields = PassedLimit t c input0 input output0 output
-  StreamFailed t (Write written) = StoppedWriting t c input0 input output0 output written
-  StreamFailed t _ = ⊥
-
-  -- when each fault of a command comes, and what stands then; it has no other
-  abbrev pub Failed : Verb → AppFault → Type 0
-  Failed Line (Short bytes wanted) = WasShort bytes wanted
-  Failed Line (ReadLine offset) = StoppedInLine offset
-  Failed Line (Write written) = StoppedInAnswer written
-  Failed Line _ = ⊥
-  Failed Extract fault = StreamFailed document fault
-  Failed Show fault = StreamFailed report fault
-  Failed Draw (Row number) = MetMalformed c input0 input output0 output number
-  Failed Draw (ReadRow number) = StoppedInRow c input0 input output0 output number
-  Failed Draw TooManyFields = MetTooMany c input0 input output0 output
-  Failed Draw (Write written) = StoppedDrawing c input0 input output0 output written
-  Failed Draw _ = ⊥
+  -- what a command did, by its answer; it has no other fault
+  abbrev pub Did : Verb → Result Ended AppFault → Type 0
+  Did Line (Ok ended) = DidLine ended
+  Did Line (Err (Short bytes wanted)) = WasShort bytes wanted
+  Did Line (Err (ReadLine offset)) = StoppedInLine offset
+  Did Line (Err (Write written)) = StoppedInAnswer written
+  Did Line (Err _) = ⊥
+  Did Extract answer = DidStream document answer
+  Did Show answer = DidStream report answer
+  Did Draw (Ok ended) = DrewAll c input0 input output0 output × (ended ≡ Whole)
+  Did Draw (Err (Row number)) = MetMalformed c input0 input output0 output number
+  Did Draw (Err (ReadRow number)) = StoppedInRow c input0 input output0 output number
+  Did Draw (Err TooManyFields) = MetTooMany c input0 input output0 output
+  Did Draw (Err (Write written)) = StoppedDrawing c input0 input output0 output written
+  Did Draw (Err _) = ⊥
 
 -- ---- the faults
 
 -- P of a fault of metadata or settings
-abbrev pub IfMeta : AppFault → (MetaFault → Type 0) → Type 0
-IfMeta (Meta fault) P = P fault
-IfMeta _ P = ⊤
+abbrev pub IfMeta : Result Ended AppFault → (MetaFault → Type 0) → Type 0
+IfMeta (Ok ended) P = ⊤
+IfMeta (Err (Meta fault)) P = P fault
+IfMeta (Err _) P = ⊤
 
--- P, for every fault but those of metadata and settings
-abbrev pub UnlessMeta : AppFault → Type 0 → Type 0
-UnlessMeta (Meta fault) P = ⊤
-UnlessMeta _ P = P
+-- P, for every answer but those faults
+abbrev pub UnlessMeta : Result Ended AppFault → Type 0 → Type 0
+UnlessMeta (Ok ended) P = P
+UnlessMeta (Err (Meta fault)) P = ⊤
+UnlessMeta (Err _) P = P
 
 -- how drawing ended, for the program
 abbrev pub IsDrawnBy : Result ℕ DrawFault → Result Ended AppFault → Type 0

@@ -3,4 +3,3 @@ pub mod Inputs
 pub mod Jobs
 pub mod OneLine
 pub mod Statuses
-pub mod Streams

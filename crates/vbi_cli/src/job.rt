@@ -2,8 +2,7 @@
 
 ghost use Rattle.std.specs.Prelude.{◌≡◌, ◌≢◌, IfOk, IfErr, Err, option_map};
 ghost use Rattle.vbi_field.specs.Kinds.{document, report};
-ghost use Rattle.vbi_cli.specs.Drew.{DrewAll};
-ghost use Rattle.vbi_cli.specs.Jobs.{Settles, Refuses, Under, Did, DidLine, DidStream, Failed, IfMeta, UnlessMeta, IsEndedBy, IsDrawnBy};
+ghost use Rattle.vbi_cli.specs.Jobs.{Settles, Refuses, Under, Did, DidStream, IfMeta, UnlessMeta, IsEndedBy, IsDrawnBy};
 ghost use Rattle.vbi_cli.specs.Statuses.{app_status};
 
 use crate::fault::AppFault;
@@ -44,19 +43,13 @@ pub fn run_job<R: Read, W: Write>(
     input: &mut R,
     output: &mut W,
 ) -> Result<Ended, AppFault>
-    ensures done { IfOk result (λ ended. Under (option_map (λ b. b.now) meta.entry) job.now.overrides (λ c.
-        Did c (R.remaining input.old) (R.remaining input.new) (W.contents output.old) (W.contents output.new)
-        job.now.verb ended)) }
-
     // Nothing was read or written then.
-    ensures refused { IfErr result (λ e. IfMeta e (λ fault.
-        Refuses (option_map (λ b. b.now) meta.entry) job.now.overrides fault
-        × (input.new ≡ input.old) × (output.new ≡ output.old))) }
+    ensures refused { IfMeta result (λ fault. Refuses (option_map (λ b. b.now) meta.entry) job.now.overrides fault
+        × (input.new ≡ input.old) × (output.new ≡ output.old)) }
 
-    // Every other fault is one of the command's own, and this stands then.
-    ensures failed { IfErr result (λ e. UnlessMeta e (Under (option_map (λ b. b.now) meta.entry) job.now.overrides (λ c.
-        Failed c (R.remaining input.old) (R.remaining input.new) (W.contents output.old) (W.contents output.new)
-        job.now.verb e))) }
+    // Every other answer is the command's own.
+    ensures did { UnlessMeta result (Under (option_map (λ b. b.now) meta.entry) job.now.overrides (λ c.
+        Did c (R.remaining input.old) (R.remaining input.new) (W.contents output.old) (W.contents output.new) job.now.verb result)) }
 {
     let config = match config_of(alloc, job, meta) {
         Ok(config) => config,
@@ -90,10 +83,8 @@ fn line_job<R: Read, W: Write>(
     input: &mut R,
     output: &mut W,
 ) -> Result<Ended, AppFault>
-    ensures done { IfOk result
-        (DidLine config.now (R.remaining input.old) (R.remaining input.new) (W.contents output.old) (W.contents output.new)) }
-    ensures failed { IfErr result (Failed config.now (R.remaining input.old) (R.remaining input.new)
-        (W.contents output.old) (W.contents output.new) Verb.Line) }
+    ensures { Did config.now (R.remaining input.old) (R.remaining input.new)
+        (W.contents output.old) (W.contents output.new) Verb.Line result }
 {
     let system = config.system();
     let mut intake = Intake::new(input, system);
@@ -119,10 +110,8 @@ fn extract_job<R: Read, W: Write>(
     input: &mut R,
     output: &mut W,
 ) -> Result<Ended, AppFault>
-    ensures done { IfOk result (DidStream config.now (R.remaining input.old) (R.remaining input.new)
-        (W.contents output.old) (W.contents output.new) document) }
-    ensures failed { IfErr result (Failed config.now (R.remaining input.old) (R.remaining input.new)
-        (W.contents output.old) (W.contents output.new) Verb.Extract) }
+    ensures { DidStream config.now (R.remaining input.old) (R.remaining input.new)
+        (W.contents output.old) (W.contents output.new) document result }
 {
     let mut intake = Intake::new(input, config.system());
     let mut outlet = Outlet::new(output);
@@ -139,10 +128,8 @@ fn show_job<R: Read, W: Write>(
     input: &mut R,
     output: &mut W,
 ) -> Result<Ended, AppFault>
-    ensures done { IfOk result (DidStream config.now (R.remaining input.old) (R.remaining input.new)
-        (W.contents output.old) (W.contents output.new) report) }
-    ensures failed { IfErr result (Failed config.now (R.remaining input.old) (R.remaining input.new)
-        (W.contents output.old) (W.contents output.new) Verb.Show) }
+    ensures { DidStream config.now (R.remaining input.old) (R.remaining input.new)
+        (W.contents output.old) (W.contents output.new) report result }
 {
     let mut intake = Intake::new(input, config.system());
     let mut outlet = Outlet::new(output);
@@ -174,10 +161,8 @@ fn draw_job<R: Read, W: Write>(
     input: &mut R,
     output: &mut W,
 ) -> Result<Ended, AppFault>
-    ensures done { IfOk result (λ ended. DrewAll config.now (R.remaining input.old) (R.remaining input.new)
-        (W.contents output.old) (W.contents output.new) × (ended ≡ Ended.Whole)) }
-    ensures failed { IfErr result (Failed config.now (R.remaining input.old) (R.remaining input.new)
-        (W.contents output.old) (W.contents output.new) Verb.Draw) }
+    ensures { Did config.now (R.remaining input.old) (R.remaining input.new)
+        (W.contents output.old) (W.contents output.new) Verb.Draw result }
 {
     let mut rows = RowIntake::new(input);
     let mut outlet = Outlet::new(output);

@@ -1,8 +1,7 @@
 -- How a stream that is pushed begins and ends.
-use Rattle.std.proofs.Common.{◌≡◌, ℕ, ◌+◌, ◌*◌, ◌≤◌, List, length, take, drop, sym, ap, ◌∙◌}
+use Rattle.std.proofs.Common.{◌≡◌, ℕ, ◌+◌, ◌*◌, List, length, take, drop, sym, ap, ◌∙◌}
 use Rattle.std.specs.Prelude.{Option, Result, Ok, Err, OnOk, IfOk, IfErr}
 use Rattle.std.proofs.lemmas.List.{take-append-drop}
-use Rattle.std.proofs.Math.Nat.{le_trans, le_of_eq}
 use Rattle.vbi_words.specs.Geometry.{width_of, line_bytes}
 use Rattle.vbi_line.specs.Line.{Line}
 use Rattle.vbi_field.specs.Kinds.{document}
@@ -10,7 +9,7 @@ use Rattle.vbi_field.specs.Feed.{AppendsInPart, IsAt, IsFinished}
 use Rattle.vbi_field.specs.Outlet.{written_of, Puts}
 use Rattle.vbi_field.specs.Setup.{Setup}
 use Rattle.vbi_field.specs.Stand.{IsStand, place_of}
-use Rattle.vbi_field.specs.Stream.{fields_of, rest_of, cut_of, selected, selected_rows}
+use Rattle.vbi_field.specs.Stream.{fields_of, rest_of, cut_of, selected, selected_rows, looks_of}
 use Rattle.vbi_field.specs.declared.outlet.Outlet.{Outlet}
 use Rattle.vbi_field.specs.declared.progress.Progress.{Progress}
 use Rattle.vbi_field.specs.declared.summary.RunFault.{RunFault}
@@ -40,11 +39,11 @@ module _ {W : Type 0} (contents : W → Option (List ℕ)) (c : Setup) (l : Line
   tail : document.tail p.fields rest ≡ document.tail (fields_of c z) (rest_of c z)
   tail = ap (λ n. document.tail n rest) fields ∙ ap (document.tail (fields_of c z)) past
 
-  few_looks : l.looked ≤ 2 * width_of c.system * selected_rows c z
-  few_looks =
+  looks : l.looked ≡ looks_of c z
+  looks =
       let same : selected p.fields p.row ≡ selected_rows c z =
       ap (λ n. selected n p.row) fields ∙ ap (selected (fields_of c z)) (sym (split_rows c z l.held p parts)) in
-      le_trans st.looked (le_of_eq (ap (λ n. 2 * width_of c.system * n) same))
+      st.looked ∙ ap (λ n. width_of c.system * n) same
 
   -- the tail was put, or the first of it
   pub finished : (looked : ℕ) (r : Result Summary RunFault) → looked ≡ l.looked → Puts contents o o' (document.tail p.fields rest)
@@ -56,7 +55,7 @@ module _ {W : Type 0} (contents : W → Option (List ℕ)) (c : Setup) (l : Line
         rw (← tail) (put_whole contents o o' (document.tail p.fields rest) puts whole),
         ap (λ s. s.fields) says ∙ fields,
         ap (λ s. s.cut) says ∙ ap cut_of past,
-        le_trans (le_of_eq same) few_looks,
+        same ∙ looks,
       )
   finished looked (Err e) ls puts whole says fails =
       rw fails (in_part contents o o' (document.tail p.fields rest) (document.tail (fields_of c z) (rest_of c z)) tail puts)

@@ -6,12 +6,12 @@ use Rattle.std.proofs.lemmas.List.{length-drop, take_all, take-append-drop}
 use Rattle.std.proofs.Math.Nat.{le_refl, le_of_eq}
 use Rattle.std.proofs.Math.Seq.{take-add}
 use Rattle.vbi_field.specs.Kinds.{document}
-use Rattle.vbi_field.specs.Feed.{limit_of, IsAt, IsFed, Rises, StandsAt}
+use Rattle.vbi_field.specs.Feed.{IsAt, IsFed, Rises, StandsAt}
 use Rattle.vbi_field.specs.FeedView.{feeding_of}
 use Rattle.vbi_field.specs.Feeding.{Feeding}
 use Rattle.vbi_field.specs.Outlet.{IsSameDevice}
 use Rattle.vbi_field.specs.Position.{Position}
-use Rattle.vbi_field.specs.Setup.{Setup}
+use Rattle.vbi_field.specs.Setup.{Setup, limit_of}
 use Rattle.vbi_field.specs.Stand.{IsStand, IsStep, place_of}
 use Rattle.vbi_field.specs.Texts.{begun_of}
 use Rattle.vbi_field.specs.declared.feeder.Feeder.TheInside.{Inside}

@@ -9,10 +9,10 @@ use Rattle.vbi_words.specs.declared.system.System.{System}
 use Rattle.vbi_words.specs.declared.system.System.TheVariants.{Ntsc, Pal}
 use Rattle.vbi_words.specs.declared.outcome.Reading.{Reading}
 use Rattle.vbi_line.specs.Line.{Line}
-use Rattle.vbi_field.specs.Feed.{limit_of, IsAt}
+use Rattle.vbi_field.specs.Feed.{IsAt}
 use Rattle.vbi_field.specs.Position.{readings_of}
 use Rattle.vbi_field.specs.Progress.{IsPosition}
-use Rattle.vbi_field.specs.Setup.{Setup}
+use Rattle.vbi_field.specs.Setup.{Setup, limit_of}
 use Rattle.vbi_field.specs.Stand.{place_of}
 use Rattle.vbi_field.specs.Stream.{fields_of, rest_of, row_reading}
 use Rattle.vbi_field.specs.declared.progress.Progress.{Progress}

@@ -12,10 +12,10 @@ use Rattle.vbi_words.specs.declared.outcome.Reading.{Reading}
 use Rattle.vbi_line.specs.Line.{Line}
 use Rattle.vbi_line.specs.OneReading.{reading_of}
 use Rattle.vbi_field.specs.Kinds.{document}
-use Rattle.vbi_field.specs.Feed.{limit_of, Completes, IsAt, IsFed}
+use Rattle.vbi_field.specs.Feed.{Completes, IsAt, IsFed}
 use Rattle.vbi_field.specs.Outlet.{device_of, Puts}
 use Rattle.vbi_field.specs.Progress.{IsPosition, IsRowOf}
-use Rattle.vbi_field.specs.Setup.{Setup}
+use Rattle.vbi_field.specs.Setup.{Setup, limit_of}
 use Rattle.vbi_field.specs.Stand.{IsStand, place_of}
 use Rattle.vbi_field.specs.Stream.{fields_of, field_readings}
 use Rattle.vbi_field.specs.Texts.{begun_of, piece_of}

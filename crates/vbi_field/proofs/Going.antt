@@ -1,26 +1,25 @@
 -- What a run keeps from row to row.
-use Rattle.std.proofs.Common.{◌≡◌, ℕ, ◌+◌, ◌*◌, ◌/◌, ◌≤◌, ◌<◌, ◌⊎◌, inl, List, [], ◌++◌, length, take, refl, sym, ap, ◌∙◌, arith, zero-le}
+use Rattle.std.proofs.Common.{◌≡◌, ℕ, ◌+◌, ◌*◌, ◌/◌, ◌%◌, ◌≤◌, ◌<◌, inl, List, [], ◌++◌, length, take, drop, refl, sym, ap, ◌∙◌, arith, append_assoc, zero-le}
 use Rattle.std.specs.Prelude.{Option, Err}
-use Rattle.std.specs.Io.KnownBytes.{Consumes, Appends, IsAtEnd}
-use Rattle.std.proofs.lemmas.List.{length-append, take_all, length-take-le}
-use Rattle.std.proofs.Math.Seq.{take-append-add}
-use Rattle.std.proofs.Math.Nat.{le_of_eq, le_refl, le_trans}
+use Rattle.std.specs.Io.KnownBytes.{Consumes, Appends}
+use Rattle.std.proofs.lemmas.List.{length-append, length-drop, take_all, take-append-drop, length-take-le}
+use Rattle.std.proofs.Math.Nat.{le_of_eq}
 use Rattle.vbi_words.specs.Geometry.{width_of, height_of, line_bytes, field_bytes}
 use Rattle.vbi_words.specs.declared.system.System.{System}
 use Rattle.vbi_words.specs.declared.system.System.TheVariants.{Ntsc, Pal}
 use Rattle.vbi_line.specs.Intake as intakes
 use Rattle.vbi_line.specs.declared.intake.Intake.{Intake}
+use Rattle.vbi_field.specs.Extracts.{EndsInside, EndsInPiece, Runs}
 use Rattle.vbi_field.specs.Outlet as outlets
 use Rattle.vbi_field.specs.Progress.{IsPosition}
-use Rattle.vbi_field.specs.Runs.{Runs}
-use Rattle.vbi_field.specs.Setup.{Setup}
-use Rattle.vbi_field.specs.Stream.{fields_of, rest_of, selected}
+use Rattle.vbi_field.specs.Setup.{Setup, limit_of}
+use Rattle.vbi_field.specs.Stream.{fields_of, rest_of, selected, looks_of}
 use Rattle.vbi_field.specs.Texts.{Texts, begun_of, document_of}
 use Rattle.vbi_field.specs.declared.outlet.Outlet.{Outlet}
 use Rattle.vbi_field.specs.declared.progress.Progress.{Progress}
 use Rattle.vbi_field.specs.declared.summary.RunFault.{RunFault}
 use Rattle.vbi_field.specs.declared.summary.RunFault.TheVariants.{Write}
-use Rattle.vbi_field.proofs.Counts.{whole_fields, past_fields, some_rows}
+use Rattle.vbi_field.proofs.Counts.{whole_fields, past_fields, selected_is, some_rows}
 use Rattle.vbi_field.proofs.Entries.{stood, stood-none, stood-stays, begun_of-stood}
 use Rattle.vbi_field.proofs.Known.{Appends-twice, Consumes-none, Appends-none}
 
@@ -44,6 +43,24 @@ nothing_fields : (s : System) → 0 / field_bytes s ≡ 0
 nothing_fields Ntsc = refl
 nothing_fields Pal = refl
 
+nothing_looked : (s : System) → width_of s * selected 0 0 ≡ 0
+nothing_looked Ntsc = refl
+nothing_looked Pal = refl
+
+no_looks : (s : System) → width_of s * selected (0 / field_bytes s) (0 % field_bytes s / line_bytes s) ≡ 0
+no_looks Ntsc = refl
+no_looks Pal = refl
+
+-- the first of a piece, and not all of it
+pub inside_of : (base piece due : List ℕ) (k : ℕ) → k < length piece → base ++ piece ≡ due → EndsInside base due (base ++ take k piece)
+inside_of base piece due k short is = record {
+  part = take k piece;
+  rest = drop k piece;
+  begun = refl;
+  more = append_assoc base (take k piece) (drop k piece) ∙ ap (λ l. base ++ l) (take-append-drop k piece) ∙ is;
+  short = omega (arith, length-drop k piece);
+}
+
 some_fields : (s : System) (f r : ℕ) → f * height_of s ≤ f * height_of s + r
 some_fields s f r = omega arith
 
@@ -55,12 +72,10 @@ module _ (t : Texts) {R W : Type 0} (remaining : R → Option (List ℕ)) (conte
     pub consumed : Consumes (remaining (intakes.device_of i0)) (remaining (intakes.device_of i)) z
     pub fetched : i.fetched ≡ length z
     pub long : length z ≤ 2270 * k
-    pub least_reads : intakes.failures_of i0 ≤ intakes.failures_of i
     pub reads : intakes.failures_of i ≤ 38607 * k
     pub appended : Appends (contents (outlets.device_of o0)) (contents (outlets.device_of o)) (stood t c z p.fields)
     pub written : o.written ≡ length (stood t c z p.fields)
     pub small : o.written ≤ 192 + 192 * p.fields
-    pub least_writes : outlets.failures_of o0 ≤ outlets.failures_of o
     pub writes : outlets.failures_of o ≤ 17 * (o.written + p.fields + 1)
     pub at : IsPosition c z p
     pub place : p.fields * height_of c.system + p.row ≡ k
@@ -69,7 +84,7 @@ module _ (t : Texts) {R W : Type 0} (remaining : R → Option (List ℕ)) (conte
     pub held : i.line.held ≡ []
     pub cursors : i.line.cursors ≡ []
     pub looked : i.line.looked ≤ 2270 * k
-    pub looks : i.line.looked ≤ 2 * width_of c.system * selected p.fields p.row
+    pub looks : i.line.looked ≡ width_of c.system * selected p.fields p.row
     pub same_reader : intakes.IsSameDevice i0 i
     pub same_writer : outlets.IsSameDevice o0 o
 
@@ -84,6 +99,12 @@ module _ (t : Texts) {R W : Type 0} (remaining : R → Option (List ℕ)) (conte
     -- and the bytes past them
     pub rest_is : rest_of c (g.z ++ b) ≡ p.row * line_bytes c.system + length b
     rest_is = let at = g.at in past_fields c.system (length (g.z ++ b)) p.fields p.row (length b) at.inside short long
+
+    -- what was looked at
+    pub looks_are : i.line.looked ≡ looks_of c (g.z ++ b)
+    looks_are =
+        let at = g.at in
+        g.looks ∙ ap (λ n. width_of c.system * n) (sym (selected_is c.system (length (g.z ++ b)) p.fields p.row (length b) at.inside short long))
 
     -- the text that stands then
     pub begun_is : stood t c g.z p.fields ≡ begun_of t c (g.z ++ b)
@@ -101,29 +122,26 @@ module _ (t : Texts) {R W : Type 0} (remaining : R → Option (List ℕ)) (conte
         ∙ ap (λ n. begun_of t c (g.z ++ b) ++ t.tail (fields_of c (g.z ++ b)) n) (rs ∙ sym rest_is)
 
   -- a text that was put in part
-  pub write_fault : (i : Intake R) (o o' : Outlet W) (z base more whole : List ℕ) (fault : RunFault)
+  pub write_fault : (i : Intake R) (o o' : Outlet W) (z base more : List ℕ) (fault : RunFault)
       → Consumes (remaining (intakes.device_of i0)) (remaining (intakes.device_of i)) z → i.fetched ≡ length z
       → Appends (contents (outlets.device_of o0)) (contents (outlets.device_of o)) base → o.written ≡ length base
-      → outlets.failures_of o0 ≤ outlets.failures_of o
-      → outlets.Puts contents o o' more → outlets.failures_of o < outlets.failures_of o' → fault ≡ Write o'.written
-      → whole ≡ base ++ more
-      → (whole ≡ begun_of t c z) ⊎ (IsAtEnd (remaining (intakes.device_of i)) × (whole ≡ document_of t c z))
+      → (puts : outlets.Puts contents o o' more) → outlets.failures_of o < outlets.failures_of o' → fault ≡ Write o'.written
+      → length z ≤ limit_of c → i.line.looked ≡ looks_of c z
+      → EndsInPiece t c (remaining (intakes.device_of i)) z (base ++ take puts.count more)
       → Runs t remaining contents c i0 i o0 o' (Err fault)
-  write_fault i o o' z base more whole fault consumed fetched appended written least puts rose is joined stands =
+  write_fault i o o' z base more fault consumed fetched appended written puts rose is within looks inside =
       let l = length-append base (take puts.count more) in
       let m = length-take-le puts.count more puts.within in
       let w = puts.written in
-      let at : o'.written ≡ length base + puts.count = omega arith in
-      let cut : base ++ take puts.count more ≡ take o'.written whole = sym (take-append-add base more puts.count)
-      ∙ ap (λ n. take n (base ++ more)) (sym at) ∙ ap (take o'.written) (sym joined) in
+      let count : o'.written ≡ length (base ++ take puts.count more) = omega arith in
       record {
         z = z;
         text = base ++ take puts.count more;
         consumed = consumed;
-        fetched = fetched;
         appended = Appends-twice _ _ _ base (take puts.count more) appended puts.appended;
-        written = omega arith;
-        run = rw is (whole, stands, cut, refl, omega arith);
+        fetched = fetched;
+        written = count;
+        says = rw is (record { rose = omega arith; count = count; within = within; inside = inside; looks = looks });
       }
 
   -- before the first row
@@ -143,12 +161,10 @@ module _ (t : Texts) {R W : Type 0} (remaining : R → Option (List ℕ)) (conte
         consumed = Consumes-none _;
         fetched = fresh.fetched;
         long = omega arith;
-        least_reads = omega arith;
         reads = omega (arith, fresh.failures);
         appended = rw e put;
         written = omega arith;
         small = omega arith;
-        least_writes = puts.least;
         writes = omega (arith, puts.most, puts.written);
         at = record {
           whole = sym zero;
@@ -163,7 +179,7 @@ module _ (t : Texts) {R W : Type 0} (remaining : R → Option (List ℕ)) (conte
         held = fresh.held;
         cursors = fresh.cursors;
         looked = omega (arith, fresh.looked);
-        looks = le_trans (le_of_eq fresh.looked) zero-le;
+        looks = fresh.looked ∙ rw (fields, row) (sym (nothing_looked c.system));
         same_reader = refl;
         same_writer = same;
       }
@@ -171,8 +187,11 @@ module _ (t : Texts) {R W : Type 0} (remaining : R → Option (List ℕ)) (conte
   -- the head was put in part
   pub head_fault : (o : Outlet W) (text : List ℕ) (fault : RunFault) → intakes.IsFresh i0 c.system → outlets.IsFresh o0
       → text ≡ t.head c → outlets.Puts contents o0 o text → outlets.failures_of o0 < outlets.failures_of o
+      → outlets.written_of o < outlets.written_of o0 + length text
       → fault ≡ Write o.written → Runs t remaining contents c i0 i0 o0 o (Err fault)
-  head_fault o text fault fresh clean is puts rose fails =
+  head_fault o text fault fresh clean is puts rose short fails =
       let e : text ≡ begun_of t c [] = is ∙ sym (stood-none t c []) ∙ sym (begun_of-stood t c [] 0 (nothing_fields c.system)) in
-      write_fault i0 o0 o [] [] text text fault (Consumes-none _) fresh.fetched (Appends-none _) clean.written (le_refl _) puts rose fails refl
-      (inl e)
+      let looks : i0.line.looked ≡ looks_of c [] = fresh.looked ∙ sym (no_looks c.system) in
+      let under : puts.count < length text = omega (arith, puts.written) in
+      write_fault i0 o0 o [] [] text fault (Consumes-none _) fresh.fetched (Appends-none _) clean.written puts rose fails (zero-le) looks
+      (inl (record { none = refl; ends = inside_of [] text (begun_of t c []) puts.count under e }))

@@ -15,6 +15,7 @@ pub mod OneDocument
 pub mod PutFieldSteps
 pub mod PutSteps
 pub mod RowSteps
+pub mod RunLaws
 pub mod RunSteps
 pub mod WordRowLaw
 pub mod WordRowLemmas

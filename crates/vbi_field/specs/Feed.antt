@@ -1,22 +1,16 @@
 -- What a feeder does with a stream that comes in pieces (this project's own). The pieces before make the stream z so far.
 use Rattle.std.specs.Prelude.{◌≡◌, ℕ, ◌+◌, ◌*◌, ◌<◌, ◌≤◌, false, List, ◌++◌, length, take, Option, Result, Ok, Err}
-use Rattle.vbi_words.specs.Geometry.{width_of, field_bytes}
-use Rattle.vbi_field.specs.Claims.{Wrote}
 use Rattle.vbi_field.specs.Kinds.{document}
-use Rattle.vbi_field.specs.Outlet.{failures_of, written_of}
+use Rattle.vbi_field.specs.Outlet.{failures_of, written_of, Wrote}
 use Rattle.vbi_field.specs.Position.{Position, position_of}
-use Rattle.vbi_field.specs.Setup.{Setup}
-use Rattle.vbi_field.specs.Stream.{fields_of, rest_of, cut_of, selected_rows}
+use Rattle.vbi_field.specs.Setup.{Setup, limit_of}
+use Rattle.vbi_field.specs.Stream.{fields_of, rest_of, cut_of, looks_of}
 use Rattle.vbi_field.specs.Texts.{begun_of}
 use Rattle.vbi_field.specs.Feeding.{Feeding}
 use Rattle.vbi_field.specs.declared.outlet.Outlet.{Outlet}
 use Rattle.vbi_field.specs.declared.summary.Summary.{Summary}
 use Rattle.vbi_field.specs.declared.summary.RunFault.{RunFault}
 use Rattle.vbi_field.specs.declared.summary.RunFault.TheVariants.{Read, Write, TooManyFields, Failed}
-
--- how many bytes may come: those of the fields that are allowed
-abbrev pub limit_of : Setup → ℕ
-limit_of c = c.max_fields * field_bytes c.system
 
 -- z is no longer than allowed, and this is the place to which it has come
 pub record IsAt (c : Setup) (z : List ℕ) (now : Position) : Type 0 where
@@ -60,7 +54,7 @@ module _ {W : Type 0} (contents : W → Option (List ℕ)) (c : Setup) (o o' : O
   abbrev pub IsFinished : Result Summary RunFault → Type 0
   IsFinished (Ok s) =
       Wrote contents o o' (document.tail (fields_of c z) (rest_of c z))
-      × (s.fields ≡ fields_of c z) × (s.cut ≡ cut_of (rest_of c z)) × (s.looked ≤ 2 * width_of c.system * selected_rows c z)
+      × (s.fields ≡ fields_of c z) × (s.cut ≡ cut_of (rest_of c z)) × (s.looked ≡ looks_of c z)
   IsFinished (Err (Write written)) = AppendsInPart contents o o' (document.tail (fields_of c z) (rest_of c z))
   IsFinished (Err (Read field offset)) = ⊥
   IsFinished (Err TooManyFields) = ⊥

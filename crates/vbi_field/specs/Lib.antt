@@ -1,11 +1,11 @@
 pub mod ByLines
 pub mod CauseTexts
-pub mod Claims
 pub mod CodeTexts
 pub mod Document
 pub mod DrawRun
 pub mod Drawing
 pub mod DrawnReadings
+pub mod Extracts
 pub mod Feed
 pub mod FeedView
 pub mod Feeding
@@ -13,9 +13,9 @@ pub mod Kinds
 pub mod Outlet
 pub mod Position
 pub mod Progress
+pub mod Ran
 pub mod Report
 pub mod RowIntake
-pub mod Runs
 pub mod Setup
 pub mod Stand
 pub mod Stream

@@ -1,5 +1,6 @@
 -- What a run is given (this project's own).
-use Rattle.std.specs.Prelude.{ℕ}
+use Rattle.std.specs.Prelude.{ℕ, ◌*◌}
+use Rattle.vbi_words.specs.Geometry.{field_bytes}
 use Rattle.vbi_words.specs.declared.system.System.{System}
 use Rattle.vbi_words.specs.Levels.{Slicing}
 
@@ -8,3 +9,7 @@ pub record Setup : Type 0 where
   pub system : System
   pub levels : Slicing
   pub max_fields : ℕ
+
+-- how many bytes may come: those of the fields that are allowed
+abbrev pub limit_of : Setup → ℕ
+limit_of c = c.max_fields * field_bytes c.system

@@ -19,7 +19,7 @@ place_of c l p = record {
   readings = take (p.row - 15) (p.readings.first ∷ p.readings.second ∷ p.readings.third ∷ []);
 }
 
--- less than a line is held and no pass was started, no more fields came than are allowed, and few samples were looked at
+-- less than a line is held and no pass was started, no more fields came than are allowed, and the samples of the selected rows were looked at once each
 pub record IsStand (c : Setup) (l : Line) (p : Progress) : Type 0 where
   pub system : l.system ≡ c.system
   pub cursors : l.cursors ≡ []
@@ -27,7 +27,7 @@ pub record IsStand (c : Setup) (l : Line) (p : Progress) : Type 0 where
   pub inside : p.row < height_of c.system
   pub few : p.fields ≤ c.max_fields
   pub most : p.fields ≤ 1000000
-  pub looked : l.looked ≤ 2 * width_of c.system * selected p.fields p.row
+  pub looked : l.looked ≡ width_of c.system * selected p.fields p.row
 
 -- what the first bytes of a piece did, where the line and the progress stood at z
 abbrev pub IsStep : {W : Type 0} → (W → Option (List ℕ)) → Setup → Outlet W → Outlet W → List ℕ → List ℕ → Position

@@ -1,7 +1,7 @@
 -- Fields and rows of a TBC stream (ld-decode's TBC format: samples of 16 bits, low byte first, line after line and field after
 -- field), and the readings of its fields. Fields and rows are counted from 0; a stream is the list of its bytes.
 use Rattle.std.specs.Prelude.{ℕ, ◌+◌, ◌-◌, ◌*◌, ◌/◌, ◌%◌, ◌==◌, min, if◌then◌else◌, List, length, take, drop, Option, Some, None}
-use Rattle.vbi_words.specs.Geometry.{line_bytes, field_bytes}
+use Rattle.vbi_words.specs.Geometry.{width_of, line_bytes, field_bytes}
 use Rattle.vbi_words.specs.Levels.{row_levels}
 use Rattle.vbi_words.specs.declared.system.System.{System}
 use Rattle.vbi_words.specs.declared.outcome.Reading.{Reading}
@@ -52,3 +52,7 @@ selected_in c bytes = selected (fields_in c bytes) (rest_in c bytes / line_bytes
 -- how many of the rows 15, 16 and 17 of its fields a stream has whole
 abbrev pub selected_rows : Setup → List ℕ → ℕ
 selected_rows c z = selected_in c (length z)
+
+-- how many samples are looked at: all of those rows' samples, once each
+abbrev pub looks_of : Setup → List ℕ → ℕ
+looks_of c z = width_of c.system * selected_rows c z

@@ -10,11 +10,13 @@ use Rattle.vbi_field.specs.declared.rows.Row.{Row}
 use Rattle.vbi_field.specs.declared.rows.Row.TheVariants.{Whole, Ended, Failed}
 
 module _ {R : Type 0} (remaining : R → Option (List ℕ)) (levels : Slicing) (selected : Bool) (old new : Intake R) where
-  -- these bytes came: a whole row with its reading, the rest of the stream, or those before a fault of the reader
+  -- these bytes came: a whole row with its reading, for which each sample was looked at once if it was asked for, the rest of the stream,
+  -- or those before a fault of the reader
   abbrev pub Got : List ℕ → Row → Type 0
   Got bytes (Whole reading) =
       (length bytes ≡ line_bytes (line_of old).system) × (held_of new ≡ []) × ((line_of new).cursors ≡ [])
       × (IsTrue selected → reading ≡ reading_of (line_of old).system (row_levels levels bytes))
+      × ((line_of new).looked ≡ (line_of old).looked + (if selected then width_of (line_of old).system else 0))
   Got bytes (Ended n) =
       (n ≡ length bytes) × (held_of new ≡ bytes) × (n < line_bytes (line_of old).system) × IsAtEnd (remaining (device_of new))
       × ((line_of new).looked ≡ (line_of old).looked)
@@ -22,7 +24,7 @@ module _ {R : Type 0} (remaining : R → Option (List ℕ)) (levels : Slicing) (
       (held_of new ≡ bytes) × (failures_of old < failures_of new) × (length bytes < line_bytes (line_of old).system)
       × ((line_of new).looked ≡ (line_of old).looked)
 
-  -- the bytes came from the reader, and the counts rose by their number and at most so far
+  -- the bytes came from the reader, and the counts rose by their number
   pub record Takes (result : Row) : Type 0 where
     pub bytes : List ℕ
     pub consumed : Consumes (remaining (device_of old)) (remaining (device_of new)) bytes
@@ -30,5 +32,4 @@ module _ {R : Type 0} (remaining : R → Option (List ℕ)) (levels : Slicing) (
     pub least : failures_of old ≤ failures_of new
     pub most : failures_of new ≤ failures_of old + 17 * (length bytes + 1)
     pub system : (line_of new).system ≡ (line_of old).system
-    pub looked : (line_of new).looked ≤ (line_of old).looked + (if selected then 2 * width_of (line_of old).system else 0)
     pub got : Got bytes result

@@ -1,9 +1,8 @@
 //! A stream that is pushed in pieces.
 ghost use Rattle.std.specs.Prelude.{◌≡◌, ℕ, List, ◌+◌, ◌*◌, ◌^◌, ◌<◌, ◌≤◌, ◌↔◌, [], length, IsTrue, IsErr, OnOk, OnErr, IfOk, IfErr, Err};
 ghost use Rattle.vbi_words.specs.Geometry.{width_of, line_bytes};
-ghost use Rattle.vbi_field.specs.Claims.{Wrote};
 ghost use Rattle.vbi_field.specs.Document.{head_of};
-ghost use Rattle.vbi_field.specs.Outlet.{failures_of, written_of, IsFresh, IsSameDevice};
+ghost use Rattle.vbi_field.specs.Outlet.{failures_of, written_of, IsFresh, IsSameDevice, Wrote};
 
 use crate::config::Config;
 use crate::document::Document;

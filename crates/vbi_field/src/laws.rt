@@ -1,9 +1,13 @@
 //! Laws over the definitions: each function's contract is one, for every config, stream and text of words.
 
-ghost use Rattle.std.specs.Prelude.{◌≡◌, ◌↔◌, ℕ, ◌<◌, List, Some, slice_get};
+ghost use Rattle.std.specs.Prelude.{◌≡◌, ◌↔◌, ℕ, ◌+◌, ◌*◌, ◌<◌, ◌≤◌, ◌⊎◌, List, length, take, Option, Some, slice_get};
+ghost use Rattle.std.specs.Io.KnownBytes.{Consumes, IsAtEnd};
+ghost use Rattle.vbi_words.specs.Geometry.{width_of};
 ghost use Rattle.vbi_field.specs.ByLines.{FieldReads, IsDocument};
+ghost use Rattle.vbi_field.specs.Extracts.{EndsInPiece, IsFirstOf};
 ghost use Rattle.vbi_field.specs.Setup.{Setup};
-ghost use Rattle.vbi_field.specs.Texts.{Texts, document_of};
+ghost use Rattle.vbi_field.specs.Stream.{fields_of, rest_of, looks_of};
+ghost use Rattle.vbi_field.specs.Texts.{Texts, begun_of, document_of};
 ghost use Rattle.vbi_field.specs.WordRows.{IsWordRow, AreRows, words_of};
 ghost use Rattle.vbi_field.specs.Drawing.{draw_out};
 ghost use Rattle.vbi_field.specs.DrawnReadings.{AreDrawable, drawn_readings};
@@ -29,4 +33,28 @@ pub fn drawn_field()
 pub fn drawn_rows()
     ensures { (c : Setup) (text : List ℕ) (rows : List WordRow) (i : ℕ) (words : WordRow) → c.levels.black < c.levels.white
         → AreRows text rows → slice_get rows i ≡ Some words → FieldReads c (draw_out c rows) i (drawn_readings words) }
+{}
+
+/// The bytes that came are the first of those that the reader had, and all of them where it is at its end.
+pub fn whole_stream()
+    ensures first { (all z : List ℕ) (input : Option (List ℕ)) → Consumes (Some all) input z → (length z ≤ length all) × (z ≡ take (length z) all) }
+    ensures whole { (all z : List ℕ) (input : Option (List ℕ)) → Consumes (Some all) input z → IsAtEnd input → z ≡ all }
+{}
+
+/// The samples looked at are at most those of three rows for each field that begins.
+pub fn few_looks()
+    ensures { (c : Setup) (z : List ℕ) → looks_of c z ≤ 3 * width_of c.system * (fields_of c z + 1) }
+{}
+
+/// A text that ends inside a piece is the first of the text of the whole fields, or of the whole text where the reader ended.
+pub fn first_of_text()
+    ensures { (t : Texts) (c : Setup) (input : Option (List ℕ)) (z text : List ℕ) → EndsInPiece t c input z text
+        → IsFirstOf text (begun_of t c z) ⊎ (IsAtEnd input × IsFirstOf text (document_of t c z)) }
+{}
+
+/// A text that ends inside a piece has all that was due before: no byte had come past the whole fields, or the reader had ended and
+/// the texts of all whole fields were written.
+pub fn prompt()
+    ensures { (t : Texts) (c : Setup) (input : Option (List ℕ)) (z text : List ℕ) → EndsInPiece t c input z text
+        → (rest_of c z ≡ 0) ⊎ (IsAtEnd input × (length (begun_of t c z) ≤ length text)) }
 {}

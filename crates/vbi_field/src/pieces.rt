@@ -54,7 +54,7 @@ fn read_held(line: &mut LineBuf, config: &Config, is_selected: bool) -> Reading
     ensures system { line.new.system ≡ line.old.system }
     ensures held { line.new.held ≡ [] }
     ensures cursors { line.new.cursors ≡ [] }
-    ensures looked { line.new.looked ≤ line.old.looked + (if is_selected then 2 * width_of config.now.system else 0) }
+    ensures looked { line.new.looked ≡ line.old.looked + (if is_selected then width_of config.now.system else 0) }
 {
     let reading = if is_selected {
         read_twice(line, config.system(), config.levels())

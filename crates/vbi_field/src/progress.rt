@@ -77,7 +77,7 @@ impl Progress {
         ensures inside { self.new.row < height_of config.now.system }
         ensures counts { MatchOption result
             ((self.new.fields ≡ self.old.fields) × (self.new.row ≡ self.old.row + 1))
-            (λ _. (self.new.fields ≡ self.old.fields + 1) × (self.new.row ≡ 0)) }
+            (λ _. (self.new.fields ≡ self.old.fields + 1) × (self.new.row ≡ 0) × (self.old.row + 1 ≡ height_of config.now.system)) }
         ensures over { (z b : List ℕ) → IsPosition config.now z self.old
             → IsRowOf config.now b self.old.row reading
             → AdvancesOver config.now z b self.old result self.new }

@@ -2,7 +2,7 @@
 ghost use Rattle.std.specs.Prelude.{◌≡◌, ◌+◌, ◌-◌, ◌*◌, ◌^◌, ◌<◌, ◌≤◌, length, OnOk, OnErr, IfOk, IfErr};
 ghost use Rattle.vbi_line.specs.Intake.{IsFresh, IsSameDevice};
 ghost use Rattle.vbi_field.specs.Outlet.{failures_of, written_of, IsFresh as IsFreshOutlet, IsSameDevice as IsSameOutlet, Puts};
-ghost use Rattle.vbi_field.specs.Runs.{Runs};
+ghost use Rattle.vbi_field.specs.Extracts.{Runs};
 ghost use Rattle.vbi_field.specs.Stream.{cut_of};
 
 use crate::config::Config;
@@ -23,6 +23,7 @@ pub(crate) fn put<W: Write>(outlet: &mut Outlet<W>, text: &str) -> Result<(), Ru
     ensures puts { Puts W.contents outlet.old outlet.new text.now }
     ensures ok { OnOk result (written_of outlet.new ≡ written_of outlet.old + length text.now) }
     ensures failed { OnErr result (failures_of outlet.old < failures_of outlet.new) }
+    ensures short { OnErr result (written_of outlet.new < written_of outlet.old + length text.now) }
     ensures fault { IfErr result (λ e. e ≡ RunFault.Write (written_of outlet.new)) }
 {
     match outlet.put_all(text.as_bytes()) {
@@ -48,6 +49,7 @@ pub(crate) fn end<F: Form, W: Write>(
     ensures written { OnOk result (written_of outlet.new ≡ written_of outlet.old + length (F.texts.tail fields rest)) }
     ensures ok { IfOk result (λ s. s ≡ record { fields = fields; cut = cut_of rest; looked = looked }) }
     ensures failed { OnErr result (failures_of outlet.old < failures_of outlet.new) }
+    ensures short { OnErr result (written_of outlet.new < written_of outlet.old + length (F.texts.tail fields rest)) }
     ensures fault { IfErr result (λ e. e ≡ RunFault.Write (written_of outlet.new)) }
 {
     if let Err(fault) = put(outlet, F::tail(fields, rest).as_str()) {

@@ -27,6 +27,18 @@ module _ {R : Type 0} where
   abbrev pub failures_of : Intake R → ℕ
   failures_of i = counted.failures_of i.device
 
+  -- how often of these it wasn't interrupted
+  abbrev pub errors_of : Intake R → ℕ
+  errors_of i = counted.errors_of i.device
+
+  -- how many interruptions have come since its last answer of another kind
+  abbrev pub streak_of : Intake R → ℕ
+  streak_of i = counted.streak_of i.device
+
+  -- a fault has its cause in the call: one error as the last answer, or seventeen interruptions as the last and no error
+  abbrev pub HasCause : Intake R → Intake R → Type 0
+  HasCause old new = counted.HasCause old.device new.device
+
   -- both speak of the same reader
   abbrev pub IsSameDevice : Intake R → Intake R → Type 0
   IsSameDevice old new = counted.IsSameDevice old.device new.device
@@ -72,4 +84,5 @@ module _ {R : Type 0} where
     pub same : IsSameDevice old new
     pub device : device_of new ≡ device_of old
     pub failures : failures_of new ≡ failures_of old
+    pub errors : errors_of new ≡ errors_of old
     pub fetched : fetched_of new ≡ fetched_of old

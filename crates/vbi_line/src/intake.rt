@@ -1,5 +1,5 @@
 //! The intake of one line from a reader.
-ghost use Rattle.std.specs.Prelude.{◌≡◌, ◌+◌, ◌*◌, ◌^◌, ◌<◌, ◌≤◌, [], ◌∷◌, length, IfOk, OnErr};
+ghost use Rattle.std.specs.Prelude.{◌≡◌, ◌+◌, ◌*◌, ◌^◌, ◌<◌, ◌≤◌, [], ◌∷◌, length, IfOk, OnOk, OnErr};
 ghost use Rattle.vbi_words.specs.Geometry.{width_of, line_bytes};
 ghost use Rattle.vbi_words.specs.Levels.{row_levels};
 ghost use Rattle.vbi_words.specs.Outcomes.{IsOutcome};
@@ -40,8 +40,8 @@ pub struct Intake<'a, R> {
 }
 
 impl<'a, R: Read> Intake<'a, R> {
-    ghost use Rattle.vbi_line.specs.Intake.{device_of, failures_of, fetched_of, held_of, line_of, name_of};
-    ghost use Rattle.vbi_line.specs.Intake.{IsFresh, Fetches, IsFilled, IsSameDevice, KeepsReader};
+    ghost use Rattle.vbi_line.specs.Intake.{device_of, failures_of, errors_of, streak_of, fetched_of, held_of, line_of, name_of};
+    ghost use Rattle.vbi_line.specs.Intake.{IsFresh, Fetches, IsFilled, HasCause, IsSameDevice, KeepsReader};
 
     /// An intake of lines of this system, which holds nothing and hasn't asked the reader.
     pub fn new(reader: &'a mut R, system: System) -> Self
@@ -80,7 +80,10 @@ impl<'a, R: Read> Intake<'a, R> {
         ensures bytes { Fetches R.remaining self.old self.new }
         ensures fits { length (held_of self.new) ≤ line_bytes (line_of self.old).system }
         ensures ok { IfOk result (λ f. IsFilled R.remaining f self.new) }
+        ensures no_error { OnOk result (errors_of self.new ≡ errors_of self.old) }
         ensures failed { OnErr result (failures_of self.old < failures_of self.new) }
+        ensures cause { OnErr result (HasCause self.old self.new) }
+        ensures streak { streak_of self.new ≤ streak_of self.old + 17 }
         ensures short { OnErr result (length (held_of self.new) < line_bytes (line_of self.old).system) }
     {
         let mut tries = 0u32;
@@ -174,6 +177,13 @@ impl<'a, R: Read> Intake<'a, R> {
         ensures { result ≡ failures_of self.now }
     {
         self.device.failures()
+    }
+
+    /// How often the reader failed, interruptions not among them.
+    pub fn errors(&self) -> u64
+        ensures { result ≡ errors_of self.now }
+    {
+        self.device.errors()
     }
 
     /// How many samples were looked at.

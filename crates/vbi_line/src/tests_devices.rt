@@ -146,6 +146,7 @@ fn goes_on_after_an_error(rt: HostRuntime) -> Result<(), Fail> {
     assert_eq!(rt; intake.fill_line(), Ok(Filled::Full));
     assert_eq!(rt; intake.fetched(), 1820);
     assert_eq!(rt; intake.failures(), 1);
+    assert_eq!(rt; intake.errors(), 1);
     Ok(())
 }
 
@@ -172,6 +173,7 @@ fn tries_again_sixteen_times(rt: HostRuntime) -> Result<(), Fail> {
     assert_eq!(rt; intake.held(), 0);
     assert_eq!(rt; intake.fetched(), 0);
     assert_eq!(rt; intake.failures(), 17);
+    assert_eq!(rt; intake.errors(), 0);
     assert_eq!(rt; intake.fill_line(), Ok(Filled::Full));
     Ok(())
 }
@@ -188,6 +190,7 @@ fn asks_a_writer_once(rt: HostRuntime) -> Result<(), Fail> {
     assert_eq!(rt; counted.failures(), 0);
     assert_eq!(rt; counted.write_once(b"abc"), Err(DeviceFail::Other));
     assert_eq!(rt; counted.failures(), 1);
+    assert_eq!(rt; counted.errors(), 1);
     assert_eq!(rt; counted.write_once(b""), Ok(0));
     assert_eq!(rt; counted.failures(), 1);
     let writer = counted.into_inner();
@@ -196,6 +199,7 @@ fn asks_a_writer_once(rt: HostRuntime) -> Result<(), Fail> {
     let mut counted = Counted::new(writer);
     assert_eq!(rt; counted.write_once(b"c"), Err(DeviceFail::Interrupted));
     assert_eq!(rt; counted.failures(), 1);
+    assert_eq!(rt; counted.errors(), 0);
     Ok(())
 }
 
@@ -216,6 +220,7 @@ fn asks_a_reader_once(rt: HostRuntime) -> Result<(), Fail> {
     assert_eq!(rt; counted.read_once(&mut room), Ok(1));
     assert_eq!(rt; counted.read_once(&mut room), Ok(0));
     assert_eq!(rt; counted.failures(), 2);
+    assert_eq!(rt; counted.errors(), 1);
     assert!(rt; room.as_slice() == b"cb\0\0".as_slice());
     Ok(())
 }

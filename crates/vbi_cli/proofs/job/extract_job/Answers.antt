@@ -1,12 +1,15 @@
 use Rattle.std.proofs.Common.{rules}
 use Rattle.vbi_field.specs.Kinds.{document}
-use Rattle.vbi_cli.proofs.Streams.{stream_failed}
+use Rattle.vbi_cli.proofs.Streams.{never_failed, stream_did}
 use Rattle.vbi_cli.proofs.job.extract_job.Goals as goal
 
-pub returns-clause-failed : goal.returns-clause-failed
-returns-clause-failed g c = search (
+pub end_of-requires : goal.end_of-requires
+end_of-requires g c = let ran = c.extract-summary.ensures.run in never_failed _ _ _ _ _ _ _ ran.says
+
+pub returns : goal.returns
+returns g c = search (
   rules,
-  stream_failed document g.R.Read.remaining g.W.Write.contents c.args.config.now
+  stream_did document g.R.Read.remaining g.W.Write.contents c.args.config.now
       c.new-intake.result c.extract-summary.new.intake c.new-outlet.result c.extract-summary.new.outlet
-      c.args.input.now c.into_reader.result.now c.args.output.now c.into_writer.result.now,
+      c.args.input.now c.into_reader.result.now c.args.output.now c.into_writer.result.now c.extract-summary.result c.end_of.result,
 )

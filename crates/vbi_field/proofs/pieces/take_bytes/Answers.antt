@@ -1,6 +1,7 @@
-use Rattle.std.proofs.Common.{◌-◌, ◌≤◌, ◌<◌, length, take, refl, ap, ◌∙◌, arith}
+use Rattle.std.proofs.Common.{◌+◌, ◌-◌, ◌≤◌, ◌<◌, cond, length, take, refl, ap, ◌∙◌, arith}
 use Rattle.std.proofs.Math.Nat.{le_trans, le_of_eq}
-use Rattle.vbi_words.specs.Geometry.{line_bytes}
+use Rattle.vbi_words.specs.Geometry.{width_of, line_bytes}
+use Rattle.vbi_field.proofs.Counts.{looks_next, looks_field, some_bytes}
 use Rattle.vbi_field.proofs.FeedSteps.{too_many, row_held, not_full, fed_inside, fed_row, fed_field, fed_in_part, before}
 use Rattle.vbi_field.proofs.Going.{put_whole}
 use Rattle.vbi_field.proofs.pieces.take_bytes.Goals as goal
@@ -85,3 +86,43 @@ returns-in-Err-clause-step g c =
     c.read_held-reading.ensures.held over.0 counts.0 c.in-Some.readings over.2 c.as_str.result.now (c.advance.new.self.fields - 1)
     (omega (arith, counts.0)) (c.as_str.ensures.value ∙ c.piece-text.ensures) c.args.outlet.now c.put.new.outlet
     c.args.bytes.now c.copy_in-count.result c.in-Err.fault _ refl c.in-Err.ensures.puts c.in-Err.ensures.fault
+
+pub returns-in-Err-clause-stand : goal.returns-in-Err-clause-stand
+returns-in-Err-clause-stand g c =
+    let st = c.requires.stand in
+    let counts = c.in-Some.ensures.counts in
+    let read = c.read_held-reading.ensures in
+    let system = read.system ∙ c.copy_in-count.ensures.rest.system ∙ st.system in
+    let last = c.if-progress-max_fields.false in
+    let few = c.max_fields.ensures in
+    record {
+      system = system;
+      cursors = read.cursors;
+      short = rw read.held (some_bytes c.args.config.now.system);
+      inside = c.in-Some.ensures.inside;
+      few = omega (arith, counts.0, few.value);
+      most = omega (arith, counts.0, few.value, few.few);
+      looked = rw (counts.0, counts.1) (looks_field c.args.config.now.system _ _ _ counts.2
+          (looks_next c.args.config.now.system _ _ _ _ c.is_selected.result c.is_selected.ensures st.looked
+          (read.looked ∙ ap (λ n. n + cond c.is_selected.result (width_of c.args.config.now.system) 0) c.copy_in-count.ensures.rest.looked)));
+    }
+
+pub returns-in_default-put-clause-stand : goal.returns-in_default-put-clause-stand
+returns-in_default-put-clause-stand g c =
+    let st = c.requires.stand in
+    let counts = c.in-Some.ensures.counts in
+    let read = c.read_held-reading.ensures in
+    let system = read.system ∙ c.copy_in-count.ensures.rest.system ∙ st.system in
+    let last = c.if-progress-max_fields.false in
+    let few = c.max_fields.ensures in
+    record {
+      system = system;
+      cursors = read.cursors;
+      short = rw read.held (some_bytes c.args.config.now.system);
+      inside = c.in-Some.ensures.inside;
+      few = omega (arith, counts.0, few.value);
+      most = omega (arith, counts.0, few.value, few.few);
+      looked = rw (counts.0, counts.1) (looks_field c.args.config.now.system _ _ _ counts.2
+          (looks_next c.args.config.now.system _ _ _ _ c.is_selected.result c.is_selected.ensures st.looked
+          (read.looked ∙ ap (λ n. n + cond c.is_selected.result (width_of c.args.config.now.system) 0) c.copy_in-count.ensures.rest.looked)));
+    }

@@ -1,0 +1,63 @@
+-- What follows from what a run says.
+use Rattle.std.proofs.Common.{◌≡◌, ℕ, ◌+◌, ◌*◌, ◌/◌, ◌%◌, ◌≤◌, ◌⊎◌, inl, inr, List, [], ◌++◌, length, take, Option, Some, None, refl, sym, ap, subst, ◌∙◌, arith, append-nil}
+use Rattle.std.specs.Io.KnownBytes.{Consumes, IsAtEnd}
+use Rattle.std.proofs.lemmas.List.{length-append, take_at}
+use Rattle.vbi_words.specs.Geometry.{width_of, line_bytes, field_bytes}
+use Rattle.vbi_words.specs.declared.system.System.{System}
+use Rattle.vbi_words.specs.declared.system.System.TheVariants.{Ntsc, Pal}
+use Rattle.vbi_field.specs.Extracts.{EndsInside, EndsInPiece, IsFirstOf}
+use Rattle.vbi_field.specs.Setup.{Setup}
+use Rattle.vbi_field.specs.Stream.{fields_of, rest_of, selected, looks_of}
+use Rattle.vbi_field.specs.Texts.{Texts, begun_of, document_of}
+
+pub first : (all z : List ℕ) (input : Option (List ℕ)) → Consumes (Some all) input z → (length z ≤ length all) × (z ≡ take (length z) all)
+first all z None came = absurd came
+first all z (Some left) came =
+    let l = ap length came ∙ length-append z left in
+    (omega arith, sym (ap (take (length z)) came ∙ take_at z left (length z) refl))
+
+pub whole : (all z : List ℕ) (input : Option (List ℕ)) → Consumes (Some all) input z → IsAtEnd input → z ≡ all
+whole all z None came end = absurd came
+whole all z (Some left) came end = sym (came ∙ ap (λ l. z ++ l) end ∙ append-nil z)
+
+few_of : (s : System) (f r : ℕ) → width_of s * selected f r ≤ 3 * width_of s * (f + 1)
+few_of Ntsc f r = omega arith
+few_of Pal f r = omega arith
+
+pub few : (c : Setup) (z : List ℕ) → looks_of c z ≤ 3 * width_of c.system * (fields_of c z + 1)
+few c z = few_of c.system (fields_of c z) (rest_of c z / line_bytes c.system)
+
+first_inside : (before due text : List ℕ) → EndsInside before due text → IsFirstOf text due
+first_inside before due text ends =
+    let l = ap length ends.more in
+    let m = length-append text ends.rest in
+    let short = ends.short in
+    (sym (ap (take (length text)) (sym ends.more) ∙ take_at text ends.rest (length text) refl), omega arith)
+
+pub first_of_text : (t : Texts) (c : Setup) (input : Option (List ℕ)) (z text : List ℕ) → EndsInPiece t c input z text
+    → IsFirstOf text (begun_of t c z) ⊎ (IsAtEnd input × IsFirstOf text (document_of t c z))
+first_of_text t c input z text (inl head) =
+    let P : List ℕ → Type 0 = λ z. IsFirstOf text (begun_of t c z) in
+    inl (subst P (sym head.none) (first_inside [] (begun_of t c []) text head.ends))
+first_of_text t c input z text (inr (inl entry)) = inl (first_inside (begun_of t c entry.before) (begun_of t c z) text entry.ends)
+first_of_text t c input z text (inr (inr tail)) = inr (tail.ended, first_inside (begun_of t c z) (document_of t c z) text tail.ends)
+
+no_rest : (s : System) → 0 % field_bytes s ≡ 0
+no_rest Ntsc = refl
+no_rest Pal = refl
+
+rest_more : (s : System) (n m : ℕ) → n % field_bytes s ≡ 0 → m ≡ field_bytes s → (n + m) % field_bytes s ≡ 0
+rest_more Ntsc n m none field = omega arith
+rest_more Pal n m none field = omega arith
+
+pub prompt : (t : Texts) (c : Setup) (input : Option (List ℕ)) (z text : List ℕ) → EndsInPiece t c input z text
+    → (rest_of c z ≡ 0) ⊎ (IsAtEnd input × (length (begun_of t c z) ≤ length text))
+prompt t c input z text (inl head) = inl (ap (rest_of c) head.none ∙ no_rest c.system)
+prompt t c input z text (inr (inl entry)) =
+    inl (ap (rest_of c) (sym entry.both) ∙ ap (λ n. n % field_bytes c.system) (length-append entry.before entry.last)
+    ∙ rest_more c.system (length entry.before) (length entry.last) entry.fields entry.field)
+prompt t c input z text (inr (inr tail)) =
+    let ends = tail.ends in
+    let l = ap length ends.begun in
+    let m = length-append (begun_of t c z) ends.part in
+    inr (tail.ended, omega arith)

@@ -1,0 +1,114 @@
+-- What `extract` and `show` do, by their answer, for a kind t of text (this project's own): z are the bytes that came, text is what
+-- was written, and n what was counted.
+use Rattle.std.specs.Prelude.{◌≡◌, ℕ, ◌+◌, ◌<◌, ◌≤◌, ◌⊎◌, List, [], ◌++◌, length, take, Option, Result, Ok, Err}
+use Rattle.std.specs.Io.KnownBytes.{IsAtEnd}
+use Rattle.vbi_words.specs.Geometry.{line_bytes, field_bytes}
+use Rattle.vbi_line.specs.Intake as intakes
+use Rattle.vbi_line.specs.declared.intake.Intake.{Intake}
+use Rattle.vbi_field.specs.Outlet as outlets
+use Rattle.vbi_field.specs.Ran.{Counts, Ran}
+use Rattle.vbi_field.specs.Setup.{Setup, limit_of}
+use Rattle.vbi_field.specs.Stream.{fields_of, rest_of, cut_of, looks_of}
+use Rattle.vbi_field.specs.Texts.{Texts, begun_of, document_of}
+use Rattle.vbi_field.specs.declared.outlet.Outlet.{Outlet}
+use Rattle.vbi_field.specs.declared.summary.Summary.{Summary}
+use Rattle.vbi_field.specs.declared.summary.RunFault.{RunFault}
+use Rattle.vbi_field.specs.declared.summary.RunFault.TheVariants.{Read, Write, TooManyFields, Failed}
+
+-- the text has all that was due before its last piece, and not all of what is due with it
+pub record EndsInside (before due text : List ℕ) : Type 0 where
+  pub part : List ℕ
+  pub rest : List ℕ
+  pub begun : before ++ part ≡ text
+  pub more : text ++ rest ≡ due
+  pub short : 0 < length rest
+
+-- the text is the first of the other, and not all of it
+abbrev pub IsFirstOf : List ℕ → List ℕ → Type 0
+IsFirstOf text due = (text ≡ take (length text) due) × (length text < length due)
+
+module _ (t : Texts) (c : Setup) (input : Option (List ℕ)) (z text : List ℕ) where
+  -- the head is due before the first read
+  pub record EndsInHead : Type 0 where
+    pub none : z ≡ []
+    pub ends : EndsInside [] (begun_of t c []) text
+
+  -- the entry of a field is due as soon as the field's last byte came
+  pub record EndsInEntry : Type 0 where
+    pub before : List ℕ
+    pub last : List ℕ
+    pub both : before ++ last ≡ z
+    pub fields : rest_of c before ≡ 0
+    pub field : length last ≡ field_bytes c.system
+    pub ends : EndsInside (begun_of t c before) (begun_of t c z) text
+
+  -- the tail is due as soon as the reader said its end
+  pub record EndsInTail : Type 0 where
+    pub ended : IsAtEnd input
+    pub ends : EndsInside (begun_of t c z) (document_of t c z) text
+
+  -- the text ends inside one of the three
+  abbrev pub EndsInPiece : Type 0
+  EndsInPiece = EndsInHead ⊎ (EndsInEntry ⊎ EndsInTail)
+
+module _ (t : Texts) (c : Setup) (input : Option (List ℕ)) (n : Counts) (z text : List ℕ) where
+  -- Ok: the reader ended within the limit, the whole text was written, and the summary tells the fields, the cut and the looks
+  pub record ExtractsAll (s : Summary) : Type 0 where
+    pub document : text ≡ document_of t c z
+    pub ended : IsAtEnd input
+    pub within : length z ≤ limit_of c
+    pub fields : s.fields ≡ fields_of c z
+    pub cut : s.cut ≡ cut_of (rest_of c z)
+    pub looked : s.looked ≡ n.looked
+    pub looks : n.looked ≡ looks_of c z
+
+  -- `Read`: the reader failed, the next byte would have been this one of this field, less than a line past the limit at most, and the
+  -- text of the whole fields was written, without the tail
+  pub record StopsAtRead (field offset : ℕ) : Type 0 where
+    pub rose : 0 < n.read_failures
+    pub field_of : field ≡ fields_of c z + 1
+    pub offset_of : offset ≡ rest_of c z
+    pub within : length z < limit_of c + line_bytes c.system
+    pub begun : text ≡ begun_of t c z
+    pub looks : n.looked ≡ looks_of c z
+
+  -- `Write`: the writer failed after so many bytes, inside the head, inside the entry of the last field, or inside the tail
+  pub record StopsAtWrite (written : ℕ) : Type 0 where
+    pub rose : 0 < n.write_failures
+    pub count : written ≡ length text
+    pub within : length z ≤ limit_of c
+    pub inside : EndsInPiece t c input z text
+    pub looks : n.looked ≡ looks_of c z
+
+  -- `TooManyFields`: more bytes came than the fields that are allowed have, by a line at most, and the text of these fields was
+  -- written, without the tail
+  pub record StopsAtLimit : Type 0 where
+    pub more : limit_of c < length z
+    pub within : length z ≤ limit_of c + line_bytes c.system
+    pub begun : text ≡ begun_of t c (take (limit_of c) z)
+    pub looks : n.looked ≡ looks_of c z
+
+-- what was done, by the answer; `Failed` isn't one
+abbrev pub Extracts : Texts → Setup → Option (List ℕ) → Counts → Result Summary RunFault → List ℕ → List ℕ → Type 0
+Extracts t c input n (Ok s) z text = ExtractsAll t c input n z text s
+Extracts t c input n (Err (Read field offset)) z text = StopsAtRead t c input n z text field offset
+Extracts t c input n (Err (Write written)) z text = StopsAtWrite t c input n z text written
+Extracts t c input n (Err TooManyFields) z text = StopsAtLimit t c input n z text
+Extracts t c input n (Err Failed) z text = ⊥
+
+-- what a fresh intake and a fresh outlet counted since
+abbrev pub counts_of : {R W : Type 0} → Intake R → Outlet W → Counts
+counts_of i o = record {
+  fetched = intakes.fetched_of i;
+  written = outlets.written_of o;
+  looked = (intakes.line_of i).looked;
+  read_failures = intakes.failures_of i;
+  write_failures = outlets.failures_of o;
+}
+
+-- the run of a fresh intake and a fresh outlet that gave this answer
+abbrev pub Runs : {R W : Type 0} → Texts → (R → Option (List ℕ)) → (W → Option (List ℕ)) → Setup
+    → Intake R → Intake R → Outlet W → Outlet W → Result Summary RunFault → Type 0
+Runs t remaining contents c i0 i o0 o result =
+    Ran (remaining (intakes.device_of i0)) (remaining (intakes.device_of i)) (contents (outlets.device_of o0)) (contents (outlets.device_of o))
+    (counts_of i o) (Extracts t c (remaining (intakes.device_of i)) (counts_of i o) result)
