@@ -5,11 +5,11 @@ use Rattle.std.specs.Io.KnownBytes.{Consumes, Appends, IsAtEnd}
 use Rattle.vbi_field.specs.Drawing.{draw_out}
 use Rattle.vbi_field.specs.DrawRun.{EndsRow}
 use Rattle.vbi_field.specs.RowIntake.{HasNoNewline}
-use Rattle.vbi_field.specs.Setup.{Setup}
+use Rattle.vbi_field.specs.ConfigView.{ConfigView}
 use Rattle.vbi_field.specs.WordRows.{AreRows, rows_of, row_words}
 use Rattle.vbi_field.specs.declared.word_row.WordRow.{WordRow}
 
-module _ (c : Setup) (input0 input output0 output : Option (List ℕ)) where
+module _ (c : ConfigView) (input0 input output0 output : Option (List ℕ)) where
   -- the input, which was read to its end, is rows of words, no more than fields are allowed, and their fields were written
   pub record DrewAll : Type 0 where
     pub text : List ℕ

@@ -7,7 +7,7 @@ use Rattle.vbi_words.specs.Geometry.{line_bytes}
 use Rattle.vbi_field.specs.Extracts.{Extracts}
 use Rattle.vbi_field.specs.Kinds.{document, report}
 use Rattle.vbi_field.specs.Ran.{Counts, Ran}
-use Rattle.vbi_field.specs.Setup.{Setup}
+use Rattle.vbi_field.specs.ConfigView.{ConfigView}
 use Rattle.vbi_field.specs.Texts.{Texts}
 use Rattle.vbi_field.specs.declared.drawing_fields.DrawFault.{DrawFault}
 use Rattle.vbi_field.specs.declared.drawing_fields.DrawFault.TheVariants as draw
@@ -15,7 +15,7 @@ use Rattle.vbi_field.specs.declared.summary.Summary.{Summary}
 use Rattle.vbi_field.specs.declared.summary.RunFault.{RunFault}
 use Rattle.vbi_field.specs.declared.summary.RunFault.TheVariants as run
 use Rattle.vbi_meta.specs.Data.{Data}
-use Rattle.vbi_meta.specs.Metadata.{IsDocument, IsUnread}
+use Rattle.vbi_meta.specs.Metadata.{IsMetadata, IsUnread}
 use Rattle.vbi_meta.specs.Settings.{IsSettled, IsRefused}
 use Rattle.vbi_meta.specs.declared.choosing.Overrides.{Overrides}
 use Rattle.vbi_meta.specs.declared.fault.MetaFault.{MetaFault}
@@ -25,26 +25,26 @@ use Rattle.vbi_cli.specs.declared.fault.AppFault.{AppFault}
 use Rattle.vbi_cli.specs.declared.fault.AppFault.TheVariants.{Meta, ReadField, ReadLine, ReadRow, Write, TooManyFields, Row, Short}
 use Rattle.vbi_cli.specs.declared.job.Ended.{Ended}
 use Rattle.vbi_cli.specs.declared.job.Ended.TheVariants.{Whole, CutField}
-use Rattle.vbi_cli.specs.declared.words.Verb.{Verb}
-use Rattle.vbi_cli.specs.declared.words.Verb.TheVariants.{Line, Extract, Show, Draw}
+use Rattle.vbi_cli.specs.declared.command_line.Verb.{Verb}
+use Rattle.vbi_cli.specs.declared.command_line.Verb.TheVariants.{Line, Extract, Show, Draw}
 
 -- ---- the settings
 
 -- metadata, where it is given, is a document, and with the options it settles this
-abbrev pub Settles : Option (List ℕ) → Overrides → Setup → Type 0
+abbrev pub Settles : Option (List ℕ) → Overrides → ConfigView → Type 0
 Settles None given setup = IsSettled None given setup
 Settles (Some bytes) given setup =
-    (value : Data) × IsDocument bytes value × IsSettled (Some value) given setup
+    (value : Data) × IsMetadata bytes value × IsSettled (Some value) given setup
 
 -- metadata, where it is given, isn't read for this reason, or it is a document and is refused for it with the options
 abbrev pub Refuses : Option (List ℕ) → Overrides → MetaFault → Type 0
 Refuses None given fault = IsRefused None given fault
 Refuses (Some bytes) given fault =
-    IsUnread bytes fault ⊎ ((value : Data) × IsDocument bytes value × IsRefused (Some value) given fault)
+    IsUnread bytes fault ⊎ ((value : Data) × IsMetadata bytes value × IsRefused (Some value) given fault)
 
 -- with what metadata and options settle, P
-abbrev pub Under : Option (List ℕ) → Overrides → (Setup → Type 0) → Type 0
-Under meta given P = (c : Setup) × (Settles meta given c × P c)
+abbrev pub Under : Option (List ℕ) → Overrides → (ConfigView → Type 0) → Type 0
+Under meta given P = (c : ConfigView) × (Settles meta given c × P c)
 
 -- ---- the commands
 
@@ -61,7 +61,7 @@ IsEndedBy (Err (run.Write written)) ended = ended ≡ Err (Write written)
 IsEndedBy (Err run.TooManyFields) ended = ended ≡ Err TooManyFields
 IsEndedBy (Err run.Failed) ended = ⊥
 
-module _ (c : Setup) (input0 input output0 output : Option (List ℕ)) where
+module _ (c : ConfigView) (input0 input output0 output : Option (List ℕ)) where
   -- one line's bytes were read and no more, and the answer to it was written
   abbrev pub DidLine : Ended → Type 0
   DidLine ended = (z : List ℕ) × (Consumes input0 input z × (length z ≡ line_bytes c.system)

@@ -11,13 +11,13 @@ use Rattle.vbi_line.specs.declared.intake.Intake.{Intake}
 use Rattle.vbi_field.specs.CauseTexts.{cause_text_of}
 use Rattle.vbi_field.specs.CodeTexts.{hex_text_of}
 use Rattle.vbi_field.specs.Outlet as outlets
-use Rattle.vbi_field.specs.Setup.{Setup}
+use Rattle.vbi_field.specs.ConfigView.{ConfigView}
 use Rattle.vbi_field.specs.declared.outlet.Outlet.{Outlet}
 use Rattle.vbi_cli.specs.declared.one_line.LineFault.{LineFault}
 use Rattle.vbi_cli.specs.declared.one_line.LineFault.TheVariants.{Short, Read, Write}
 
 -- the outcome of the reading of a line's bytes
-abbrev pub outcome_read : Setup → List ℕ → Outcome
+abbrev pub outcome_read : ConfigView → List ℕ → Outcome
 outcome_read c bytes = (reading_of c.system (row_levels c.levels bytes)).outcome
 
 -- what a line is answered with: its word in hexadecimal digits, or why it has none
@@ -32,7 +32,7 @@ answer_of (Hold column) = cause_text_of (Hold column)
 abbrev pub line_text : Outcome → List ℕ
 line_text outcome = answer_of outcome ++ 10 ∷ []
 
-module _ {R W : Type 0} (remaining : R → Option (List ℕ)) (contents : W → Option (List ℕ)) (c : Setup)
+module _ {R W : Type 0} (remaining : R → Option (List ℕ)) (contents : W → Option (List ℕ)) (c : ConfigView)
     (i0 i : Intake R) (o0 o : Outlet W) where
   -- what stands, for a run that fetched z and wrote text
   abbrev pub IsLineRun : List ℕ → List ℕ → Result Outcome LineFault → Type 0

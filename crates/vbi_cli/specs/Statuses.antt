@@ -3,8 +3,8 @@ use Rattle.std.specs.Prelude.{ℕ, Result, Ok, Err}
 use Rattle.vbi_cli.specs.declared.fault.AppFault.{AppFault}
 use Rattle.vbi_cli.specs.declared.job.Ended.{Ended}
 use Rattle.vbi_cli.specs.declared.job.Ended.TheVariants.{Whole, CutField}
-use Rattle.vbi_cli.specs.declared.words.WordsFault.{WordsFault}
-use Rattle.vbi_cli.specs.declared.words.WordsFault.TheVariants.{Refused, Help, OutOfMemory}
+use Rattle.vbi_cli.specs.declared.command_line.WordsFault.{WordsFault}
+use Rattle.vbi_cli.specs.declared.command_line.WordsFault.TheVariants.{Refused, Help, OutOfMemory}
 
 -- where the command line gives no job: 2 where it is refused, 0 where help is asked for, 1 for want of memory
 abbrev pub words_status : WordsFault → ℕ

@@ -7,7 +7,7 @@ ghost use Rattle.vbi_cli.specs.Statuses.{app_status};
 
 use crate::fault::AppFault;
 use crate::one_line::{LineFault, run_line};
-use crate::words::{Job, Verb};
+use crate::command_line::{Job, Verb};
 use std::alloc::Global;
 use std::io::{Read, Write};
 use vbi_field::{Config, DrawFault, Outlet, RowIntake, RunFault, Summary, draw, extract, show};

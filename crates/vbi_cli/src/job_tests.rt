@@ -2,7 +2,7 @@
 
 use crate::fault::AppFault;
 use crate::job::{Ended, run_job, status};
-use crate::words::{Job, Verb};
+use crate::command_line::{Job, Verb};
 use std::alloc::{AllocError, Global};
 use std::io;
 use std::io::{Read, Write};

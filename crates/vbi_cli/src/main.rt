@@ -1,16 +1,17 @@
 //! The program `ldvbi`: its words, its files and its statuses.
 //!
-//! `words` reads the command line into a job, `job` does it over a reader and a writer, and this file opens what the job
+//! `command_line` reads the command line into a job, `job` does it over a reader and a writer, and this file opens what the job
 //! names and prints what went wrong. Only the words and the metadata file take memory.
 #![tactic(auto)]
 
+mod command_line;
 mod commands;
 mod fault;
 mod input;
 mod job;
 mod one_line;
-mod words;
 
+use command_line::{Job, WordsFault, read_words};
 use input::Input;
 use job::{run_job, status};
 use std::fs::File;
@@ -20,7 +21,6 @@ use std::rt::{Env, Files};
 use std::{env, io};
 use thiserror::Error;
 use vbi_meta::META_LIMIT;
-use words::{Job, WordsFault, read_words};
 
 /// What fails in the program itself, outside a job.
 #[derive(Clone, Copy, Debug, PartialEq, Eq, Error)]
@@ -143,6 +143,6 @@ fn metadata(rt: &(impl Files + AllocGlobal), path: &str) -> Result<Vec<u8>, Main
 }
 
 #[cfg(test)]
-mod job_tests;
+mod command_line_tests;
 #[cfg(test)]
-mod words_tests;
+mod job_tests;

@@ -8,11 +8,11 @@ use Rattle.std.proofs.KnownBytes.{Appends-trans, Appends-nil}
 use Rattle.std.proofs.lemmas.List.{append-nil, take_all, length-append}
 use Rattle.std.proofs.lemmas.Grind.{flat_map-append}
 use Rattle.std.proofs.Math.Seq.{take-append-add}
-use Rattle.vbi_field.specs.Setup.{Setup}
+use Rattle.vbi_field.specs.ConfigView.{ConfigView}
 use Rattle.vbi_field.specs.Outlet as outlets
 use Rattle.vbi_field.specs.RowIntake as intakes
 use Rattle.vbi_field.specs.RowIntake.{IsFresh, HasNoNewline, Fetches, TakesRow, TakesByte}
-use Rattle.vbi_field.specs.WordRows.{AreRows, rows_of, row_words, words_of}
+use Rattle.vbi_field.specs.WordRows.{AreRows, rows_of, row_words, word_row_of}
 use Rattle.vbi_field.specs.Drawing.{draw_out, drawn_field_of, drawn_line_of}
 use Rattle.vbi_field.specs.DrawRun.{EndsRow, PutsField, DrawsAll, StopsAtRow, StopsAtRead, StopsAtLimit, StopsAtWrite, Draws}
 use Rattle.vbi_field.specs.declared.outlet.Outlet.{Outlet}
@@ -27,17 +27,17 @@ use Rattle.vbi_field.proofs.RowSteps.{Fetches-none, Fetches-more}
 use Rattle.vbi_field.proofs.WordRowLemmas.{rows_of-append, rows_of-line, rows_of-part, row_words-line, row_words-part, AreRows-more}
 
 -- a field more
-draw_out-more : (c : Setup) (rows : List WordRow) (words : WordRow) → draw_out c (rows ++ words ∷ []) ≡ draw_out c rows ++ drawn_field_of c words
+draw_out-more : (c : ConfigView) (rows : List WordRow) (words : WordRow) → draw_out c (rows ++ words ∷ []) ≡ draw_out c rows ++ drawn_field_of c words
 unfolding draw_out
 draw_out-more c rows words =
     flat_map-append (drawn_field_of c) rows (words ∷ [])
     ∙ ap (λ (l : List ℕ). flat_map (drawn_field_of c) rows ++ l) (append-nil (drawn_field_of c words))
 
-draw_out-none : (c : Setup) → draw_out c [] ≡ []
+draw_out-none : (c : ConfigView) → draw_out c [] ≡ []
 unfolding draw_out
 draw_out-none c = refl
 
-module _ {R W : Type 0} (remaining : R → Option (List ℕ)) (contents : W → Option (List ℕ)) (c : Setup)
+module _ {R W : Type 0} (remaining : R → Option (List ℕ)) (contents : W → Option (List ℕ)) (c : ConfigView)
     (i0 : RowIntake R) (o0 : Outlet W) where
   -- so many rows were fetched and their fields written, and the line holds a drawn row of no word
   pub record Going (done : ℕ) (i : RowIntake R) (o : Outlet W) (line : List ℕ) : Type 0 where
@@ -157,7 +157,7 @@ module _ {R W : Type 0} (remaining : R → Option (List ℕ)) (contents : W → 
       drew = record { appended = g.appended; written = g.written };
     }
 
-    bad_as : (j : RowIntake R) (b row : List ℕ) → Fetches remaining i j b → HasNoNewline row → words_of row ≡ None
+    bad_as : (j : RowIntake R) (b row : List ℕ) → Fetches remaining i j b → HasNoNewline row → word_row_of row ≡ None
         → (b ≡ row ++ 10 ∷ []) ⊎ (((b ≡ row) × (0 < length row) × IsAtEnd (remaining (intakes.device_of j))) ⊎ ((b ≡ row) × (length row ≡ 21)))
         → StopsAtRow remaining contents c i0 j o0 o (done + 1)
     bad_as j b row f plain none (inl e) =
@@ -274,7 +274,7 @@ module _ {R W : Type 0} (remaining : R → Option (List ℕ)) (contents : W → 
     line_one : (b row : List ℕ) → HasNoNewline row → b ≡ row ++ 10 ∷ [] → rows_of b ≡ b ∷ []
     line_one b row plain e = rw e (rows_of-line row plain)
 
-    line_is : (b row : List ℕ) (words : WordRow) → HasNoNewline row → b ≡ row ++ 10 ∷ [] → words_of row ≡ Some words → row_words b ≡ Some words
+    line_is : (b row : List ℕ) (words : WordRow) → HasNoNewline row → b ≡ row ++ 10 ∷ [] → word_row_of row ≡ Some words → row_words b ≡ Some words
     line_is b row words plain e w = rw e (row_words-line row plain ∙ w)
 
     line_ends : (b row : List ℕ) → b ≡ row ++ 10 ∷ [] → EndsRow (g.text ++ b)

@@ -12,10 +12,10 @@ use Rattle.std.proofs.lemmas.Bool.Decides.{nat_tests}
 use Rattle.vbi_words.specs.declared.system.System.{System}
 use Rattle.vbi_words.specs.declared.system.System.TheVariants.{Ntsc, Pal}
 use Rattle.vbi_words.specs.Geometry.{width_of, height_of, line_bytes, field_bytes}
-use Rattle.vbi_words.specs.Levels.{Slicing}
+use Rattle.vbi_words.specs.Levels.{LevelsView}
 use Rattle.vbi_words.specs.Words.{halves_of}
 use Rattle.vbi_words.specs.Drawn.{boundary, DrawnHigh, IsDrawn}
-use Rattle.vbi_field.specs.Setup.{Setup}
+use Rattle.vbi_field.specs.ConfigView.{ConfigView}
 use Rattle.vbi_field.specs.declared.word_row.WordRow.{WordRow}
 use Rattle.vbi_field.specs.Drawing.{is_drawn_in, is_drawn_high, drawn_sample_of, sample_bytes, drawn_line_of, word_at, drawn_field_of}
 
@@ -75,32 +75,32 @@ low_there system word column h d =
     = list_any_at (is_drawn_in system word column) (range_with_len 0 48) d.0 0 inside (subst P j at) in
     cc
 
-sample_by : (c : Setup) (word column s : ℕ) (b : Bool) → list_any (is_drawn_in c.system word column) (range_with_len 0 48) ≡ b
+sample_by : (c : ConfigView) (word column s : ℕ) (b : Bool) → list_any (is_drawn_in c.system word column) (range_with_len 0 48) ≡ b
     → IsDrawn c.system c.levels (Some word) column s → s ≡ cond b c.levels.white c.levels.black
 sample_by c word column s true e h = h.0 (high_there c.system word column e)
 sample_by c word column s false e h = h.1 (low_there c.system word column e)
 
 -- a sample as the relation has it is the sample as the function has it
-pub drawn_sample_is : (c : Setup) (word : Option ℕ) (column s : ℕ) → IsDrawn c.system c.levels word column s → s ≡ drawn_sample_of c word column
+pub drawn_sample_is : (c : ConfigView) (word : Option ℕ) (column s : ℕ) → IsDrawn c.system c.levels word column s → s ≡ drawn_sample_of c word column
 unfolding drawn_sample_of is_drawn_high
 drawn_sample_is c None column s h = h
 drawn_sample_is c (Some word) column s h = sample_by c word column s _ refl h
 
 -- the same of the numbers that a call was given
-pub drawn_sample_as : (c : Setup) (system : System) (slicing : Slicing) (word : Option ℕ) (column s : ℕ) → system ≡ c.system → slicing ≡ c.levels
+pub drawn_sample_as : (c : ConfigView) (system : System) (slicing : LevelsView) (word : Option ℕ) (column s : ℕ) → system ≡ c.system → slicing ≡ c.levels
     → IsDrawn system slicing word column s → s ≡ drawn_sample_of c word column
 drawn_sample_as c system slicing word column s e f h =
     let P : System → Type 0 = λ x. IsDrawn x slicing word column s in
-    let Q : Slicing → Type 0 = λ x. IsDrawn c.system x word column s in
+    let Q : LevelsView → Type 0 = λ x. IsDrawn c.system x word column s in
     drawn_sample_is c word column s (subst Q f (subst P e h))
 
-sample_from : (c : Setup) (word column : ℕ) (b : Bool) → list_any (is_drawn_in c.system word column) (range_with_len 0 48) ≡ b
+sample_from : (c : ConfigView) (word column : ℕ) (b : Bool) → list_any (is_drawn_in c.system word column) (range_with_len 0 48) ≡ b
     → IsDrawn c.system c.levels (Some word) column (cond b c.levels.white c.levels.black)
 sample_from c word column true e = (λ d. refl, λ d. absurd (d (high_there c.system word column e)))
 sample_from c word column false e = (λ d. absurd (low_there c.system word column e d), λ d. refl)
 
 -- and the other way round
-pub IsDrawn-drawn_sample_of : (c : Setup) (word : Option ℕ) (column : ℕ) → IsDrawn c.system c.levels word column (drawn_sample_of c word column)
+pub IsDrawn-drawn_sample_of : (c : ConfigView) (word : Option ℕ) (column : ℕ) → IsDrawn c.system c.levels word column (drawn_sample_of c word column)
 unfolding drawn_sample_of is_drawn_high
 IsDrawn-drawn_sample_of c None column = refl
 IsDrawn-drawn_sample_of c (Some word) column = sample_from c word column _ refl
@@ -116,25 +116,25 @@ narrow Ntsc = lit≤ tt
 narrow Pal = lit≤ tt
 
 -- the first columns of a drawn line
-unfoldable pub columns_of : Setup → Option ℕ → ℕ → List ℕ
+unfoldable pub columns_of : ConfigView → Option ℕ → ℕ → List ℕ
 columns_of c word n = flat_map (λ column. sample_bytes (drawn_sample_of c word column)) (range_with_len 0 n)
 
-pub length-drawn_line_of : (c : Setup) (word : Option ℕ) → length (drawn_line_of c word) ≡ line_bytes c.system
+pub length-drawn_line_of : (c : ConfigView) (word : Option ℕ) → length (drawn_line_of c word) ≡ line_bytes c.system
 unfolding drawn_line_of
 length-drawn_line_of c word =
     length-flat_range (λ column. sample_bytes (drawn_sample_of c word column)) 0 (width_of c.system) 2 (λ k. refl)
     ∙ omega (arith, two_each c.system)
 
 -- so many columns of a line are drawn
-pub record Drawn (c : Setup) (word : Option ℕ) (line : List ℕ) (column : ℕ) : Type 0 where
+pub record Drawn (c : ConfigView) (word : Option ℕ) (line : List ℕ) (column : ℕ) : Type 0 where
   pub long : length line ≡ 2 * width_of c.system
   pub drawn : take (2 * column) line ≡ columns_of c word column
 
-pub Drawn-none : (c : Setup) (word : Option ℕ) (line : List ℕ) → length line ≡ line_bytes c.system → Drawn c word line 0
+pub Drawn-none : (c : ConfigView) (word : Option ℕ) (line : List ℕ) → length line ≡ line_bytes c.system → Drawn c word line 0
 unfolding columns_of
 Drawn-none c word line long = record { long = long ∙ sym (two_each c.system); drawn = refl }
 
-pub Drawn-more : (c : Setup) (word : Option ℕ) (line : List ℕ) (column s : ℕ) → Drawn c word line column → column < width_of c.system
+pub Drawn-more : (c : ConfigView) (word : Option ℕ) (line : List ℕ) (column s : ℕ) → Drawn c word line column → column < width_of c.system
     → s ≡ drawn_sample_of c word column → Drawn c word (set (set line (2 * column) (s % 256)) (2 * column + 1) (s / 256)) (column + 1)
 unfolding columns_of
 Drawn-more c word line column s d inside is =
@@ -154,7 +154,7 @@ Drawn-more c word line column s d inside is =
           ∙ sym (flat_range_more (λ k. sample_bytes (drawn_sample_of c word k)) column);
     }
 
-pub Drawn-all : (c : Setup) (word : Option ℕ) (line : List ℕ) (column : ℕ) → Drawn c word line column → column ≡ width_of c.system
+pub Drawn-all : (c : ConfigView) (word : Option ℕ) (line : List ℕ) (column : ℕ) → Drawn c word line column → column ≡ width_of c.system
     → line ≡ drawn_line_of c word
 unfolding columns_of drawn_line_of
 Drawn-all c word line column d whole =
@@ -179,28 +179,28 @@ same_word words r (inr l) =
 -- ---- fields
 
 -- the first rows of a drawn field
-unfoldable pub lines_of : Setup → WordRow → ℕ → List ℕ
+unfoldable pub lines_of : ConfigView → WordRow → ℕ → List ℕ
 lines_of c words n = flat_map (λ r. drawn_line_of c (word_at words r)) (range_with_len 0 n)
 
-pub length-lines_of : (c : Setup) (words : WordRow) (n : ℕ) → length (lines_of c words n) ≡ n * line_bytes c.system
+pub length-lines_of : (c : ConfigView) (words : WordRow) (n : ℕ) → length (lines_of c words n) ≡ n * line_bytes c.system
 unfolding lines_of
 length-lines_of c words n =
     length-flat_range (λ r. drawn_line_of c (word_at words r)) 0 n (line_bytes c.system) (λ k. length-drawn_line_of c (word_at words k))
 
-pub lines_of-more : (c : Setup) (words : WordRow) (n : ℕ) → lines_of c words (n + 1) ≡ lines_of c words n ++ drawn_line_of c (word_at words n)
+pub lines_of-more : (c : ConfigView) (words : WordRow) (n : ℕ) → lines_of c words (n + 1) ≡ lines_of c words n ++ drawn_line_of c (word_at words n)
 unfolding lines_of
 lines_of-more c words n = flat_range_more (λ r. drawn_line_of c (word_at words r)) n
 
-pub lines_of-none : (c : Setup) (words : WordRow) → lines_of c words 0 ≡ []
+pub lines_of-none : (c : ConfigView) (words : WordRow) → lines_of c words 0 ≡ []
 unfolding lines_of
 lines_of-none c words = refl
 
-pub lines_of-all : (c : Setup) (words : WordRow) → lines_of c words (height_of c.system) ≡ drawn_field_of c words
+pub lines_of-all : (c : ConfigView) (words : WordRow) → lines_of c words (height_of c.system) ≡ drawn_field_of c words
 unfolding lines_of drawn_field_of
 lines_of-all c words = refl
 
 -- the first rows, and the others
-pub lines_of-split : (c : Setup) (words : WordRow) (n : ℕ) → n ≤ height_of c.system
+pub lines_of-split : (c : ConfigView) (words : WordRow) (n : ℕ) → n ≤ height_of c.system
     → (rest : List ℕ) × (drawn_field_of c words ≡ lines_of c words n ++ rest)
 unfolding lines_of drawn_field_of
 lines_of-split c words n l =
@@ -218,7 +218,7 @@ field_rows : (s : System) → height_of s * line_bytes s ≡ field_bytes s
 field_rows Ntsc = refl
 field_rows Pal = refl
 
-pub length-drawn_field_of : (c : Setup) (words : WordRow) → length (drawn_field_of c words) ≡ field_bytes c.system
+pub length-drawn_field_of : (c : ConfigView) (words : WordRow) → length (drawn_field_of c words) ≡ field_bytes c.system
 length-drawn_field_of c words = ap length (sym (lines_of-all c words)) ∙ length-lines_of c words (height_of c.system) ∙ field_rows c.system
 
 pub small_field : (s : System) → field_bytes s ≤ 710510
@@ -226,7 +226,7 @@ small_field Ntsc = lit≤ tt
 small_field Pal = lit≤ tt
 
 -- the last row of a field has no word
-pub last_word : (c : Setup) (words : WordRow) → word_at words (height_of c.system - 1) ≡ None
+pub last_word : (c : ConfigView) (words : WordRow) → word_at words (height_of c.system - 1) ≡ None
 last_word c words =
     let many = few_rows c.system in
     no_word words (height_of c.system - 1) (omega arith) (omega arith) (omega arith)

@@ -15,7 +15,7 @@ use Rattle.vbi_words.specs.Readings.{IsReading}
 use Rattle.vbi_words.proofs.DrawnShows.{drawn_shows, none_low}
 use Rattle.vbi_words.proofs.Outcomes.{blank_outcome}
 use Rattle.vbi_words.proofs.Shown.{low_lead}
-use Rattle.vbi_field.specs.Setup.{Setup}
+use Rattle.vbi_field.specs.ConfigView.{ConfigView}
 use Rattle.vbi_field.specs.Stream.{row_of}
 use Rattle.vbi_field.specs.declared.word_row.WordRow.{WordRow}
 use Rattle.vbi_field.specs.Drawing.{drawn_sample_of, sample_bytes, drawn_line_of, word_at, drawn_field_of, draw_out}
@@ -34,14 +34,14 @@ samples_back f (k ∷ columns) =
     ap (λ (s : ℕ). s ∷ samples_of (flat_map (λ j. sample_bytes (f j)) columns)) whole ∙ ap (λ (l : List ℕ). f k ∷ l) (samples_back f columns)
 
 -- the samples of a drawn line
-drawn_samples : Setup → Option ℕ → List ℕ
+drawn_samples : ConfigView → Option ℕ → List ℕ
 drawn_samples c word = map (drawn_sample_of c word) (range_with_len 0 (width_of c.system))
 
-samples_of-drawn_line_of : (c : Setup) (word : Option ℕ) → samples_of (drawn_line_of c word) ≡ drawn_samples c word
+samples_of-drawn_line_of : (c : ConfigView) (word : Option ℕ) → samples_of (drawn_line_of c word) ≡ drawn_samples c word
 unfolding drawn_line_of drawn_samples
 samples_of-drawn_line_of c word = samples_back (drawn_sample_of c word) (range_with_len 0 (width_of c.system))
 
-is_drawn_row : (c : Setup) (word : Option ℕ) → IsDrawnRow c.system c.levels word (drawn_samples c word)
+is_drawn_row : (c : ConfigView) (word : Option ℕ) → IsDrawnRow c.system c.levels word (drawn_samples c word)
 unfolding drawn_samples
 is_drawn_row c word = record {
   whole = length-map-range_with_len (drawn_sample_of c word) 0 (width_of c.system);
@@ -52,7 +52,7 @@ is_drawn_row c word = record {
 }
 
 -- a drawn line is read as its word
-line_reads : (c : Setup) (word : Option ℕ) → c.levels.black < c.levels.white → IsDrawable word
+line_reads : (c : ConfigView) (word : Option ℕ) → c.levels.black < c.levels.white → IsDrawable word
     → IsReading c.system (levels_of c.levels (drawn_samples c word)) (drawn_reading word)
 line_reads c None order is = (
   refl,
@@ -65,7 +65,7 @@ line_reads c (Some word) order is =
 -- ---- one row of a stream
 
 -- the stream from a field on begins with that field
-field_at : (c : Setup) (rows : List WordRow) (i : ℕ) (words : WordRow) → slice_get rows i ≡ Some words
+field_at : (c : ConfigView) (rows : List WordRow) (i : ℕ) (words : WordRow) → slice_get rows i ≡ Some words
     → (rest : List ℕ) × (drop (i * field_bytes c.system) (draw_out c rows) ≡ drawn_field_of c words ++ rest)
 unfolding draw_out
 field_at c [] i words e = cc
@@ -91,7 +91,7 @@ lines_before : (s : System) (r : ℕ) → r * line_bytes s ≡ line_bytes s * r
 lines_before Ntsc r = omega arith
 lines_before Pal r = omega arith
 
-row_of-draw_out : (c : Setup) (rows : List WordRow) (i r : ℕ) (words : WordRow) → slice_get rows i ≡ Some words → r < height_of c.system
+row_of-draw_out : (c : ConfigView) (rows : List WordRow) (i r : ℕ) (words : WordRow) → slice_get rows i ≡ Some words → r < height_of c.system
     → row_of c.system (draw_out c rows) i r ≡ drawn_line_of c (word_at words r)
 row_of-draw_out c rows i r words e inside =
     let field = field_at c rows i words e in
@@ -110,7 +110,7 @@ row_of-draw_out c rows i r words e inside =
     ∙ take_at line (split.0 ++ field.0) (line_bytes c.system) (length-drawn_line_of c (word_at words r))
 
 -- the row is read as its word
-row_reads : (c : Setup) (rows : List WordRow) (i r : ℕ) (words : WordRow) → c.levels.black < c.levels.white
+row_reads : (c : ConfigView) (rows : List WordRow) (i r : ℕ) (words : WordRow) → c.levels.black < c.levels.white
     → slice_get rows i ≡ Some words → r < height_of c.system → IsDrawable (word_at words r) → RowReads c (draw_out c rows) i r (drawn_reading (word_at words r))
 row_reads c rows i r words order e inside is =
     let P : List ℕ → Type 0 = λ l. IsReading c.system (levels_of c.levels l) (drawn_reading (word_at words r)) in
@@ -121,7 +121,7 @@ high : (s : System) → 17 < height_of s
 high Ntsc = lit< tt
 high Pal = lit< tt
 
-pub drawn_field : (c : Setup) (rows : List WordRow) (i : ℕ) (words : WordRow) → c.levels.black < c.levels.white
+pub drawn_field : (c : ConfigView) (rows : List WordRow) (i : ℕ) (words : WordRow) → c.levels.black < c.levels.white
     → slice_get rows i ≡ Some words → AreDrawable words → FieldReads c (draw_out c rows) i (drawn_readings words)
 drawn_field c rows i words order e are =
     let many = high c.system in

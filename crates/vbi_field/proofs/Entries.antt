@@ -6,9 +6,9 @@ use Rattle.std.specs.List.{join_by, flat_map, range_with_len}
 use Rattle.std.proofs.lemmas.Grind.{flat_map-append}
 use Rattle.std.proofs.Math.Dec.{eqb-suc-zero}
 use Rattle.vbi_words.specs.Geometry.{height_of, line_bytes}
-use Rattle.vbi_field.specs.Setup.{Setup}
+use Rattle.vbi_field.specs.ConfigView.{ConfigView}
 use Rattle.vbi_field.specs.Stream.{fields_of, field_readings}
-use Rattle.vbi_field.specs.Texts.{Texts, entry_of, begun_of, piece_of}
+use Rattle.vbi_field.specs.Texts.{Texts, entry_of, begun_of, joined_entry_of}
 use Rattle.vbi_field.proofs.Growing.{field_readings-more}
 
 -- one number more
@@ -54,22 +54,22 @@ joined-same f g joint (suc n) same =
     ap (λ l. l ++ flat_map (λ y. joint ++ f y) (range_with_len (0 + 1) n)) (same 0 (omega arith)) ∙ ap (λ l. g 0 ++ l) rest
 
 -- the head and the entries of the first n fields
-unfoldable pub stood : Texts → Setup → List ℕ → ℕ → List ℕ
+unfoldable pub stood : Texts → ConfigView → List ℕ → ℕ → List ℕ
 stood t c z n = t.head c ++ join_by (entry_of t c z) t.joint (range_with_len 0 n)
 
-pub stood-none : (t : Texts) (c : Setup) (z : List ℕ) → stood t c z 0 ≡ t.head c
+pub stood-none : (t : Texts) (c : ConfigView) (z : List ℕ) → stood t c z 0 ≡ t.head c
 unfolding stood
 stood-none t c z = append-nil (t.head c)
 
 -- one field more
-pub stood-more : (t : Texts) (c : Setup) (z : List ℕ) (n : ℕ) → stood t c z (n + 1) ≡ stood t c z n ++ piece_of t n (field_readings c z n)
+pub stood-more : (t : Texts) (c : ConfigView) (z : List ℕ) (n : ℕ) → stood t c z (n + 1) ≡ stood t c z n ++ joined_entry_of t n (field_readings c z n)
 unfolding stood
 stood-more t c z n =
     ap (λ l. t.head c ++ l) (joined-more (entry_of t c z) t.joint n)
-    ∙ sym (append_assoc (t.head c) (join_by (entry_of t c z) t.joint (range_with_len 0 n)) (piece_of t n (field_readings c z n)))
+    ∙ sym (append_assoc (t.head c) (join_by (entry_of t c z) t.joint (range_with_len 0 n)) (joined_entry_of t n (field_readings c z n)))
 
 -- the text of whole fields stays as the stream grows
-pub stood-stays : (t : Texts) (c : Setup) (z b : List ℕ) (n rows : ℕ) → n * height_of c.system ≤ rows
+pub stood-stays : (t : Texts) (c : ConfigView) (z b : List ℕ) (n rows : ℕ) → n * height_of c.system ≤ rows
     → rows * line_bytes c.system ≤ length z → stood t c (z ++ b) n ≡ stood t c z n
 unfolding stood
 stood-stays t c z b n rows le long =
@@ -78,6 +78,6 @@ stood-stays t c z b n rows le long =
     ap (λ l. t.head c ++ l) (joined-same (entry_of t c (z ++ b)) (entry_of t c z) t.joint n same)
 
 -- it is the text that stands where the stream has so many whole fields
-pub begun_of-stood : (t : Texts) (c : Setup) (z : List ℕ) (n : ℕ) → fields_of c z ≡ n → begun_of t c z ≡ stood t c z n
+pub begun_of-stood : (t : Texts) (c : ConfigView) (z : List ℕ) (n : ℕ) → fields_of c z ≡ n → begun_of t c z ≡ stood t c z n
 unfolding begun_of stood
 begun_of-stood t c z n e = ap (λ k. t.head c ++ join_by (entry_of t c z) t.joint (range_with_len 0 k)) e

@@ -7,7 +7,7 @@ use Rattle.vbi_line.specs.Line.{Line}
 use Rattle.vbi_field.specs.Kinds.{document}
 use Rattle.vbi_field.specs.Feed.{AppendsInPart, IsAt, IsFinished}
 use Rattle.vbi_field.specs.Outlet.{written_of, Puts}
-use Rattle.vbi_field.specs.Setup.{Setup}
+use Rattle.vbi_field.specs.ConfigView.{ConfigView}
 use Rattle.vbi_field.specs.Stand.{IsStand, place_of}
 use Rattle.vbi_field.specs.Stream.{fields_of, rest_of, cut_of, selected, selected_rows, looks_of}
 use Rattle.vbi_field.specs.declared.outlet.Outlet.{Outlet}
@@ -24,7 +24,7 @@ pub in_part : {W : Type 0} (contents : W → Option (List ℕ)) (o o' : Outlet W
 in_part contents o o' bytes whole is puts =
     (take puts.count bytes, drop puts.count bytes, take-append-drop puts.count bytes ∙ is, puts.appended)
 
-module _ {W : Type 0} (contents : W → Option (List ℕ)) (c : Setup) (l : Line) (p : Progress) (st : IsStand c l p) (o o' : Outlet W)
+module _ {W : Type 0} (contents : W → Option (List ℕ)) (c : ConfigView) (l : Line) (p : Progress) (st : IsStand c l p) (o o' : Outlet W)
     (z : List ℕ) (at : IsAt c z (place_of c l p)) (held rest : ℕ) (hs : held ≡ length l.held)
     (rs : rest ≡ p.row * line_bytes c.system + held) where
   parts : Split c z l.held p

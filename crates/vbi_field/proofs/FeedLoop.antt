@@ -11,7 +11,7 @@ use Rattle.vbi_field.specs.FeedView.{feeding_of}
 use Rattle.vbi_field.specs.Feeding.{Feeding}
 use Rattle.vbi_field.specs.Outlet.{IsSameDevice}
 use Rattle.vbi_field.specs.Position.{Position}
-use Rattle.vbi_field.specs.Setup.{Setup, limit_of}
+use Rattle.vbi_field.specs.ConfigView.{ConfigView, allowed_bytes}
 use Rattle.vbi_field.specs.Stand.{IsStand, IsStep, place_of}
 use Rattle.vbi_field.specs.Texts.{begun_of}
 use Rattle.vbi_field.specs.declared.feeder.Feeder.TheInside.{Inside}
@@ -23,7 +23,7 @@ use Rattle.vbi_field.specs.declared.summary.RunFault.TheVariants.{Read, Write, T
 use Rattle.vbi_field.proofs.FeedTexts.{completes_twice}
 use Rattle.vbi_field.proofs.Known.{Appends-none, Appends-twice}
 
-module _ {W : Type 0} (contents : W → Option (List ℕ)) (c : Setup) where
+module _ {W : Type 0} (contents : W → Option (List ℕ)) (c : ConfigView) where
   -- nothing came
   pub fed_none : (o : Outlet W) (z piece : List ℕ) (now : Position) → IsAt c z now → IsFed contents c o o z (take 0 piece) now (Ok tt)
   fed_none o z piece now at =
@@ -58,8 +58,8 @@ module _ {W : Type 0} (contents : W → Option (List ℕ)) (c : Setup) where
           omega (arith, after.0),
           (
             before.1.0 ++ after.1.0,
-            completes_twice c z (z ++ first) (take (limit_of c) ((z ++ first) ++ bytes)) before.1.0 after.1.0 before.1.1 after.1.1
-                ∙ ap (λ l. begun_of document c (take (limit_of c) l)) all,
+            completes_twice c z (z ++ first) (take (allowed_bytes c) ((z ++ first) ++ bytes)) before.1.0 after.1.0 before.1.1 after.1.1
+                ∙ ap (λ l. begun_of document c (take (allowed_bytes c) l)) all,
             Appends-twice _ _ _ before.1.0 after.1.0 before.1.2 after.1.2,
           ),
         )
@@ -68,8 +68,8 @@ module _ {W : Type 0} (contents : W → Option (List ℕ)) (c : Setup) where
           before.1.0 ++ after.0,
           after.1,
           ap (λ l. begun_of document c z ++ l) (append_assoc before.1.0 after.0 after.1)
-              ∙ completes_twice c z (z ++ first) (take (limit_of c) ((z ++ first) ++ bytes)) before.1.0 (after.0 ++ after.1) before.1.1 after.2
-              ∙ ap (λ l. begun_of document c (take (limit_of c) l)) all,
+              ∙ completes_twice c z (z ++ first) (take (allowed_bytes c) ((z ++ first) ++ bytes)) before.1.0 (after.0 ++ after.1) before.1.1 after.2
+              ∙ ap (λ l. begun_of document c (take (allowed_bytes c) l)) all,
           Appends-twice _ _ _ before.1.0 after.0 before.1.2 after.3,
         )
 
@@ -126,7 +126,7 @@ module _ {W : Type 0} (contents : W → Option (List ℕ)) (old : Feeding) (was 
   so_far : (z : List ℕ) → StandsAt old z
       → IsFed contents was.config o0 o z (take at piece) (place_of was.config was.line was.progress) (Ok tt)
   so_far z s =
-      let P : Setup → Type 0 = λ k. IsFed contents k o0 o z (take at piece) (place_of was.config was.line was.progress) (Ok tt) in
+      let P : ConfigView → Type 0 = λ k. IsFed contents k o0 o z (take at piece) (place_of was.config was.line was.progress) (Ok tt) in
       subst P (sym t.config) (t.fed z s)
 
   -- the bytes of one row more
@@ -158,7 +158,7 @@ module _ {W : Type 0} (contents : W → Option (List ℕ)) (old : Feeding) (was 
             let far = so_far z s in
             let R : Result ℕ RunFault → Type 0 = λ r. IsStep contents was.config o o' (z ++ take at piece) bytes (place_of was.config l p) r in
             let next = subst R took (step (z ++ take at piece) far.0) in
-            let P : Setup → Type 0 = λ k. IsFed contents k o0 o' z (take (at + n) piece) (place_of was.config l p) (Ok tt) in
+            let P : ConfigView → Type 0 = λ k. IsFed contents k o0 o' z (take (at + n) piece) (place_of was.config l p) (Ok tt) in
             let Q : List ℕ → Type 0 = λ x. IsFed contents was.config o0 o' z x (place_of was.config l p) (Ok tt) in
             subst P t.config (subst Q all
             (fed_more contents was.config o0 o o' z (take at piece) (take n bytes) (place_of was.config was.line was.progress)
@@ -174,7 +174,7 @@ module _ {W : Type 0} (contents : W → Option (List ℕ)) (old : Feeding) (was 
       ap (λ x. take at piece ++ x) (is ∙ rest_of_piece piece at) ∙ take-append-drop at piece in
       let R : Result ℕ RunFault → Type 0 = λ r. IsStep contents was.config o o' (z ++ take at piece) bytes (place_of was.config l p) r in
       let next = subst R fails (step (z ++ take at piece) far.0) in
-      let P : Setup → Type 0 = λ k. IsFed contents k o0 o' z piece (place_of was.config l p) (Err fault) in
+      let P : ConfigView → Type 0 = λ k. IsFed contents k o0 o' z piece (place_of was.config l p) (Err fault) in
       let Q : List ℕ → Type 0 = λ x. IsFed contents was.config o0 o' z x (place_of was.config l p) (Err fault) in
       subst P t.config (subst Q all
       (fed_fault contents was.config o0 o o' z (take at piece) bytes (place_of was.config was.line was.progress)

@@ -12,7 +12,7 @@ use Rattle.vbi_line.specs.Line.{Line}
 use Rattle.vbi_field.specs.Feed.{IsAt}
 use Rattle.vbi_field.specs.Position.{readings_of}
 use Rattle.vbi_field.specs.Progress.{IsPosition}
-use Rattle.vbi_field.specs.Setup.{Setup, limit_of}
+use Rattle.vbi_field.specs.ConfigView.{ConfigView, allowed_bytes}
 use Rattle.vbi_field.specs.Stand.{place_of}
 use Rattle.vbi_field.specs.Stream.{fields_of, rest_of, row_reading}
 use Rattle.vbi_field.specs.declared.progress.Progress.{Progress}
@@ -47,13 +47,13 @@ same_firsts (suc (suc (suc k))) a b d x y w f g h =
     let e = f (omega arith) in let e2 = g (omega arith) in let e3 = h (omega arith) in cc
 
 -- z is whole rows and the bytes that are held
-pub record Split (c : Setup) (z held : List ℕ) (p : Progress) : Type 0 where
+pub record Split (c : ConfigView) (z held : List ℕ) (p : Progress) : Type 0 where
   pub rows : List ℕ
   pub split : z ≡ rows ++ held
   pub position : IsPosition c rows p
   pub short : length held < line_bytes c.system
 
-module _ (c : Setup) (z held : List ℕ) (p : Progress) (s : Split c z held p) where
+module _ (c : ConfigView) (z held : List ℕ) (p : Progress) (s : Split c z held p) where
   -- how long it is
   pub split_long : length z ≡ (p.fields * height_of c.system + p.row) * line_bytes c.system + length held
   split_long =
@@ -103,7 +103,7 @@ module _ (c : Setup) (z held : List ℕ) (p : Progress) (s : Split c z held p) w
       ∙ ap (λ n. take (rest_of c z / line_bytes c.system - 15) (readings_of c z n)) (sym split_fields)
 
   -- so it has come to that place
-  pub at_of : (l : Line) → l.held ≡ held → length z ≤ limit_of c → IsAt c z (place_of c l p)
+  pub at_of : (l : Line) → l.held ≡ held → length z ≤ allowed_bytes c → IsAt c z (place_of c l p)
   at_of l e le =
       record {
         allowed = le;
@@ -116,7 +116,7 @@ module _ (c : Setup) (z held : List ℕ) (p : Progress) (s : Split c z held p) w
       }
 
 -- what has come to a place is whole rows and the bytes that are held
-pub split_of : (c : Setup) (z : List ℕ) (l : Line) (p : Progress) → length l.held < line_bytes c.system → p.row < height_of c.system
+pub split_of : (c : ConfigView) (z : List ℕ) (l : Line) (p : Progress) → length l.held < line_bytes c.system → p.row < height_of c.system
     → IsAt c z (place_of c l p) → Split c z l.held p
 split_of c z l p short inside at =
     let n = length z - rest_of c z % line_bytes c.system in

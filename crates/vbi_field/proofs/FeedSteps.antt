@@ -15,10 +15,10 @@ use Rattle.vbi_field.specs.Kinds.{document}
 use Rattle.vbi_field.specs.Feed.{Completes, IsAt, IsFed}
 use Rattle.vbi_field.specs.Outlet.{device_of, Puts}
 use Rattle.vbi_field.specs.Progress.{IsPosition, IsRowOf}
-use Rattle.vbi_field.specs.Setup.{Setup, limit_of}
+use Rattle.vbi_field.specs.ConfigView.{ConfigView, allowed_bytes}
 use Rattle.vbi_field.specs.Stand.{IsStand, place_of}
 use Rattle.vbi_field.specs.Stream.{fields_of, field_readings}
-use Rattle.vbi_field.specs.Texts.{begun_of, piece_of}
+use Rattle.vbi_field.specs.Texts.{begun_of, joined_entry_of}
 use Rattle.vbi_field.specs.declared.outlet.Outlet.{Outlet}
 use Rattle.vbi_field.specs.declared.progress.Progress.{Progress}
 use Rattle.vbi_field.specs.declared.readings.FieldReadings.{FieldReadings}
@@ -45,7 +45,7 @@ pub not_full : (b : Bool) (P : Type 0) → (IsTrue b ↔ P) → b ≡ false → 
 not_full b P iff e p = let t = iff.1 p in cc
 
 -- the line that is held is a row
-pub row_held : (c : Setup) (s : System) (sel : Bool) (b : List ℕ) (row : ℕ) (o : Reading)
+pub row_held : (c : ConfigView) (s : System) (sel : Bool) (b : List ℕ) (row : ℕ) (o : Reading)
     → (IsTrue sel ↔ ((15 ≤ row) × (row ≤ 17))) → s ≡ c.system → length b ≡ line_bytes s
     → (IsTrue sel → o ≡ reading_of c.system (row_levels c.levels b)) → IsRowOf c b row o
 row_held c s sel b row o sels ss whole shows =
@@ -54,7 +54,7 @@ row_held c s sel b row o sels ss whole shows =
       shows = λ x y. shows (sels.1 (x, y));
     }
 
-module _ {W : Type 0} (contents : W → Option (List ℕ)) (c : Setup) (l : Line) (p : Progress) (st : IsStand c l p) (z : List ℕ)
+module _ {W : Type 0} (contents : W → Option (List ℕ)) (c : ConfigView) (l : Line) (p : Progress) (st : IsStand c l p) (z : List ℕ)
     (at : IsAt c z (place_of c l p)) where
   pub before : Split c z l.held p
   before = split_of c z l p st.short st.inside at
@@ -63,7 +63,7 @@ module _ {W : Type 0} (contents : W → Option (List ℕ)) (c : Setup) (l : Line
   pub too_many : (o : Outlet W) (bytes : List ℕ) → 0 < length bytes → p.fields ≡ c.max_fields
       → IsFed contents c o o z bytes (place_of c l p) (Err TooManyFields)
   too_many o bytes some last =
-      let m = limit_of c in
+      let m = allowed_bytes c in
       let le : length z ≤ p.fields * field_bytes c.system = rw last at.allowed in
       let exact : length z ≡ m =
       no_more c.system (length z) p.fields p.row (length l.held) (split_long c z l.held p before) le
@@ -77,7 +77,7 @@ module _ {W : Type 0} (contents : W → Option (List ℕ)) (c : Setup) (l : Line
     cut : z ++ more ≡ before.rows ++ b
     cut = ap (λ x. x ++ more) before.split ∙ append_assoc before.rows l.held more ∙ ap (λ x. before.rows ++ x) (sym bs)
 
-    fits : length (z ++ more) ≤ limit_of c
+    fits : length (z ++ more) ≤ allowed_bytes c
     fits =
         let whole = before.position in
         room_for_row c.system (length (z ++ more)) p.fields p.row (length b) c.max_fields
@@ -127,17 +127,17 @@ module _ {W : Type 0} (contents : W → Option (List ℕ)) (c : Setup) (l : Line
 
     module _ (l' : Line) (p' : Progress) (e : l'.held ≡ []) (whole : IsPosition c (before.rows ++ b) p') (one : p'.fields ≡ p.fields + 1)
         (readings : FieldReadings) (reads : readings ≡ field_readings c (before.rows ++ b) p.fields) (text : List ℕ) (count : ℕ)
-        (counts : count ≡ p.fields) (is : text ≡ piece_of document count readings) where
+        (counts : count ≡ p.fields) (is : text ≡ joined_entry_of document count readings) where
       -- the record of a field that is whole now
       completed : Completes c z (z ++ more) text
       completed =
           let first = split_fields c z l.held p before in
           let next : fields_of c (z ++ more) ≡ fields_of c z + 1 =
           split_fields c (z ++ more) l'.held p' (after_row l' p' e whole) ∙ one ∙ ap (λ n. n + 1) (sym first) in
-          let same : text ≡ piece_of document (fields_of c z) (field_readings c (z ++ more) (fields_of c z)) =
-          is ∙ ap (piece_of document count) (reads ∙ ap (λ x. field_readings c x p.fields) (sym cut))
-          ∙ ap (λ n. piece_of document n (field_readings c (z ++ more) p.fields)) (counts ∙ sym first)
-          ∙ ap (λ n. piece_of document (fields_of c z) (field_readings c (z ++ more) n)) (sym first) in
+          let same : text ≡ joined_entry_of document (fields_of c z) (field_readings c (z ++ more) (fields_of c z)) =
+          is ∙ ap (joined_entry_of document count) (reads ∙ ap (λ x. field_readings c x p.fields) (sym cut))
+          ∙ ap (λ n. joined_entry_of document n (field_readings c (z ++ more) p.fields)) (counts ∙ sym first)
+          ∙ ap (λ n. joined_entry_of document (fields_of c z) (field_readings c (z ++ more) n)) (sym first) in
           ap (λ x. begun_of document c z ++ x) same ∙ begun_next document c z more next
 
       -- was put whole
@@ -153,10 +153,10 @@ module _ {W : Type 0} (contents : W → Option (List ℕ)) (c : Setup) (l : Line
           let back : List ℕ = drop puts.count text in
           let all : (z ++ more) ++ drop n bytes ≡ z ++ bytes =
           append_assoc z more (drop n bytes) ∙ ap (λ x. z ++ (x ++ drop n bytes)) front ∙ ap (λ x. z ++ x) (take-append-drop n bytes) in
-          let further = cut_longer (z ++ more) (drop n bytes) (limit_of c) fits in
+          let further = cut_longer (z ++ more) (drop n bytes) (allowed_bytes c) fits in
           let grown = begun_grows document c (z ++ more) further.0 in
-          let longer : begun_of document c ((z ++ more) ++ further.0) ≡ begun_of document c (take (limit_of c) (z ++ bytes)) =
-          ap (begun_of document c) (further.1 ∙ ap (take (limit_of c)) all) in
+          let longer : begun_of document c ((z ++ more) ++ further.0) ≡ begun_of document c (take (allowed_bytes c) (z ++ bytes)) =
+          ap (begun_of document c) (further.1 ∙ ap (take (allowed_bytes c)) all) in
           let parts : front_text ++ (back ++ grown.0) ≡ text ++ grown.0 =
           sym (append_assoc front_text back grown.0) ∙ ap (λ x. x ++ grown.0) (take-append-drop puts.count text) in
           rw fails (

@@ -9,9 +9,9 @@ use Rattle.vbi_words.specs.declared.system.System.{System}
 use Rattle.vbi_words.specs.declared.system.System.TheVariants.{Ntsc, Pal}
 use Rattle.vbi_field.specs.Kinds.{document}
 use Rattle.vbi_field.specs.Feed.{Completes}
-use Rattle.vbi_field.specs.Setup.{Setup}
+use Rattle.vbi_field.specs.ConfigView.{ConfigView}
 use Rattle.vbi_field.specs.Stream.{fields_of, field_readings}
-use Rattle.vbi_field.specs.Texts.{Texts, begun_of, piece_of}
+use Rattle.vbi_field.specs.Texts.{Texts, begun_of, joined_entry_of}
 use Rattle.vbi_field.proofs.Entries.{stood, stood-more, stood-stays, begun_of-stood}
 
 -- the rows of the whole fields of a stream are in it
@@ -24,7 +24,7 @@ more_fields : (s : System) (n m : ℕ) → n / field_bytes s ≤ (n + m) / field
 more_fields Ntsc n m = omega arith
 more_fields Pal n m = omega arith
 
-module _ (t : Texts) (c : Setup) (z b : List ℕ) where
+module _ (t : Texts) (c : ConfigView) (z b : List ℕ) where
   -- the text of the fields that were whole
   stays : stood t c (z ++ b) (fields_of c z) ≡ begun_of t c z
   stays =
@@ -37,18 +37,18 @@ module _ (t : Texts) (c : Setup) (z b : List ℕ) where
 
   -- one field more is
   pub begun_next : fields_of c (z ++ b) ≡ fields_of c z + 1
-      → begun_of t c z ++ piece_of t (fields_of c z) (field_readings c (z ++ b) (fields_of c z)) ≡ begun_of t c (z ++ b)
+      → begun_of t c z ++ joined_entry_of t (fields_of c z) (field_readings c (z ++ b) (fields_of c z)) ≡ begun_of t c (z ++ b)
   begun_next e =
       sym (begun_of-stood t c (z ++ b) (fields_of c z + 1) e
       ∙ stood-more t c (z ++ b) (fields_of c z)
-      ∙ ap (λ l. l ++ piece_of t (fields_of c z) (field_readings c (z ++ b) (fields_of c z))) stays)
+      ∙ ap (λ l. l ++ joined_entry_of t (fields_of c z) (field_readings c (z ++ b) (fields_of c z))) stays)
 
 -- the text of more fields begins with that of fewer
-stood-grows : (t : Texts) (c : Setup) (z : List ℕ) (n k : ℕ) → (rest : List ℕ) × (stood t c z n ++ rest ≡ stood t c z (n + k))
+stood-grows : (t : Texts) (c : ConfigView) (z : List ℕ) (n k : ℕ) → (rest : List ℕ) × (stood t c z n ++ rest ≡ stood t c z (n + k))
 stood-grows t c z n zero = ([], append-nil (stood t c z n) ∙ ap (stood t c z) (sym (add-zero n)))
 stood-grows t c z n (suc k) =
     let before = stood-grows t c z n k in
-    let piece : List ℕ = piece_of t (n + k) (field_readings c z (n + k)) in
+    let piece : List ℕ = joined_entry_of t (n + k) (field_readings c z (n + k)) in
     let next : n + k + 1 ≡ n + suc k = omega arith in (
       before.0 ++ piece,
       sym (append_assoc (stood t c z n) before.0 piece)
@@ -58,7 +58,7 @@ stood-grows t c z n (suc k) =
     )
 
 -- the text of a longer stream begins with that of the shorter
-pub begun_grows : (t : Texts) (c : Setup) (z b : List ℕ) → (rest : List ℕ) × (begun_of t c z ++ rest ≡ begun_of t c (z ++ b))
+pub begun_grows : (t : Texts) (c : ConfigView) (z b : List ℕ) → (rest : List ℕ) × (begun_of t c z ++ rest ≡ begun_of t c (z ++ b))
 begun_grows t c z b =
     let n = fields_of c z in
     let m = fields_of c (z ++ b) in
@@ -73,7 +73,7 @@ begun_grows t c z b =
     )
 
 -- one text after the other
-pub completes_twice : (c : Setup) (x y z s t : List ℕ) → Completes c x y s → Completes c y z t → Completes c x z (s ++ t)
+pub completes_twice : (c : ConfigView) (x y z s t : List ℕ) → Completes c x y s → Completes c y z t → Completes c x z (s ++ t)
 completes_twice c x y z s t h k =
     sym (append_assoc (begun_of document c x) s t) ∙ ap (λ l. l ++ t) h ∙ k
 

@@ -9,10 +9,10 @@ use Rattle.vbi_words.specs.declared.system.System.{System}
 use Rattle.vbi_words.specs.declared.system.System.TheVariants.{Ntsc, Pal}
 use Rattle.vbi_line.specs.Intake as intakes
 use Rattle.vbi_line.specs.declared.intake.Intake.{Intake}
-use Rattle.vbi_field.specs.Extracts.{EndsInside, EndsInPiece, Runs}
+use Rattle.vbi_field.specs.Extracts.{EndsInside, EndsWithin, Runs}
 use Rattle.vbi_field.specs.Outlet as outlets
 use Rattle.vbi_field.specs.Progress.{IsPosition}
-use Rattle.vbi_field.specs.Setup.{Setup, limit_of}
+use Rattle.vbi_field.specs.ConfigView.{ConfigView, allowed_bytes}
 use Rattle.vbi_field.specs.Stream.{fields_of, rest_of, selected, looks_of}
 use Rattle.vbi_field.specs.Texts.{Texts, begun_of, document_of}
 use Rattle.vbi_field.specs.declared.outlet.Outlet.{Outlet}
@@ -64,7 +64,7 @@ inside_of base piece due k short is = record {
 some_fields : (s : System) (f r : ℕ) → f * height_of s ≤ f * height_of s + r
 some_fields s f r = omega arith
 
-module _ (t : Texts) {R W : Type 0} (remaining : R → Option (List ℕ)) (contents : W → Option (List ℕ)) (c : Setup)
+module _ (t : Texts) {R W : Type 0} (remaining : R → Option (List ℕ)) (contents : W → Option (List ℕ)) (c : ConfigView)
     (i0 : Intake R) (o0 : Outlet W) where
   -- so many rows were taken
   pub record Going (k : ℕ) (i : Intake R) (o : Outlet W) (p : Progress) : Type 0 where
@@ -126,8 +126,8 @@ module _ (t : Texts) {R W : Type 0} (remaining : R → Option (List ℕ)) (conte
       → Consumes (remaining (intakes.device_of i0)) (remaining (intakes.device_of i)) z → i.fetched ≡ length z
       → Appends (contents (outlets.device_of o0)) (contents (outlets.device_of o)) base → o.written ≡ length base
       → (puts : outlets.Puts contents o o' more) → outlets.failures_of o < outlets.failures_of o' → fault ≡ Write o'.written
-      → length z ≤ limit_of c → i.line.looked ≡ looks_of c z
-      → EndsInPiece t c (remaining (intakes.device_of i)) z (base ++ take puts.count more)
+      → length z ≤ allowed_bytes c → i.line.looked ≡ looks_of c z
+      → EndsWithin t c (remaining (intakes.device_of i)) z (base ++ take puts.count more)
       → Runs t remaining contents c i0 i o0 o' (Err fault)
   write_fault i o o' z base more fault consumed fetched appended written puts rose is within looks inside =
       let l = length-append base (take puts.count more) in

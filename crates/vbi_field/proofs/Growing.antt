@@ -9,7 +9,7 @@ use Rattle.vbi_line.specs.OneReading.{reading_of}
 use Rattle.vbi_words.specs.declared.system.System.{System}
 use Rattle.vbi_words.specs.declared.system.System.TheVariants.{Ntsc, Pal}
 use Rattle.vbi_words.specs.declared.outcome.Reading.{Reading}
-use Rattle.vbi_field.specs.Setup.{Setup}
+use Rattle.vbi_field.specs.ConfigView.{ConfigView}
 use Rattle.vbi_field.specs.declared.readings.FieldReadings.{FieldReadings}
 use Rattle.vbi_field.specs.declared.progress.Progress.{Progress}
 use Rattle.vbi_field.specs.Stream.{row_of, row_reading, field_readings}
@@ -50,7 +50,7 @@ row_of-new s z b i r long whole =
     ∙ take_all (line_bytes s) b (omega arith)
 
 -- the reading of a row that is whole stays
-pub row_reading-more : (c : Setup) (z b : List ℕ) (i r : ℕ)
+pub row_reading-more : (c : ConfigView) (z b : List ℕ) (i r : ℕ)
     → (i * height_of c.system + r + 1) * line_bytes c.system ≤ length z → row_reading c (z ++ b) i r ≡ row_reading c z i r
 row_reading-more c z b i r le = ap (λ l. reading_of c.system (row_levels c.levels l)) (row_of-more c.system z b i r le)
 
@@ -69,7 +69,7 @@ inner Ntsc i r n small le = row_mono Ntsc (i * 263 + r + 1) n (omega arith)
 inner Pal i r n small le = row_mono Pal (i * 313 + r + 1) n (omega arith)
 
 -- the readings of a whole field stay
-pub field_readings-more : (c : Setup) (z b : List ℕ) (i n : ℕ)
+pub field_readings-more : (c : ConfigView) (z b : List ℕ) (i n : ℕ)
     → (i + 1) * height_of c.system ≤ n → n * line_bytes c.system ≤ length z → field_readings c (z ++ b) i ≡ field_readings c z i
 field_readings-more c z b i n le long =
     let at : (r : ℕ) → r ≤ 17 → (i * height_of c.system + r + 1) * line_bytes c.system ≤ length z =
@@ -81,7 +81,7 @@ field_readings-more c z b i n le long =
     }
 
 -- the reading of a row, once the next has come
-reads_next : (c : Setup) (z b : List ℕ) (i row r : ℕ) (o was now : Reading) → 15 ≤ r → r ≤ 17
+reads_next : (c : ConfigView) (z b : List ℕ) (i row r : ℕ) (o was now : Reading) → 15 ≤ r → r ≤ 17
     → length z ≡ (i * height_of c.system + row) * line_bytes c.system → IsRowOf c b row o
     → (r < row → was ≡ row_reading c z i r) → Kept r row o was now → r < row + 1 → now ≡ row_reading c (z ++ b) i r
 reads_next c z b i row r o was now low high long whole before kept lt =
@@ -96,7 +96,7 @@ reads_next c z b i row r o was now low high long whole before kept lt =
           kept.1 k ∙ before k ∙ sym (row_reading-more c z b i r (omega arith))
     ]
 
-module _ (c : Setup) (z b : List ℕ) (p : Progress) (o : Reading) (now : FieldReadings) (at : IsPosition c z p)
+module _ (c : ConfigView) (z b : List ℕ) (p : Progress) (o : Reading) (now : FieldReadings) (at : IsPosition c z p)
     (whole : IsRowOf c b p.row o) (kept : Keeps p.row o p.readings now) where
   first : 15 < p.row + 1 → now.first ≡ row_reading c (z ++ b) p.fields 15
   first = reads_next c z b p.fields p.row 15 o p.readings.first now.first (lit≤ tt) (lit≤ tt) at.whole whole at.first kept.first

@@ -8,7 +8,7 @@ use Rattle.std.proofs.Math.Seq.{take-append-add}
 use Rattle.vbi_words.specs.declared.system.System.{System}
 use Rattle.vbi_words.specs.declared.system.System.TheVariants.{Ntsc, Pal}
 use Rattle.vbi_words.specs.Geometry.{height_of, line_bytes}
-use Rattle.vbi_field.specs.Setup.{Setup}
+use Rattle.vbi_field.specs.ConfigView.{ConfigView}
 use Rattle.vbi_field.specs.Outlet.{device_of, failures_of, IsSameDevice, Puts}
 use Rattle.vbi_field.specs.Drawing.{drawn_line_of, drawn_field_of, word_at}
 use Rattle.vbi_field.specs.DrawRun.{PutsField}
@@ -21,7 +21,7 @@ few_rows : (s : System) → height_of s ≤ 313
 few_rows Ntsc = lit≤ tt
 few_rows Pal = lit≤ tt
 
-module _ {W : Type 0} (contents : W → Option (List ℕ)) (c : Setup) (words : WordRow) (old : Outlet W) where
+module _ {W : Type 0} (contents : W → Option (List ℕ)) (c : ConfigView) (words : WordRow) (old : Outlet W) where
   -- so many rows are written, and the line has the last of them
   pub record Putting (now : Outlet W) (line : List ℕ) (row : ℕ) : Type 0 where
     pub appended : Appends (contents (device_of old)) (contents (device_of now)) (lines_of c words row)

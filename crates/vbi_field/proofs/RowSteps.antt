@@ -5,7 +5,7 @@ use Rattle.std.specs.Prelude.{Option, Some, None}
 use Rattle.std.proofs.KnownBytes.{Consumes-trans, Consumes-nil}
 use Rattle.std.proofs.lemmas.List.{append-nil, take_more_set, length-append, length-set, length-take-le}
 use Rattle.std.proofs.lemmas.List.Elements.{All-append}
-use Rattle.vbi_field.specs.WordRows.{words_of}
+use Rattle.vbi_field.specs.WordRows.{word_row_of}
 use Rattle.vbi_field.specs.RowIntake.{failures_of, HasNoNewline, Fetches, TakesByte, TakesRow}
 use Rattle.vbi_field.specs.declared.word_row.WordRow.{WordRow}
 use Rattle.vbi_field.specs.declared.row_intake.RowIntake.{RowIntake}
@@ -75,7 +75,7 @@ module _ {R : Type 0} (remaining : R → Option (List ℕ)) where
       few : length (take held row ++ 10 ∷ []) ≤ 21
       few = omega (arith, length-append (take held row) (10 ∷ []), short)
 
-      pub newline_came : (words : WordRow) → Some words ≡ words_of (take held row) → TakesRow remaining old new (Row words)
+      pub newline_came : (words : WordRow) → Some words ≡ word_row_of (take held row) → TakesRow remaining old new (Row words)
       newline_came words w = record {
         bytes = take held row ++ 10 ∷ [];
         fetches = with_newline;
@@ -84,7 +84,7 @@ module _ {R : Type 0} (remaining : R → Option (List ℕ)) where
         told = (take held row, h.plain, refl, sym w);
       }
 
-      pub bad_newline_came : None ≡ words_of (take held row) → TakesRow remaining old new Malformed
+      pub bad_newline_came : None ≡ word_row_of (take held row) → TakesRow remaining old new Malformed
       bad_newline_came w = record {
         bytes = take held row ++ 10 ∷ [];
         fetches = with_newline;
@@ -98,7 +98,7 @@ module _ {R : Type 0} (remaining : R → Option (List ℕ)) where
     as_held f = rw append-nil at (Fetches-more old now new (take held row) [] h.fetches f)
 
     module _ (t : TakesByte remaining now new bytes.Ended) where
-      pub end_came : (words : WordRow) → held ≢ 0 → Some words ≡ words_of (take held row) → TakesRow remaining old new (LastRow words)
+      pub end_came : (words : WordRow) → held ≢ 0 → Some words ≡ word_row_of (take held row) → TakesRow remaining old new (LastRow words)
       end_came words some w = record {
         bytes = take held row;
         fetches = as_held t.fetches;
@@ -107,7 +107,7 @@ module _ {R : Type 0} (remaining : R → Option (List ℕ)) where
         told = (h.plain, omega (arith, short), sym w, t.told);
       }
 
-      pub bad_end_came : held ≢ 0 → None ≡ words_of (take held row) → TakesRow remaining old new Malformed
+      pub bad_end_came : held ≢ 0 → None ≡ word_row_of (take held row) → TakesRow remaining old new Malformed
       bad_end_came some w = record {
         bytes = take held row;
         fetches = as_held t.fetches;

@@ -5,8 +5,8 @@ use Rattle.std.proofs.lemmas.List.{length-append, take_at}
 use Rattle.vbi_words.specs.Geometry.{width_of, line_bytes, field_bytes}
 use Rattle.vbi_words.specs.declared.system.System.{System}
 use Rattle.vbi_words.specs.declared.system.System.TheVariants.{Ntsc, Pal}
-use Rattle.vbi_field.specs.Extracts.{EndsInside, EndsInPiece, IsFirstOf}
-use Rattle.vbi_field.specs.Setup.{Setup}
+use Rattle.vbi_field.specs.Extracts.{EndsInside, EndsWithin, IsFirstOf}
+use Rattle.vbi_field.specs.ConfigView.{ConfigView}
 use Rattle.vbi_field.specs.Stream.{fields_of, rest_of, selected, looks_of}
 use Rattle.vbi_field.specs.Texts.{Texts, begun_of, document_of}
 
@@ -24,7 +24,7 @@ few_of : (s : System) (f r : ℕ) → width_of s * selected f r ≤ 3 * width_of
 few_of Ntsc f r = omega arith
 few_of Pal f r = omega arith
 
-pub few : (c : Setup) (z : List ℕ) → looks_of c z ≤ 3 * width_of c.system * (fields_of c z + 1)
+pub few : (c : ConfigView) (z : List ℕ) → looks_of c z ≤ 3 * width_of c.system * (fields_of c z + 1)
 few c z = few_of c.system (fields_of c z) (rest_of c z / line_bytes c.system)
 
 first_inside : (before due text : List ℕ) → EndsInside before due text → IsFirstOf text due
@@ -34,7 +34,7 @@ first_inside before due text ends =
     let short = ends.short in
     (sym (ap (take (length text)) (sym ends.more) ∙ take_at text ends.rest (length text) refl), omega arith)
 
-pub first_of_text : (t : Texts) (c : Setup) (input : Option (List ℕ)) (z text : List ℕ) → EndsInPiece t c input z text
+pub first_of_text : (t : Texts) (c : ConfigView) (input : Option (List ℕ)) (z text : List ℕ) → EndsWithin t c input z text
     → IsFirstOf text (begun_of t c z) ⊎ (IsAtEnd input × IsFirstOf text (document_of t c z))
 first_of_text t c input z text (inl head) =
     let P : List ℕ → Type 0 = λ z. IsFirstOf text (begun_of t c z) in
@@ -50,7 +50,7 @@ rest_more : (s : System) (n m : ℕ) → n % field_bytes s ≡ 0 → m ≡ field
 rest_more Ntsc n m none field = omega arith
 rest_more Pal n m none field = omega arith
 
-pub prompt : (t : Texts) (c : Setup) (input : Option (List ℕ)) (z text : List ℕ) → EndsInPiece t c input z text
+pub prompt : (t : Texts) (c : ConfigView) (input : Option (List ℕ)) (z text : List ℕ) → EndsWithin t c input z text
     → (rest_of c z ≡ 0) ⊎ (IsAtEnd input × (length (begun_of t c z) ≤ length text))
 prompt t c input z text (inl head) = inl (ap (rest_of c) head.none ∙ no_rest c.system)
 prompt t c input z text (inr (inl entry)) =

@@ -6,7 +6,7 @@ use Rattle.std.specs.Io.KnownBytes.{Consumes, Appends, IsAtEnd}
 use Rattle.std.proofs.lemmas.List.{length-append, length-drop, length-take-le, take_at, take-append-drop}
 use Rattle.std.proofs.Math.Nat.{le_of_eq, le_trans, zero-mul}
 use Rattle.vbi_words.specs.Geometry.{width_of, height_of, line_bytes, field_bytes}
-use Rattle.vbi_words.specs.Levels.{Slicing, row_levels}
+use Rattle.vbi_words.specs.Levels.{LevelsView, row_levels}
 use Rattle.vbi_words.specs.declared.system.System.{System}
 use Rattle.vbi_words.specs.declared.outcome.Reading.{Reading}
 use Rattle.vbi_line.specs.OneReading.{reading_of}
@@ -15,10 +15,10 @@ use Rattle.vbi_line.specs.declared.intake.Intake.{Intake}
 use Rattle.vbi_field.specs.Extracts.{EndsInside, Runs}
 use Rattle.vbi_field.specs.Outlet as outlets
 use Rattle.vbi_field.specs.Progress.{IsPosition, IsRowOf}
-use Rattle.vbi_field.specs.Setup.{Setup, limit_of}
+use Rattle.vbi_field.specs.ConfigView.{ConfigView, allowed_bytes}
 use Rattle.vbi_field.specs.Stream.{fields_of, rest_of, cut_of, selected, looks_of, field_readings}
 use Rattle.vbi_field.specs.Takes.{Takes}
-use Rattle.vbi_field.specs.Texts.{Texts, begun_of, document_of, piece_of}
+use Rattle.vbi_field.specs.Texts.{Texts, begun_of, document_of, joined_entry_of}
 use Rattle.vbi_field.specs.declared.outlet.Outlet.{Outlet}
 use Rattle.vbi_field.specs.declared.progress.Progress.{Progress}
 use Rattle.vbi_field.specs.declared.readings.FieldReadings.{FieldReadings}
@@ -43,11 +43,11 @@ some_fields : (s : System) (f r : ℕ) → f * height_of s ≤ f * height_of s +
 some_fields s f r = omega arith
 
 -- the whole fields of whole rows
-whole_at : (c : Setup) (z : List ℕ) (p : Progress) → IsPosition c z p → fields_of c z ≡ p.fields
+whole_at : (c : ConfigView) (z : List ℕ) (p : Progress) → IsPosition c z p → fields_of c z ≡ p.fields
 whole_at c z p at = whole_fields c.system (length z) p.fields p.row 0 at.inside (some_bytes c.system) (at.whole ∙ sym (add-zero _))
 
 -- whole fields, and the last of them
-record LastField (t : Texts) (c : Setup) (z : List ℕ) (f : ℕ) : Type 0 where
+record LastField (t : Texts) (c : ConfigView) (z : List ℕ) (f : ℕ) : Type 0 where
   pub before : List ℕ
   pub last : List ℕ
   pub both : before ++ last ≡ z
@@ -55,7 +55,7 @@ record LastField (t : Texts) (c : Setup) (z : List ℕ) (f : ℕ) : Type 0 where
   pub field : length last ≡ field_bytes c.system
   pub stood : begun_of t c before ≡ stood t c z f
 
-before_last : (t : Texts) (c : Setup) (z : List ℕ) (f : ℕ) → length z ≡ (f + 1) * height_of c.system * line_bytes c.system → LastField t c z f
+before_last : (t : Texts) (c : ConfigView) (z : List ℕ) (f : ℕ) → length z ≡ (f + 1) * height_of c.system * line_bytes c.system → LastField t c z f
 before_last t c z f whole =
     let n : ℕ = f * height_of c.system * line_bytes c.system in
     let long = next_field c.system f in
@@ -75,10 +75,10 @@ before_last t c z f whole =
           ∙ ap (λ l. stood t c l f) both;
     }
 
-module _ (t : Texts) {R W : Type 0} (remaining : R → Option (List ℕ)) (contents : W → Option (List ℕ)) (c : Setup)
+module _ (t : Texts) {R W : Type 0} (remaining : R → Option (List ℕ)) (contents : W → Option (List ℕ)) (c : ConfigView)
     (i0 : Intake R) (o0 : Outlet W) where
   module _ (k : ℕ) (i i' : Intake R) (o : Outlet W) (p : Progress) (g : Going t remaining contents c i0 o0 k i o p) (sel : Bool)
-      (sels : IsTrue sel ↔ ((15 ≤ p.row) × (p.row ≤ 17))) (oc : Reading) (lv : Slicing) (lvs : lv ≡ c.levels)
+      (sels : IsTrue sel ↔ ((15 ≤ p.row) × (p.row ≤ 17))) (oc : Reading) (lv : LevelsView) (lvs : lv ≡ c.levels)
       (row : Takes remaining lv sel i i' (Whole oc)) where
     -- a row came
     pub row_came : IsRowOf c row.bytes p.row oc
@@ -134,19 +134,19 @@ module _ (t : Texts) {R W : Type 0} (remaining : R → Option (List ℕ)) (conte
     module _ (p' : Progress) (rd : FieldReadings) (at : IsPosition c (g.z ++ row.bytes) p') (fields : p'.fields ≡ p.fields + 1)
         (reads : rd ≡ field_readings c (g.z ++ row.bytes) p.fields) where
       -- the text of one field more
-      grown : (text : List ℕ) (before : ℕ) → before ≡ p.fields → text ≡ piece_of t before rd
+      grown : (text : List ℕ) (before : ℕ) → before ≡ p.fields → text ≡ joined_entry_of t before rd
           → stood t c (g.z ++ row.bytes) p'.fields ≡ stood t c g.z p.fields ++ text
       grown text before first is =
           ap (stood t c (g.z ++ row.bytes)) fields ∙ stood-more t c (g.z ++ row.bytes) p.fields
-          ∙ ap (λ l. l ++ piece_of t p.fields (field_readings c (g.z ++ row.bytes) p.fields)) stays
-          ∙ ap (λ u. stood t c g.z p.fields ++ piece_of t p.fields u) (sym reads)
-          ∙ ap (λ n. stood t c g.z p.fields ++ piece_of t n rd) (sym first)
+          ∙ ap (λ l. l ++ joined_entry_of t p.fields (field_readings c (g.z ++ row.bytes) p.fields)) stays
+          ∙ ap (λ u. stood t c g.z p.fields ++ joined_entry_of t p.fields u) (sym reads)
+          ∙ ap (λ n. stood t c g.z p.fields ++ joined_entry_of t n rd) (sym first)
           ∙ ap (λ l. stood t c g.z p.fields ++ l) (sym is)
 
       -- the entry of a field was put whole
       pub step_field : (o' : Outlet W) (text : List ℕ) (before : ℕ) → before ≡ p.fields → intakes.IsSameDevice i i'
           → p'.row ≡ 0 → p.row + 1 ≡ height_of c.system → k + 1 ≤ c.max_fields * height_of c.system
-          → text ≡ piece_of t before rd → length text ≤ 192 → outlets.Puts contents o o' text
+          → text ≡ joined_entry_of t before rd → length text ≤ 192 → outlets.Puts contents o o' text
           → o'.written ≡ o.written + length text → outlets.IsSameDevice o o' → Going t remaining contents c i0 o0 (k + 1) i' o' p'
       step_field o' text before first same rows last limit is few puts whole same_writer =
           let l = length-append g.z row.bytes in
@@ -181,7 +181,7 @@ module _ (t : Texts) {R W : Type 0} (remaining : R → Option (List ℕ)) (conte
 
       -- the entry of a field was put in part
       pub field_fault : (o' : Outlet W) (text : List ℕ) (before : ℕ) (fault : RunFault) → before ≡ p.fields
-          → p'.row ≡ 0 → p.row + 1 ≡ height_of c.system → k + 1 ≤ c.max_fields * height_of c.system → text ≡ piece_of t before rd
+          → p'.row ≡ 0 → p.row + 1 ≡ height_of c.system → k + 1 ≤ c.max_fields * height_of c.system → text ≡ joined_entry_of t before rd
           → outlets.Puts contents o o' text → outlets.failures_of o < outlets.failures_of o'
           → outlets.written_of o' < outlets.written_of o + length text → fault ≡ Write o'.written
           → Runs t remaining contents c i0 i' o0 o' (Err fault)
@@ -192,7 +192,7 @@ module _ (t : Texts) {R W : Type 0} (remaining : R → Option (List ℕ)) (conte
           let place : p'.fields * height_of c.system + p'.row ≡ k + 1 =
           rw (fields, rows) (sym (whole_field p.fields (height_of c.system) p.row last) ∙ ap (λ n. n + 1) g.place) in
           let begun : stood t c z p'.fields ≡ begun_of t c z = sym (begun_of-stood t c z p'.fields (whole_at c z p' at)) in
-          let within : length z ≤ limit_of c = le_trans (le_of_eq (long ∙ ap (λ n. n * line_bytes c.system) place)) (rows_within c.system (k + 1) c.max_fields limit) in
+          let within : length z ≤ allowed_bytes c = le_trans (le_of_eq (long ∙ ap (λ n. n * line_bytes c.system) place)) (rows_within c.system (k + 1) c.max_fields limit) in
           let read : i'.line.looked ≡ looks_of c z =
           looks_field c.system p.fields p.row i'.line.looked last looks_after
           ∙ ap (λ n. width_of c.system * n) (ap (λ f. selected f 0) (sym fields) ∙ ap (selected p'.fields) (sym rows)
@@ -220,7 +220,7 @@ module _ (t : Texts) {R W : Type 0} (remaining : R → Option (List ℕ)) (conte
       → Appends (contents (outlets.device_of o0)) (contents (outlets.device_of o)) base → o.written ≡ length base
       → outlets.Puts contents o o' tail
       → IsAtEnd (remaining (intakes.device_of i)) → base ≡ begun_of t c z → base ++ tail ≡ document_of t c z → fields ≡ fields_of c z
-      → rest ≡ rest_of c z → looked ≡ i.line.looked → length z ≤ limit_of c → i.line.looked ≡ looks_of c z
+      → rest ≡ rest_of c z → looked ≡ i.line.looked → length z ≤ allowed_bytes c → i.line.looked ≡ looks_of c z
       → OnOk r (o'.written ≡ o.written + length tail)
       → IfOk r (λ s. s ≡ record { fields = fields; cut = cut_of rest; looked = looked })
       → OnErr r (outlets.failures_of o < outlets.failures_of o') → OnErr r (outlets.written_of o' < outlets.written_of o + length tail)
@@ -253,9 +253,9 @@ module _ (t : Texts) {R W : Type 0} (remaining : R → Option (List ℕ)) (conte
 
   -- the stream ended, and the tail was put
   pub ended : (k : ℕ) (i i' : Intake R) (o o' : Outlet W) (p : Progress) (g : Going t remaining contents c i0 o0 k i o p) (sel : Bool)
-      (lv : Slicing) (n : ℕ)
+      (lv : LevelsView) (n : ℕ)
       (row : Takes remaining lv sel i i' (Ended n)) (fields rest looked : ℕ) → fields ≡ p.fields
-      → rest ≡ p.row * line_bytes c.system + n → k * line_bytes c.system + n ≤ limit_of c
+      → rest ≡ p.row * line_bytes c.system + n → k * line_bytes c.system + n ≤ allowed_bytes c
       → looked ≡ i'.line.looked → outlets.Puts contents o o' (t.tail fields rest)
       → (r : Result Summary RunFault) → OnOk r (o'.written ≡ o.written + length (t.tail fields rest))
       → IfOk r (λ s. s ≡ record { fields = fields; cut = cut_of rest; looked = looked })
@@ -280,7 +280,7 @@ module _ (t : Texts) {R W : Type 0} (remaining : R → Option (List ℕ)) (conte
 
   -- the reader failed
   pub read_fault : (k : ℕ) (i i' : Intake R) (o : Outlet W) (p : Progress) (g : Going t remaining contents c i0 o0 k i o p) (sel : Bool)
-      (lv : Slicing)
+      (lv : LevelsView)
       (row : Takes remaining lv sel i i' Failed) (field held offset : ℕ) → k ≤ c.max_fields * height_of c.system → field ≡ p.fields + 1
       → held ≡ length (intakes.held_of i') → offset ≡ p.row * line_bytes c.system + held
       → Runs t remaining contents c i0 i' o0 o (Err (Read field offset))
@@ -289,7 +289,7 @@ module _ (t : Texts) {R W : Type 0} (remaining : R → Option (List ℕ)) (conte
       let at = g.at in
       let l = length-append g.z row.bytes in
       let long : length g.z ≡ k * line_bytes c.system = at.whole ∙ ap (λ n. n * line_bytes c.system) g.place in
-      let rows : k * line_bytes c.system ≤ limit_of c = rows_within c.system k c.max_fields last in
+      let rows : k * line_bytes c.system ≤ allowed_bytes c = rows_within c.system k c.max_fields last in
       record {
         z = g.z ++ row.bytes;
         text = stood t c g.z p.fields;
@@ -310,7 +310,7 @@ module _ (t : Texts) {R W : Type 0} (remaining : R → Option (List ℕ)) (conte
 
   -- some bytes came past the last field that is allowed, a row's at most
   pub too_many : (k : ℕ) (i i' : Intake R) (o : Outlet W) (p : Progress) (g : Going t remaining contents c i0 o0 k i o p) (sel : Bool)
-      (lv : Slicing) (came : Row) (row : Takes remaining lv sel i i' came)
+      (lv : LevelsView) (came : Row) (row : Takes remaining lv sel i i' came)
       → k ≡ c.max_fields * height_of c.system → 0 < length row.bytes → length row.bytes ≤ line_bytes i.line.system
       → i'.line.looked ≡ i.line.looked → Runs t remaining contents c i0 i' o0 o (Err TooManyFields)
   too_many k i i' o p g sel lv came row last some few unread =
@@ -318,12 +318,12 @@ module _ (t : Texts) {R W : Type 0} (remaining : R → Option (List ℕ)) (conte
       let l = length-append g.z bytes in
       let at = g.at in
       let place : p.fields * height_of c.system + p.row ≡ c.max_fields * height_of c.system = g.place ∙ last in
-      let long : length g.z ≡ limit_of c = at.whole ∙ ap (λ n. n * line_bytes c.system) place ∙ sym (bytes_of_fields c.system c.max_fields) in
-      let cut : take (limit_of c) (g.z ++ bytes) ≡ g.z = take_at g.z bytes _ long in
+      let long : length g.z ≡ allowed_bytes c = at.whole ∙ ap (λ n. n * line_bytes c.system) place ∙ sym (bytes_of_fields c.system c.max_fields) in
+      let cut : take (allowed_bytes c) (g.z ++ bytes) ≡ g.z = take_at g.z bytes _ long in
       let begun : stood t c g.z p.fields ≡ begun_of t c g.z = sym (begun_of-stood t c g.z p.fields (whole_at c g.z p at)) in
       let all = all_fields c.system p.fields p.row c.max_fields at.inside place in
       let few' : length bytes ≤ line_bytes c.system = rw (← g.system) few in
-      let both : length (g.z ++ bytes) ≡ limit_of c + length bytes = l ∙ ap (λ n. n + length bytes) long in
+      let both : length (g.z ++ bytes) ≡ allowed_bytes c + length bytes = l ∙ ap (λ n. n + length bytes) long in
       record {
         z = g.z ++ bytes;
         text = stood t c g.z p.fields;

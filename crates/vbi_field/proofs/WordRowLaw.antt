@@ -10,7 +10,7 @@ use Rattle.std.proofs.lemmas.Bool.Decides.{nat_tests}
 use Rattle.std.proofs.lemmas.List.Splits.{slice_split_at, slice_split_none, join_with_byte-slice_split}
 use Rattle.vbi_field.specs.declared.word_row.WordRow.{WordRow}
 use Rattle.vbi_field.specs.WordRows.{IsItem, IsWordRow, is_none_item, is_hex_item, is_word, item_of}
-use Rattle.vbi_field.specs.WordRows.{row_of_items, row_of_parts, parts_of, words_of, row_words, rows_of, AreRows}
+use Rattle.vbi_field.specs.WordRows.{row_of_items, row_of_parts, parts_of, word_row_of, row_words, rows_of, AreRows}
 use Rattle.vbi_field.specs.DrawnReadings.{IsDrawable, AreDrawable}
 
 -- ---- items
@@ -125,12 +125,12 @@ row_from row words (a ∷ b ∷ c ∷ []) j e =
     }
 row_from row words (a ∷ b ∷ c ∷ d ∷ more) j e = cc
 
-pub is_word_row : (row : List ℕ) (words : WordRow) → words_of row ≡ Some words → IsWordRow row words
-unfolding words_of
+pub is_word_row : (row : List ℕ) (words : WordRow) → word_row_of row ≡ Some words → IsWordRow row words
+unfolding word_row_of
 is_word_row row words e = row_from row words (parts_of row) (join_with_byte-slice_split 32 row) e
 
-pub word_row_is : (row : List ℕ) (words : WordRow) → IsWordRow row words → words_of row ≡ Some words
-unfolding words_of
+pub word_row_is : (row : List ℕ) (words : WordRow) → IsWordRow row words → word_row_of row ≡ Some words
+unfolding word_row_of
 word_row_is row words w =
     let parts : parts_of row ≡ w.first ∷ w.second ∷ w.third ∷ [] =
     ap parts_of (w.joined ∙ spaced w.first w.second w.third)

@@ -10,7 +10,7 @@ use Rattle.std.proofs.lemmas.List.Elements.{All-from_get_or}
 use Rattle.std.proofs.lemmas.List.Splits.{slice_split_first, slice_split_none, length-slice_split, join_with_byte-slice_split}
 use Rattle.std.proofs.lemmas.Bool.Decides.{nat_tests}
 use Rattle.vbi_field.specs.declared.word_row.WordRow.{WordRow}
-use Rattle.vbi_field.specs.WordRows.{parts_of, item_of, row_of_items, row_of_parts, words_of, rows_of, row_words, AreRows}
+use Rattle.vbi_field.specs.WordRows.{parts_of, item_of, row_of_items, row_of_parts, word_row_of, rows_of, row_words, AreRows}
 use Rattle.vbi_field.specs.RowIntake.{HasNoNewline}
 use Rattle.vbi_field.specs.DrawRun.{EndsRow}
 
@@ -47,17 +47,17 @@ uncut text e = uncut_from text _ _ refl refl e
 
 -- ---- the words of a row
 
-pub one_part : (row : List ℕ) → parts_of row ≡ row ∷ [] → None ≡ words_of row
-unfolding words_of
+pub one_part : (row : List ℕ) → parts_of row ≡ row ∷ [] → None ≡ word_row_of row
+unfolding word_row_of
 one_part row e = ap row_of_parts (sym e)
 
-pub two_parts : (row first rest : List ℕ) → parts_of row ≡ first ∷ parts_of rest → parts_of rest ≡ rest ∷ [] → None ≡ words_of row
-unfolding words_of
+pub two_parts : (row first rest : List ℕ) → parts_of row ≡ first ∷ parts_of rest → parts_of rest ≡ rest ∷ [] → None ≡ word_row_of row
+unfolding word_row_of
 two_parts row first rest e f = ap row_of_parts (sym (e ∙ ap (λ (l : List (List ℕ)). first ∷ l) f))
 
 pub three_parts : (row first rest second third : List ℕ) → parts_of row ≡ first ∷ parts_of rest → parts_of rest ≡ second ∷ parts_of third
-    → parts_of third ≡ third ∷ [] → row_of_items (item_of first) (item_of second) (item_of third) ≡ words_of row
-unfolding words_of
+    → parts_of third ≡ third ∷ [] → row_of_items (item_of first) (item_of second) (item_of third) ≡ word_row_of row
+unfolding word_row_of
 three_parts row first rest second third e f g =
     ap row_of_parts (sym (e ∙ ap (λ (l : List (List ℕ)). first ∷ l) (f ∙ ap (λ (l : List (List ℕ)). second ∷ l) g)))
 
@@ -67,8 +67,8 @@ too_many_parts first second third [] n e = absurd (omega arith)
 too_many_parts first second third (part ∷ parts) n e = refl
 
 pub four_parts : (row first rest second last third more : List ℕ) → parts_of row ≡ first ∷ parts_of rest → parts_of rest ≡ second ∷ parts_of last
-    → parts_of last ≡ third ∷ parts_of more → None ≡ words_of row
-unfolding words_of
+    → parts_of last ≡ third ∷ parts_of more → None ≡ word_row_of row
+unfolding word_row_of
 four_parts row first rest second last third more e f g =
     too_many_parts first second third (parts_of more) (count_by (λ c. c == 32) more) (length-slice_split (λ c. c == 32) more)
     ∙ ap row_of_parts (sym (e ∙ ap (λ (l : List (List ℕ)). first ∷ l) (f ∙ ap (λ (l : List (List ℕ)). second ∷ l) g)))
@@ -115,8 +115,8 @@ long_parts (a ∷ b ∷ c ∷ []) l =
 long_parts (a ∷ b ∷ c ∷ d ∷ more) l = refl
 
 -- a row of more than 20 bytes
-pub long_row : (row : List ℕ) → 20 < length row → words_of row ≡ None
-unfolding words_of
+pub long_row : (row : List ℕ) → 20 < length row → word_row_of row ≡ None
+unfolding word_row_of
 long_row row long = long_parts (parts_of row) (omega (arith, ap length (join_with_byte-slice_split 32 row)))
 
 -- ---- the rows of a text
@@ -194,20 +194,20 @@ rows_of-part (c ∷ d ∷ cs) plain some =
     (rows_of-part (d ∷ cs) (plain_rest c (d ∷ cs) plain) (omega arith))
 
 -- the words of a row with its newline, and without
-pub row_words-line : (row : List ℕ) → HasNoNewline row → row_words (row ++ 10 ∷ []) ≡ words_of row
+pub row_words-line : (row : List ℕ) → HasNoNewline row → row_words (row ++ 10 ∷ []) ≡ word_row_of row
 row_words-line row plain =
     let at : position_or_len (λ c. c == 10) (row ++ 10 ∷ []) ≡ length row
     = position_or_len_is (λ c. c == 10) (row ++ 10 ∷ []) (length row) 0 (omega (arith, length-append row (10 ∷ [])))
     (λ k l. ap (λ (c : ℕ). c == 10) (get_or_append_left row (10 ∷ []) 0 k l) ∙ not_newline (get_or row k 0) (plain k 0 l))
     (λ l. ap (λ (c : ℕ). c == 10) (get_or_push row 10 0 (length row) refl)) in
-    ap (λ (n : ℕ). words_of (take n (row ++ 10 ∷ []))) at ∙ ap words_of (take_at row (10 ∷ []) (length row) refl)
+    ap (λ (n : ℕ). word_row_of (take n (row ++ 10 ∷ []))) at ∙ ap word_row_of (take_at row (10 ∷ []) (length row) refl)
 
-pub row_words-part : (row : List ℕ) → HasNoNewline row → row_words row ≡ words_of row
+pub row_words-part : (row : List ℕ) → HasNoNewline row → row_words row ≡ word_row_of row
 row_words-part row plain =
     let at : position_or_len (λ c. c == 10) row ≡ length row
     = position_or_len_is (λ c. c == 10) row (length row) 0 (omega arith)
     (λ k l. not_newline (get_or row k 0) (plain k 0 l)) (λ l. absurd (omega arith)) in
-    ap (λ (n : ℕ). words_of (take n row)) at ∙ ap words_of (take_all (length row) row (omega arith))
+    ap (λ (n : ℕ). word_row_of (take n row)) at ∙ ap word_row_of (take_all (length row) row (omega arith))
 
 -- one row more
 pub AreRows-more : (text line : List ℕ) (rows : List WordRow) (words : WordRow) → AreRows text rows → EndsRow text

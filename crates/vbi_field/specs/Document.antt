@@ -5,7 +5,7 @@ use Rattle.vbi_words.specs.Geometry.{width_of, height_of, name_of}
 use Rattle.vbi_words.specs.declared.outcome.Outcome.{Outcome}
 use Rattle.vbi_words.specs.declared.outcome.Outcome.TheVariants.{Word, Blank, Unfinished, Change, Hold}
 use Rattle.vbi_field.specs.CauseTexts.{cause_text_of}
-use Rattle.vbi_field.specs.Setup.{Setup}
+use Rattle.vbi_field.specs.ConfigView.{ConfigView}
 use Rattle.vbi_field.specs.declared.readings.FieldReadings.{FieldReadings}
 
 -- the number of the word, or 0 where there is none
@@ -17,7 +17,7 @@ value_of (Change column) = 0
 value_of (Hold column) = 0
 
 -- one line: the version, the system, and the levels
-unfoldable pub head_of : Setup → List ℕ
+unfoldable pub head_of : ConfigView → List ℕ
 head_of c =
     codes "{\"version\":2,\"videoParameters\":{\"system\":\"" ++ name_of c.system
     ++ codes "\",\"fieldWidth\":" ++ decimal (width_of c.system)

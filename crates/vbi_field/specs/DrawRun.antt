@@ -1,7 +1,7 @@
 -- What a run of drawing does: the text of words that it fetches, the fields that it writes, and what stands after each fault.
 use Rattle.std.specs.Prelude.{◌≡◌, ℕ, ◌+◌, ◌*◌, ◌<◌, ◌≤◌, ◌⊎◌, List, [], ◌∷◌, ◌++◌, take, length, ⊤, Option, None, Result, Ok, Err}
 use Rattle.std.specs.Io.KnownBytes.{Consumes, Appends, IsAtEnd}
-use Rattle.vbi_field.specs.Setup.{Setup}
+use Rattle.vbi_field.specs.ConfigView.{ConfigView}
 use Rattle.vbi_field.specs.Outlet as outlets
 use Rattle.vbi_field.specs.RowIntake as intakes
 use Rattle.vbi_field.specs.RowIntake.{HasNoNewline}
@@ -26,7 +26,7 @@ pub record PutsField {W : Type 0} (contents : W → Option (List ℕ)) (old new 
 abbrev pub EndsRow : List ℕ → Type 0
 EndsRow text = (text ≡ []) ⊎ ((front : List ℕ) × (text ≡ front ++ 10 ∷ []))
 
-module _ {R W : Type 0} (remaining : R → Option (List ℕ)) (contents : W → Option (List ℕ)) (c : Setup)
+module _ {R W : Type 0} (remaining : R → Option (List ℕ)) (contents : W → Option (List ℕ)) (c : ConfigView)
     (i0 i : RowIntake R) (o0 o : Outlet W) where
   -- this text was fetched, and no more
   pub record Fetched (text : List ℕ) : Type 0 where

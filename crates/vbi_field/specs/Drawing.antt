@@ -7,7 +7,7 @@ use Rattle.vbi_words.specs.Geometry.{width_of, height_of}
 use Rattle.vbi_words.specs.Words.{halves_of}
 use Rattle.vbi_words.specs.Drawn.{boundary}
 use Rattle.vbi_words.specs.declared.system.System.{System}
-use Rattle.vbi_field.specs.Setup.{Setup}
+use Rattle.vbi_field.specs.ConfigView.{ConfigView}
 use Rattle.vbi_field.specs.declared.word_row.WordRow.{WordRow}
 
 -- whether the column lies in half cell j of the word, counted from 0, and that half cell is high
@@ -20,7 +20,7 @@ unfoldable pub is_drawn_high : System → ℕ → ℕ → Bool
 is_drawn_high system word column = list_any (is_drawn_in system word column) (range_with_len 0 48)
 
 -- the sample drawn at a column: white where the word is high, else black
-unfoldable pub drawn_sample_of : Setup → Option ℕ → ℕ → ℕ
+unfoldable pub drawn_sample_of : ConfigView → Option ℕ → ℕ → ℕ
 drawn_sample_of c None column = c.levels.black
 drawn_sample_of c (Some word) column = if is_drawn_high c.system word column then c.levels.white else c.levels.black
 
@@ -29,7 +29,7 @@ abbrev pub sample_bytes : ℕ → List ℕ
 sample_bytes sample = sample % 256 ∷ sample / 256 ∷ []
 
 -- the bytes of the drawn row of a word, or of none
-unfoldable pub drawn_line_of : Setup → Option ℕ → List ℕ
+unfoldable pub drawn_line_of : ConfigView → Option ℕ → List ℕ
 drawn_line_of c word = flat_map (λ column. sample_bytes (drawn_sample_of c word column)) (range_with_len 0 (width_of c.system))
 
 -- the word that a row of a field has: rows 15, 16 and 17, which are lines 16, 17 and 18, have the three items
@@ -37,9 +37,9 @@ abbrev pub word_at : WordRow → ℕ → Option ℕ
 word_at words r = if r == 15 then words.first else (if r == 16 then words.second else (if r == 17 then words.third else None))
 
 -- a drawn field: its rows in order
-unfoldable pub drawn_field_of : Setup → WordRow → List ℕ
+unfoldable pub drawn_field_of : ConfigView → WordRow → List ℕ
 drawn_field_of c words = flat_map (λ r. drawn_line_of c (word_at words r)) (range_with_len 0 (height_of c.system))
 
 -- a drawn stream: a field for each row of words
-unfoldable pub draw_out : Setup → List WordRow → List ℕ
+unfoldable pub draw_out : ConfigView → List WordRow → List ℕ
 draw_out c rows = flat_map (drawn_field_of c) rows

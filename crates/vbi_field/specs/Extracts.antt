@@ -7,7 +7,7 @@ use Rattle.vbi_line.specs.Intake as intakes
 use Rattle.vbi_line.specs.declared.intake.Intake.{Intake}
 use Rattle.vbi_field.specs.Outlet as outlets
 use Rattle.vbi_field.specs.Ran.{Counts, Ran}
-use Rattle.vbi_field.specs.Setup.{Setup, limit_of}
+use Rattle.vbi_field.specs.ConfigView.{ConfigView, allowed_bytes}
 use Rattle.vbi_field.specs.Stream.{fields_of, rest_of, cut_of, looks_of}
 use Rattle.vbi_field.specs.Texts.{Texts, begun_of, document_of}
 use Rattle.vbi_field.specs.declared.outlet.Outlet.{Outlet}
@@ -27,7 +27,7 @@ pub record EndsInside (before due text : List ℕ) : Type 0 where
 abbrev pub IsFirstOf : List ℕ → List ℕ → Type 0
 IsFirstOf text due = (text ≡ take (length text) due) × (length text < length due)
 
-module _ (t : Texts) (c : Setup) (input : Option (List ℕ)) (z text : List ℕ) where
+module _ (t : Texts) (c : ConfigView) (input : Option (List ℕ)) (z text : List ℕ) where
   -- the head is due before the first read
   pub record EndsInHead : Type 0 where
     pub none : z ≡ []
@@ -48,15 +48,15 @@ module _ (t : Texts) (c : Setup) (input : Option (List ℕ)) (z text : List ℕ)
     pub ends : EndsInside (begun_of t c z) (document_of t c z) text
 
   -- the text ends inside one of the three
-  abbrev pub EndsInPiece : Type 0
-  EndsInPiece = EndsInHead ⊎ (EndsInEntry ⊎ EndsInTail)
+  abbrev pub EndsWithin : Type 0
+  EndsWithin = EndsInHead ⊎ (EndsInEntry ⊎ EndsInTail)
 
-module _ (t : Texts) (c : Setup) (input : Option (List ℕ)) (n : Counts) (z text : List ℕ) where
+module _ (t : Texts) (c : ConfigView) (input : Option (List ℕ)) (n : Counts) (z text : List ℕ) where
   -- Ok: the reader ended within the limit, the whole text was written, and the summary tells the fields, the cut and the looks
   pub record ExtractsAll (s : Summary) : Type 0 where
     pub document : text ≡ document_of t c z
     pub ended : IsAtEnd input
-    pub within : length z ≤ limit_of c
+    pub within : length z ≤ allowed_bytes c
     pub fields : s.fields ≡ fields_of c z
     pub cut : s.cut ≡ cut_of (rest_of c z)
     pub looked : s.looked ≡ n.looked
@@ -68,7 +68,7 @@ module _ (t : Texts) (c : Setup) (input : Option (List ℕ)) (n : Counts) (z tex
     pub rose : 0 < n.read_failures
     pub field_of : field ≡ fields_of c z + 1
     pub offset_of : offset ≡ rest_of c z
-    pub within : length z < limit_of c + line_bytes c.system
+    pub within : length z < allowed_bytes c + line_bytes c.system
     pub begun : text ≡ begun_of t c z
     pub looks : n.looked ≡ looks_of c z
 
@@ -76,20 +76,20 @@ module _ (t : Texts) (c : Setup) (input : Option (List ℕ)) (n : Counts) (z tex
   pub record StopsAtWrite (written : ℕ) : Type 0 where
     pub rose : 0 < n.write_failures
     pub count : written ≡ length text
-    pub within : length z ≤ limit_of c
-    pub inside : EndsInPiece t c input z text
+    pub within : length z ≤ allowed_bytes c
+    pub inside : EndsWithin t c input z text
     pub looks : n.looked ≡ looks_of c z
 
   -- `TooManyFields`: more bytes came than the fields that are allowed have, by a line at most, and the text of these fields was
   -- written, without the tail
   pub record StopsAtLimit : Type 0 where
-    pub more : limit_of c < length z
-    pub within : length z ≤ limit_of c + line_bytes c.system
-    pub begun : text ≡ begun_of t c (take (limit_of c) z)
+    pub more : allowed_bytes c < length z
+    pub within : length z ≤ allowed_bytes c + line_bytes c.system
+    pub begun : text ≡ begun_of t c (take (allowed_bytes c) z)
     pub looks : n.looked ≡ looks_of c z
 
 -- what was done, by the answer; `Failed` isn't one
-abbrev pub Extracts : Texts → Setup → Option (List ℕ) → Counts → Result Summary RunFault → List ℕ → List ℕ → Type 0
+abbrev pub Extracts : Texts → ConfigView → Option (List ℕ) → Counts → Result Summary RunFault → List ℕ → List ℕ → Type 0
 Extracts t c input n (Ok s) z text = ExtractsAll t c input n z text s
 Extracts t c input n (Err (Read field offset)) z text = StopsAtRead t c input n z text field offset
 Extracts t c input n (Err (Write written)) z text = StopsAtWrite t c input n z text written
@@ -107,7 +107,7 @@ counts_of i o = record {
 }
 
 -- the run of a fresh intake and a fresh outlet that gave this answer
-abbrev pub Runs : {R W : Type 0} → Texts → (R → Option (List ℕ)) → (W → Option (List ℕ)) → Setup
+abbrev pub Runs : {R W : Type 0} → Texts → (R → Option (List ℕ)) → (W → Option (List ℕ)) → ConfigView
     → Intake R → Intake R → Outlet W → Outlet W → Result Summary RunFault → Type 0
 Runs t remaining contents c i0 i o0 o result =
     Ran (remaining (intakes.device_of i0)) (remaining (intakes.device_of i)) (contents (outlets.device_of o0)) (contents (outlets.device_of o))

@@ -3,7 +3,7 @@ use Rattle.std.specs.Prelude.{◌≡◌, ℕ, ◌+◌, ◌*◌, ◌<◌, ◌≤�
 use Rattle.vbi_field.specs.Kinds.{document}
 use Rattle.vbi_field.specs.Outlet.{failures_of, written_of, Wrote}
 use Rattle.vbi_field.specs.Position.{Position, position_of}
-use Rattle.vbi_field.specs.Setup.{Setup, limit_of}
+use Rattle.vbi_field.specs.ConfigView.{ConfigView, allowed_bytes}
 use Rattle.vbi_field.specs.Stream.{fields_of, rest_of, cut_of, looks_of}
 use Rattle.vbi_field.specs.Texts.{begun_of}
 use Rattle.vbi_field.specs.Feeding.{Feeding}
@@ -13,8 +13,8 @@ use Rattle.vbi_field.specs.declared.summary.RunFault.{RunFault}
 use Rattle.vbi_field.specs.declared.summary.RunFault.TheVariants.{Read, Write, TooManyFields, Failed}
 
 -- z is no longer than allowed, and this is the place to which it has come
-pub record IsAt (c : Setup) (z : List ℕ) (now : Position) : Type 0 where
-  pub allowed : length z ≤ limit_of c
+pub record IsAt (c : ConfigView) (z : List ℕ) (now : Position) : Type 0 where
+  pub allowed : length z ≤ allowed_bytes c
   pub position : now ≡ position_of c z
 
 -- the feeder hasn't failed, and its state is the place to which z has come
@@ -23,7 +23,7 @@ pub record StandsAt (f : Feeding) (z : List ℕ) : Type 0 where
   pub at : IsAt f.config z f.position
 
 -- the text of the longer stream is longer by these bytes
-abbrev pub Completes : Setup → List ℕ → List ℕ → List ℕ → Type 0
+abbrev pub Completes : ConfigView → List ℕ → List ℕ → List ℕ → Type 0
 Completes c z longer text = begun_of document c z ++ text ≡ begun_of document c longer
 
 -- the first of these bytes were written, and the rest wasn't
@@ -31,7 +31,7 @@ abbrev pub AppendsInPart : {W : Type 0} → (W → Option (List ℕ)) → Outlet
 AppendsInPart contents o o' whole =
     (text : List ℕ) × (rest : List ℕ) × (text ++ rest ≡ whole) × Wrote contents o o' text
 
-module _ {W : Type 0} (contents : W → Option (List ℕ)) (c : Setup) (o o' : Outlet W) (z : List ℕ) where
+module _ {W : Type 0} (contents : W → Option (List ℕ)) (c : ConfigView) (o o' : Outlet W) (z : List ℕ) where
   -- the bytes by which the text of the longer stream is longer were written
   abbrev pub Extends : List ℕ → Type 0
   Extends longer = (text : List ℕ) × Completes c z longer text × Wrote contents o o' text
@@ -45,8 +45,8 @@ module _ {W : Type 0} (contents : W → Option (List ℕ)) (c : Setup) (o o' : O
   -- what a piece did, where the feeder stood at z, and the place at which it stands now
   abbrev pub IsFed : List ℕ → Position → Result (Unit {0}) RunFault → Type 0
   IsFed piece now (Ok u) = IsAt c (z ++ piece) now × Extends (z ++ piece)
-  IsFed piece now (Err (Write written)) = ExtendsInPart (take (limit_of c) (z ++ piece))
-  IsFed piece now (Err TooManyFields) = (limit_of c < length (z ++ piece)) × Extends (take (limit_of c) (z ++ piece))
+  IsFed piece now (Err (Write written)) = ExtendsInPart (take (allowed_bytes c) (z ++ piece))
+  IsFed piece now (Err TooManyFields) = (allowed_bytes c < length (z ++ piece)) × Extends (take (allowed_bytes c) (z ++ piece))
   IsFed piece now (Err (Read field offset)) = ⊥
   IsFed piece now (Err Failed) = ⊥
 

@@ -1,11 +1,11 @@
 -- What a contract sees of a feeder (this project's own).
 use Rattle.std.specs.Prelude.{ℕ, Bool}
 use Rattle.vbi_field.specs.Position.{Position}
-use Rattle.vbi_field.specs.Setup.{Setup}
+use Rattle.vbi_field.specs.ConfigView.{ConfigView}
 
 -- its config, the place to which its stream has come, whether it has failed, and how many samples were looked at
 pub record Feeding : Type 0 where
-  pub config : Setup
+  pub config : ConfigView
   pub position : Position
   pub has_failed : Bool
   pub looked : ℕ

@@ -1,6 +1,7 @@
 pub mod ByLines
 pub mod CauseTexts
 pub mod CodeTexts
+pub mod ConfigView
 pub mod Document
 pub mod DrawRun
 pub mod Drawing
@@ -16,7 +17,6 @@ pub mod Progress
 pub mod Ran
 pub mod Report
 pub mod RowIntake
-pub mod Setup
 pub mod Stand
 pub mod Stream
 pub mod Takes

@@ -2,7 +2,7 @@
 use Rattle.std.specs.Prelude.{ℕ, ◌-◌, ◌/◌, ◌%◌, List, [], ◌∷◌, length, take, drop}
 use Rattle.vbi_words.specs.Geometry.{line_bytes}
 use Rattle.vbi_words.specs.declared.outcome.Reading.{Reading}
-use Rattle.vbi_field.specs.Setup.{Setup}
+use Rattle.vbi_field.specs.ConfigView.{ConfigView}
 use Rattle.vbi_field.specs.Stream.{fields_of, rest_of, row_reading}
 
 -- the number of whole fields, the bytes past them, the bytes of the unfinished row, and the readings of those of rows 15, 16
@@ -14,15 +14,15 @@ pub record Position : Type 0 where
   pub readings : List Reading
 
 -- the bytes of the unfinished row, the last of the stream
-abbrev pub held_of : Setup → List ℕ → List ℕ
+abbrev pub held_of : ConfigView → List ℕ → List ℕ
 held_of c z = drop (length z - rest_of c z % line_bytes c.system) z
 
 -- the readings of rows 15, 16 and 17 of field i, as a list
-abbrev pub readings_of : Setup → List ℕ → ℕ → List Reading
+abbrev pub readings_of : ConfigView → List ℕ → ℕ → List Reading
 readings_of c z i = row_reading c z i 15 ∷ row_reading c z i 16 ∷ row_reading c z i 17 ∷ []
 
 -- where a stream stands that has come so far
-abbrev pub position_of : Setup → List ℕ → Position
+abbrev pub position_of : ConfigView → List ℕ → Position
 position_of c z = record {
   fields = fields_of c z;
   rest = rest_of c z;

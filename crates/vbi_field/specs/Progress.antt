@@ -6,11 +6,11 @@ use Rattle.vbi_words.specs.declared.outcome.Reading.{Reading}
 use Rattle.vbi_line.specs.OneReading.{reading_of}
 use Rattle.vbi_field.specs.declared.readings.FieldReadings.{FieldReadings}
 use Rattle.vbi_field.specs.declared.progress.Progress.{Progress}
-use Rattle.vbi_field.specs.Setup.{Setup}
+use Rattle.vbi_field.specs.ConfigView.{ConfigView}
 use Rattle.vbi_field.specs.Stream.{row_reading, field_readings}
 
 -- the rows of z are whole, and these are the number of its whole fields, the rows past them and those of their readings that are due
-pub record IsPosition (c : Setup) (z : List ℕ) (p : Progress) : Type 0 where
+pub record IsPosition (c : ConfigView) (z : List ℕ) (p : Progress) : Type 0 where
   pub whole : length z ≡ (p.fields * height_of c.system + p.row) * line_bytes c.system
   pub inside : p.row < height_of c.system
   pub first : 15 < p.row → p.readings.first ≡ row_reading c z p.fields 15
@@ -18,12 +18,12 @@ pub record IsPosition (c : Setup) (z : List ℕ) (p : Progress) : Type 0 where
   pub third : 17 < p.row → p.readings.third ≡ row_reading c z p.fields 17
 
 -- b is a whole row, with this reading if its number in the field is 15, 16 or 17
-pub record IsRowOf (c : Setup) (b : List ℕ) (row : ℕ) (reading : Reading) : Type 0 where
+pub record IsRowOf (c : ConfigView) (b : List ℕ) (row : ℕ) (reading : Reading) : Type 0 where
   pub whole : length b ≡ line_bytes c.system
   pub shows : 15 ≤ row → row ≤ 17 → reading ≡ reading_of c.system (row_levels c.levels b)
 
 -- one row b more behind z: inside a field, or at its end with the field's readings
-abbrev pub AdvancesOver : Setup → List ℕ → List ℕ → Progress → Option FieldReadings → Progress → Type 0
+abbrev pub AdvancesOver : ConfigView → List ℕ → List ℕ → Progress → Option FieldReadings → Progress → Type 0
 AdvancesOver c z b old None new = IsPosition c (z ++ b) new
 AdvancesOver c z b old (Some readings) new =
     IsPosition c (z ++ b) new × (old.row + 1 ≡ height_of c.system) × (readings ≡ field_readings c (z ++ b) old.fields)

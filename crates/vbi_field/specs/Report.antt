@@ -6,14 +6,14 @@ use Rattle.vbi_words.specs.declared.outcome.Outcome.TheVariants.{Word}
 use Rattle.vbi_words.specs.declared.format.Format.{Format}
 use Rattle.vbi_words.specs.declared.format.Format.TheVariants.{Cav, Clv, Both, Neither}
 use Rattle.vbi_words.specs.Geometry.{name_of, width_of, height_of}
-use Rattle.vbi_words.specs.Levels.{Slicing}
+use Rattle.vbi_words.specs.Levels.{LevelsView}
 use Rattle.vbi_words.specs.CodeTable.{code_of, format_of_lines}
 use Rattle.vbi_field.specs.declared.readings.FieldReadings.{FieldReadings}
 use Rattle.vbi_field.specs.CodeTexts.{hex_text_of, code_text_of}
 use Rattle.vbi_field.specs.CauseTexts.{cause_text_of}
 
 -- the first line
-unfoldable pub report_head_of : System → Slicing → List ℕ
+unfoldable pub report_head_of : System → LevelsView → List ℕ
 report_head_of system slicing =
     codes "system " ++ name_of system ++ codes " " ++ decimal (width_of system) ++ codes "x" ++ decimal (height_of system)
     ++ codes " black " ++ decimal slicing.black ++ codes " white " ++ decimal slicing.white ++ codes "\n"
@@ -24,8 +24,8 @@ word_of (Word word) = Some word
 word_of _ = None
 
 -- a field's words
-abbrev pub words_of : FieldReadings → List (Option ℕ)
-words_of readings = word_of readings.first.outcome ∷ word_of readings.second.outcome ∷ word_of readings.third.outcome ∷ []
+abbrev pub field_words_of : FieldReadings → List (Option ℕ)
+field_words_of readings = word_of readings.first.outcome ∷ word_of readings.second.outcome ∷ word_of readings.third.outcome ∷ []
 
 -- what a format is called
 abbrev pub format_text_of : Format → List ℕ
@@ -42,7 +42,7 @@ shown_of outcome = codes "none " ++ cause_text_of outcome
 -- the four lines of a whole field, from its number and its readings
 unfoldable pub report_entry_of : ℕ → FieldReadings → List ℕ
 report_entry_of number readings =
-    codes "field " ++ decimal number ++ codes " " ++ format_text_of (format_of_lines (words_of readings))
+    codes "field " ++ decimal number ++ codes " " ++ format_text_of (format_of_lines (field_words_of readings))
     ++ codes "\n16 " ++ shown_of readings.first.outcome
     ++ codes "\n17 " ++ shown_of readings.second.outcome
     ++ codes "\n18 " ++ shown_of readings.third.outcome ++ codes "\n"

@@ -2,7 +2,7 @@
 use Rattle.std.specs.Prelude.{◌≡◌, ◌≢◌, ℕ, ◌+◌, ◌<◌, ◌≤◌, ◌⊎◌, List, [], ◌∷◌, ◌++◌, All, length, ⊤, Option, Some, None}
 use Rattle.std.specs.Io.KnownBytes.{Consumes, IsAtEnd}
 use Rattle.vbi_line.specs.Counted as counted
-use Rattle.vbi_field.specs.WordRows.{words_of}
+use Rattle.vbi_field.specs.WordRows.{word_row_of}
 use Rattle.vbi_field.specs.declared.row_intake.RowIntake.{RowIntake}
 use Rattle.vbi_field.specs.declared.row_intake.ByteCame.{ByteCame}
 use Rattle.vbi_field.specs.declared.row_intake.ByteCame.TheVariants as bytes
@@ -67,7 +67,7 @@ module _ {R : Type 0} where
   pub record IsMalformed (remaining : R → Option (List ℕ)) (new : RowIntake R) (bytes : List ℕ) : Type 0 where
     pub row : List ℕ
     pub plain : HasNoNewline row
-    pub malformed : words_of row ≡ None
+    pub malformed : word_row_of row ≡ None
     pub read_to : (bytes ≡ row ++ 10 ∷ [])
         ⊎ (((bytes ≡ row) × (0 < length row) × IsAtEnd (remaining (device_of new)))
         ⊎ ((bytes ≡ row) × (length row ≡ 21)))
@@ -75,9 +75,9 @@ module _ {R : Type 0} where
   -- what the bytes taken are
   abbrev pub IsRowCame : (R → Option (List ℕ)) → RowIntake R → RowIntake R → List ℕ → RowCame → Type 0
   IsRowCame remaining old new bytes (Row words) =
-      (row : List ℕ) × HasNoNewline row × (bytes ≡ row ++ 10 ∷ []) × (words_of row ≡ Some words)
+      (row : List ℕ) × HasNoNewline row × (bytes ≡ row ++ 10 ∷ []) × (word_row_of row ≡ Some words)
   IsRowCame remaining old new bytes (LastRow words) =
-      HasNoNewline bytes × (0 < length bytes) × (words_of bytes ≡ Some words) × IsAtEnd (remaining (device_of new))
+      HasNoNewline bytes × (0 < length bytes) × (word_row_of bytes ≡ Some words) × IsAtEnd (remaining (device_of new))
   IsRowCame remaining old new bytes Malformed = IsMalformed remaining new bytes
   IsRowCame remaining old new bytes Ended = (bytes ≡ []) × IsAtEnd (remaining (device_of new))
   IsRowCame remaining old new bytes Failed = HasNoNewline bytes × (failures_of old < failures_of new)

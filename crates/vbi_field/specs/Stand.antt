@@ -4,14 +4,14 @@ use Rattle.vbi_words.specs.Geometry.{width_of, height_of, line_bytes}
 use Rattle.vbi_line.specs.Line.{Line}
 use Rattle.vbi_field.specs.Feed.{IsFed}
 use Rattle.vbi_field.specs.Position.{Position}
-use Rattle.vbi_field.specs.Setup.{Setup}
+use Rattle.vbi_field.specs.ConfigView.{ConfigView}
 use Rattle.vbi_field.specs.Stream.{selected}
 use Rattle.vbi_field.specs.declared.outlet.Outlet.{Outlet}
 use Rattle.vbi_field.specs.declared.progress.Progress.{Progress}
 use Rattle.vbi_field.specs.declared.summary.RunFault.{RunFault}
 
 -- the place that the whole rows and the bytes of the unfinished one make
-abbrev pub place_of : Setup → Line → Progress → Position
+abbrev pub place_of : ConfigView → Line → Progress → Position
 place_of c l p = record {
   fields = p.fields;
   rest = p.row * line_bytes c.system + length l.held;
@@ -20,7 +20,7 @@ place_of c l p = record {
 }
 
 -- less than a line is held and no pass was started, no more fields came than are allowed, and the samples of the selected rows were looked at once each
-pub record IsStand (c : Setup) (l : Line) (p : Progress) : Type 0 where
+pub record IsStand (c : ConfigView) (l : Line) (p : Progress) : Type 0 where
   pub system : l.system ≡ c.system
   pub cursors : l.cursors ≡ []
   pub short : length l.held < line_bytes c.system
@@ -30,7 +30,7 @@ pub record IsStand (c : Setup) (l : Line) (p : Progress) : Type 0 where
   pub looked : l.looked ≡ width_of c.system * selected p.fields p.row
 
 -- what the first bytes of a piece did, where the line and the progress stood at z
-abbrev pub IsStep : {W : Type 0} → (W → Option (List ℕ)) → Setup → Outlet W → Outlet W → List ℕ → List ℕ → Position
+abbrev pub IsStep : {W : Type 0} → (W → Option (List ℕ)) → ConfigView → Outlet W → Outlet W → List ℕ → List ℕ → Position
     → Result ℕ RunFault → Type 0
 IsStep contents c o o' z bytes now (Ok n) = IsFed contents c o o' z (take n bytes) now (Ok tt)
 IsStep contents c o o' z bytes now (Err fault) = IsFed contents c o o' z bytes now (Err fault)

@@ -6,7 +6,7 @@ use Rattle.vbi_words.specs.Levels.{row_levels}
 use Rattle.vbi_words.specs.declared.system.System.{System}
 use Rattle.vbi_words.specs.declared.outcome.Reading.{Reading}
 use Rattle.vbi_line.specs.OneReading.{reading_of}
-use Rattle.vbi_field.specs.Setup.{Setup}
+use Rattle.vbi_field.specs.ConfigView.{ConfigView}
 use Rattle.vbi_field.specs.declared.readings.FieldReadings.{FieldReadings}
 
 -- the bytes of row r of field i
@@ -14,19 +14,19 @@ abbrev pub row_of : System → List ℕ → ℕ → ℕ → List ℕ
 row_of system z i r = take (line_bytes system) (drop (i * field_bytes system + line_bytes system * r) z)
 
 -- how many whole fields so many bytes are
-abbrev pub fields_in : Setup → ℕ → ℕ
+abbrev pub fields_in : ConfigView → ℕ → ℕ
 fields_in c bytes = bytes / field_bytes c.system
 
 -- how many of so many bytes are past the whole fields
-abbrev pub rest_in : Setup → ℕ → ℕ
+abbrev pub rest_in : ConfigView → ℕ → ℕ
 rest_in c bytes = bytes % field_bytes c.system
 
 -- how many whole fields a stream has
-abbrev pub fields_of : Setup → List ℕ → ℕ
+abbrev pub fields_of : ConfigView → List ℕ → ℕ
 fields_of c z = fields_in c (length z)
 
 -- how many bytes a stream has past its whole fields
-abbrev pub rest_of : Setup → List ℕ → ℕ
+abbrev pub rest_of : ConfigView → List ℕ → ℕ
 rest_of c z = rest_in c (length z)
 
 -- the bytes of a cut last field, if that many bytes past the whole fields are one
@@ -34,11 +34,11 @@ abbrev pub cut_of : ℕ → Option ℕ
 cut_of rest = if rest == 0 then None else Some rest
 
 -- the reading of row r of field i
-abbrev pub row_reading : Setup → List ℕ → ℕ → ℕ → Reading
+abbrev pub row_reading : ConfigView → List ℕ → ℕ → ℕ → Reading
 row_reading c z i r = reading_of c.system (row_levels c.levels (row_of c.system z i r))
 
 -- the readings of field i: those of its rows 15, 16 and 17, which are lines 16, 17 and 18
-abbrev pub field_readings : Setup → List ℕ → ℕ → FieldReadings
+abbrev pub field_readings : ConfigView → List ℕ → ℕ → FieldReadings
 field_readings c z i = record { first = row_reading c z i 15; second = row_reading c z i 16; third = row_reading c z i 17 }
 
 -- how many of the rows 15, 16 and 17 are among the rows of f fields and r rows more
@@ -46,13 +46,13 @@ abbrev pub selected : ℕ → ℕ → ℕ
 selected f r = 3 * f + min 3 (r - 15)
 
 -- how many of the rows 15, 16 and 17 of the fields so many bytes have whole
-abbrev pub selected_in : Setup → ℕ → ℕ
+abbrev pub selected_in : ConfigView → ℕ → ℕ
 selected_in c bytes = selected (fields_in c bytes) (rest_in c bytes / line_bytes c.system)
 
 -- how many of the rows 15, 16 and 17 of its fields a stream has whole
-abbrev pub selected_rows : Setup → List ℕ → ℕ
+abbrev pub selected_rows : ConfigView → List ℕ → ℕ
 selected_rows c z = selected_in c (length z)
 
 -- how many samples are looked at: all of those rows' samples, once each
-abbrev pub looks_of : Setup → List ℕ → ℕ
+abbrev pub looks_of : ConfigView → List ℕ → ℕ
 looks_of c z = width_of c.system * selected_rows c z

@@ -2,14 +2,14 @@
 use Rattle.std.specs.Prelude.{◌≡◌, ℕ, ◌+◌, ◌*◌, ◌<◌, ◌≤◌, Bool, IsTrue, if◌then◌else◌, List, [], length, Option}
 use Rattle.std.specs.Io.KnownBytes.{Consumes, IsAtEnd}
 use Rattle.vbi_words.specs.Geometry.{width_of, line_bytes}
-use Rattle.vbi_words.specs.Levels.{Slicing, row_levels}
+use Rattle.vbi_words.specs.Levels.{LevelsView, row_levels}
 use Rattle.vbi_line.specs.OneReading.{reading_of}
 use Rattle.vbi_line.specs.Intake.{device_of, failures_of, fetched_of, held_of, line_of}
 use Rattle.vbi_line.specs.declared.intake.Intake.{Intake}
 use Rattle.vbi_field.specs.declared.rows.Row.{Row}
 use Rattle.vbi_field.specs.declared.rows.Row.TheVariants.{Whole, Ended, Failed}
 
-module _ {R : Type 0} (remaining : R → Option (List ℕ)) (levels : Slicing) (selected : Bool) (old new : Intake R) where
+module _ {R : Type 0} (remaining : R → Option (List ℕ)) (levels : LevelsView) (selected : Bool) (old new : Intake R) where
   -- these bytes came: a whole row with its reading, for which each sample was looked at once if it was asked for, the rest of the stream,
   -- or those before a fault of the reader
   abbrev pub Got : List ℕ → Row → Type 0

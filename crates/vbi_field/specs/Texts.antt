@@ -1,30 +1,30 @@
 -- The text that is written for a TBC stream, for any kind of text: its head, an entry for each whole field, and its tail.
 use Rattle.std.specs.Prelude.{ℕ, ◌+◌, ◌==◌, if◌then◌else◌, List, [], ◌++◌}
 use Rattle.std.specs.List.{join_by, range_with_len}
-use Rattle.vbi_field.specs.Setup.{Setup}
+use Rattle.vbi_field.specs.ConfigView.{ConfigView}
 use Rattle.vbi_field.specs.Stream.{fields_of, rest_of, field_readings}
 use Rattle.vbi_field.specs.declared.readings.FieldReadings.{FieldReadings}
 
 -- A kind of text: what stands first; what stands between two entries; the entry of a field, by its number from 1 and its
 -- readings; what stands last, by the number of whole fields and the bytes past them.
 pub record Texts : Type 0 where
-  pub head : Setup → List ℕ
+  pub head : ConfigView → List ℕ
   pub joint : List ℕ
   pub entry : ℕ → FieldReadings → List ℕ
   pub tail : ℕ → ℕ → List ℕ
 
 -- the entry of field i of a stream, i from 0
-abbrev pub entry_of : Texts → Setup → List ℕ → ℕ → List ℕ
+abbrev pub entry_of : Texts → ConfigView → List ℕ → ℕ → List ℕ
 entry_of t c z i = t.entry (i + 1) (field_readings c z i)
 
 -- the head, and the entries of the whole fields in order, joined
-unfoldable pub begun_of : Texts → Setup → List ℕ → List ℕ
+unfoldable pub begun_of : Texts → ConfigView → List ℕ → List ℕ
 begun_of t c z = t.head c ++ join_by (entry_of t c z) t.joint (range_with_len 0 (fields_of c z))
 
 -- the whole text of a stream that ended
-abbrev pub document_of : Texts → Setup → List ℕ → List ℕ
+abbrev pub document_of : Texts → ConfigView → List ℕ → List ℕ
 document_of t c z = begun_of t c z ++ t.tail (fields_of c z) (rest_of c z)
 
 -- what is written for a field when it is whole, where so many fields came before it: the joint, if there is an entry before, and the entry
-abbrev pub piece_of : Texts → ℕ → FieldReadings → List ℕ
-piece_of t before readings = (if before == 0 then [] else t.joint) ++ t.entry (before + 1) readings
+abbrev pub joined_entry_of : Texts → ℕ → FieldReadings → List ℕ
+joined_entry_of t before readings = (if before == 0 then [] else t.joint) ++ t.entry (before + 1) readings

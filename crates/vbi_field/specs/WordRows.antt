@@ -59,8 +59,8 @@ abbrev pub parts_of : List ℕ → List (List ℕ)
 parts_of row = slice_split (λ c. c == 32) row
 
 -- the words that a row without its newline stands for; `None` where it is malformed
-unfoldable pub words_of : List ℕ → Option WordRow
-words_of row = row_of_parts (parts_of row)
+unfoldable pub word_row_of : List ℕ → Option WordRow
+word_row_of row = row_of_parts (parts_of row)
 
 -- ---- the rows of a text
 
@@ -71,7 +71,7 @@ rows_of (c ∷ cs) = if c == 10 then (c ∷ []) ∷ rows_of cs else onto_first c
 
 -- the words that a row stands for, with its newline or, at the end, without
 abbrev pub row_words : List ℕ → Option WordRow
-row_words row = words_of (before_first (λ c. c == 10) row)
+row_words row = word_row_of (before_first (λ c. c == 10) row)
 
 -- each row of the text is well formed, and they stand for these words in order
 abbrev pub AreRows : List ℕ → List WordRow → Type 0

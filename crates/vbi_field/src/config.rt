@@ -25,9 +25,9 @@ pub struct Config {
 
 impl Model for Config {
     ghost use Rattle.std.specs.Prelude.{◌≤◌};
-    ghost use Rattle.vbi_field.specs.Setup.{Setup};
+    ghost use Rattle.vbi_field.specs.ConfigView.{ConfigView};
 
-    ghost Value = { Setup };
+    ghost Value = { ConfigView };
 
     ghost view = { λ c. record { system = c.system; levels = c.levels; max_fields = c.max_fields } };
 
@@ -88,6 +88,6 @@ impl Config {
     pub(crate) fn line_bytes(&self) -> usize
         ensures { result ≡ line_bytes self.now.system }
     {
-        2 * self.system.width()
+        self.system.line_bytes()
     }
 }

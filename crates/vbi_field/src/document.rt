@@ -2,7 +2,7 @@
 ghost use Rattle.std.specs.Prelude.{◌≡◌, ◌-◌, ◌^◌, ◌<◌};
 ghost use Rattle.vbi_field.specs.Document.{value_of, data_of, causes_of, passes_of, head_of, tail_of};
 ghost use Rattle.vbi_field.specs.Kinds.{document};
-ghost use Rattle.vbi_field.specs.Texts.{piece_of};
+ghost use Rattle.vbi_field.specs.Texts.{joined_entry_of};
 
 use crate::cause_texts::cause_text;
 use crate::config::Config;
@@ -22,7 +22,7 @@ impl Form for Document {
         head_text(config)
     }
 
-    fn piece(before: u32, readings: &FieldReadings) -> ArrayString<TEXT_SIZE> {
+    fn entry(before: u32, readings: &FieldReadings) -> ArrayString<TEXT_SIZE> {
         record_text(before, readings)
     }
 
@@ -115,7 +115,7 @@ fn passes_text(readings: &FieldReadings) -> ArrayString<24>
 #[tactic(auto, unfolding(crate::specs::Document::record_of))]
 fn record_text(before: u32, readings: &FieldReadings) -> ArrayString<TEXT_SIZE>
     requires { before < 2 ^ 32 - 1 }
-    ensures { result.bytes ≡ piece_of document before readings.now }
+    ensures { result.bytes ≡ joined_entry_of document before readings.now }
 {
     let mut text = ArrayString::new();
     if before != 0 {

@@ -12,10 +12,7 @@ use crate::outlet::Outlet;
 use crate::row_intake::{ByteCame, RowCame, RowIntake};
 use crate::word_row::WordRow;
 use std::io::{Read, Write};
-use vbi_words::{Word24, drawn_sample};
-
-/// The bytes of the longest line, that of PAL.
-const LONGEST_LINE: usize = 2270;
+use vbi_words::{LONGEST_LINE, Word24, drawn_sample};
 
 /// Why drawing stopped. Rows are counted from 1.
 #[derive(Clone, Copy, Debug, PartialEq, Eq)]
@@ -119,7 +116,7 @@ fn run<R: Read, W: Write>(
     ensures run { Draws R.remaining W.contents config.now rows.old rows.new outlet.old outlet.new result }
 {
     let mut cells = [0u8; LONGEST_LINE];
-    let line = &mut cells[..2 * config.system().width()];
+    let line = &mut cells[..config.line_bytes()];
     draw_line(config, &None, line);
     for done in 0..config.max_fields() {
         match rows.next_row() {

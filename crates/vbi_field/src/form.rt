@@ -1,6 +1,6 @@
 //! A kind of text, as the run writes it.
 ghost use Rattle.std.specs.Prelude.{◌≡◌, ◌-◌, ◌^◌, ◌<◌};
-ghost use Rattle.vbi_field.specs.Texts.{Texts, piece_of};
+ghost use Rattle.vbi_field.specs.Texts.{Texts, joined_entry_of};
 
 use crate::config::Config;
 use crate::readings::FieldReadings;
@@ -19,9 +19,9 @@ pub(crate) trait Form {
         ensures { result.bytes ≡ texts.head config.now };
 
     /// The entry of a field that has so many fields before it, after the joint where there are any.
-    fn piece(before: u32, readings: &FieldReadings) -> ArrayString<TEXT_SIZE>
+    fn entry(before: u32, readings: &FieldReadings) -> ArrayString<TEXT_SIZE>
         requires { before < 2 ^ 32 - 1 }
-        ensures { result.bytes ≡ piece_of texts before readings.now };
+        ensures { result.bytes ≡ joined_entry_of texts before readings.now };
 
     /// What stands last, after so many whole fields and so many bytes past them.
     fn tail(fields: u32, rest: u32) -> ArrayString<TEXT_SIZE>

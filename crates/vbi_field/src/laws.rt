@@ -4,34 +4,34 @@ ghost use Rattle.std.specs.Prelude.{◌≡◌, ◌↔◌, ℕ, ◌+◌, ◌*◌,
 ghost use Rattle.std.specs.Io.KnownBytes.{Consumes, IsAtEnd};
 ghost use Rattle.vbi_words.specs.Geometry.{width_of};
 ghost use Rattle.vbi_field.specs.ByLines.{FieldReads, IsDocument};
-ghost use Rattle.vbi_field.specs.Extracts.{EndsInPiece, IsFirstOf};
-ghost use Rattle.vbi_field.specs.Setup.{Setup};
+ghost use Rattle.vbi_field.specs.Extracts.{EndsWithin, IsFirstOf};
+ghost use Rattle.vbi_field.specs.ConfigView.{ConfigView};
 ghost use Rattle.vbi_field.specs.Stream.{fields_of, rest_of, looks_of};
 ghost use Rattle.vbi_field.specs.Texts.{Texts, begun_of, document_of};
-ghost use Rattle.vbi_field.specs.WordRows.{IsWordRow, AreRows, words_of};
+ghost use Rattle.vbi_field.specs.WordRows.{IsWordRow, AreRows, word_row_of};
 ghost use Rattle.vbi_field.specs.Drawing.{draw_out};
 ghost use Rattle.vbi_field.specs.DrawnReadings.{AreDrawable, drawn_readings};
 ghost use Rattle.vbi_field.specs.declared.word_row.WordRow.{WordRow};
 
 /// A stream has one document and one report, fixed by the config and the bytes alone: those that its lines' readings give.
 pub fn one_document()
-    ensures { (t : Texts) (c : Setup) (z text : List ℕ) → (IsDocument t c z text ↔ (text ≡ document_of t c z)) }
+    ensures { (t : Texts) (c : ConfigView) (z text : List ℕ) → (IsDocument t c z text ↔ (text ≡ document_of t c z)) }
 {}
 
 /// A row stands for these words exactly where it is their three items with one space between two of them.
 pub fn one_word_row()
-    ensures { (row : List ℕ) (words : WordRow) → (words_of row ≡ Some words) ↔ IsWordRow row words }
+    ensures { (row : List ℕ) (words : WordRow) → (word_row_of row ≡ Some words) ↔ IsWordRow row words }
 {}
 
 /// Field i of a drawn stream, counted from 0, is read as the words of its row in the first pass, and as blank where there is none.
 pub fn drawn_field()
-    ensures { (c : Setup) (rows : List WordRow) (i : ℕ) (words : WordRow) → c.levels.black < c.levels.white
+    ensures { (c : ConfigView) (rows : List WordRow) (i : ℕ) (words : WordRow) → c.levels.black < c.levels.white
         → slice_get rows i ≡ Some words → AreDrawable words → FieldReads c (draw_out c rows) i (drawn_readings words) }
 {}
 
 /// The rows of a text stand for words or none, so they are read again from the stream that is drawn of them.
 pub fn drawn_rows()
-    ensures { (c : Setup) (text : List ℕ) (rows : List WordRow) (i : ℕ) (words : WordRow) → c.levels.black < c.levels.white
+    ensures { (c : ConfigView) (text : List ℕ) (rows : List WordRow) (i : ℕ) (words : WordRow) → c.levels.black < c.levels.white
         → AreRows text rows → slice_get rows i ≡ Some words → FieldReads c (draw_out c rows) i (drawn_readings words) }
 {}
 
@@ -43,18 +43,18 @@ pub fn whole_stream()
 
 /// The samples looked at are at most those of three rows for each field that begins.
 pub fn few_looks()
-    ensures { (c : Setup) (z : List ℕ) → looks_of c z ≤ 3 * width_of c.system * (fields_of c z + 1) }
+    ensures { (c : ConfigView) (z : List ℕ) → looks_of c z ≤ 3 * width_of c.system * (fields_of c z + 1) }
 {}
 
 /// A text that ends inside a piece is the first of the text of the whole fields, or of the whole text where the reader ended.
 pub fn first_of_text()
-    ensures { (t : Texts) (c : Setup) (input : Option (List ℕ)) (z text : List ℕ) → EndsInPiece t c input z text
+    ensures { (t : Texts) (c : ConfigView) (input : Option (List ℕ)) (z text : List ℕ) → EndsWithin t c input z text
         → IsFirstOf text (begun_of t c z) ⊎ (IsAtEnd input × IsFirstOf text (document_of t c z)) }
 {}
 
 /// A text that ends inside a piece has all that was due before: no byte had come past the whole fields, or the reader had ended and
 /// the texts of all whole fields were written.
 pub fn prompt()
-    ensures { (t : Texts) (c : Setup) (input : Option (List ℕ)) (z text : List ℕ) → EndsInPiece t c input z text
+    ensures { (t : Texts) (c : ConfigView) (input : Option (List ℕ)) (z text : List ℕ) → EndsWithin t c input z text
         → (rest_of c z ≡ 0) ⊎ (IsAtEnd input × (length (begun_of t c z) ≤ length text)) }
 {}

@@ -94,7 +94,7 @@ pub(crate) fn take_bytes<W: Write>(
     if line.is_full() {
         let reading = read_held(line, config, progress.is_selected());
         if let Some(readings) = progress.advance(config, reading) {
-            let text = Document::piece(progress.fields - 1, &readings);
+            let text = Document::entry(progress.fields - 1, &readings);
             if let Err(fault) = put(outlet, text.as_str()) {
                 return Err(fault);
             }

@@ -24,7 +24,7 @@ impl Form for Report {
         report_head(config.system(), config.levels())
     }
 
-    fn piece(before: u32, readings: &FieldReadings) -> ArrayString<TEXT_SIZE> {
+    fn entry(before: u32, readings: &FieldReadings) -> ArrayString<TEXT_SIZE> {
         report_entry(before + 1, readings)
     }
 

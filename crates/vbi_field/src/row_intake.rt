@@ -1,7 +1,7 @@
 //! The intake of rows of words from a reader.
 ghost use Rattle.std.specs.Prelude.{◌≡◌, ◌+◌, ◌*◌, ◌^◌, ◌<◌, ◌≤◌, length};
 
-use crate::word_row::{WordRow, read_words};
+use crate::word_row::{WordRow, read_word_row};
 use std::io::Read;
 use vbi_line::{Counted, Fail, RETRIES};
 
@@ -111,7 +111,7 @@ impl<'a, R: Read> RowIntake<'a, R> {
             match self.next_byte() {
                 ByteCame::Byte(byte) => {
                     if byte == b'\n' {
-                        return match read_words(&row[..held]) {
+                        return match read_word_row(&row[..held]) {
                             Some(words) => RowCame::Row(words),
                             None => RowCame::Malformed,
                         };
@@ -122,7 +122,7 @@ impl<'a, R: Read> RowIntake<'a, R> {
                     if held == 0 {
                         return RowCame::Ended;
                     }
-                    return match read_words(&row[..held]) {
+                    return match read_word_row(&row[..held]) {
                         Some(words) => RowCame::LastRow(words),
                         None => RowCame::Malformed,
                     };

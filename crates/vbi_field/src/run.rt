@@ -83,7 +83,7 @@ pub(crate) fn run<F: Form, R: Read, W: Write>(
         match take_row(intake, config.levels(), progress.is_selected()) {
             Row::Whole(reading) => {
                 if let Some(readings) = progress.advance(config, reading) {
-                    let text = F::piece(progress.fields - 1, &readings);
+                    let text = F::entry(progress.fields - 1, &readings);
                     if let Err(fault) = put(outlet, text.as_str()) {
                         return Err(fault);
                     }

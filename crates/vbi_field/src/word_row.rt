@@ -3,7 +3,7 @@ ghost use Rattle.std.specs.Prelude.{◌≡◌, ◌+◌, ◌^◌, ◌<◌, ◌≤
 ghost use Rattle.std.specs.List.{list_all, position};
 ghost use Rattle.std.specs.Char.{is_digit};
 ghost use Rattle.std.specs.Str.Parse.{digits_value};
-ghost use Rattle.vbi_field.specs.WordRows.{item_of, row_of_items, parts_of, words_of};
+ghost use Rattle.vbi_field.specs.WordRows.{item_of, row_of_items, parts_of, word_row_of};
 
 use vbi_words::Word24;
 
@@ -90,8 +90,8 @@ fn join_items(
 }
 
 /// The words that a row without its newline stands for, or `None` where it is malformed.
-pub(crate) fn read_words(row: &[u8]) -> Option<WordRow>
-    ensures { result ≡ words_of row.now }
+pub(crate) fn read_word_row(row: &[u8]) -> Option<WordRow>
+    ensures { result ≡ word_row_of row.now }
 {
     let Some((first, rest)) = cut_at_space(row) else {
         return None;

@@ -7,31 +7,31 @@ use Rattle.vbi_words.specs.Outcomes.{IsOutcome}
 use Rattle.vbi_words.proofs.Machine.{State, dead, is_lead}
 use Rattle.vbi_words.proofs.Shown.{state_after, ending_of, fit_after}
 use Rattle.vbi_words.proofs.Outcomes.{word_outcome, blank_outcome, unfinished_outcome}
-use Rattle.vbi_line.specs.declared.progress.Progress.{Progress}
-use Rattle.vbi_line.specs.declared.progress.Progress.TheVariants.{Lead, First, Second, Tail}
-use Rattle.vbi_line.specs.Progress.{state_of, IsFit}
+use Rattle.vbi_line.specs.declared.decoder.Decoder.{Decoder}
+use Rattle.vbi_line.specs.declared.decoder.Decoder.TheVariants.{Lead, First, Second, Tail}
+use Rattle.vbi_line.specs.Decoder.{state_of, IsFit}
 use Rattle.vbi_words.specs.Words.{IsWord, lowest_bits}
 
 -- a reader that goes on isn't in the dead state
-pub alive : (progress : Progress) → state_of progress ≡ dead → ⊥
+pub alive : (decoder : Decoder) → state_of decoder ≡ dead → ⊥
 alive (Lead run) e = cc
 alive (First level run cells bits) e = cc
 alive (Second level run cells bits) e = cc
 alive (Tail bits) e = cc
 
-module _ (system : System) (levels : List Bool) (progress : Progress) (at_end : state_of progress ≡ state_after system levels) where
-  pub fits : IsFit system (state_of progress)
+module _ (system : System) (levels : List Bool) (decoder : Decoder) (at_end : state_of decoder ≡ state_after system levels) where
+  pub fits : IsFit system (state_of decoder)
   fits = subst (λ (s : State). IsFit system s) (sym at_end) (fit_after system levels)
 
-  pub shows : (w : ℕ) → IsWord w → ending_of system (state_of progress) ≡ Some (lowest_bits 24 w) → IsOutcome system levels (Word w)
+  pub shows : (w : ℕ) → IsWord w → ending_of system (state_of decoder) ≡ Some (lowest_bits 24 w) → IsOutcome system levels (Word w)
   shows w range e = word_outcome system levels w range (ap (λ (s : State). ending_of system s) (sym at_end) ∙ e)
 
-  pub blank : is_lead (state_of progress) ≡ true → IsOutcome system levels Blank
+  pub blank : is_lead (state_of decoder) ≡ true → IsOutcome system levels Blank
   blank e = blank_outcome system levels (ap is_lead (sym at_end) ∙ e)
 
-  pub unfinished : ending_of system (state_of progress) ≡ None → is_lead (state_of progress) ≡ false → IsOutcome system levels Unfinished
+  pub unfinished : ending_of system (state_of decoder) ≡ None → is_lead (state_of decoder) ≡ false → IsOutcome system levels Unfinished
   unfinished none high =
-      unfinished_outcome system levels (λ e. alive progress (at_end ∙ e)) (ap is_lead (sym at_end) ∙ high)
+      unfinished_outcome system levels (λ e. alive decoder (at_end ∙ e)) (ap is_lead (sym at_end) ∙ high)
       (ap (λ (s : State). ending_of system s) (sym at_end) ∙ none)
 
 -- at the end of the list

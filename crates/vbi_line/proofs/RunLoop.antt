@@ -13,8 +13,8 @@ use Rattle.vbi_words.proofs.Machine
 use Rattle.vbi_words.proofs.Machine.{State, lead, dead, level_of}
 use Rattle.vbi_words.proofs.Shown.{state_after}
 use Rattle.vbi_words.proofs.Outcomes.{hold_outcome, change_outcome}
-use Rattle.vbi_line.specs.declared.progress.Progress.{Progress}
-use Rattle.vbi_line.specs.Progress.{state_of, next_of, after_of, DiesAfter}
+use Rattle.vbi_line.specs.declared.decoder.Decoder.{Decoder}
+use Rattle.vbi_line.specs.Decoder.{state_of, next_of, after_of, DiesAfter}
 use Rattle.vbi_line.specs.Runs.{IsRun}
 use Rattle.vbi_line.proofs.Ending.{alive}
 
@@ -42,31 +42,31 @@ module _ (system : System) (levels : List Bool) (column : ℕ) (v : Bool) (count
       ∙ append_assoc (take column levels) (replicate k v) (v ∷ [])
       ∙ ap (λ (t : List Bool). take column levels ++ t) (replicate_more k v ∙ ap (λ (j : ℕ). replicate j v) (add-one k))
 
-  module _ (progress : Progress) (so_far : state_of progress ≡ state_after system (take column levels)) where
-    after_levels : (k : ℕ) → k ≤ count → after_of system (state_of progress) (replicate k v) ≡ state_after system (take (column + k) levels)
+  module _ (decoder : Decoder) (so_far : state_of decoder ≡ state_after system (take column levels)) where
+    after_levels : (k : ℕ) → k ≤ count → after_of system (state_of decoder) (replicate k v) ≡ state_after system (take (column + k) levels)
     after_levels k l =
         ap (λ (s : State). after_of system s (replicate k v)) so_far
         ∙ sym (Machine.after-append (least_half system) (greatest_half system) 24 (lead 0) (take column levels) (replicate k v))
         ∙ ap (λ (t : List Bool). state_after system t) (sym (run_levels k l))
 
-    pub goes_on : (new : State) → new ≡ after_of system (state_of progress) (replicate count v) → new ≡ state_after system (take
+    pub goes_on : (new : State) → new ≡ after_of system (state_of decoder) (replicate count v) → new ≡ state_after system (take
         (column + count) levels)
     goes_on new e = e ∙ after_levels count (omega arith)
 
     -- the next run has the other level
-    pub turned : (next : Progress) → state_of next ≡ after_of system (state_of progress) (replicate count v)
+    pub turned : (next : Decoder) → state_of next ≡ after_of system (state_of decoder) (replicate count v)
         → column + count < length levels → level_at levels (column + count) ≡ level_of (state_of next) → ⊥
     turned next e l same =
-        run.ends l (same ∙ ap level_of e ∙ last_level system (state_of progress) v count run.some (λ d. alive next (e ∙ d)))
+        run.ends l (same ∙ ap level_of e ∙ last_level system (state_of decoder) v count run.some (λ d. alive next (e ∙ d)))
 
     living : state_after system (take column levels) ≡ dead → ⊥
-    living d = alive progress (so_far ∙ d)
+    living d = alive decoder (so_far ∙ d)
 
     here : level_at levels column ≡ v
     here = ap (λ (j : ℕ). level_at levels j) (sym (add-zero column)) ∙ run.each 0 run.some
 
-    pub changes : (0 < column → column < length levels → level_at levels column ≡ level_of (state_of progress) → ⊥)
-        → (lived : ℕ) → lived ≡ 0 → DiesAfter system (state_of progress) v lived → IsOutcome system levels (Change (column + lived))
+    pub changes : (0 < column → column < length levels → level_at levels column ≡ level_of (state_of decoder) → ⊥)
+        → (lived : ℕ) → lived ≡ 0 → DiesAfter system (state_of decoder) v lived → IsOutcome system levels (Change (column + lived))
     changes turns lived none dies =
         subst (λ (j : ℕ). IsOutcome system levels (Change j)) place
         (change_outcome system levels column (omega (arith, run.inside, run.some)) living gone differs)
@@ -74,15 +74,15 @@ module _ (system : System) (levels : List Bool) (column : ℕ) (v : Bool) (count
         place : column ≡ column + lived
         place = omega (arith, none)
 
-        at_once : after_of system (state_of progress) (replicate (0 + 1) v) ≡ dead
-        at_once = subst (λ (j : ℕ). after_of system (state_of progress) (replicate (j + 1) v) ≡ dead) none dies.1
+        at_once : after_of system (state_of decoder) (replicate (0 + 1) v) ≡ dead
+        at_once = subst (λ (j : ℕ). after_of system (state_of decoder) (replicate (j + 1) v) ≡ dead) none dies.1
 
         gone : state_after system (take (column + 1) levels) ≡ dead
         gone = sym (after_levels 1 (omega (arith, run.some))) ∙ at_once
 
         start : column ≡ 0 → level_at levels column ≡ level_of (state_after system (take column levels)) → ⊥
         start e same =
-            let lead_now : state_of progress ≡ lead 0 = so_far ∙ ap (λ (j : ℕ). state_after system (take j levels)) e in
+            let lead_now : state_of decoder ≡ lead 0 = so_far ∙ ap (λ (j : ℕ). state_after system (take j levels)) e in
             let low : v ≡ false = sym here ∙ same ∙ ap level_of (sym so_far ∙ lead_now) in
             let bad : dead ≡ lead (0 + 1) = sym at_once ∙ ap (λ (s : State). next_of system s v) lead_now ∙ ap (λ (b : Bool). next_of system
             (lead 0) b) low in
@@ -94,15 +94,15 @@ module _ (system : System) (levels : List Bool) (column : ℕ) (v : Bool) (count
           | inr first ↦ start (omega arith) same
         ]
 
-    pub holds : (lived : ℕ) → 0 < lived → lived < count → DiesAfter system (state_of progress) v lived → IsOutcome system levels (Hold
+    pub holds : (lived : ℕ) → 0 < lived → lived < count → DiesAfter system (state_of decoder) v lived → IsOutcome system levels (Hold
         (column + lived))
     holds lived some few dies =
         hold_outcome system levels (column + lived) (omega (arith, run.inside))
         (λ d. dies.0 (there ∙ d))
         (ap (λ (j : ℕ). state_after system (take j levels)) place ∙ sym (after_levels (lived + 1) (omega arith)) ∙ dies.1)
-        (run.each lived few ∙ sym (ap level_of (sym there) ∙ last_level system (state_of progress) v lived some dies.0))
+        (run.each lived few ∙ sym (ap level_of (sym there) ∙ last_level system (state_of decoder) v lived some dies.0))
       where
-        there : after_of system (state_of progress) (replicate lived v) ≡ state_after system (take (column + lived) levels)
+        there : after_of system (state_of decoder) (replicate lived v) ≡ state_after system (take (column + lived) levels)
         there = after_levels lived (omega arith)
 
         place : (column + lived) + 1 ≡ column + (lived + 1)

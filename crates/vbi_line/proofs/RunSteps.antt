@@ -6,11 +6,11 @@ use Rattle.vbi_words.specs.Geometry.{least_half, greatest_half}
 use Rattle.vbi_words.proofs.Machine.{State, length_of, grown, next_fit}
 use Rattle.vbi_words.proofs.Shown.{positive, order}
 use Rattle.vbi_words.proofs.Stays
-use Rattle.vbi_line.specs.declared.progress.Progress.{Progress}
-use Rattle.vbi_line.specs.Progress.{state_of, next_of, after_of, limit_of, DiesAfter, IsFit}
+use Rattle.vbi_line.specs.declared.decoder.Decoder.{Decoder}
+use Rattle.vbi_line.specs.Decoder.{state_of, next_of, after_of, limit_of, DiesAfter, IsFit}
 use Rattle.vbi_line.proofs.Ending.{alive}
 
-module _ (system : System) (state : State) (v : Bool) (begun : Progress) (is : state_of begun ≡ next_of system state v) where
+module _ (system : System) (state : State) (v : Bool) (begun : Decoder) (is : state_of begun ≡ next_of system state v) where
   pub free : (count : ℕ) → 0 < count → None ≡ limit_of system (state_of begun) → after_of system state (replicate count v) ≡ grown (count - 1)
       (state_of begun)
   free count some e = Stays.run_free (least_half system) (greatest_half system) 24 state v (state_of begun) is (alive begun) count some (sym e)

@@ -1,4 +1,4 @@
--- Slicing samples into levels.
+-- LevelsView samples into levels.
 use Rattle.std.proofs.Common.{◌≡◌, ℕ, zero, suc, ◌+◌, ◌-◌, ◌*◌, ◌%◌, ◌^◌, ◌<◌, ◌≤◌, Bool, true, false, cond, ltb, nat_eq, nat_lt, List, [], ◌∷◌, ◌++◌}
 use Rattle.std.proofs.Common.{◌⊎◌, inl, inr, map, length, get_or, Some, None, refl, sym, ap, subst, ◌∙◌, arith, lit≤}
 use Rattle.std.specs.Prelude.{replicate}
@@ -9,7 +9,7 @@ use Rattle.std.proofs.lemmas.Simd.{tops_compared, zip2_splat_left, mask_l-mod, m
 use lib.Lanes.{zip2, mask_l, top}
 use mir.Val.{bits, hbits}
 use mir.Syntax.{w16}
-use Rattle.vbi_words.specs.Levels.{Slicing, is_high_of, samples_of, row_levels, level_at}
+use Rattle.vbi_words.specs.Levels.{LevelsView, is_high_of, samples_of, row_levels, level_at}
 use Rattle.vbi_line.specs.Line.{Line, sample_at, KeepsBytes, LooksAtBlock, IsNextBlock, IsNextBlockAt, IsNextSample, IsNextSampleAt}
 use Rattle.vbi_words.specs.Geometry.{width_of}
 use Rattle.vbi_line.specs.Packing.{level_of_bit, levels_in}
@@ -76,10 +76,10 @@ sample_of (low ∷ high ∷ bytes) (suc k) l =
     ∙ ap (λ (i : ℕ). get_or (low ∷ high ∷ bytes) (2 * suc k) 0 + 256 * get_or (low ∷ high ∷ bytes) i 0) (sym odd)
 
 -- these are the levels of the row's first samples
-abbrev pub Sliced : Slicing → List ℕ → List Bool → Type 0
+abbrev pub Sliced : LevelsView → List ℕ → List Bool → Type 0
 Sliced slicing held levels = (k : ℕ) → k < length levels → level_at levels k ≡ is_high_of slicing (sample_at held k)
 
-pub sliced_more : (slicing : Slicing) (held : List ℕ) (levels more : List Bool) → Sliced slicing held levels
+pub sliced_more : (slicing : LevelsView) (held : List ℕ) (levels more : List Bool) → Sliced slicing held levels
     → ((k : ℕ) → k < length more → level_at more k ≡ is_high_of slicing (sample_at held (length levels + k))) → Sliced slicing held (levels ++ more)
 sliced_more slicing held levels more sliced new k l = go (cases_lt k (length levels))
   where
@@ -91,7 +91,7 @@ sliced_more slicing held levels more sliced new k l = go (cases_lt k (length lev
         ap (level_at (levels ++ more)) place ∙ get_or-append-add levels more j false
         ∙ new j (omega (arith, length-append levels more)) ∙ ap (λ (i : ℕ). is_high_of slicing (sample_at held i)) (sym place)
 
-pub sliced_all : (slicing : Slicing) (held : List ℕ) (levels : List Bool) (width : ℕ) → length held ≡ 2 * width → length levels ≡ width
+pub sliced_all : (slicing : LevelsView) (held : List ℕ) (levels : List Bool) (width : ℕ) → length held ≡ 2 * width → length levels ≡ width
     → Sliced slicing held levels
     → levels ≡ row_levels slicing held
 sliced_all slicing held levels width full long sliced =
@@ -116,7 +116,7 @@ pub line_ended : (old new : Line) (cursor : ℕ) (before : List ℕ) → old.cur
 line_ended old new cursor before at gives = (subst (λ (cursors : List ℕ). IsNextSampleAt cursors old None new) at gives).0
 
 -- a pass that gave as many samples as there are levels gives a block, and the levels of the block are added
-module _ (slicing : Slicing) (first old : Line) (levels : List Bool) (before : List ℕ) (block : List ℕ) (new : Line) (low : ℕ) (more : List Bool)
+module _ (slicing : LevelsView) (first old : Line) (levels : List Bool) (before : List ℕ) (block : List ℕ) (new : Line) (low : ℕ) (more : List Bool)
     (bytes : KeepsBytes first old) (sliced : Sliced slicing first.held levels) (gives : LooksAtBlock old (length levels) before block new)
     (test : (sample : ℕ) → is_high_of slicing sample ≡ nat_lt low sample) (are : more ≡ map (λ sample. nat_lt low sample) block) where
   pub length-block : length more ≡ 16

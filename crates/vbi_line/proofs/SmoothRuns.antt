@@ -18,7 +18,7 @@ use Rattle.vbi_words.proofs.Shown.{state_after, viable_alive, fit_after, ending_
 use Rattle.vbi_words.proofs.Smoothing.{window, smooth_window}
 use Rattle.vbi_words.proofs.SmoothKeeps.{steady, steady_same}
 use Rattle.vbi_line.specs.Runs.{IsRun}
-use Rattle.vbi_line.specs.Progress.{IsFit, DiesAfter, after_of}
+use Rattle.vbi_line.specs.Decoder.{IsFit, DiesAfter, after_of}
 
 -- a run of x begins here: the level before was another, or all was x
 abbrev pub Turns : Bool → Bool → Bool → Bool → Bool → Type 0

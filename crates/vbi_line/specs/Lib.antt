@@ -1,4 +1,5 @@
 pub mod Counted
+pub mod Decoder
 pub mod Intake
 pub mod Line
 pub mod LineLends
@@ -7,6 +8,5 @@ pub mod OneOutcome
 pub mod OneReading
 pub mod PackedView
 pub mod Packing
-pub mod Progress
 pub mod Runs
 pub mod StoreLends

@@ -10,8 +10,8 @@ ghost use Rattle.vbi_line.specs.OneReading.{reading_of};
 
 use crate::counted::{Counted, Fail, RETRIES};
 use crate::line::LineBuf;
-use crate::plain::read_line;
-use crate::twice::read_twice;
+use crate::outcome::read_line;
+use crate::reading::read_twice;
 use std::io::Read;
 use vbi_words::{Levels, Outcome, Reading, System};
 

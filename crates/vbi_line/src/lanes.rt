@@ -1,4 +1,4 @@
-//! Slicing a line into levels, sixteen samples at a time.
+//! LevelsView a line into levels, sixteen samples at a time.
 
 ghost use Rattle.std.specs.Prelude.{◌≡◌, ℕ, ◌+◌, ◌^◌, ◌<◌, ◌≤◌, ◌∷◌, length, map, nat_lt};
 ghost use Rattle.vbi_words.specs.Geometry.{width_of};

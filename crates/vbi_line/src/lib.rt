@@ -6,13 +6,14 @@
 #![tactic(auto)]
 
 mod counted;
+mod decoder;
 mod intake;
 mod lanes;
 pub mod laws;
 mod line;
+mod outcome;
 mod packed;
-mod plain;
-mod progress;
+mod reading;
 mod store;
 #[cfg(test)]
 mod tests_cases;
@@ -22,12 +23,11 @@ mod tests_devices;
 mod tests_lines;
 #[cfg(test)]
 mod tests_packed;
-mod twice;
 
 pub use counted::{Counted, Fail, RETRIES};
 pub use intake::{Filled, Intake, IntakeFault};
 pub use lanes::slice_lanes;
 pub use line::LineBuf;
+pub use outcome::{read_line, read_packed};
 pub use packed::Packed;
-pub use plain::{read_line, read_packed};
-pub use twice::read_twice;
+pub use reading::read_twice;

@@ -6,7 +6,7 @@ ghost use Rattle.vbi_words.specs.Geometry.{width_of, line_bytes};
 use crate::store::LineBytes;
 use byteorder::{ByteOrder, LittleEndian};
 use std::marker::Model;
-use vbi_words::System;
+use vbi_words::{LONGEST_LINE, System};
 
 /// The bytes of one line as they come, the cursors of at most two passes over its samples, and
 /// counts of the samples that were looked at. A line has two bytes a sample, low byte first.
@@ -47,7 +47,7 @@ impl LineBuf {
     {
         LineBuf {
             system,
-            store: LineBytes { bytes: [0; 2270] },
+            store: LineBytes { bytes: [0; LONGEST_LINE] },
             held: 0,
             passes: 0,
             cursor: 0,
@@ -64,7 +64,7 @@ impl LineBuf {
         ensures fits { length self.old.held + length result.now ≡ line_bytes self.old.system }
     {
         let held = self.held;
-        let end = 2 * self.system.width();
+        let end = self.system.line_bytes();
         self.store.part_mut(held, end)
     }
 
@@ -82,7 +82,7 @@ impl LineBuf {
     pub fn is_full(&self) -> bool
         ensures { IsTrue result ↔ IsFull self.now }
     {
-        self.held == 2 * self.system.width()
+        self.held == self.system.line_bytes()
     }
 
     /// How many bytes are held.

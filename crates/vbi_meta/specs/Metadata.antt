@@ -11,7 +11,7 @@ abbrev pub most_bytes : ℕ
 most_bytes = 268435456
 
 -- the bytes are JSON in UTF-8, nested at most 127 deep, and this is what it says
-pub record IsDocument (bytes : List ℕ) (document : Data) : Type 0 where
+pub record IsMetadata (bytes : List ℕ) (document : Data) : Type 0 where
   pub short : length bytes ≤ most_bytes
   pub utf8 : IsUtf8 bytes
   pub reading : read bytes ≡ Some document
@@ -21,6 +21,6 @@ pub record IsDocument (bytes : List ℕ) (document : Data) : Type 0 where
 -- there is a byte at all
 abbrev pub IsUnread : List ℕ → MetaFault → Type 0
 IsUnread bytes TooLarge = most_bytes < length bytes
-IsUnread bytes NotJson = (document : Data) → ¬ IsDocument bytes document
+IsUnread bytes NotJson = (document : Data) → ¬ IsMetadata bytes document
 IsUnread bytes OutOfMemory = 0 < length bytes
 IsUnread bytes _ = ⊥

@@ -8,7 +8,7 @@ use Rattle.serde_json.specs.Find.{get, as_bool, as_number, as_str, as_object, as
 use Rattle.vbi_words.specs.declared.system.System.{System}
 use Rattle.vbi_words.specs.declared.system.System.TheVariants.{Ntsc, Pal}
 use Rattle.vbi_words.specs.Geometry.{width_of, height_of}
-use Rattle.vbi_field.specs.Setup.{Setup}
+use Rattle.vbi_field.specs.ConfigView.{ConfigView}
 use Rattle.vbi_meta.specs.declared.choosing.Overrides.{Overrides}
 use Rattle.vbi_meta.specs.declared.fault.MetaFault.{MetaFault}
 use Rattle.vbi_meta.specs.declared.fault.MetaFault.TheVariants.{NoVideoParameters, NoSystem, UnknownSystem, SystemsDisagree, NoBlack, BadBlack}
@@ -154,7 +154,7 @@ abbrev pub IsRefused : Option Data → Overrides → MetaFault → Type 0
 IsRefused document given fault = first_refusal (refusals_of document given) ≡ Some fault
 
 -- they are not refused, and this is what they settle
-pub record IsSettled (document : Option Data) (given : Overrides) (setup : Setup) : Type 0 where
+pub record IsSettled (document : Option Data) (given : Overrides) (setup : ConfigView) : Type 0 where
   pub unrefused : first_refusal (refusals_of document given) ≡ None
   pub system : (let member = member_of (option_and_then parameters_of document) in
       chosen_system given.system (member (codes "system")) (member (codes "isSourcePal"))) ≡ Some setup.system

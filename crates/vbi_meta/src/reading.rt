@@ -2,7 +2,7 @@
 
 ghost use Rattle.std.specs.Prelude.{◌<◌, ◌↔◌, length, IfOk, IfErr, IsErrOf};
 ghost use Rattle.serde_json.specs.View.{view};
-ghost use Rattle.vbi_meta.specs.Metadata.{IsDocument, IsUnread};
+ghost use Rattle.vbi_meta.specs.Metadata.{IsMetadata, IsUnread};
 
 use crate::fault::MetaFault;
 use serde_json::Value;
@@ -13,7 +13,7 @@ pub const META_LIMIT: usize = 268_435_456;
 
 /// Reads a metadata document. A document near the limit may want twenty times its bytes of memory.
 pub fn read_meta(alloc: Global, bytes: &[u8]) -> Result<Value, MetaFault>
-    ensures ok { IfOk result (λ v. IsDocument bytes.now (view v)) }
+    ensures ok { IfOk result (λ v. IsMetadata bytes.now (view v)) }
     ensures too_large { IsErrOf result MetaFault.TooLarge ↔ (META_LIMIT < length bytes.now) }
     ensures err { IfErr result (IsUnread bytes.now) }
 {

@@ -10,7 +10,7 @@ use Rattle.std.specs.List.{flat_map}
 use Rattle.vbi_words.specs.declared.system.System.{System}
 use Rattle.vbi_words.specs.declared.system.System.TheVariants.{Ntsc, Pal}
 use Rattle.vbi_words.specs.Geometry.{width_of, least_half, greatest_half}
-use Rattle.vbi_words.specs.Levels.{Slicing, is_high_of, levels_of}
+use Rattle.vbi_words.specs.Levels.{LevelsView, is_high_of, levels_of}
 use Rattle.vbi_words.specs.Words.{IsWord, halves_of, lowest_bits, cell_of}
 use Rattle.vbi_words.specs.Shows.{Shows, Spells}
 use Rattle.vbi_words.specs.Outcomes.{AllLow}
@@ -69,7 +69,7 @@ length-halves (false ∷ bits) = omega (arith, length-halves bits)
 
 -- ---- the levels of a drawn row
 
-module _ (system : System) (slicing : Slicing) (word : ℕ) (order : slicing.black < slicing.white) (samples : List ℕ) (row : IsDrawnRow system slicing (Some word) samples) where
+module _ (system : System) (slicing : LevelsView) (word : ℕ) (order : slicing.black < slicing.white) (samples : List ℕ) (row : IsDrawnRow system slicing (Some word) samples) where
   high_there : (c : ℕ) → c < width_of system → DrawnHigh system word c → get_or (levels_of slicing samples) c false ≡ true
   high_there c l d = get_or-map (is_high_of slicing) samples c 0 false (omega (arith, row.whole)) ∙ ap (is_high_of slicing) ((row.each c l).0 d) ∙ lt-ltb (slicing.black + slicing.white) (2 * slicing.white) (omega arith)
 
@@ -127,7 +127,7 @@ module _ (system : System) (slicing : Slicing) (word : ℕ) (order : slicing.bla
       none = omega arith
 
 -- the drawn row of no word has no high level
-module _ (system : System) (slicing : Slicing) (order : slicing.black < slicing.white) (samples : List ℕ) (row : IsDrawnRow system slicing None samples) where
+module _ (system : System) (slicing : LevelsView) (order : slicing.black < slicing.white) (samples : List ℕ) (row : IsDrawnRow system slicing None samples) where
   pub none_low : AllLow (levels_of slicing samples)
   none_low = All-from_get_or (λ level. level ≡ false) (levels_of slicing samples) false
       (λ i l. let here : i < length samples = omega (arith, l, length-map samples (is_high_of slicing)) in

@@ -4,7 +4,7 @@ ghost use Rattle.std.specs.Prelude.{◌≡◌, ℕ, ◌≤◌, ◌<◌, ◌+◌,
 ghost use Rattle.vbi_words.specs.declared.system.System.{System};
 ghost use Rattle.vbi_words.specs.declared.system.System.TheVariants.{Ntsc};
 ghost use Rattle.vbi_words.specs.declared.outcome.Outcome.TheVariants.{Word, Unfinished, Change, Hold};
-ghost use Rattle.vbi_words.specs.Levels.{Slicing, levels_of};
+ghost use Rattle.vbi_words.specs.Levels.{LevelsView, levels_of};
 ghost use Rattle.vbi_words.specs.Words.{IsWord};
 ghost use Rattle.vbi_words.specs.Shows.{Shows, ShowsNone, Viable};
 ghost use Rattle.vbi_words.specs.Outcomes.{AllLow, IsOutcome};
@@ -33,10 +33,10 @@ pub fn run_limit()
 
 /// A drawn row shows its word; that of no word has no high level.
 pub fn drawn_shows()
-    ensures word { (system : System) (slicing : Slicing) (word : ℕ) (samples : List ℕ)
+    ensures word { (system : System) (slicing : LevelsView) (word : ℕ) (samples : List ℕ)
         → slicing.black < slicing.white → IsWord word
         → IsDrawnRow system slicing (Some word) samples → Shows system (levels_of slicing samples) word }
-    ensures none { (system : System) (slicing : Slicing) (samples : List ℕ)
+    ensures none { (system : System) (slicing : LevelsView) (samples : List ℕ)
         → slicing.black < slicing.white
         → IsDrawnRow system slicing None samples → AllLow (levels_of slicing samples) }
 {}

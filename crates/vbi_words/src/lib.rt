@@ -22,5 +22,5 @@ pub use drawing::drawn_sample;
 pub use format::{Format, format_of};
 pub use levels::{Levels, LevelsFault};
 pub use outcome::{Outcome, Reading};
-pub use system::System;
+pub use system::{LONGEST_LINE, System};
 pub use word::{Word24, WordFault};

@@ -1,7 +1,10 @@
 //! The two television systems and their geometry in ld-decode's TBC files.
 
 ghost use Rattle.std.specs.Prelude.{◌≡◌};
-ghost use Rattle.vbi_words.specs.Geometry.{width_of, height_of, field_bytes, least_half, greatest_half, start_of, name_of};
+ghost use Rattle.vbi_words.specs.Geometry.{width_of, height_of, line_bytes, field_bytes, least_half, greatest_half, start_of, name_of};
+
+/// Bytes of the longest line, that of PAL.
+pub const LONGEST_LINE: usize = 2270;
 
 /// A television system. Each call gives one number of its TBC geometry, in samples, lines, columns or bytes.
 #[derive(Clone, Copy, Debug, PartialEq, Eq)]
@@ -33,11 +36,18 @@ impl System {
         }
     }
 
+    /// Bytes per line: two bytes a sample.
+    pub fn line_bytes(self) -> usize
+        ensures { result ≡ line_bytes self }
+    {
+        2 * self.width()
+    }
+
     /// Bytes per field: two bytes a sample.
     pub fn field_bytes(self) -> usize
         ensures { result ≡ field_bytes self }
     {
-        2 * self.width() * self.height()
+        self.line_bytes() * self.height()
     }
 
     /// The fewest samples of a half cell of one microsecond.

@@ -63,7 +63,7 @@ returns-in_default-put-clause-step g c =
     fed_field g.W.Write.contents c.args.config.now c.args.line.now c.args.progress.now st z at
     (take c.copy_in-count.result c.args.bytes.now) b c.copy_in-count.ensures.held le left c.read_held-reading.new.line c.advance.new.self
     c.read_held-reading.ensures.held over.0 counts.0 c.in-Some.readings over.2 c.as_str.result.now (c.advance.new.self.fields - 1)
-    (omega (arith, counts.0)) (c.as_str.ensures.value ∙ c.piece-text.ensures) c.args.outlet.now c.put.new.outlet
+    (omega (arith, counts.0)) (c.as_str.ensures.value ∙ c.entry-text.ensures) c.args.outlet.now c.put.new.outlet
     (put_whole _ _ _ _ c.in_default-put.ensures.puts c.in_default-put.ensures.ok)
 
 pub returns-in-Err-clause-step : goal.returns-in-Err-clause-step
@@ -84,7 +84,7 @@ returns-in-Err-clause-step g c =
     fed_in_part g.W.Write.contents c.args.config.now c.args.line.now c.args.progress.now st z at
     (take c.copy_in-count.result c.args.bytes.now) b c.copy_in-count.ensures.held le left c.read_held-reading.new.line c.advance.new.self
     c.read_held-reading.ensures.held over.0 counts.0 c.in-Some.readings over.2 c.as_str.result.now (c.advance.new.self.fields - 1)
-    (omega (arith, counts.0)) (c.as_str.ensures.value ∙ c.piece-text.ensures) c.args.outlet.now c.put.new.outlet
+    (omega (arith, counts.0)) (c.as_str.ensures.value ∙ c.entry-text.ensures) c.args.outlet.now c.put.new.outlet
     c.args.bytes.now c.copy_in-count.result c.in-Err.fault _ refl c.in-Err.ensures.puts c.in-Err.ensures.fault
 
 pub returns-in-Err-clause-stand : goal.returns-in-Err-clause-stand

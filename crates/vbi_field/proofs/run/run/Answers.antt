@@ -29,7 +29,7 @@ returns-in-Err-put-clause-run g c =
     field_fault _ _ _ _ _ _ _ _ _ _ _ v _ (search rules) c.in-Whole.reading c.levels.result c.levels.ensures t
     c.advance.new.self c.in-Some.readings over.0 c.in-Some.ensures.counts.0 over.2 c.put-in-Some.new.outlet c.as_str-in-Some.result.now
     (c.advance.new.self.fields - 1) c.in-Err-put.fault (omega (arith, c.in-Some.ensures.counts.0)) c.in-Some.ensures.counts.1
-    over.1 last (c.as_str-in-Some.ensures.value ∙ c.piece-text.ensures) c.in-Err-put.ensures.puts c.in-Err-put.ensures.failed
+    over.1 last (c.as_str-in-Some.ensures.value ∙ c.entry-text.ensures) c.in-Err-put.ensures.puts c.in-Err-put.ensures.failed
     c.in-Err-put.ensures.short c.in-Err-put.ensures.fault
 
 pub returns-in-Ended-clause-run : goal.returns-in-Ended-clause-run
@@ -65,7 +65,7 @@ loop-row-preserved g c =
           step_field _ _ _ _ _ _ _ _ _ _ _ v _ (search rules) c.in-Whole.reading c.levels.result c.levels.ensures t
           c.advance.new.self w.in-Some.readings over.0 w.in-Some.ensures.counts.0 over.2 w.put-in-Some.new.outlet w.as_str-in-Some.result.now
           (c.advance.new.self.fields - 1) (omega (arith, w.in-Some.ensures.counts.0)) c.in-Whole.ensures.same w.in-Some.ensures.counts.1
-          over.1 last (w.as_str-in-Some.ensures.value ∙ w.piece-text.ensures) w.as_str-in-Some.ensures.fits
+          over.1 last (w.as_str-in-Some.ensures.value ∙ w.entry-text.ensures) w.as_str-in-Some.ensures.fits
           w.in_default-put.ensures.puts w.in_default-put.ensures.ok w.in_default-put.ensures.same
           )
       | in_default-advance w ↦

@@ -1,9 +1,9 @@
-use Rattle.std.proofs.Common.{◌≡◌, ◌*◌, [], ◌∷◌, take, length, refl, sym, ap, ◌∙◌, arith}
+use Rattle.std.proofs.Common.{◌≡◌, [], ◌∷◌, take, length, refl, ap, arith}
 use Rattle.std.proofs.lemmas.List.{length-take-le}
 use Rattle.vbi_words.specs.Geometry.{line_bytes}
 use Rattle.vbi_line.proofs.Parts.{take-with_part, part-with_part}
 use Rattle.vbi_line.proofs.StoreMemory.{length-part}
-use Rattle.vbi_line.proofs.Sizes.{line_bytes-le, line_bytes-twice}
+use Rattle.vbi_line.proofs.Sizes.{line_bytes-le}
 use Rattle.vbi_line.proofs.line.LineBuf.room.Goals as goal
 
 pub returns : goal.returns
@@ -12,7 +12,7 @@ returns c =
     let full = line_bytes-le b.system in
     let xs = b.store.bytes in
     let e = line_bytes b.system in
-    let ends : 2 * c.width-end.result ≡ e = ap (λ n. 2 * n) c.width-end.ensures ∙ sym (line_bytes-twice b.system) in
+    let ends : c.line_bytes-end.result ≡ e = c.line_bytes-end.ensures in
     let lent = rw ends at c.part_mut.ensures.value in
     let held = length-take-le b.held xs (omega arith) in
     let room = length-part xs b.held e (omega arith) (omega arith) in

@@ -1,14 +1,14 @@
 use Rattle.std.proofs.Common.{◌-◌, ◌≤◌, length}
-use Rattle.vbi_line.specs.Progress.{state_of, IsSound, run_of}
+use Rattle.vbi_line.specs.Decoder.{state_of, IsSound, run_of}
 use Rattle.vbi_line.proofs.SmoothRuns.{Halfway}
-use Rattle.vbi_line.proofs.twice.smoothed_word.Given as goal
+use Rattle.vbi_line.proofs.reading.smoothed_word.Given as goal
 
 abbrev pub invariant-loop-column : goal.invariant-loop-column
 invariant-loop-column l = record {
   inside : l.column ≤ length l.packed;
-  halfway : Halfway l.system l.packed l.column l.settled (state_of l.progress);
-  sound : IsSound l.progress;
-  run : run_of l.progress ≤ l.column;
+  halfway : Halfway l.system l.packed l.column l.settled (state_of l.decoder);
+  sound : IsSound l.decoder;
+  run : run_of l.decoder ≤ l.column;
 }
 
 abbrev pub decreases-loop-column : goal.decreases-loop-column

@@ -1,6 +1,6 @@
 use Rattle.std.proofs.Common.{List, Bool, subst}
 use Rattle.vbi_words.specs.Outcomes.{IsOutcome}
-use Rattle.vbi_line.proofs.plain.read_line.Goals as goal
+use Rattle.vbi_line.proofs.outcome.read_line.Goals as goal
 
 pub returns-clause-outcome : goal.returns-clause-outcome
 returns-clause-outcome c =

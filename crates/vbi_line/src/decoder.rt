@@ -5,7 +5,7 @@ ghost use Rattle.vbi_words.specs.Words.{lowest_bits, IsWord};
 ghost use Rattle.vbi_words.specs.Outcomes.{IsOutcome};
 ghost use Rattle.vbi_words.proofs.Machine.{dead, level_of, length_of, grown, is_lead};
 ghost use Rattle.vbi_words.proofs.Shown.{ending_of, state_after};
-ghost use Rattle.vbi_line.specs.Progress.{IsFit, after_of, DiesAfter, limit_of, state_of, IsSound, run_of, stay_of, turn_of, next_of};
+ghost use Rattle.vbi_line.specs.Decoder.{IsFit, after_of, DiesAfter, limit_of, state_of, IsSound, run_of, stay_of, turn_of, next_of};
 
 use vbi_words::{Outcome, System, Word24};
 
@@ -15,7 +15,7 @@ const CELLS: u32 = 24;
 /// The last run of equal levels: where it began, how many columns it has, and the bits of the cells so far. What it will have
 /// been, one half cell or two, shows only at the next change of level.
 #[derive(Clone, Copy, Debug)]
-pub(crate) enum Progress {
+pub(crate) enum Decoder {
     /// Lows alone.
     Lead(usize),
     /// The run began at the start of a cell; `cells` counts those before it, and `bits` has their bits.
@@ -58,29 +58,29 @@ fn word_of(bits: u32) -> Word24
 /// After a change of level behind a run from the middle of a cell: it was the cell's second half alone, or with it the first half
 /// of a next cell.
 #[tactic(auto, using(crate::proofs::Steps::steps))]
-fn turn_second(system: System, level: bool, run: usize, cells: u32, bits: u32) -> Option<Progress>
-    requires sound { IsSound (Progress.Second level run cells bits) }
-    ensures some { IfSome result (λ r. state_of r ≡ turn_of system (state_of (Progress.Second level run cells bits))) }
+fn turn_second(system: System, level: bool, run: usize, cells: u32, bits: u32) -> Option<Decoder>
+    requires sound { IsSound (Decoder.Second level run cells bits) }
+    ensures some { IfSome result (λ r. state_of r ≡ turn_of system (state_of (Decoder.Second level run cells bits))) }
     ensures sound { IfSome result (λ r. IsSound r × (run_of r ≤ 1)) }
-    ensures none { IfNone result (turn_of system (state_of (Progress.Second level run cells bits)) ≡ dead) }
+    ensures none { IfNone result (turn_of system (state_of (Decoder.Second level run cells bits)) ≡ dead) }
 {
     if run <= system.half_max() {
         if run < system.half_min() {
             None
         } else if cells < CELLS {
-            Some(Progress::First {
+            Some(Decoder::First {
                 level: !level,
                 run: 1,
                 cells,
                 bits,
             })
         } else if level {
-            Some(Progress::Tail(bits))
+            Some(Decoder::Tail(bits))
         } else {
             None
         }
     } else if run >= 2 * system.half_min() && cells < CELLS {
-        Some(Progress::Second {
+        Some(Decoder::Second {
             level: !level,
             run: 1,
             cells: cells + 1,
@@ -91,20 +91,20 @@ fn turn_second(system: System, level: bool, run: usize, cells: u32, bits: u32) -
     }
 }
 
-impl Progress {
+impl Decoder {
     /// The level of the last run.
     fn level(self) -> bool
         ensures { result ≡ level_of (state_of self) }
     {
         match self {
-            Progress::Lead(_) | Progress::Tail(_) => false,
-            Progress::First { level, .. } | Progress::Second { level, .. } => level,
+            Decoder::Lead(_) | Decoder::Tail(_) => false,
+            Decoder::First { level, .. } | Decoder::Second { level, .. } => level,
         }
     }
 
     /// After one more level like the last.
     #[tactic(auto, using(crate::proofs::Steps::steps))]
-    fn stay(self, system: System) -> Option<Progress>
+    fn stay(self, system: System) -> Option<Decoder>
         requires sound { IsSound self }
         requires room { run_of self + 1 < 2 ^ 32 }
         ensures some { IfSome result (λ r. state_of r ≡ stay_of system (state_of self)) }
@@ -125,16 +125,16 @@ impl Progress {
 
     /// After a change of level.
     #[tactic(auto, using(crate::proofs::Steps::steps))]
-    fn turn(self, system: System) -> Option<Progress>
+    fn turn(self, system: System) -> Option<Decoder>
         requires sound { IsSound self }
         ensures some { IfSome result (λ r. state_of r ≡ turn_of system (state_of self)) }
         ensures sound { IfSome result (λ r. IsSound r × (run_of r ≤ 1)) }
         ensures none { IfNone result (turn_of system (state_of self) ≡ dead) }
     {
         match self {
-            Progress::Lead(run) => {
+            Decoder::Lead(run) => {
                 if run >= system.half_min() {
-                    Some(Progress::Second {
+                    Some(Decoder::Second {
                         level: true,
                         run: 1,
                         cells: 1,
@@ -144,14 +144,14 @@ impl Progress {
                     None
                 }
             }
-            Progress::First {
+            Decoder::First {
                 level,
                 run,
                 cells,
                 bits,
             } => {
                 if run >= system.half_min() {
-                    Some(Progress::Second {
+                    Some(Decoder::Second {
                         level: !level,
                         run: 1,
                         cells: cells + 1,
@@ -161,19 +161,19 @@ impl Progress {
                     None
                 }
             }
-            Progress::Second {
+            Decoder::Second {
                 level,
                 run,
                 cells,
                 bits,
             } => turn_second(system, level, run, cells, bits),
-            Progress::Tail(_) => None,
+            Decoder::Tail(_) => None,
         }
     }
 
     /// After one more level, or `None` where nothing that begins so shows a word.
     #[inline(always)]
-    fn next(self, system: System, level: bool) -> Option<Progress>
+    fn next(self, system: System, level: bool) -> Option<Decoder>
         requires sound { IsSound self }
         requires room { run_of self + 1 < 2 ^ 32 }
         ensures some { IfSome result (λ r. state_of r ≡ next_of system (state_of self) level) }
@@ -196,7 +196,7 @@ impl Progress {
         ensures none { IfNone result (ending_of system (state_of self) ≡ None) }
     {
         match self {
-            Progress::Second {
+            Decoder::Second {
                 run,
                 cells,
                 bits,
@@ -208,8 +208,8 @@ impl Progress {
                     None
                 }
             }
-            Progress::Tail(bits) => Some(word_of(bits)),
-            Progress::Lead(_) | Progress::First { .. } => None,
+            Decoder::Tail(bits) => Some(word_of(bits)),
+            Decoder::Lead(_) | Decoder::First { .. } => None,
         }
     }
 
@@ -217,7 +217,7 @@ impl Progress {
     fn is_lead(self) -> bool
         ensures { result ≡ is_lead (state_of self) }
     {
-        matches!(self, Progress::Lead(_))
+        matches!(self, Decoder::Lead(_))
     }
 
     /// The outcome of levels that lead here, if nothing more comes.
@@ -245,9 +245,9 @@ impl Progress {
         ensures { result ≡ limit_of system (state_of self) }
     {
         match self {
-            Progress::Tail(_) | Progress::Lead(_) => None,
-            Progress::First { .. } => Some(system.half_max()),
-            Progress::Second { level, cells, .. } => {
+            Decoder::Tail(_) | Decoder::Lead(_) => None,
+            Decoder::First { .. } => Some(system.half_max()),
+            Decoder::Second { level, cells, .. } => {
                 if cells < CELLS {
                     Some(2 * system.half_max())
                 } else if level {
@@ -264,47 +264,47 @@ impl Progress {
         ensures { result ≡ length_of (state_of self) }
     {
         match self {
-            Progress::Lead(run) | Progress::First { run, .. } | Progress::Second { run, .. } => run,
-            Progress::Tail(_) => 0,
+            Decoder::Lead(run) | Decoder::First { run, .. } | Decoder::Second { run, .. } => run,
+            Decoder::Tail(_) => 0,
         }
     }
 
     /// With its run so much longer.
-    fn grown(self, count: usize) -> Progress
+    fn grown(self, count: usize) -> Decoder
         requires sound { IsSound self }
         requires room { run_of self + count < 2 ^ 32 }
         ensures state { state_of result ≡ grown count (state_of self) }
         ensures sound { IsSound result × (run_of result ≤ run_of self + count) }
     {
         match self {
-            Progress::Lead(run) => Progress::Lead(run + count),
-            Progress::First {
+            Decoder::Lead(run) => Decoder::Lead(run + count),
+            Decoder::First {
                 level,
                 run,
                 cells,
                 bits,
             } => {
-                Progress::First {
+                Decoder::First {
                     level,
                     run: run + count,
                     cells,
                     bits,
                 }
             }
-            Progress::Second {
+            Decoder::Second {
                 level,
                 run,
                 cells,
                 bits,
             } => {
-                Progress::Second {
+                Decoder::Second {
                     level,
                     run: run + count,
                     cells,
                     bits,
                 }
             }
-            Progress::Tail(bits) => Progress::Tail(bits),
+            Decoder::Tail(bits) => Decoder::Tail(bits),
         }
     }
 
@@ -316,7 +316,7 @@ impl Progress {
         system: System,
         level: bool,
         count: usize,
-    ) -> Result<Progress, usize>
+    ) -> Result<Decoder, usize>
         requires sound { IsSound self }
         requires fit { IsFit system (state_of self) }
         requires some { 0 < count }

@@ -12,8 +12,8 @@ ghost use Rattle.vbi_line.specs.OneReading.{reading_of};
 use crate::lanes::slice_lanes;
 use crate::line::LineBuf;
 use crate::packed::Packed;
-use crate::plain::read_packed;
-use crate::progress::Progress;
+use crate::outcome::read_packed;
+use crate::decoder::Decoder;
 use vbi_words::{Levels, Outcome, Reading, System, Word24};
 
 /// The reading of a line made for the system. Two passes over its samples would be allowed; the levels of one are kept, and the
@@ -81,20 +81,20 @@ fn smoothed_word(packed: &Packed, system: System) -> Option<Word24>
     ensures none { IfNone result (ShowsNone system (smooth_of packed.now)) }
 {
     let mut settled = false;
-    let mut progress = Progress::Lead(0);
+    let mut decoder = Decoder::Lead(0);
     let mut column: usize = 0;
     while column < packed.width() {
         let (level, count) = packed.next_run(column);
         let count = usize::from(count);
         if count < 4 {
-            match progress.read_run(system, settled, count) {
-                Ok(next) => progress = next,
+            match decoder.read_run(system, settled, count) {
+                Ok(next) => decoder = next,
                 Err(_) => return None,
             }
         } else {
-            match progress.read_run(system, settled, 3) {
+            match decoder.read_run(system, settled, 3) {
                 Ok(begun) => match begun.read_run(system, level, count - 3) {
-                    Ok(next) => progress = next,
+                    Ok(next) => decoder = next,
                     Err(_) => return None,
                 },
                 Err(_) => return None,
@@ -103,5 +103,5 @@ fn smoothed_word(packed: &Packed, system: System) -> Option<Word24>
         }
         column += count;
     }
-    progress.word(system)
+    decoder.word(system)
 }

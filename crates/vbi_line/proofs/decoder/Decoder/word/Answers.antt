@@ -1,5 +1,5 @@
 use Rattle.vbi_line.proofs.Steps.{begun_top}
-use Rattle.vbi_line.proofs.progress.Progress.word.Goals as goal
+use Rattle.vbi_line.proofs.decoder.Decoder.word.Goals as goal
 
 pub word_of-requires : goal.word_of-requires
 word_of-requires c =

@@ -10,7 +10,7 @@ ghost use Rattle.vbi_line.specs.OneOutcome.{outcome_of};
 use crate::lanes::slice_lanes;
 use crate::line::LineBuf;
 use crate::packed::Packed;
-use crate::progress::Progress;
+use crate::decoder::Decoder;
 use vbi_words::{Levels, Outcome, System};
 
 /// The outcome of a line made for the system, by one pass over its samples; columns in it are counted from 0.
@@ -45,14 +45,14 @@ fn read_runs(packed: &Packed, system: System) -> Outcome
     requires { length packed.now < 2 ^ 16 }
     ensures { IsOutcome system packed.now result }
 {
-    let mut progress = Progress::Lead(0);
+    let mut decoder = Decoder::Lead(0);
     let mut column: usize = 0;
     while column < packed.width() {
         let (level, count) = packed.next_run(column);
         let count = usize::from(count);
-        match progress.read_run(system, level, count) {
+        match decoder.read_run(system, level, count) {
             Ok(next) => {
-                progress = next;
+                decoder = next;
                 column += count;
             }
             Err(lived) => {
@@ -65,5 +65,5 @@ fn read_runs(packed: &Packed, system: System) -> Outcome
             }
         }
     }
-    progress.end(system)
+    decoder.end(system)
 }

@@ -1,6 +1,6 @@
 //! The words of the command line: what they mean, and the texts of refusals and help.
 
-use crate::words::{Job, Verb, WordsFault, read_words};
+use crate::command_line::{Job, Verb, WordsFault, read_words};
 use std::alloc::Global;
 use std::test::Fail;
 use vbi_words::System;

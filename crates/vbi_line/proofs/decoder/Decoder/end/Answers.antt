@@ -1,6 +1,6 @@
 use Rattle.std.proofs.Common.{sym, ◌∙◌}
 use Rattle.vbi_line.proofs.Ending.{shows, blank, unfinished}
-use Rattle.vbi_line.proofs.progress.Progress.end.Goals as goal
+use Rattle.vbi_line.proofs.decoder.Decoder.end.Goals as goal
 
 pub returns-in-Some : goal.returns-in-Some
 returns-in-Some c = λ levels e. shows c.args.system levels c.args.self e c.in-Some.word c.in-Some.ensures.some.0 c.in-Some.ensures.some.1

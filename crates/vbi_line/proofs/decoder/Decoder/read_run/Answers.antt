@@ -1,7 +1,7 @@
 use Rattle.std.proofs.Common.{arith, sym, subst, ◌∙◌, ℕ, ◌+◌, ◌-◌, ◌<◌}
-use Rattle.vbi_line.specs.Progress.{state_of, DiesAfter}
+use Rattle.vbi_line.specs.Decoder.{state_of, DiesAfter}
 use Rattle.vbi_line.proofs.RunSteps.{free, within, fits, dies}
-use Rattle.vbi_line.proofs.progress.Progress.read_run.Goals as goal
+use Rattle.vbi_line.proofs.decoder.Decoder.read_run.Goals as goal
 
 pub returns-then-length-more-clause-ok : goal.returns-then-length-more-clause-ok
 returns-then-length-more-clause-ok c =

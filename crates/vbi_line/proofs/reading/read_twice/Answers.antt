@@ -2,7 +2,7 @@ use Rattle.std.proofs.Common.{List, Bool, subst}
 use Rattle.vbi_words.specs.Levels.{row_levels}
 use Rattle.vbi_words.specs.Readings.{IsReading}
 use Rattle.vbi_line.proofs.OneReading.{only_reading}
-use Rattle.vbi_line.proofs.twice.read_twice.Goals as goal
+use Rattle.vbi_line.proofs.reading.read_twice.Goals as goal
 
 pub returns-clause-reading : goal.returns-clause-reading
 returns-clause-reading c =

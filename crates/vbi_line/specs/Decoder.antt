@@ -4,25 +4,25 @@ use Rattle.vbi_words.specs.declared.system.System.{System}
 use Rattle.vbi_words.specs.Geometry.{least_half, greatest_half}
 use Rattle.vbi_words.specs.Words.{lowest_bits}
 use Rattle.vbi_words.proofs.Machine.{State, lead, first, second, tail, dead, stay, turn, next, after, limit, Fit}
-use Rattle.vbi_line.specs.declared.progress.Progress.{Progress}
-use Rattle.vbi_line.specs.declared.progress.Progress.TheVariants.{Lead, First, Second, Tail}
+use Rattle.vbi_line.specs.declared.decoder.Decoder.{Decoder}
+use Rattle.vbi_line.specs.declared.decoder.Decoder.TheVariants.{Lead, First, Second, Tail}
 
 -- the state: its bits as a list
-abbrev pub state_of : Progress → State
+abbrev pub state_of : Decoder → State
 state_of (Lead run) = lead run
 state_of (First level run cells bits) = first level run (lowest_bits cells bits)
 state_of (Second level run cells bits) = second level run (lowest_bits cells bits)
 state_of (Tail bits) = tail (lowest_bits 24 bits)
 
 -- the bits are no more than the cells that are counted
-abbrev pub IsSound : Progress → Type 0
+abbrev pub IsSound : Decoder → Type 0
 IsSound (Lead run) = Unit {0}
 IsSound (First level run cells bits) = (cells < 24) × (bits < 2 ^ cells)
 IsSound (Second level run cells bits) = (cells < 25) × (bits < 2 ^ cells)
 IsSound (Tail bits) = bits < 2 ^ 24
 
 -- how long the last run is
-abbrev pub run_of : Progress → ℕ
+abbrev pub run_of : Decoder → ℕ
 run_of (Lead run) = run
 run_of (First level run cells bits) = run
 run_of (Second level run cells bits) = run

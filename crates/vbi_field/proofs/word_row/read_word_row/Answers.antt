@@ -1,5 +1,5 @@
 use Rattle.vbi_field.proofs.WordRowLemmas.{one_part, two_parts, three_parts, four_parts}
-use Rattle.vbi_field.proofs.word_row.read_words.Goals as goal
+use Rattle.vbi_field.proofs.word_row.read_word_row.Goals as goal
 
 pub returns-in_default : goal.returns-in_default
 returns-in_default c = one_part c.args.row.now c.in_default.ensures
