@@ -35,7 +35,7 @@ module _ {R : Type 0} where
   abbrev pub streak_of : Intake R → ℕ
   streak_of i = counted.streak_of i.device
 
-  -- a fault has its cause in the call: one error as the last answer, or seventeen interruptions as the last and no error
+  -- the reader failed in a call, which is a fault's cause
   abbrev pub HasCause : Intake R → Intake R → Type 0
   HasCause old new = counted.HasCause old.device new.device
 

@@ -81,8 +81,7 @@ impl<'a, R: Read> Intake<'a, R> {
         ensures fits { length (held_of self.new) ≤ line_bytes (line_of self.old).system }
         ensures ok { IfOk result (λ f. IsFilled R.remaining f self.new) }
         ensures no_error { OnOk result (errors_of self.new ≡ errors_of self.old) }
-        ensures failed { OnErr result (failures_of self.old < failures_of self.new) }
-        ensures cause { OnErr result (HasCause self.old self.new) }
+        ensures failed { OnErr result (HasCause self.old self.new) }
         ensures streak { streak_of self.new ≤ streak_of self.old + 17 }
         ensures short { OnErr result (length (held_of self.new) < line_bytes (line_of self.old).system) }
     {
@@ -151,16 +150,18 @@ impl<'a, R: Read> Intake<'a, R> {
         self.line.clear();
     }
 
-    /// How many bytes are held.
+    /// How many bytes are held, no more than a line's.
     pub fn held(&self) -> usize
-        ensures { result ≡ length (held_of self.now) }
+        ensures value { result ≡ length (held_of self.now) }
+        ensures fits { result ≤ line_bytes (line_of self.now).system }
     {
         self.line.held()
     }
 
-    /// How many passes over the line were started since it was cleared.
+    /// How many passes over the line were started since it was cleared, no more than two.
     pub fn passes(&self) -> usize
-        ensures { result ≡ length (line_of self.now).cursors }
+        ensures value { result ≡ length (line_of self.now).cursors }
+        ensures few { result ≤ 2 }
     {
         self.line.passes()
     }
