@@ -8,6 +8,7 @@ use Rattle.std.proofs.KnownBytes.{Appends-trans, Appends-nil}
 use Rattle.std.proofs.lemmas.List.{append-nil, take_all, length-append}
 use Rattle.std.proofs.lemmas.Grind.{flat_map-append}
 use Rattle.std.proofs.Math.Seq.{take-append-add}
+use Rattle.vbi_line.proofs.Causes.{cause_later}
 use Rattle.vbi_field.specs.ConfigView.{ConfigView}
 use Rattle.vbi_field.specs.Outlet as outlets
 use Rattle.vbi_field.specs.RowIntake as intakes
@@ -55,6 +56,8 @@ module _ {R W : Type 0} (remaining : R → Option (List ℕ)) (contents : W → 
     pub small : o.written ≤ 710510 * done
     pub least_writes : outlets.failures_of o0 ≤ outlets.failures_of o
     pub writes : outlets.failures_of o ≤ 17 * (o.written + 313 * done)
+    pub calm_reads : intakes.errors_of i ≡ intakes.errors_of i0
+    pub calm_writes : outlets.errors_of o ≡ outlets.errors_of o0
     pub same_writer : outlets.IsSameDevice o0 o
     pub black : line ≡ drawn_line_of c None
 
@@ -79,6 +82,8 @@ module _ {R W : Type 0} (remaining : R → Option (List ℕ)) (contents : W → 
         small = omega arith;
         least_writes = omega arith;
         writes = omega arith;
+        calm_reads = refl;
+        calm_writes = refl;
         same_writer = refl;
         black = black;
       }
@@ -97,23 +102,24 @@ module _ {R W : Type 0} (remaining : R → Option (List ℕ)) (contents : W → 
     rows_count words = omega (arith, length-append g.rows (words ∷ []), g.count)
 
     -- the reader ended after whole rows
-    pub ended : (j : RowIntake R) → Fetches remaining i j [] → IsAtEnd (remaining (intakes.device_of j)) → done ≤ c.max_fields
+    pub ended : (j : RowIntake R) → Fetches remaining i j [] → intakes.errors_of j ≡ intakes.errors_of i → IsAtEnd (remaining (intakes.device_of j)) → done ≤ c.max_fields
         → DrawsAll remaining contents c i0 j o0 o done
-    ended j f end few = record {
+    ended j f calm end few = record {
       text = g.text ++ [];
       rows = g.rows;
       fetched = record { consumed = (fetches_more j [] f).consumed; fetched = fetched_more j [] f };
       well_formed = rw append-nil g.well_formed;
       number = sym g.count;
       few = few;
+      calm = calm ∙ g.calm_reads;
       ended = end;
-      drew = record { appended = g.appended; written = g.written };
+      drew = record { appended = g.appended; written = g.written; no_error = g.calm_writes };
     }
 
     -- the reader failed
     pub read_failed : (j : RowIntake R) (b : List ℕ) → Fetches remaining i j b → HasNoNewline b → intakes.failures_of i < intakes.failures_of j
-        → StopsAtRead remaining contents c i0 j o0 o (done + 1)
-    read_failed j b f plain rose = record {
+        → intakes.HasCause i j → StopsAtRead remaining contents c i0 j o0 o (done + 1)
+    read_failed j b f plain rose cause = record {
       before = g.text;
       part = b;
       rows = g.rows;
@@ -123,7 +129,8 @@ module _ {R W : Type 0} (remaining : R → Option (List ℕ)) (contents : W → 
       well_formed = g.well_formed;
       number = omega (arith, g.count);
       rose = omega (arith, g.fetches.least);
-      drew = record { appended = g.appended; written = g.written };
+      cause = cause_later i0.device i.device j.device g.calm_reads g.fetches.least cause;
+      drew = record { appended = g.appended; written = g.written; no_error = g.calm_writes };
     }
 
     -- a byte followed the last row that is allowed
@@ -137,14 +144,15 @@ module _ {R W : Type 0} (remaining : R → Option (List ℕ)) (contents : W → 
       whole = g.ends;
       well_formed = g.well_formed;
       number = g.count ∙ last;
-      drew = record { appended = g.appended; written = g.written };
+      calm = t.caused ∙ g.calm_reads;
+      drew = record { appended = g.appended; written = g.written; no_error = g.calm_writes };
     }
 
     -- a malformed row
-    bad : (j : RowIntake R) (b : List ℕ) → Fetches remaining i j b → rows_of b ≡ b ∷ [] → row_words b ≡ None
+    bad : (j : RowIntake R) (b : List ℕ) → Fetches remaining i j b → intakes.errors_of j ≡ intakes.errors_of i → rows_of b ≡ b ∷ [] → row_words b ≡ None
         → ((front : List ℕ) × (b ≡ front ++ 10 ∷ [])) ⊎ (IsAtEnd (remaining (intakes.device_of j)) ⊎ (length b ≡ 21))
         → StopsAtRow remaining contents c i0 j o0 o (done + 1)
-    bad j b f one malformed read_to = record {
+    bad j b f calm one malformed read_to = record {
       before = g.text;
       row = b;
       rows = g.rows;
@@ -153,27 +161,28 @@ module _ {R W : Type 0} (remaining : R → Option (List ℕ)) (contents : W → 
       well_formed = g.well_formed;
       number = omega (arith, g.count);
       malformed = malformed;
+      calm = calm ∙ g.calm_reads;
       read_to = read_to;
-      drew = record { appended = g.appended; written = g.written };
+      drew = record { appended = g.appended; written = g.written; no_error = g.calm_writes };
     }
 
-    bad_as : (j : RowIntake R) (b row : List ℕ) → Fetches remaining i j b → HasNoNewline row → word_row_of row ≡ None
+    bad_as : (j : RowIntake R) (b row : List ℕ) → Fetches remaining i j b → intakes.errors_of j ≡ intakes.errors_of i → HasNoNewline row → word_row_of row ≡ None
         → (b ≡ row ++ 10 ∷ []) ⊎ (((b ≡ row) × (0 < length row) × IsAtEnd (remaining (intakes.device_of j))) ⊎ ((b ≡ row) × (length row ≡ 21)))
         → StopsAtRow remaining contents c i0 j o0 o (done + 1)
-    bad_as j b row f plain none (inl e) =
-        bad j b f (rw e (rows_of-line row plain)) (rw e (row_words-line row plain ∙ none)) (inl (row, e))
-    bad_as j b row f plain none (inr (inl e)) =
-        bad j b f (let e0 = e.0 in rw e0 (rows_of-part row plain e.1)) (ap row_words e.0 ∙ row_words-part row plain ∙ none) (inr (inl e.2))
-    bad_as j b row f plain none (inr (inr e)) =
-        bad j b f (let e0 = e.0 in rw e0 (rows_of-part row plain (omega (arith, e.1)))) (ap row_words e.0 ∙ row_words-part row plain ∙ none)
+    bad_as j b row f calm plain none (inl e) =
+        bad j b f calm (rw e (rows_of-line row plain)) (rw e (row_words-line row plain ∙ none)) (inl (row, e))
+    bad_as j b row f calm plain none (inr (inl e)) =
+        bad j b f calm (let e0 = e.0 in rw e0 (rows_of-part row plain e.1)) (ap row_words e.0 ∙ row_words-part row plain ∙ none) (inr (inl e.2))
+    bad_as j b row f calm plain none (inr (inr e)) =
+        bad j b f calm (let e0 = e.0 in rw e0 (rows_of-part row plain (omega (arith, e.1)))) (ap row_words e.0 ∙ row_words-part row plain ∙ none)
         (inr (inr (ap length e.0 ∙ e.1)))
 
     pub bad_row : (j : RowIntake R) (t : TakesRow remaining i j Malformed) → StopsAtRow remaining contents c i0 j o0 o (done + 1)
-    bad_row j t = bad_as j t.bytes t.told.row t.fetches t.told.plain t.told.malformed t.told.read_to
+    bad_row j t = bad_as j t.bytes t.told.row t.fetches t.caused t.told.plain t.told.malformed t.told.read_to
 
     -- ---- a good row came, and its field is written, whole or in part
 
-    module _ (j : RowIntake R) (b : List ℕ) (words : WordRow) (f : Fetches remaining i j b)
+    module _ (j : RowIntake R) (b : List ℕ) (words : WordRow) (f : Fetches remaining i j b) (calm : intakes.errors_of j ≡ intakes.errors_of i)
         (one : rows_of b ≡ b ∷ []) (is : row_words b ≡ Some words) where
       well_formed_more : AreRows (g.text ++ b) (g.rows ++ words ∷ [])
       well_formed_more = AreRows-more g.text b g.rows words g.well_formed g.ends one is
@@ -182,9 +191,9 @@ module _ {R W : Type 0} (remaining : R → Option (List ℕ)) (contents : W → 
       longer = ap length (draw_out-more c g.rows words) ∙ length-append (draw_out c g.rows) (drawn_field_of c words)
 
       stopped : (p : Outlet W) → PutsField contents o p (drawn_field_of c words)
-          → outlets.failures_of o < outlets.failures_of p → done < c.max_fields
+          → outlets.failures_of o < outlets.failures_of p → outlets.HasCause o p → done < c.max_fields
           → StopsAtWrite remaining contents c i0 j o0 p p.written
-      stopped p puts rose few =
+      stopped p puts rose cause few =
           let base = draw_out c g.rows in
           let at : p.written ≡ length base + puts.count = omega (arith, puts.written, g.written) in
           let cut : take p.written (draw_out c (g.rows ++ words ∷ [])) ≡ base ++ take puts.count (drawn_field_of c words) =
@@ -201,18 +210,20 @@ module _ {R W : Type 0} (remaining : R → Option (List ℕ)) (contents : W → 
             appended = rw cut (Appends-trans _ _ _ base (take puts.count (drawn_field_of c words)) g.appended puts.appended);
             written = refl;
             rose = omega (arith, g.least_writes);
+            cause = cause_later o0.device o.device p.device g.calm_writes g.least_writes cause;
+            calm = calm ∙ g.calm_reads;
           }
 
       -- the writer failed
       pub write_failed : (p : Outlet W) (fault : DrawFault) → PutsField contents o p (drawn_field_of c words)
-          → outlets.failures_of o < outlets.failures_of p → fault ≡ Write p.written → done < c.max_fields
+          → outlets.failures_of o < outlets.failures_of p → outlets.HasCause o p → fault ≡ Write p.written → done < c.max_fields
           → Draws remaining contents c i0 j o0 p (Err fault)
-      write_failed p fault puts rose e few =
+      write_failed p fault puts rose cause e few =
           let P : DrawFault → Type 0 = λ x. Draws remaining contents c i0 j o0 p (Err x) in
-          subst P (sym e) (stopped p puts rose few)
+          subst P (sym e) (stopped p puts rose cause few)
 
       module _ (p : Outlet W) (puts : PutsField contents o p (drawn_field_of c words))
-          (ok : p.written ≡ o.written + length (drawn_field_of c words)) where
+          (ok : p.written ≡ o.written + length (drawn_field_of c words)) (no_error : outlets.errors_of p ≡ outlets.errors_of o) where
         appended_more : Appends (contents (outlets.device_of o0)) (contents (outlets.device_of p)) (draw_out c (g.rows ++ words ∷ []))
         appended_more =
             let field = drawn_field_of c words in
@@ -231,8 +242,9 @@ module _ {R W : Type 0} (remaining : R → Option (List ℕ)) (contents : W → 
           well_formed = well_formed_more;
           number = sym (rows_count words);
           few = omega arith;
+          calm = calm ∙ g.calm_reads;
           ended = end;
-          drew = record { appended = appended_more; written = written_more };
+          drew = record { appended = appended_more; written = written_more; no_error = no_error ∙ g.calm_writes };
         }
 
         -- the field is written, and rows may follow
@@ -265,6 +277,8 @@ module _ {R W : Type 0} (remaining : R → Option (List ℕ)) (contents : W → 
               small = omega arith;
               least_writes = omega arith;
               writes = omega arith;
+              calm_reads = calm ∙ g.calm_reads;
+              calm_writes = no_error ∙ g.calm_writes;
               same_writer = same ∙ g.same_writer;
               black = black;
             }
@@ -282,52 +296,53 @@ module _ {R W : Type 0} (remaining : R → Option (List ℕ)) (contents : W → 
 
     module _ (j : RowIntake R) (words : WordRow) (t : TakesRow remaining i j (Row words)) (few : done < c.max_fields) (p : Outlet W)
         (puts : PutsField contents o p (drawn_field_of c words)) where
-      pub row_failed : (fault : DrawFault) → outlets.failures_of o < outlets.failures_of p → fault ≡ Write p.written
+      pub row_failed : (fault : DrawFault) → outlets.failures_of o < outlets.failures_of p → outlets.HasCause o p → fault ≡ Write p.written
           → Draws remaining contents c i0 j o0 p (Err fault)
-      row_failed fault rose e =
-          write_failed j t.bytes words t.fetches (line_one t.bytes t.told.0 t.told.1 t.told.2)
+      row_failed fault rose cause e =
+          write_failed j t.bytes words t.fetches t.caused (line_one t.bytes t.told.0 t.told.1 t.told.2)
           (line_is t.bytes t.told.0 words t.told.1 t.told.2 t.told.3)
-          p fault puts rose e few
+          p fault puts rose cause e few
 
-      pub row_drawn : (line : List ℕ) → p.written ≡ o.written + length (drawn_field_of c words) → outlets.IsSameDevice o p
+      pub row_drawn : (line : List ℕ) → p.written ≡ o.written + length (drawn_field_of c words) → outlets.errors_of p ≡ outlets.errors_of o
+          → outlets.IsSameDevice o p
           → line ≡ drawn_line_of c None → Going (done + 1) j p line
-      row_drawn line ok same black =
-          next_row j t.bytes words t.fetches (line_one t.bytes t.told.0 t.told.1 t.told.2) (line_is t.bytes t.told.0 words t.told.1 t.told.2 t.told.3)
-          p puts ok line same black (line_ends t.bytes t.told.0 t.told.2) t.short t.most
+      row_drawn line ok no_error same black =
+          next_row j t.bytes words t.fetches t.caused (line_one t.bytes t.told.0 t.told.1 t.told.2) (line_is t.bytes t.told.0 words t.told.1 t.told.2 t.told.3)
+          p puts ok no_error line same black (line_ends t.bytes t.told.0 t.told.2) t.short t.most
 
     module _ (j : RowIntake R) (words : WordRow) (t : TakesRow remaining i j (LastRow words)) (few : done < c.max_fields) (p : Outlet W)
         (puts : PutsField contents o p (drawn_field_of c words)) where
-      pub last_row_failed : (fault : DrawFault) → outlets.failures_of o < outlets.failures_of p → fault ≡ Write p.written
+      pub last_row_failed : (fault : DrawFault) → outlets.failures_of o < outlets.failures_of p → outlets.HasCause o p → fault ≡ Write p.written
           → Draws remaining contents c i0 j o0 p (Err fault)
-      last_row_failed fault rose e =
-          write_failed j t.bytes words t.fetches (rows_of-part t.bytes t.told.0 t.told.1) (row_words-part t.bytes t.told.0 ∙ t.told.2)
-          p fault puts rose e few
+      last_row_failed fault rose cause e =
+          write_failed j t.bytes words t.fetches t.caused (rows_of-part t.bytes t.told.0 t.told.1) (row_words-part t.bytes t.told.0 ∙ t.told.2)
+          p fault puts rose cause e few
 
-      pub last_row_drawn : p.written ≡ o.written + length (drawn_field_of c words) → DrawsAll remaining contents c i0 j o0 p (done + 1)
-      last_row_drawn ok =
-          last_row j t.bytes words t.fetches (rows_of-part t.bytes t.told.0 t.told.1) (row_words-part t.bytes t.told.0 ∙ t.told.2)
-          p puts ok t.told.3 few
+      pub last_row_drawn : p.written ≡ o.written + length (drawn_field_of c words) → outlets.errors_of p ≡ outlets.errors_of o → DrawsAll remaining contents c i0 j o0 p (done + 1)
+      last_row_drawn ok no_error =
+          last_row j t.bytes words t.fetches t.caused (rows_of-part t.bytes t.told.0 t.told.1) (row_words-part t.bytes t.told.0 ∙ t.told.2)
+          p puts ok no_error t.told.3 few
 
     -- the reader ended after whole rows, or failed in the next
     pub row_ended : (j : RowIntake R) (t : TakesRow remaining i j Ended) → done ≤ c.max_fields → DrawsAll remaining contents c i0 j o0 o done
     row_ended j t few =
         let P : List ℕ → Type 0 = Fetches remaining i j in
-        ended j (subst P t.told.0 t.fetches) t.told.1 few
+        ended j (subst P t.told.0 t.fetches) t.caused t.told.1 few
 
     pub row_read_failed : (j : RowIntake R) (t : TakesRow remaining i j Failed) → StopsAtRead remaining contents c i0 j o0 o (done + 1)
-    row_read_failed j t = read_failed j t.bytes t.fetches t.told.0 t.told.1
+    row_read_failed j t = read_failed j t.bytes t.fetches t.told.0 t.told.1 t.caused
 
     pub byte_ended : (j : RowIntake R) → TakesByte remaining i j bytes.Ended → (n : ℕ) → n ≡ c.max_fields → done ≡ n
         → DrawsAll remaining contents c i0 j o0 o n
     byte_ended j t n max last =
         let P : ℕ → Type 0 = DrawsAll remaining contents c i0 j o0 o in
-        subst P last (ended j t.fetches t.told (omega arith))
+        subst P last (ended j t.fetches t.caused t.told (omega arith))
 
     pub byte_read_failed : (j : RowIntake R) → TakesByte remaining i j bytes.Failed → (n : ℕ) → done ≡ n
         → StopsAtRead remaining contents c i0 j o0 o (n + 1)
     byte_read_failed j t n last =
         let P : ℕ → Type 0 = λ k. StopsAtRead remaining contents c i0 j o0 o (k + 1) in
-        subst P last (read_failed j [] t.fetches no_newline t.told)
+        subst P last (read_failed j [] t.fetches no_newline t.told t.caused)
       where
         no_newline : HasNoNewline []
         no_newline = λ k d inside. absurd (omega arith)

@@ -16,13 +16,13 @@ use Rattle.vbi_field.specs.declared.summary.RunFault.{RunFault}
 use Rattle.vbi_field.specs.declared.summary.RunFault.TheVariants.{Write}
 use Rattle.vbi_field.specs.declared.summary.Summary.{Summary}
 use Rattle.vbi_field.proofs.FeedPlaces.{Split, split_of, split_fields, split_rest, split_rows}
-use Rattle.vbi_field.proofs.Going.{put_whole}
+use Rattle.vbi_field.proofs.Settling.{wrote_whole, wrote_part}
 
 -- what was put is the first of it
 pub in_part : {W : Type 0} (contents : W → Option (List ℕ)) (o o' : Outlet W) (bytes whole : List ℕ) → bytes ≡ whole
     → Puts contents o o' bytes → AppendsInPart contents o o' whole
 in_part contents o o' bytes whole is puts =
-    (take puts.count bytes, drop puts.count bytes, take-append-drop puts.count bytes ∙ is, puts.appended)
+    (take puts.count bytes, drop puts.count bytes, take-append-drop puts.count bytes ∙ is, wrote_part contents o o' bytes puts)
 
 module _ {W : Type 0} (contents : W → Option (List ℕ)) (c : ConfigView) (l : Line) (p : Progress) (st : IsStand c l p) (o o' : Outlet W)
     (z : List ℕ) (at : IsAt c z (place_of c l p)) (held rest : ℕ) (hs : held ≡ length l.held)
@@ -52,7 +52,7 @@ module _ {W : Type 0} (contents : W → Option (List ℕ)) (c : ConfigView) (l :
       → IfErr r (λ e. e ≡ Write (written_of o')) → IsFinished contents c o o' z r
   finished looked (Ok s) ls puts whole says fails =
       let same : s.looked ≡ l.looked = ap (λ s. s.looked) says ∙ ls in (
-        rw (← tail) (put_whole contents o o' (document.tail p.fields rest) puts whole),
+        rw (← tail) (wrote_whole contents o o' (document.tail p.fields rest) puts whole),
         ap (λ s. s.fields) says ∙ fields,
         ap (λ s. s.cut) says ∙ ap cut_of past,
         same ∙ looks,

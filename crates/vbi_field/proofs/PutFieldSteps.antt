@@ -9,7 +9,7 @@ use Rattle.vbi_words.specs.declared.system.System.{System}
 use Rattle.vbi_words.specs.declared.system.System.TheVariants.{Ntsc, Pal}
 use Rattle.vbi_words.specs.Geometry.{height_of, line_bytes}
 use Rattle.vbi_field.specs.ConfigView.{ConfigView}
-use Rattle.vbi_field.specs.Outlet.{device_of, failures_of, IsSameDevice, Puts}
+use Rattle.vbi_field.specs.Outlet.{device_of, failures_of, errors_of, IsSameDevice, Puts}
 use Rattle.vbi_field.specs.Drawing.{drawn_line_of, drawn_field_of, word_at}
 use Rattle.vbi_field.specs.DrawRun.{PutsField}
 use Rattle.vbi_field.specs.declared.outlet.Outlet.{Outlet}
@@ -29,6 +29,7 @@ module _ {W : Type 0} (contents : W → Option (List ℕ)) (c : ConfigView) (wor
     pub small : now.written ≤ old.written + 2270 * row
     pub least : failures_of old ≤ failures_of now
     pub most : failures_of now ≤ failures_of old + 17 * (length (lines_of c words row) + row)
+    pub errors : errors_of now ≡ errors_of old
     pub same : IsSameDevice old now
     pub drawn : line ≡ drawn_line_of c (word_at words (row - 1))
 
@@ -39,6 +40,7 @@ module _ {W : Type 0} (contents : W → Option (List ℕ)) (c : ConfigView) (wor
     small = omega arith;
     least = omega arith;
     most = omega arith;
+    errors = refl;
     same = refl;
     drawn = e;
   }
@@ -56,8 +58,9 @@ module _ {W : Type 0} (contents : W → Option (List ℕ)) (c : ConfigView) (wor
 
   -- one row more
   pub Putting-more : (now new : Outlet W) (before line : List ℕ) (row : ℕ) → Putting now before row → line ≡ drawn_line_of c (word_at words row)
-      → Puts contents now new line → new.written ≡ now.written + length line → IsSameDevice now new → Putting new line (row + 1)
-  Putting-more now new before line row p e puts ok same =
+      → Puts contents now new line → new.written ≡ now.written + length line → errors_of new ≡ errors_of now
+      → IsSameDevice now new → Putting new line (row + 1)
+  Putting-more now new before line row p e puts ok no_error same =
       let few = narrow c.system in
       let long = long_line line (word_at words row) e in
       let joined : lines_of c words (row + 1) ≡ lines_of c words row ++ line
@@ -77,6 +80,7 @@ module _ {W : Type 0} (contents : W → Option (List ℕ)) (c : ConfigView) (wor
         small = omega arith;
         least = omega arith;
         most = omega arith;
+        errors = no_error ∙ p.errors;
         same = same ∙ p.same;
         drawn = e ∙ ap (λ (r : ℕ). drawn_line_of c (word_at words r)) (sym back);
       }

@@ -5,8 +5,9 @@ use Rattle.std.specs.Prelude.{Option, Some, None}
 use Rattle.std.proofs.KnownBytes.{Consumes-trans, Consumes-nil}
 use Rattle.std.proofs.lemmas.List.{append-nil, take_more_set, length-append, length-set, length-take-le}
 use Rattle.std.proofs.lemmas.List.Elements.{All-append}
+use Rattle.vbi_line.proofs.Causes.{cause_later}
 use Rattle.vbi_field.specs.WordRows.{word_row_of}
-use Rattle.vbi_field.specs.RowIntake.{failures_of, HasNoNewline, Fetches, TakesByte, TakesRow}
+use Rattle.vbi_field.specs.RowIntake.{failures_of, errors_of, streak_of, HasNoNewline, Fetches, TakesByte, TakesRow}
 use Rattle.vbi_field.specs.declared.word_row.WordRow.{WordRow}
 use Rattle.vbi_field.specs.declared.row_intake.RowIntake.{RowIntake}
 use Rattle.vbi_field.specs.declared.row_intake.ByteCame.TheVariants as bytes
@@ -22,11 +23,14 @@ module _ {R : Type 0} (remaining : R → Option (List ℕ)) where
   pub record Tried (old now : RowIntake R) (tries : ℕ) : Type 0 where
     pub fetches : Fetches remaining old now []
     pub count : failures_of now ≡ failures_of old + tries
+    pub errors : errors_of now ≡ errors_of old
+    pub streak : streak_of now ≡ streak_of old + tries
 
   -- so many bytes of a row are held, none of them a newline
   pub record Held (old now : RowIntake R) (row : List ℕ) (held : ℕ) : Type 0 where
     pub fetches : Fetches remaining old now (take held row)
     pub most : failures_of now ≤ failures_of old + 17 * held
+    pub errors : errors_of now ≡ errors_of old
     pub plain : HasNoNewline (take held row)
     pub long : length row ≡ 21
 
@@ -59,6 +63,7 @@ module _ {R : Type 0} (remaining : R → Option (List ℕ)) where
         record {
           fetches = rw joined (Fetches-more old now new (take held row) (byte ∷ []) h.fetches t.fetches);
           most = omega arith;
+          errors = t.caused ∙ h.errors;
           plain = rw joined (All-append (λ c. c ≢ 10) (take held row) (byte ∷ []) h.plain (all_one byte other));
           long = length-set row held byte ∙ long;
         }
@@ -82,6 +87,7 @@ module _ {R : Type 0} (remaining : R → Option (List ℕ)) where
         short = few;
         most = omega (arith, h.most, t.most);
         told = (take held row, h.plain, refl, sym w);
+        caused = t.caused ∙ h.errors;
       }
 
       pub bad_newline_came : None ≡ word_row_of (take held row) → TakesRow remaining old new Malformed
@@ -91,6 +97,7 @@ module _ {R : Type 0} (remaining : R → Option (List ℕ)) where
         short = few;
         most = omega (arith, h.most, t.most);
         told = record { row = take held row; plain = h.plain; malformed = sym w; read_to = inl refl };
+        caused = t.caused ∙ h.errors;
       }
 
     -- no byte came
@@ -105,6 +112,7 @@ module _ {R : Type 0} (remaining : R → Option (List ℕ)) where
         short = omega (arith, short);
         most = omega (arith, h.most, t.most);
         told = (h.plain, omega (arith, short), sym w, t.told);
+        caused = t.caused ∙ h.errors;
       }
 
       pub bad_end_came : held ≢ 0 → None ≡ word_row_of (take held row) → TakesRow remaining old new Malformed
@@ -119,6 +127,7 @@ module _ {R : Type 0} (remaining : R → Option (List ℕ)) where
           malformed = sym w;
           read_to = inr (inl (refl, omega (arith, short), t.told));
         };
+        caused = t.caused ∙ h.errors;
       }
 
     pub fault_came : TakesByte remaining now new bytes.Failed → TakesRow remaining old new Failed
@@ -128,6 +137,7 @@ module _ {R : Type 0} (remaining : R → Option (List ℕ)) where
       short = omega (arith, short);
       most = omega (arith, h.most, t.most);
       told = (h.plain, omega (arith, t.told, h.fetches.least));
+      caused = cause_later old.device now.device new.device h.errors h.fetches.least t.caused;
     }
 
   -- a row of 21 bytes
@@ -145,4 +155,5 @@ module _ {R : Type 0} (remaining : R → Option (List ℕ)) where
           malformed = long_row (take 21 row) (omega arith);
           read_to = inr (inr (refl, long));
         };
+        caused = h.errors;
       }

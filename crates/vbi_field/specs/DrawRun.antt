@@ -37,6 +37,7 @@ module _ {R W : Type 0} (remaining : R → Option (List ℕ)) (contents : W → 
   pub record Drew (rows : List WordRow) : Type 0 where
     pub appended : Appends (contents (outlets.device_of o0)) (contents (outlets.device_of o)) (draw_out c rows)
     pub written : outlets.written_of o ≡ length (draw_out c rows)
+    pub no_error : outlets.errors_of o ≡ outlets.errors_of o0
 
   -- the reader ended after so many rows, each of them well formed, and their fields are written
   pub record DrawsAll (count : ℕ) : Type 0 where
@@ -46,6 +47,7 @@ module _ {R W : Type 0} (remaining : R → Option (List ℕ)) (contents : W → 
     pub well_formed : AreRows text rows
     pub number : count ≡ length rows
     pub few : count ≤ c.max_fields
+    pub calm : intakes.errors_of i ≡ intakes.errors_of i0
     pub ended : IsAtEnd (remaining (intakes.device_of i))
     pub drew : Drew rows
 
@@ -60,6 +62,7 @@ module _ {R W : Type 0} (remaining : R → Option (List ℕ)) (contents : W → 
     pub well_formed : AreRows before rows
     pub number : count ≡ length rows + 1
     pub malformed : row_words row ≡ None
+    pub calm : intakes.errors_of i ≡ intakes.errors_of i0
     pub read_to : ((front : List ℕ) × (row ≡ front ++ 10 ∷ [])) ⊎ (IsAtEnd (remaining (intakes.device_of i)) ⊎ (length row ≡ 21))
     pub drew : Drew rows
 
@@ -74,6 +77,7 @@ module _ {R W : Type 0} (remaining : R → Option (List ℕ)) (contents : W → 
     pub well_formed : AreRows before rows
     pub number : count ≡ length rows + 1
     pub rose : intakes.failures_of i0 < intakes.failures_of i
+    pub cause : intakes.HasCause i0 i
     pub drew : Drew rows
 
   -- a byte followed the last row that is allowed, all these are well formed, and their fields are written
@@ -85,6 +89,7 @@ module _ {R W : Type 0} (remaining : R → Option (List ℕ)) (contents : W → 
     pub whole : EndsRow before
     pub well_formed : AreRows before rows
     pub number : length rows ≡ c.max_fields
+    pub calm : intakes.errors_of i ≡ intakes.errors_of i0
     pub drew : Drew rows
 
   -- the writer failed after so many bytes, which are the first of the fields of the rows fetched
@@ -98,6 +103,8 @@ module _ {R W : Type 0} (remaining : R → Option (List ℕ)) (contents : W → 
     pub appended : Appends (contents (outlets.device_of o0)) (contents (outlets.device_of o)) (take count (draw_out c rows))
     pub written : outlets.written_of o ≡ count
     pub rose : outlets.failures_of o0 < outlets.failures_of o
+    pub cause : outlets.HasCause o0 o
+    pub calm : intakes.errors_of i ≡ intakes.errors_of i0
 
   -- what a run does, by its answer
   abbrev pub Draws : Result ℕ DrawFault → Type 0

@@ -32,6 +32,18 @@ module _ {R : Type 0} where
   abbrev pub failures_of : RowIntake R → ℕ
   failures_of i = counted.failures_of i.device
 
+  -- how often of these it wasn't interrupted
+  abbrev pub errors_of : RowIntake R → ℕ
+  errors_of i = counted.errors_of i.device
+
+  -- how many interruptions have come since its last answer of another kind
+  abbrev pub streak_of : RowIntake R → ℕ
+  streak_of i = counted.streak_of i.device
+
+  -- the reader failed in a call, which is a fault's cause
+  abbrev pub HasCause : RowIntake R → RowIntake R → Type 0
+  HasCause old new = counted.HasCause old.device new.device
+
   -- how many bytes it gave
   abbrev pub fetched_of : RowIntake R → ℕ
   fetched_of i = i.fetched
@@ -58,10 +70,18 @@ module _ {R : Type 0} where
   IsByteCame remaining old new bytes.Ended = IsAtEnd (remaining (device_of new))
   IsByteCame remaining old new bytes.Failed = failures_of old < failures_of new
 
+  -- no error came, or else a fault is told, which has its cause
+  abbrev pub IsByteCaused : RowIntake R → RowIntake R → ByteCame → Type 0
+  IsByteCaused old new (bytes.Byte byte) = errors_of new ≡ errors_of old
+  IsByteCaused old new bytes.Ended = errors_of new ≡ errors_of old
+  IsByteCaused old new bytes.Failed = HasCause old new
+
   pub record TakesByte (remaining : R → Option (List ℕ)) (old new : RowIntake R) (came : ByteCame) : Type 0 where
     pub fetches : Fetches remaining old new (byte_of came)
     pub most : failures_of new ≤ failures_of old + 17
+    pub streak : streak_of new ≤ streak_of old + 17
     pub told : IsByteCame remaining old new came
+    pub caused : IsByteCaused old new came
 
   -- a malformed row was read up to its newline, the reader's end or its 21st byte
   pub record IsMalformed (remaining : R → Option (List ℕ)) (new : RowIntake R) (bytes : List ℕ) : Type 0 where
@@ -82,9 +102,18 @@ module _ {R : Type 0} where
   IsRowCame remaining old new bytes Ended = (bytes ≡ []) × IsAtEnd (remaining (device_of new))
   IsRowCame remaining old new bytes Failed = HasNoNewline bytes × (failures_of old < failures_of new)
 
+  -- no error came, or else a fault is told, which has its cause
+  abbrev pub IsRowCaused : RowIntake R → RowIntake R → RowCame → Type 0
+  IsRowCaused old new (Row words) = errors_of new ≡ errors_of old
+  IsRowCaused old new (LastRow words) = errors_of new ≡ errors_of old
+  IsRowCaused old new Malformed = errors_of new ≡ errors_of old
+  IsRowCaused old new Ended = errors_of new ≡ errors_of old
+  IsRowCaused old new Failed = HasCause old new
+
   pub record TakesRow (remaining : R → Option (List ℕ)) (old new : RowIntake R) (came : RowCame) : Type 0 where
     pub bytes : List ℕ
     pub fetches : Fetches remaining old new bytes
     pub short : length bytes ≤ 21
     pub most : failures_of new ≤ failures_of old + 357
     pub told : IsRowCame remaining old new bytes came
+    pub caused : IsRowCaused old new came

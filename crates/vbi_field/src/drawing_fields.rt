@@ -1,7 +1,8 @@
 //! Fields drawn from rows of words.
 ghost use Rattle.std.specs.Prelude.{◌≡◌, ℕ, ◌+◌, ◌-◌, ◌*◌, ◌^◌, ◌<◌, ◌≤◌, None, length, IfOk, OnOk, OnErr, IfErr};
 ghost use Rattle.vbi_words.specs.Geometry.{line_bytes, height_of};
-ghost use Rattle.vbi_field.specs.Outlet.{failures_of as outlet_failures, written_of, IsFresh as IsFreshOutlet, IsSameDevice as IsSameOutlet};
+ghost use Rattle.vbi_field.specs.Outlet.{failures_of as outlet_failures, errors_of, written_of};
+ghost use Rattle.vbi_field.specs.Outlet.{HasCause, IsFresh as IsFreshOutlet, IsSameDevice as IsSameOutlet};
 ghost use Rattle.vbi_field.specs.RowIntake.{IsFresh, IsSameDevice};
 ghost use Rattle.vbi_field.specs.Drawing.{drawn_line_of, drawn_field_of, word_at};
 ghost use Rattle.vbi_field.specs.DrawRun.{PutsField, Draws, DrawsAll, StopsAtRow, StopsAtRead};
@@ -86,7 +87,9 @@ fn put_field<W: Write>(
     ensures same { IsSameOutlet outlet.old outlet.new }
     ensures puts { PutsField W.contents outlet.old outlet.new (drawn_field_of config.now words.now) }
     ensures ok { OnOk result (written_of outlet.new ≡ written_of outlet.old + length (drawn_field_of config.now words.now)) }
+    ensures no_error { OnOk result (errors_of outlet.new ≡ errors_of outlet.old) }
     ensures failed { OnErr result (outlet_failures outlet.old < outlet_failures outlet.new) }
+    ensures cause { OnErr result (HasCause outlet.old outlet.new) }
     ensures fault { IfErr result (λ e. e ≡ DrawFault.Write (written_of outlet.new)) }
 {
     for row in 0..config.system().height() {

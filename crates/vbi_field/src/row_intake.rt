@@ -42,7 +42,8 @@ pub struct RowIntake<'a, R> {
 }
 
 impl<'a, R: Read> RowIntake<'a, R> {
-    ghost use Rattle.vbi_field.specs.RowIntake.{device_of, name_of, failures_of, fetched_of, IsFresh, IsSameDevice, TakesByte, TakesRow};
+    ghost use Rattle.vbi_field.specs.RowIntake.{device_of, name_of, failures_of, errors_of, fetched_of};
+    ghost use Rattle.vbi_field.specs.RowIntake.{IsFresh, IsSameDevice, TakesByte, TakesRow};
 
     /// An intake that has fetched nothing.
     pub fn new(reader: &'a mut R) -> Self
@@ -77,6 +78,13 @@ impl<'a, R: Read> RowIntake<'a, R> {
         ensures { result ≡ failures_of self.now }
     {
         self.device.failures()
+    }
+
+    /// How often the reader failed, interruptions not among these.
+    pub fn errors(&self) -> u64
+        ensures { result ≡ errors_of self.now }
+    {
+        self.device.errors()
     }
 
     /// Takes the next byte. An interrupted read is tried again at most 16 times in a row.

@@ -1,6 +1,7 @@
 use Rattle.std.proofs.Common.{ap, ◌∙◌, arith, length}
 use Rattle.vbi_words.specs.Geometry.{height_of}
 use Rattle.vbi_field.specs.Drawing.{word_at}
+use Rattle.vbi_line.proofs.Causes.{cause_later}
 use Rattle.vbi_field.proofs.DrawnLemmas.{length-drawn_line_of, narrow}
 use Rattle.vbi_field.proofs.PutFieldSteps.{Putting-none, Putting-more, put_whole, put_part}
 use Rattle.vbi_field.proofs.drawing_fields.put_field.Goals as goal
@@ -19,10 +20,15 @@ returns-in-Err-clause-puts g c =
     put_part _ _ _ _ _ _ _ _ c.loop-row.row c.loop-row.invariant (omega (arith, ap height_of c.system.ensures))
     c.next_line.ensures c.put_all.ensures.puts
 
+pub returns-in-Err-clause-cause : goal.returns-in-Err-clause-cause
+returns-in-Err-clause-cause g c =
+    let v = c.loop-row.invariant in
+    cause_later c.args.outlet.now.device c.loop-row.outlet.device c.put_all.new.self.device v.errors v.least c.in-Err.ensures.cause
+
 pub loop-row-preserved : goal.loop-row-preserved
 loop-row-preserved g c =
     Putting-more _ _ _ _ _ _ _ _ c.loop-row.row c.loop-row.invariant c.next_line.ensures c.put_all.ensures.puts c.in-Ok.ensures.ok
-    c.put_all.ensures.same
+    c.in-Ok.ensures.no_error c.put_all.ensures.same
 
 pub returns : goal.returns
 returns g c =
@@ -32,6 +38,8 @@ returns g c =
       same = c.loop-row.invariant.same;
       puts = whole.0;
       ok = whole.1;
+      no_error = c.loop-row.invariant.errors;
       failed = tt;
+      cause = tt;
       fault = tt;
     }

@@ -10,19 +10,19 @@ pub returns-in-Err-clause-run : goal.returns-in-Err-clause-run
 returns-in-Err-clause-run g c =
     row_failed _ _ _ _ _ _ _ _ _ c.loop-done.invariant c.next_row.new.self c.in-Row.words c.in-Row.ensures
     (omega (arith, c.max_fields-done-end.ensures.value)) c.put_field.new.outlet c.in-Err.ensures.puts
-    c.in-Err.fault c.in-Err.ensures.failed c.in-Err.ensures.fault
+    c.in-Err.fault c.in-Err.ensures.failed c.in-Err.ensures.cause c.in-Err.ensures.fault
 
 pub returns-in-Err-put_field-clause-run : goal.returns-in-Err-put_field-clause-run
 returns-in-Err-put_field-clause-run g c =
     last_row_failed _ _ _ _ _ _ _ _ _ c.loop-done.invariant c.next_row.new.self c.in-LastRow.words c.in-LastRow.ensures
     (omega (arith, c.max_fields-done-end.ensures.value)) c.put_field-in-LastRow.new.outlet c.in-Err-put_field.ensures.puts
-    c.in-Err-put_field.fault c.in-Err-put_field.ensures.failed c.in-Err-put_field.ensures.fault
+    c.in-Err-put_field.fault c.in-Err-put_field.ensures.failed c.in-Err-put_field.ensures.cause c.in-Err-put_field.ensures.fault
 
 pub returns-in-LastRow-clause-run : goal.returns-in-LastRow-clause-run
 returns-in-LastRow-clause-run g c =
     last_row_drawn _ _ _ _ _ _ _ _ _ c.loop-done.invariant c.next_row.new.self c.in-LastRow.words c.in-LastRow.ensures
     (omega (arith, c.max_fields-done-end.ensures.value)) c.put_field-in-LastRow.new.outlet c.in_default-put_field.ensures.puts
-    c.in_default-put_field.ensures.ok
+    c.in_default-put_field.ensures.ok c.in_default-put_field.ensures.no_error
 
 pub returns-in-Malformed-clause-run : goal.returns-in-Malformed-clause-run
 returns-in-Malformed-clause-run g c = bad_row _ _ _ _ _ _ _ _ _ c.loop-done.invariant c.next_row.new.self c.in-Malformed.ensures
@@ -31,7 +31,7 @@ pub loop-done-preserved : goal.loop-done-preserved
 loop-done-preserved g c =
     row_drawn _ _ _ _ _ _ _ _ _ c.loop-done.invariant c.next_row.new.self c.in-Row.words c.in-Row.ensures
     (omega (arith, c.max_fields-done-end.ensures.value)) c.put_field.new.outlet c.in_default.ensures.puts
-    c.put_field.new.line c.in_default.ensures.ok c.in_default.ensures.same c.in_default.ensures.black
+    c.put_field.new.line c.in_default.ensures.ok c.in_default.ensures.no_error c.in_default.ensures.same c.in_default.ensures.black
 
 pub returns-in-Ended-clause-run : goal.returns-in-Ended-clause-run
 returns-in-Ended-clause-run g c =
