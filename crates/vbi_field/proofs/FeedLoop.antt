@@ -22,7 +22,7 @@ use Rattle.vbi_field.specs.declared.outlet.Outlet.{Outlet}
 use Rattle.vbi_field.specs.declared.summary.RunFault.{RunFault}
 use Rattle.vbi_field.specs.declared.summary.RunFault.TheVariants.{Read, Write, TooManyFields, Failed}
 use Rattle.vbi_field.proofs.FeedTexts.{completes_twice}
-use Rattle.vbi_field.proofs.Settling.{wrote_none, wrote_twice}
+use Rattle.vbi_field.proofs.Settling.{wrote_none, wrote_twice, later_part}
 
 module _ {W : Type 0} (contents : W → Option (List ℕ)) (c : ConfigView) where
   -- nothing came
@@ -67,11 +67,9 @@ module _ {W : Type 0} (contents : W → Option (List ℕ)) (c : ConfigView) wher
     fed_fault (Write written) after =
         let all = append_assoc z first bytes in (
           before.1.0 ++ after.0,
-          after.1,
-          ap (λ l. begun_of document c z ++ l) (append_assoc before.1.0 after.0 after.1)
-              ∙ completes_twice document c z (z ++ first) (take (allowed_bytes c) ((z ++ first) ++ bytes)) before.1.0 (after.0 ++ after.1) before.1.1 after.2
+          completes_twice document c z (z ++ first) (take (allowed_bytes c) ((z ++ first) ++ bytes)) before.1.0 after.0 before.1.1 after.1
               ∙ ap (λ l. begun_of document c (take (allowed_bytes c) l)) all,
-          wrote_twice contents o0 o o' before.1.0 after.0 before.1.2 after.3,
+          later_part contents o0 o o' before.1.0 after.0 before.1.2 after.2,
         )
 
 -- so much of a piece was taken

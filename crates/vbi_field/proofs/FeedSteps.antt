@@ -25,7 +25,7 @@ use Rattle.vbi_field.specs.declared.summary.RunFault.TheVariants.{Write, TooMany
 use Rattle.vbi_field.proofs.Counts.{some_bytes, looks_next}
 use Rattle.vbi_field.proofs.FeedPlaces.{Split, split_of, split_fields, split_long, at_of}
 use Rattle.vbi_field.proofs.FeedTexts.{begun_same, begun_grows, completes_twice, cut_longer}
-use Rattle.vbi_field.proofs.Settling.{fields_at, further, wrote_none}
+use Rattle.vbi_field.proofs.Settling.{fields_at, further, wrote_none, longer_part}
 
 -- a row more is allowed before the last field
 room_for_row : (s : System) (n f r h m : ℕ) → n ≡ (f * height_of s + r) * line_bytes s + h → r < height_of s → h ≤ line_bytes s
@@ -162,7 +162,7 @@ module _ {W : Type 0} (contents : W → Option (List ℕ)) (c : ConfigView) (l :
         → fault ≡ Write written → IsFed contents c o o' z bytes (place_of c l' now) (Err fault)
     fed_in_part p' now l' o o' settled bytes n fault written front fails =
         let text : List ℕ = settled.text in
-        let rest : List ℕ = settled.rest in
+        let w = settled.wrote in
         let all : (z ++ more) ++ drop n bytes ≡ z ++ bytes =
         append_assoc z more (drop n bytes) ∙ ap (λ x. z ++ (x ++ drop n bytes)) front ∙ ap (λ x. z ++ x) (take-append-drop n bytes) in
         let further = cut_longer (z ++ more) (drop n bytes) (allowed_bytes c) fits in
@@ -170,12 +170,9 @@ module _ {W : Type 0} (contents : W → Option (List ℕ)) (c : ConfigView) (l :
         let longer : begun_of document c ((z ++ more) ++ further.0) ≡ begun_of document c (take (allowed_bytes c) (z ++ bytes)) =
         ap (begun_of document c) (further.1 ∙ ap (take (allowed_bytes c)) all) in
         rw fails (
-          text,
-          rest ++ grown.0,
-          ap (λ x. begun_of document c z ++ x) (sym (append_assoc text rest grown.0))
-              ∙ completes_twice document c z (z ++ more) ((z ++ more) ++ further.0) (text ++ rest) grown.0
-              (due_more (text ++ rest) settled.due) grown.1 ∙ longer,
-          settled.wrote,
+          text ++ grown.0,
+          completes_twice document c z (z ++ more) ((z ++ more) ++ further.0) text grown.0 (due_more text settled.due) grown.1 ∙ longer,
+          longer_part contents o o' text grown.0 w,
         )
 
 -- a fault that was passed on

@@ -36,7 +36,7 @@ use Rattle.vbi_field.proofs.Counts.{looks_next, rows_within, selected_is, select
 use Rattle.vbi_field.proofs.Entries.{stood-none, begun_of-stood}
 use Rattle.vbi_field.proofs.FeedTexts.{begun_same}
 use Rattle.vbi_field.proofs.Growing.{row_mono}
-use Rattle.vbi_field.proofs.Settling.{fields_at, further, wrote_whole, wrote_part}
+use Rattle.vbi_field.proofs.Settling.{fields_at, further, wrote_whole, put_in_part}
 
 -- a device that hadn't given an error before has failed for good
 pub has_failed : {D : Type 0} (old new : Counted D) → counted.errors_of old ≡ 0 → counted.HasCause old new
@@ -77,9 +77,15 @@ starts Ntsc = record { bytes = refl; rows = refl; inside = omega arith; looks = 
 starts Pal = record { bytes = refl; rows = refl; inside = omega arith; looks = refl }
 
 -- the first of a text, and not all of it
-pub inside_of : (before text rest due : List ℕ) → 0 < length rest → before ++ (text ++ rest) ≡ due → EndsInside before due (before ++ text)
-inside_of before text rest due short is =
-    record { part = text; rest = rest; begun = refl; more = append_assoc before text rest ∙ is; short = short }
+pub inside_of : {W : Type 0} (contents : W → Option (List ℕ)) (o o' : Outlet W) (before text due : List ℕ)
+    (w : outlets.WrotePart contents o o' text) → before ++ text ≡ due → EndsInside before due (before ++ w.part)
+inside_of contents o o' before text due w is = record {
+  part = w.part;
+  rest = w.rest;
+  begun = refl;
+  more = append_assoc before w.part w.rest ∙ ap (λ l. before ++ l) w.parts ∙ is;
+  short = w.short;
+}
 
 -- whole fields, and the last of them
 record LastField (t : Texts) (c : ConfigView) (z b : List ℕ) : Type 0 where
@@ -229,11 +235,10 @@ module _ (t : Texts) {R W : Type 0} (remaining : R → Option (List ℕ)) (conte
   head_fault o text fault fresh clean is puts cause short fails =
       let begun : text ≡ begun_of t c [] = is ∙ sym (begun_of-stood t c [] 0 (no_fields c.system) ∙ stood-none t c []) in
       let looks : i0.line.looked ≡ looks_of c [] = fresh.looked ∙ sym (no_looks c.system) in
-      let under : 0 < length (drop puts.count text) = omega (arith, puts.written, length-drop puts.count text) in
-      let due : [] ++ (take puts.count text ++ drop puts.count text) ≡ begun_of t c [] = take-append-drop puts.count text ∙ begun in
-      write_fault i0 o0 o [] [] (take puts.count text) fault (Consumes-nil _) fresh.fetched (Appends-nil _) clean.written (calm_reader fresh) (calm_writer clean)
-      (wrote_part contents o0 o text puts) cause fails (zero-le) looks
-      (inl (record { none = refl; ends = inside_of [] (take puts.count text) (drop puts.count text) (begun_of t c []) under due }))
+      let w = put_in_part contents o0 o text puts short in
+      write_fault i0 o0 o [] [] w.part fault (Consumes-nil _) fresh.fetched (Appends-nil _) clean.written (calm_reader fresh) (calm_writer clean)
+      w.wrote cause fails (zero-le) looks
+      (inl (record { none = refl; ends = inside_of contents o0 o [] text (begun_of t c []) w begun }))
 
   -- ---- a whole row came
 
@@ -314,17 +319,18 @@ module _ (t : Texts) {R W : Type 0} (remaining : R → Option (List ℕ)) (conte
         on.looks ∙ ap (λ n. width_of c.system * n)
         (sym (selected_is c.system (length z) p'.fields p'.row 0 after.inside (some_bytes c.system) (after.whole ∙ sym (add-zero _)))) in
         let due = last_field t c g.z row.bytes p p' g.at after (next_fields p p' next first) first in
-        let P : List ℕ → Type 0 = λ b. EndsInside b (begun_of t c z) (begun_of t c g.z ++ settled.text) in
-        write_fault i' o o' z (begun_of t c g.z) settled.text fault
+        let w = settled.wrote in
+        let P : List ℕ → Type 0 = λ b. EndsInside b (begun_of t c z) (begun_of t c g.z ++ w.part) in
+        write_fault i' o o' z (begun_of t c g.z) w.part fault
         (Consumes-trans _ _ _ g.z row.bytes g.consumed row.consumed) (omega (arith, row.fetched, g.fetched)) g.appended g.written
-        (got.no_error ∙ g.calm_reads) g.calm_writes settled.wrote cause fails within looks
+        (got.no_error ∙ g.calm_reads) g.calm_writes w.wrote cause fails within looks
         (inr (inl (record {
           before = due.before;
           last = due.last;
           both = due.both;
           fields = due.fields;
           field = due.field;
-          ends = subst P (sym due.begun) (inside_of (begun_of t c g.z) settled.text settled.rest (begun_of t c z) settled.short settled.due);
+          ends = subst P (sym due.begun) (inside_of contents o o' (begun_of t c g.z) settled.text (begun_of t c z) w settled.due);
         })))
       where
         next_fields : (p p' : Progress) → IsNextRow c p p' → p'.row ≡ 0 → p'.fields ≡ p.fields + 1
@@ -426,14 +432,12 @@ module _ (t : Texts) {R W : Type 0} (remaining : R → Option (List ℕ)) (conte
       by (Err e) whole calm says cause less fails =
           let got = row.got in
           let tail : List ℕ = t.tail fields rest in
-          let under : 0 < length (drop puts.count tail) = omega (arith, puts.written, length-drop puts.count tail) in
-          let due : begun_of t c g.z ++ (take puts.count tail ++ drop puts.count tail) ≡ document_of t c (g.z ++ b) =
-          ap (λ l. begun_of t c g.z ++ l) (take-append-drop puts.count tail) ∙ document_is in
-          let P : List ℕ → Type 0 = λ x. EndsInside x (document_of t c (g.z ++ b)) (begun_of t c g.z ++ take puts.count tail) in
-          let inside = inside_of (begun_of t c g.z) (take puts.count tail) (drop puts.count tail) (document_of t c (g.z ++ b)) under due in
-          write_fault i' o o' (g.z ++ b) (begun_of t c g.z) (take puts.count tail) e
+          let w = put_in_part contents o o' tail puts less in
+          let P : List ℕ → Type 0 = λ x. EndsInside x (document_of t c (g.z ++ b)) (begun_of t c g.z ++ w.part) in
+          let inside = inside_of contents o o' (begun_of t c g.z) tail (document_of t c (g.z ++ b)) w document_is in
+          write_fault i' o o' (g.z ++ b) (begun_of t c g.z) w.part e
           (Consumes-trans _ _ _ g.z b g.consumed row.consumed) (omega (arith, row.fetched, g.fetched, length-append g.z b)) g.appended g.written
-          (got.no_error ∙ g.calm_reads) g.calm_writes (wrote_part contents o o' tail puts) cause fails few looks
+          (got.no_error ∙ g.calm_reads) g.calm_writes w.wrote cause fails few looks
           (inr (inr (record { ended = got.ended; ends = subst P (begun_is k i o p g b short) inside })))
 
   -- the reader failed

@@ -10,8 +10,8 @@ use Rattle.vbi_field.specs.WordRows.{word_row_of}
 use Rattle.vbi_field.specs.RowIntake.{failures_of, errors_of, streak_of, HasNoNewline, Fetches, TakesByte, TakesRow}
 use Rattle.vbi_field.specs.declared.word_row.WordRow.{WordRow}
 use Rattle.vbi_field.specs.declared.row_intake.RowIntake.{RowIntake}
-use Rattle.vbi_field.specs.declared.row_intake.ByteCame.TheVariants as bytes
-use Rattle.vbi_field.specs.declared.row_intake.RowCame.TheVariants.{Row, LastRow, Malformed, Failed}
+use Rattle.vbi_field.specs.declared.row_intake.NextByte.TheVariants as bytes
+use Rattle.vbi_field.specs.declared.row_intake.NextRow.TheVariants.{Row, LastRow, Malformed, Failed}
 use Rattle.vbi_field.proofs.WordRowLemmas.{long_row}
 
 all_one : (byte : ℕ) → byte ≢ 10 → HasNoNewline (byte ∷ [])
@@ -86,7 +86,7 @@ module _ {R : Type 0} (remaining : R → Option (List ℕ)) where
         fetches = with_newline;
         short = few;
         most = omega (arith, h.most, t.most);
-        told = (take held row, h.plain, refl, sym w);
+        got = (take held row, h.plain, refl, sym w);
         caused = t.caused ∙ h.errors;
       }
 
@@ -96,7 +96,7 @@ module _ {R : Type 0} (remaining : R → Option (List ℕ)) where
         fetches = with_newline;
         short = few;
         most = omega (arith, h.most, t.most);
-        told = record { row = take held row; plain = h.plain; malformed = sym w; read_to = inl refl };
+        got = record { row = take held row; plain = h.plain; malformed = sym w; read_to = inl refl };
         caused = t.caused ∙ h.errors;
       }
 
@@ -111,7 +111,7 @@ module _ {R : Type 0} (remaining : R → Option (List ℕ)) where
         fetches = as_held t.fetches;
         short = omega (arith, short);
         most = omega (arith, h.most, t.most);
-        told = (h.plain, omega (arith, short), sym w, t.told);
+        got = (h.plain, omega (arith, short), sym w, t.got);
         caused = t.caused ∙ h.errors;
       }
 
@@ -121,11 +121,11 @@ module _ {R : Type 0} (remaining : R → Option (List ℕ)) where
         fetches = as_held t.fetches;
         short = omega (arith, short);
         most = omega (arith, h.most, t.most);
-        told = record {
+        got = record {
           row = take held row;
           plain = h.plain;
           malformed = sym w;
-          read_to = inr (inl (refl, omega (arith, short), t.told));
+          read_to = inr (inl (refl, omega (arith, short), t.got));
         };
         caused = t.caused ∙ h.errors;
       }
@@ -136,7 +136,7 @@ module _ {R : Type 0} (remaining : R → Option (List ℕ)) where
       fetches = as_held t.fetches;
       short = omega (arith, short);
       most = omega (arith, h.most, t.most);
-      told = (h.plain, omega (arith, t.told, h.fetches.least));
+      got = h.plain;
       caused = cause_later old.device now.device new.device h.errors h.fetches.least t.caused;
     }
 
@@ -149,7 +149,7 @@ module _ {R : Type 0} (remaining : R → Option (List ℕ)) where
         fetches = h.fetches;
         short = omega arith;
         most = omega (arith, h.most);
-        told = record {
+        got = record {
           row = take 21 row;
           plain = h.plain;
           malformed = long_row (take 21 row) (omega arith);

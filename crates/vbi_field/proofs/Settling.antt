@@ -1,11 +1,11 @@
 -- What is written with a whole row.
-use Rattle.std.proofs.Common.{◌≡◌, ℕ, ◌+◌, ◌-◌, ◌*◌, ◌≤◌, ◌<◌, inl, inr, List, [], ◌++◌, length, take, drop, refl, sym, ap, ◌∙◌, arith, append-nil, add-zero, add_assoc}
+use Rattle.std.proofs.Common.{◌≡◌, ℕ, ◌+◌, ◌-◌, ◌*◌, ◌≤◌, ◌<◌, inl, inr, List, [], ◌++◌, length, take, drop, refl, sym, ap, ◌∙◌, arith, append-nil, append_assoc, add-zero, add_assoc}
 use Rattle.std.specs.Prelude.{Option, Result, Err, Ok, IsErr}
 use Rattle.std.proofs.KnownBytes.{Appends-nil, Appends-trans}
 use Rattle.std.proofs.lemmas.List.{length-append, length-drop, length-take-le, take_all, take-append-drop}
 use Rattle.vbi_words.specs.Geometry.{width_of, height_of}
 use Rattle.vbi_field.specs.ConfigView.{ConfigView}
-use Rattle.vbi_field.specs.Outlet.{device_of, written_of, Puts, Wrote}
+use Rattle.vbi_field.specs.Outlet.{written_of, Puts, Wrote, WrotePart}
 use Rattle.vbi_field.specs.Progress.{IsPosition, IsNextRow, SettlesWhole, SettlesInPart, Settles}
 use Rattle.vbi_field.specs.Stream.{fields_of, field_readings, selected}
 use Rattle.vbi_field.specs.Texts.{Texts, Completes, begun_of, joined_entry_of}
@@ -49,6 +49,28 @@ wrote_twice contents a b c xs ys first second = record {
   written = omega (arith, first.written, second.written, length-append xs ys);
 }
 
+-- the first of a text is the first of a longer one
+pub longer_part : {W : Type 0} (contents : W → Option (List ℕ)) (o o' : Outlet W) (xs ys : List ℕ) → WrotePart contents o o' xs
+    → WrotePart contents o o' (xs ++ ys)
+longer_part contents o o' xs ys w = record {
+  part = w.part;
+  rest = w.rest ++ ys;
+  parts = sym (append_assoc w.part w.rest ys) ∙ ap (λ l. l ++ ys) w.parts;
+  short = omega (arith, w.short, length-append w.rest ys);
+  wrote = w.wrote;
+}
+
+-- a text and the first of another are the first of both
+pub later_part : {W : Type 0} (contents : W → Option (List ℕ)) (a b c : Outlet W) (xs ys : List ℕ) → Wrote contents a b xs
+    → WrotePart contents b c ys → WrotePart contents a c (xs ++ ys)
+later_part contents a b c xs ys first w = record {
+  part = xs ++ w.part;
+  rest = w.rest;
+  parts = append_assoc xs w.part w.rest ∙ ap (λ l. xs ++ l) w.parts;
+  short = w.short;
+  wrote = wrote_twice contents a b c xs w.part first w.wrote;
+}
+
 module _ {W : Type 0} (contents : W → Option (List ℕ)) (o o' : Outlet W) where
   -- all of the bytes were put
   pub wrote_whole : (bytes : List ℕ) → Puts contents o o' bytes → written_of o' ≡ written_of o + length bytes → Wrote contents o o' bytes
@@ -56,9 +78,16 @@ module _ {W : Type 0} (contents : W → Option (List ℕ)) (o o' : Outlet W) whe
       let whole = take_all p.count bytes (omega arith) in
       record { appended = rw whole at p.appended; written = e }
 
-  -- the first of them were
-  pub wrote_part : (bytes : List ℕ) (p : Puts contents o o' bytes) → Wrote contents o o' (take p.count bytes)
-  wrote_part bytes p = record { appended = p.appended; written = p.written ∙ ap (λ n. written_of o + n) (sym (length-take-le p.count bytes p.within)) }
+  -- the first of them were, and not all
+  pub put_in_part : (bytes : List ℕ) → Puts contents o o' bytes → written_of o' < written_of o + length bytes
+      → WrotePart contents o o' bytes
+  put_in_part bytes p less = record {
+    part = take p.count bytes;
+    rest = drop p.count bytes;
+    parts = take-append-drop p.count bytes;
+    short = omega (arith, length-drop p.count bytes, p.written);
+    wrote = record { appended = p.appended; written = p.written ∙ ap (λ n. written_of o + n) (sym (length-take-le p.count bytes p.within)) };
+  }
 
 module _ (t : Texts) {W : Type 0} (contents : W → Option (List ℕ)) (c : ConfigView) (o o' : Outlet W) (z b : List ℕ) (p p' : Progress)
     (at : IsPosition c z p) (next : IsPosition c (z ++ b) p') where
@@ -89,14 +118,7 @@ module _ (t : Texts) {W : Type 0} (contents : W → Option (List ℕ)) (c : Conf
 
     -- or in part
     pub settled_in_part : Puts contents o o' text → written_of o' < written_of o + length text → SettlesInPart t contents c o o' z b p'
-    settled_in_part puts short = record {
-      position = next;
-      text = take puts.count text;
-      rest = drop puts.count text;
-      due = ap (λ x. begun_of t c z ++ x) (take-append-drop puts.count text) ∙ entry_due;
-      short = omega (arith, length-drop puts.count text, puts.written);
-      wrote = wrote_part contents o o' text puts;
-    }
+    settled_in_part puts short = record { position = next; text = text; due = entry_due; wrote = put_in_part contents o o' text puts short }
 
 -- so the answer is a fault
 pub settles_fault : (t : Texts) {W : Type 0} (contents : W → Option (List ℕ)) (c : ConfigView) (o o' : Outlet W) (z b : List ℕ)

@@ -1,7 +1,7 @@
 -- What a feeder does with a stream that comes in pieces. The pieces before make the stream z so far.
 use Rattle.std.specs.Prelude.{◌≡◌, ℕ, ◌+◌, ◌*◌, ◌<◌, ◌≤◌, false, List, ◌++◌, length, take, Option, Result, Ok, Err}
 use Rattle.vbi_field.specs.Kinds.{document}
-use Rattle.vbi_field.specs.Outlet.{errors_of, written_of, HasCause, Wrote}
+use Rattle.vbi_field.specs.Outlet.{errors_of, written_of, HasCause, Wrote, WrotePart}
 use Rattle.vbi_field.specs.Position.{Position, position_of}
 use Rattle.vbi_field.specs.ConfigView.{ConfigView, allowed_bytes}
 use Rattle.vbi_field.specs.Stream.{fields_of, rest_of, cut_of, looks_of}
@@ -22,21 +22,14 @@ pub record StandsAt (f : Feeding) (z : List ℕ) : Type 0 where
   pub calm : f.has_failed ≡ false
   pub at : IsAt f.config z f.position
 
--- the first of these bytes were written, and the rest wasn't
-abbrev pub AppendsInPart : {W : Type 0} → (W → Option (List ℕ)) → Outlet W → Outlet W → List ℕ → Type 0
-AppendsInPart contents o o' whole =
-    (text : List ℕ) × (rest : List ℕ) × (text ++ rest ≡ whole) × Wrote contents o o' text
-
 module _ {W : Type 0} (contents : W → Option (List ℕ)) (c : ConfigView) (o o' : Outlet W) (z : List ℕ) where
   -- the bytes by which the text of the longer stream is longer were written
   abbrev pub Extends : List ℕ → Type 0
   Extends longer = (text : List ℕ) × Completes document c z longer text × Wrote contents o o' text
 
-  -- the first of these bytes were written, and the rest wasn't
+  -- the first of these bytes were written, and not all of them
   abbrev pub ExtendsInPart : List ℕ → Type 0
-  ExtendsInPart longer =
-      (text : List ℕ) × (rest : List ℕ) × Completes document c z longer (text ++ rest)
-      × Wrote contents o o' text
+  ExtendsInPart longer = (text : List ℕ) × Completes document c z longer text × WrotePart contents o o' text
 
   -- what a piece did, where the feeder stood at z, and the place at which it stands now
   abbrev pub IsFed : List ℕ → Position → Result (Unit {0}) RunFault → Type 0
@@ -51,7 +44,7 @@ module _ {W : Type 0} (contents : W → Option (List ℕ)) (c : ConfigView) (o o
   IsFinished (Ok s) =
       Wrote contents o o' (document.tail (fields_of c z) (rest_of c z))
       × (s.fields ≡ fields_of c z) × (s.cut ≡ cut_of (rest_of c z)) × (s.looked ≡ looks_of c z)
-  IsFinished (Err (Write written)) = AppendsInPart contents o o' (document.tail (fields_of c z) (rest_of c z))
+  IsFinished (Err (Write written)) = WrotePart contents o o' (document.tail (fields_of c z) (rest_of c z))
   IsFinished (Err (Read field offset)) = ⊥
   IsFinished (Err TooManyFields) = ⊥
   IsFinished (Err Failed) = ⊥

@@ -3,9 +3,9 @@ pub mod CauseTexts
 pub mod CodeTexts
 pub mod ConfigView
 pub mod Document
-pub mod DrawRun
 pub mod Drawing
 pub mod DrawnReadings
+pub mod Draws
 pub mod Extracts
 pub mod Feed
 pub mod FeedView

@@ -7,7 +7,7 @@ use Rattle.vbi_line.specs.OneReading.{reading_of}
 use Rattle.vbi_field.specs.declared.readings.FieldReadings.{FieldReadings}
 use Rattle.vbi_field.specs.declared.progress.Progress.{Progress}
 use Rattle.vbi_field.specs.ConfigView.{ConfigView}
-use Rattle.vbi_field.specs.Outlet.{Wrote}
+use Rattle.vbi_field.specs.Outlet.{Wrote, WrotePart}
 use Rattle.vbi_field.specs.Stream.{row_reading, field_readings}
 use Rattle.vbi_field.specs.Texts.{Texts, Completes}
 use Rattle.vbi_field.specs.declared.outlet.Outlet.{Outlet}
@@ -63,10 +63,8 @@ module _ (t : Texts) {W : Type 0} (contents : W → Option (List ℕ)) (c : Conf
   pub record SettlesInPart : Type 0 where
     pub position : IsPosition c (z ++ b) now
     pub text : List ℕ
-    pub rest : List ℕ
-    pub due : Completes t c z (z ++ b) (text ++ rest)
-    pub short : 0 < length rest
-    pub wrote : Wrote contents o o' text
+    pub due : Completes t c z (z ++ b) text
+    pub wrote : WrotePart contents o o' text
 
   -- what the row leads to, by the answer
   abbrev pub Settles : Result (Unit {0}) RunFault → Type 0

@@ -7,7 +7,7 @@ ghost use Rattle.vbi_line.specs.Line.{IsFull, Keeps};
 ghost use Rattle.vbi_line.specs.OneReading.{reading_of};
 ghost use Rattle.vbi_field.specs.Document.{head_of};
 ghost use Rattle.vbi_field.specs.Feed.{IsAt, IsFeedFault};
-ghost use Rattle.vbi_field.specs.Outlet.{failures_of, errors_of, written_of, HasCause, IsFresh, IsSameDevice, Rises, Wrote};
+ghost use Rattle.vbi_field.specs.Outlet.{failures_of, errors_of, written_of, HasCause, IsFresh, IsSameDevice, Rises, Wrote, WrotePart};
 ghost use Rattle.vbi_field.specs.Stand.{IsStand, IsStep, place_of};
 
 use crate::config::Config;
@@ -124,7 +124,7 @@ impl Model for Feeder {
 }
 
 impl Feeder {
-    ghost use Rattle.vbi_field.specs.Feed.{AppendsInPart, IsEndFault, IsFed, IsFinished, StandsAt};
+    ghost use Rattle.vbi_field.specs.Feed.{IsEndFault, IsFed, IsFinished, StandsAt};
 
     /// Writes the head, and begins a stream of which nothing has come. Where the writer fails there is no feeder.
     pub fn begin<W: Write>(config: Config, outlet: &mut Outlet<W>) -> Result<Feeder, RunFault>
@@ -137,7 +137,7 @@ impl Feeder {
         ensures write { IfErr result (λ e. e ≡ RunFault.Write (written_of outlet.new)) }
         ensures no_error { OnOk result (errors_of outlet.new ≡ errors_of outlet.old) }
         ensures failed { OnErr result (HasCause outlet.old outlet.new) }
-        ensures part { OnErr result (AppendsInPart W.contents outlet.old outlet.new (head_of config)) }
+        ensures part { OnErr result (WrotePart W.contents outlet.old outlet.new (head_of config)) }
     {
         put(outlet, Document::head(&config).as_str())?;
         Ok(Feeder {
