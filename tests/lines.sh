@@ -1,0 +1,116 @@
+#!/bin/sh
+# Runs the built program's command `line`: what it says of lines that are made here (by signal.awk), and its faults.
+# usage: sh tests/lines.sh PROGRAM
+# shellcheck disable=SC2086
+
+# shellcheck source=tests/helpers.sh
+. "$(dirname "$0")/helpers.sh"
+
+# The stored line in each way that it can come, and what can be wrong with it
+echo 82CFFF | signal NTSC 0 | text_samples > line.raw
+run line $levels < "$stored/stdin"
+judge 'standard input' 0 "$stored/stdout" ''
+check 'the stored line is the drawn one' cmp line.raw "$stored/stdin"
+run line $levels - < line.raw
+judge 'standard input as -' 0 "$stored/stdout" ''
+run line $levels line.raw < empty
+judge 'a file' 0 "$stored/stdout" ''
+{ cat line.raw; echo rest; } > longer.raw
+{ run line $levels; cat > rest; } < longer.raw
+judge 'a longer input' 0 "$stored/stdout" ''
+echo rest > unread
+check 'the rest is left unread' cmp rest unread
+
+head -c 1819 line.raw > short.raw
+run line $levels short.raw
+judge 'a short line' 1 empty 'ldvbi: short line: 1819 of 1820 bytes'
+run line $levels < empty
+judge 'no line' 1 empty 'ldvbi: short line: 0 of 1820 bytes'
+echo 8AE012 | signal PAL 0 | pal_samples | head -c 2269 > short.raw
+run line $pal short.raw
+judge 'a short line of PAL' 1 empty 'ldvbi: short line: 2269 of 2270 bytes'
+run line $levels .
+judge 'a folder as input' 1 empty 'ldvbi: read failed at byte 0'
+run line $levels <&-
+judge 'standard input that is closed' 1 empty 'ldvbi: read failed at byte 0'
+
+# outputs that take nothing: a full device, standard output that is closed, a pipe that nobody reads
+"$program" line $levels line.raw > /dev/full 2> err
+status=$?
+cp empty out
+judge 'no room for the output' 1 empty 'ldvbi: write failed after 0 bytes'
+"$program" line $levels line.raw >&- 2> err
+status=$?
+judge 'standard output that is closed' 1 empty 'ldvbi: write failed after 0 bytes'
+mkfifo unread_pipe
+# shellcheck disable=SC2094
+exec 3<> unread_pipe 4> unread_pipe 3<&-
+"$program" line $levels line.raw >&4 2> err
+status=$?
+exec 4>&-
+judge 'a pipe that nobody reads' 1 empty 'ldvbi: write failed after 0 bytes'
+
+# What a line shows, by its reading
+# one_line NAME ANSWER WORD..: checks what the program says of the line in shown.raw
+one_line() {
+    line_name=$1
+    echo "$2" > answer
+    shift 2
+    run line "$@" shown.raw
+    judge "$line_name" 0 answer ''
+}
+printf '%1820s' '' > shown.raw
+one_line '1820 spaces' blank $levels
+echo 82CFFF | signal NTSC 0 | tr 'zLyH' '\000\100\000\204' > shown.raw
+one_line 'high samples midway between black and white' blank $ntsc
+echo 82CFFF | signal NTSC 0 | tr 'zLyH' '\000\100\001\204' > shown.raw
+one_line 'high samples one above' 82CFFF $ntsc
+while IFS='|' read -r description answer; do
+    echo "$description" | signal NTSC 0 | ntsc_samples > shown.raw
+    one_line "NTSC: $description" "$answer" $ntsc
+done << 'END'
+FFFFFF/11/48|FFFFFF
+L10 000000/11/47|FFFFFF
+FFFFFF/11/47 H18|FFFFFF
+FFFFFF/11/47 H19|hold 535
+L14 H20|change 34
+L14 H14|hold 46
+L14 H22|hold 72
+-|blank
+H1|change 0
+FFFFFF @850-850H|FFFFFF
+L164 H746|hold 200
+L383 FFFFFE/11/47|unfinished
+L382 FFFFFE/11/47|FFFFFE
+82CFFF @170-171L|82CFFF
+82CFFF @170-172L|82CFFF
+82CFFF @170-173L|change 170
+82CFFF @170-174L|change 170
+82CFFF @0-0H|82CFFF
+L900 H10|unfinished
+L891 H19|unfinished
+L874 H36|unfinished
+L873 H37|hold 909
+L895 H11|unfinished
+L382 FFFFFF/11/48|FFFFFF
+L382 FFFFFF/11/48 @100-100H|change 101
+L379 FFFFFF/11/48 @100-100H|FFFFFF
+L374 FFFFFF/11/47 H19|FFFFFF
+L363 FFFFFF/11/47 H19|hold 898
+END
+while IFS='|' read -r description answer; do
+    echo "$description" | signal PAL 0 | pal_samples > shown.raw
+    one_line "PAL: $description" "$answer" $pal
+done << 'END'
+8AE012|8AE012
+-|blank
+L207 H928|hold 251
+L17 H24|change 41
+L17 H17|hold 56
+L17 H28|hold 89
+8AE012 @50-52H|8AE012
+8AE012 @50-53H|change 54
+FFFFFF/14/47 H22|FFFFFF
+FFFFFF/14/47 H23|hold 680
+END
+finish

@@ -1,0 +1,123 @@
+#!/bin/sh
+# Runs the built program on what is wrong before a run begins, where several things are, and on metadata.
+# usage: sh tests/settings.sh PROGRAM
+# shellcheck disable=SC2086
+
+# shellcheck source=tests/helpers.sh
+. "$(dirname "$0")/helpers.sh"
+
+commands='line extract show draw'
+cp "$stored/stdin" line.raw
+printf '{"a":NaN}' > nan.json
+
+# The order of what can be wrong: the words, the metadata file, the input file, the metadata, the settings. A run that
+# is refused takes nothing of its input.
+echo "error: invalid value '65536' for '--black <N>': 65536 is not in 0..=65535
+
+For more information, try '--help'." > refusal
+for command in $commands; do
+    run $command --meta absent.json --black 65536 absent.raw
+    check "$command: words before files" ended 2 empty refusal
+    run $command $levels --meta absent.json absent.raw
+    judge "$command: the metadata file before the input file" 1 empty 'ldvbi: cannot read metadata'
+    run $command --system NTSC --black 5 --white 5 --meta . line.raw
+    judge "$command: the metadata file before the levels" 1 empty 'ldvbi: cannot read metadata'
+    run $command --system NTSC --black 5 --white 5 absent.raw
+    judge "$command: the input file before the levels" 1 empty 'ldvbi: cannot open input'
+    run $command $levels --meta nan.json absent.raw
+    judge "$command: the input file before the metadata" 1 empty 'ldvbi: cannot open input'
+    { run $command $levels --meta nan.json; cat > rest; } < line.raw
+    judge "$command: metadata that is not JSON" 1 empty 'ldvbi: metadata is not JSON'
+    check "$command: metadata that is not JSON, the input" cmp rest line.raw
+    { run $command --system NTSC --black 5 --white 5 --max-fields 0; cat > rest; } < line.raw
+    judge "$command: levels out of order" 1 empty 'ldvbi: black level is not below white level'
+    check "$command: levels out of order, the input" cmp rest line.raw
+    { run $command $levels --max-fields 0; cat > rest; } < line.raw
+    judge "$command: no fields" 1 empty 'ldvbi: max fields is not from 1 to 1000000'
+    check "$command: no fields, the input" cmp rest line.raw
+    run $command --black 8224 --white 16448 .
+    judge "$command: no system, and a folder as input" 1 empty 'ldvbi: no system given'
+done
+
+# Metadata: each row has a document, or what videoParameters hold; options; and what `line` says of the stored line.
+# That is 82CFFF where the settings are those of the stored run, and that it is too short where they are those of PAL.
+all="$levels --max-fields 1"
+while IFS='|' read -r document options answer; do
+    case $document in '"'*) document="{\"videoParameters\":{$document},\"fields\":[]}" ;; esac
+    printf '%s' "$document" > row.json
+    run line --meta row.json $options line.raw
+    if [ "$answer" = 82CFFF ]; then
+        judge "$document $options" 0 "$stored/stdout" ''
+    else
+        judge "$document $options" 1 empty "ldvbi: $answer"
+    fi
+done << END
+|$all|metadata is not JSON
+{"a":NaN}||metadata is not JSON
+[]||metadata has no videoParameters
+[]|$all|metadata has no videoParameters
+{"videoParameters":3}||metadata has no videoParameters
+{}||metadata has no videoParameters
+{"videoParameters":{}}||no system given
+{"videoParameters":{}}|$all|82CFFF
+"system":"PAL_M"||unknown system
+"system":null,"isSourcePal":true||unknown system
+"system":"NTSC","isSourcePal":"no"||unknown system
+"system":"NTSC","isSourcePal":"no"|--system NTSC|no black level given
+"system":"X","black16bIre":-1||unknown system
+"system":"PAL","isSourcePal":false||system and isSourcePal disagree
+"system":"NTSC","isSourcePal":true||system and isSourcePal disagree
+"system":"PAL"||no black level given
+"system":"PAL","black16bIre":-1||black level is not a whole number from 0 to 65535
+"system":"PAL","black16bIre":65536||black level is not a whole number from 0 to 65535
+"system":"NTSC","black16bIre":null||black level is not a whole number from 0 to 65535
+"system":"NTSC","black16bIre":8224.0||black level is not a whole number from 0 to 65535
+"system":"NTSC","black16bIre":8224e0||black level is not a whole number from 0 to 65535
+"system":"NTSC","black16bIre":8224.0,"white16bIre":16448|--black 8224|82CFFF
+"system":"PAL","black16bIre":8224||no white level given
+"system":"PAL","black16bIre":8224,"white16bIre":"x"||white level is not a whole number from 0 to 65535
+"system":"PAL","black16bIre":8224,"white16bIre":8224||black level is not below white level
+"isSourcePal":true,"black16bIre":8224,"white16bIre":16448||short line: 1820 of 2270 bytes
+"isSourcePal":false,"black16bIre":8224,"white16bIre":16448||82CFFF
+"isSourcePal":true,"black16bIre":8224,"white16bIre":16448,"fieldWidth":910||field width differs
+"isSourcePal":true,"black16bIre":8224,"white16bIre":16448,"fieldHeight":312||field height differs
+"isSourcePal":true,"black16bIre":8224,"white16bIre":16448|--max-fields 0|max fields is not from 1 to 1000000
+"isSourcePal":true,"black16bIre":8224,"white16bIre":16448,"fieldWidth":910|--system NTSC|82CFFF
+"system":"NTSC","black16bIre":8224,"white16bIre":16448,"sampleRate":14318181.5||82CFFF
+"system":"NTSC","black16bIre":8224,"white16bIre":16448|--max-fields 1000000|82CFFF
+"system":"NTSC","black16bIre":8224,"white16bIre":16448|--max-fields 1000001|max fields is not from 1 to 1000000
+"system":"NTSC","black16bIre":8224,"white16bIre":16448|--max-fields 4294967295|max fields is not from 1 to 1000000
+"fieldWidth":910,"fieldHeight":263|$all|82CFFF
+"fieldWidth":909,"fieldHeight":262|$all|field width differs
+"fieldWidth":910.0|$all|field width differs
+"fieldWidth":null|$all|field width differs
+"fieldHeight":262|$all|field height differs
+"fieldHeight":"263"|$all|field height differs
+END
+printf '{"videoParameters":{"fieldWidth":911}}' > width.json
+printf '{"videoParameters":{"fieldHeight":264}}' > height.json
+for command in $commands; do
+    run $command $levels --meta width.json line.raw
+    judge "$command: a field width, where the options say all else" 1 empty 'ldvbi: field width differs'
+    run $command $levels --meta height.json line.raw
+    judge "$command: a field height, where the options say all else" 1 empty 'ldvbi: field height differs'
+done
+# nested DEPTH: brackets that open so often, and then close
+nested() {
+    { printf "%${1}s" '' | tr ' ' '['; printf "%${1}s" '' | tr ' ' ']'; } > nested.json
+}
+nested 127
+run line --meta nested.json line.raw
+judge 'metadata nested 127 deep' 1 empty 'ldvbi: metadata has no videoParameters'
+nested 128
+run line $levels --meta nested.json line.raw
+judge 'metadata nested 128 deep' 1 empty 'ldvbi: metadata is not JSON'
+dd if=/dev/null of=zeros.json bs=1 seek=268435456 2> zeros.log
+run line $levels --meta zeros.json line.raw
+judge 'metadata of as many bytes as are allowed' 1 empty 'ldvbi: metadata is not JSON'
+echo >> zeros.json
+run line $levels --meta zeros.json line.raw
+judge 'metadata of a byte more' 1 empty 'ldvbi: metadata too large'
+run line $levels --meta /dev/zero line.raw
+judge 'endless metadata' 1 empty 'ldvbi: metadata too large'
+finish
