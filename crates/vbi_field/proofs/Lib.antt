@@ -1,5 +1,6 @@
 pub mod Counts
 pub mod DrawSteps
+pub mod DrawnDocument
 pub mod DrawnLemmas
 pub mod DrawnReadsLemmas
 pub mod Entries

@@ -1,8 +1,11 @@
--- What the fields of a drawn stream are read as (this project's own).
-use Rattle.std.specs.Prelude.{ℕ, ⊤, Option, Some, None}
+-- What the fields of a drawn stream are read as, and the text that is written for it.
+use Rattle.std.specs.Prelude.{ℕ, ◌+◌, ⊤, List, ◌++◌, length, slice_index_or, Option, Some, None}
+use Rattle.std.specs.List.{join_by, range_with_len}
 use Rattle.vbi_words.specs.Words.{IsWord}
 use Rattle.vbi_words.specs.declared.outcome.Reading.{Reading}
 use Rattle.vbi_words.specs.declared.outcome.Outcome.TheVariants.{Word, Blank}
+use Rattle.vbi_field.specs.ConfigView.{ConfigView}
+use Rattle.vbi_field.specs.Texts.{Texts}
 use Rattle.vbi_field.specs.declared.readings.FieldReadings.{FieldReadings}
 use Rattle.vbi_field.specs.declared.word_row.WordRow.{WordRow}
 
@@ -29,3 +32,14 @@ drawn_readings words = record {
   second = drawn_reading words.second;
   third = drawn_reading words.third;
 }
+
+-- no word in any line
+abbrev pub no_words : WordRow
+no_words = record { first = None; second = None; third = None }
+
+-- the text of a stream that is drawn of these rows: an entry for each, with its words in the first pass and blanks, and no cut field
+abbrev pub drawn_text : Texts → ConfigView → List WordRow → List ℕ
+drawn_text t c rows =
+    t.head c
+    ++ join_by (λ i. t.entry (i + 1) (drawn_readings (slice_index_or rows i no_words))) t.joint (range_with_len 0 (length rows))
+    ++ t.tail (length rows) 0

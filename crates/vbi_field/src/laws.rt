@@ -2,7 +2,7 @@
 
 ghost use Rattle.std.specs.Prelude.{◌≡◌, ◌↔◌, ℕ, ◌+◌, ◌*◌, ◌<◌, ◌≤◌, ◌⊎◌, List, length, take, Option, Some, slice_get};
 ghost use Rattle.std.specs.Io.KnownBytes.{Consumes, IsAtEnd};
-ghost use Rattle.vbi_words.specs.Geometry.{width_of};
+ghost use Rattle.vbi_words.specs.Geometry.{width_of, field_bytes};
 ghost use Rattle.vbi_field.specs.ByLines.{FieldReads, IsDocument};
 ghost use Rattle.vbi_field.specs.Extracts.{EndsWithin};
 ghost use Rattle.vbi_field.specs.Ran.{IsFirstOf};
@@ -11,7 +11,7 @@ ghost use Rattle.vbi_field.specs.Stream.{fields_of, rest_of, looks_of};
 ghost use Rattle.vbi_field.specs.Texts.{Texts, begun_of, document_of};
 ghost use Rattle.vbi_field.specs.WordRows.{IsWordRow, AreRows, word_row_of};
 ghost use Rattle.vbi_field.specs.Drawing.{draw_out};
-ghost use Rattle.vbi_field.specs.DrawnReadings.{AreDrawable, drawn_readings};
+ghost use Rattle.vbi_field.specs.DrawnReadings.{AreDrawable, drawn_readings, drawn_text};
 ghost use Rattle.vbi_field.specs.declared.word_row.WordRow.{WordRow};
 
 /// A stream has one document and one report, fixed by the config and the bytes alone: those that its lines' readings give.
@@ -34,6 +34,18 @@ pub fn drawn_field()
 pub fn drawn_rows()
     ensures { (c : ConfigView) (text : List ℕ) (rows : List WordRow) (i : ℕ) (words : WordRow) → c.levels.black < c.levels.white
         → AreRows text rows → slice_get rows i ≡ Some words → FieldReads c (draw_out c rows) i (drawn_readings words) }
+{}
+
+/// A drawn stream has a field for each row.
+pub fn drawn_length()
+    ensures { (c : ConfigView) (rows : List WordRow) → length (draw_out c rows) ≡ length rows * field_bytes c.system }
+{}
+
+/// The document or the report of the stream that is drawn of a text's rows has an entry for each row, with its words in the first
+/// pass and blank where it has none, and no cut field.
+pub fn drawn_document()
+    ensures { (t : Texts) (c : ConfigView) (text : List ℕ) (rows : List WordRow) → c.levels.black < c.levels.white
+        → AreRows text rows → document_of t c (draw_out c rows) ≡ drawn_text t c rows }
 {}
 
 /// The bytes that came are the first of those that the reader had, and all of them where it is at its end.
