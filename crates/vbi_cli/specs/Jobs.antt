@@ -1,5 +1,6 @@
--- What a job does: what metadata and options settle, what each command does with it, and the job's answer. The input is seen by the
--- bytes that it has yet to give, and the output by those that it has taken, where they tell them, as those over memory do.
+-- What a job does: what metadata and options settle, what each command does with it, and the job's answer. The input
+-- is seen by the bytes that it has yet to give, and the output by those that it has taken, where they tell them, as
+-- those over memory do.
 use Rattle.std.specs.Prelude.{◌≡◌, ◌⊎◌, ℕ, List, Option, Some, None, Result, Ok, Err, ⊤}
 use Rattle.vbi_words.specs.Geometry.{line_bytes}
 use Rattle.vbi_words.specs.declared.outcome.Outcome.{Outcome}
@@ -21,7 +22,8 @@ use Rattle.vbi_meta.specs.declared.choosing.Overrides.{Overrides}
 use Rattle.vbi_meta.specs.declared.fault.MetaFault.{MetaFault}
 use Rattle.vbi_cli.specs.OneLine.{Answers}
 use Rattle.vbi_cli.specs.declared.fault.AppFault.{AppFault}
-use Rattle.vbi_cli.specs.declared.fault.AppFault.TheVariants.{Meta, ReadField, ReadLine, ReadRow, Write, TooManyFields, Row, Short}
+use Rattle.vbi_cli.specs.declared.fault.AppFault.TheVariants.{Meta, ReadField, ReadLine, ReadRow, Write}
+use Rattle.vbi_cli.specs.declared.fault.AppFault.TheVariants.{TooManyFields, Row, Short}
 use Rattle.vbi_cli.specs.declared.one_line.LineFault.{LineFault}
 use Rattle.vbi_cli.specs.declared.one_line.LineFault.TheVariants as line
 use Rattle.vbi_cli.specs.declared.job.Ended.{Ended}
@@ -77,10 +79,11 @@ IsDrawnBy (Err (draw.Read number)) answer = answer ≡ Err (ReadRow number)
 IsDrawnBy (Err (draw.Write written)) answer = answer ≡ Err (Write written)
 IsDrawnBy (Err draw.TooManyFields) answer = answer ≡ Err TooManyFields
 
--- a command ran over the input and the output and gave some result, what it fetched and wrote is what it says of that result, and the
--- job's answer is the one that belongs to it
-pub record DidRun {A : Type 0} (input0 input output0 output : Option (List ℕ)) (Says : Counts → A → List ℕ → List ℕ → Type 0)
-    (IsFor : A → Result Ended AppFault → Type 0) (answer : Result Ended AppFault) : Type 0 where
+-- a command ran over the input and the output and gave some result, what it fetched and wrote is what it says of that
+-- result, and the job's answer is the one that belongs to it
+pub record DidRun {A : Type 0} (input0 input output0 output : Option (List ℕ))
+    (Says : Counts → A → List ℕ → List ℕ → Type 0) (IsFor : A → Result Ended AppFault → Type 0)
+    (answer : Result Ended AppFault) : Type 0 where
   pub counts : Counts
   pub result : A
   pub ran : Ran input0 input output0 output counts (Says counts result)

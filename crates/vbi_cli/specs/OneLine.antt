@@ -1,4 +1,5 @@
--- What the command `line` does, by its answer: z are the bytes fetched, text is what was written, and n what was counted.
+-- What the command `line` does, by its answer: z are the bytes fetched, text is what was written, and n what was
+-- counted.
 use Rattle.std.specs.Prelude.{◌≡◌, ℕ, ◌<◌, List, [], ◌∷◌, ◌++◌, length, Option, Result, Ok, Err}
 use Rattle.std.specs.Io.KnownBytes.{IsAtEnd}
 use Rattle.vbi_words.specs.Geometry.{width_of, line_bytes}
@@ -61,8 +62,8 @@ module _ (c : ConfigView) (input : Option (List ℕ)) (n : Counts) (z text : Lis
     pub none : text ≡ []
     pub looks : n.looked ≡ 0
 
-  -- `Write`: one line's bytes were fetched and no more, and the writer failed after this many bytes, which are the first of the answer
-  -- and not all of it
+  -- `Write`: one line's bytes were fetched and no more, and the writer failed after this many bytes, which are the
+  -- first of the answer and not all of it
   pub record StopsAtWrite (written : ℕ) : Type 0 where
     pub failed : HasFailed n.writer
     pub calm : n.reader.errors ≡ 0
@@ -82,5 +83,6 @@ Answers c input n (Err (Write written)) z text = StopsAtWrite c input n z text w
 abbrev pub RunsLine : {R W : Type 0} → (R → Option (List ℕ)) → (W → Option (List ℕ)) → ConfigView
     → Intake R → Intake R → Outlet W → Outlet W → Result Outcome LineFault → Type 0
 RunsLine remaining contents c i0 i o0 o result =
-    Ran (remaining (intakes.device_of i0)) (remaining (intakes.device_of i)) (contents (outlets.device_of o0)) (contents (outlets.device_of o))
+    Ran (remaining (intakes.device_of i0)) (remaining (intakes.device_of i))
+    (contents (outlets.device_of o0)) (contents (outlets.device_of o))
     (counts_of i o) (Answers c (remaining (intakes.device_of i)) (counts_of i o) result)

@@ -14,13 +14,13 @@ pub enum AppFault {
     ReadField {
         /// The field in which the next byte would stand, from 1.
         field: u32,
-        /// How many bytes of that field came.
+        /// How many bytes of that field were read.
         offset: u32,
     },
     /// The reader failed within the bytes of one line.
     #[error("read failed at byte {offset}")]
     ReadLine {
-        /// How many bytes came.
+        /// How many bytes were read.
         offset: u16,
     },
     /// The reader failed within the rows of words.
@@ -47,7 +47,7 @@ pub enum AppFault {
     /// The input ended before a line was whole.
     #[error("short line: {bytes} of {wanted} bytes")]
     Short {
-        /// How many bytes came.
+        /// How many bytes were read.
         bytes: u16,
         /// How many a line has.
         wanted: u16,

@@ -1,12 +1,13 @@
 //! A job: settings from metadata and options, and then the command.
 
 ghost use Rattle.std.specs.Prelude.{◌≡◌, ◌≢◌, IfOk, IfErr, Err, option_map};
-ghost use Rattle.vbi_cli.specs.Jobs.{Settles, Refuses, Under, Did, IfMeta, UnlessMeta, IsEndedBy, IsAnsweredBy, IsDrawnBy};
+ghost use Rattle.vbi_cli.specs.Jobs.{Settles, Refuses, Under, Did, IfMeta, UnlessMeta};
+ghost use Rattle.vbi_cli.specs.Jobs.{IsEndedBy, IsAnsweredBy, IsDrawnBy};
 ghost use Rattle.vbi_cli.specs.Statuses.{app_status};
 
+use crate::command_line::{Job, Verb};
 use crate::fault::AppFault;
 use crate::one_line::{LineFault, run_line};
-use crate::command_line::{Job, Verb};
 use std::alloc::Global;
 use std::io::{Read, Write};
 use vbi_field::{Config, DrawFault, Outlet, RowIntake, RunFault, Summary, draw, extract, show};
@@ -34,8 +35,8 @@ pub fn status(ended: &Result<Ended, AppFault>) -> u8
     }
 }
 
-/// Settles the settings from metadata and the job's options, and then does what the job says. The paths in the job aren't
-/// looked at. Memory is taken for the metadata document alone. It doesn't flush.
+/// Settles the settings from metadata and the job's options, and then does what the job says. The paths in the job
+/// aren't looked at. Memory is taken for the metadata document alone. It doesn't flush.
 pub fn run_job<R: Read, W: Write>(
     alloc: Global,
     job: &Job,
@@ -49,7 +50,8 @@ pub fn run_job<R: Read, W: Write>(
 
     // Every other answer is the command's own.
     ensures did { UnlessMeta result (Under (option_map (λ b. b.now) meta.entry) job.now.overrides (λ c.
-        Did c (R.remaining input.old) (R.remaining input.new) (W.contents output.old) (W.contents output.new) job.now.verb result)) }
+        Did c (R.remaining input.old) (R.remaining input.new) (W.contents output.old) (W.contents output.new)
+        job.now.verb result)) }
 {
     let config = config_of(alloc, job, meta).map_err(AppFault::Meta)?;
     match job.verb {

@@ -1,8 +1,8 @@
 //! Jobs over memory: what is written, how they end, and the texts of their faults.
 
+use crate::command_line::{Job, Verb};
 use crate::fault::AppFault;
 use crate::job::{Ended, run_job, status};
-use crate::command_line::{Job, Verb};
 use std::alloc::{AllocError, Global};
 use std::io;
 use std::io::{Read, Write};

@@ -1,7 +1,7 @@
 //! The program `ldvbi`: its words, its files and its statuses.
 //!
-//! `command_line` reads the command line into a job, `job` does it over a reader and a writer, and this file opens what the job
-//! names and prints what went wrong. Only the words and the metadata file take memory.
+//! `command_line` reads the command line into a job, `job` does it over a reader and a writer, and this file opens what
+//! the job names and prints what went wrong. Only the words and the metadata file take memory.
 #![tactic(auto)]
 
 mod command_line;

@@ -16,12 +16,12 @@ use vbi_words::Outcome;
 pub enum LineFault {
     /// The reader ended before the line was whole.
     Short {
-        /// How many bytes came.
+        /// How many bytes it gave.
         bytes: u16,
     },
     /// The reader failed.
     Read {
-        /// How many bytes came before.
+        /// How many bytes it gave before.
         offset: u16,
     },
     /// The writer failed.
@@ -31,8 +31,9 @@ pub enum LineFault {
     },
 }
 
-/// Reads one line's bytes and no more, writes the answer, and gives the outcome of the line's reading. After `Short` and
-/// `Read` nothing was written. It doesn't flush.
+/// Reads one line's bytes and no more, writes the answer, and gives the outcome of the line's reading. After `Short`
+/// and `Read` nothing was written. The bytes fetched, the text and the answer belong together as `Answers` says. It
+/// doesn't flush.
 pub fn run_line<R: Read, W: Write>(
     config: &Config,
     intake: &mut Intake<R>,

@@ -3,7 +3,8 @@ use Rattle.std.proofs.Common.{◌≡◌, true, false, List, [], ◌∷◌, ◌++
 use Rattle.vbi_meta.specs.Settings.{Refusal, first_refusal, or_else}
 
 -- of two lists together the first refusal is that of the first list, where it has one
-pub first_refusal_append : (xs ys : List Refusal) → first_refusal (xs ++ ys) ≡ or_else (first_refusal xs) (first_refusal ys)
+pub first_refusal_append : (xs ys : List Refusal)
+    → first_refusal (xs ++ ys) ≡ or_else (first_refusal xs) (first_refusal ys)
 unfolding first_refusal
 first_refusal_append [] ys = refl
 first_refusal_append ((fault, true) ∷ xs) ys = refl

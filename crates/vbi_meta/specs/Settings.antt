@@ -1,7 +1,8 @@
--- The settings that metadata and options give together: refusals in their order, of which the first that holds counts, and
--- the values where none holds. The members are those of ld-decode's `.tbc.json`; the order is this project's own.
-use Rattle.std.specs.Prelude.{◌≡◌, ℕ, ◌^◌, ◌==◌, ◌&&◌, ◌||◌, Bool, true, false, not, nat_lt, nat_le, is_some, is_none, List}
-use Rattle.std.specs.Prelude.{[], ◌∷◌, ◌++◌, codes, Option, Some, None, option_map, option_and_then, unwrap_or, if◌then◌else◌}
+-- The settings that metadata and options give together: refusals in their order, of which the first that holds counts,
+-- and the values where none holds. The members are those of ld-decode's `.tbc.json`; the order is this project's own.
+use Rattle.std.specs.Prelude.{◌≡◌, ℕ, ◌^◌, ◌==◌, ◌&&◌, ◌||◌, Bool, true, false, not, nat_lt, nat_le}
+use Rattle.std.specs.Prelude.{List, [], ◌∷◌, ◌++◌, codes, if◌then◌else◌}
+use Rattle.std.specs.Prelude.{Option, Some, None, is_some, is_none, option_map, option_and_then, unwrap_or}
 use Rattle.std.specs.Str.{bytes_eq}
 use Rattle.serde_json.specs.Data.{Data}
 use Rattle.serde_json.specs.Find.{get, as_bool, as_number, as_str, as_object, as_u64}
@@ -11,8 +12,9 @@ use Rattle.vbi_words.specs.Geometry.{width_of, height_of}
 use Rattle.vbi_field.specs.ConfigView.{ConfigView}
 use Rattle.vbi_meta.specs.declared.choosing.Overrides.{Overrides}
 use Rattle.vbi_meta.specs.declared.fault.MetaFault.{MetaFault}
-use Rattle.vbi_meta.specs.declared.fault.MetaFault.TheVariants.{NoVideoParameters, NoSystem, UnknownSystem, SystemsDisagree, NoBlack, BadBlack}
-use Rattle.vbi_meta.specs.declared.fault.MetaFault.TheVariants.{NoWhite, BadWhite, LevelsOrder, WidthDiffers, HeightDiffers, BadMaxFields}
+use Rattle.vbi_meta.specs.declared.fault.MetaFault.TheVariants.{NoVideoParameters, NoSystem, UnknownSystem}
+use Rattle.vbi_meta.specs.declared.fault.MetaFault.TheVariants.{SystemsDisagree, NoBlack, BadBlack, NoWhite, BadWhite}
+use Rattle.vbi_meta.specs.declared.fault.MetaFault.TheVariants.{LevelsOrder, WidthDiffers, HeightDiffers, BadMaxFields}
 
 -- ---- the members
 
@@ -35,7 +37,9 @@ is_text text member = unwrap_or (option_map (bytes_eq text) (as_str member)) fal
 
 -- the system that `system` names
 abbrev pub named_system : Data → Option System
-named_system member = if is_text (codes "NTSC") member then Some Ntsc else (if is_text (codes "PAL") member then Some Pal else None)
+named_system member =
+    if is_text (codes "NTSC") member then Some Ntsc
+    else (if is_text (codes "PAL") member then Some Pal else None)
 
 -- the system that `isSourcePal` tells
 abbrev pub flagged_system : Data → Option System
@@ -54,7 +58,8 @@ or_else None b = b
 
 -- the option's system, else that of `system`, else that of `isSourcePal`
 abbrev pub chosen_system : Option System → Option Data → Option Data → Option System
-chosen_system given name flag = or_else given (or_else (option_and_then named_system name) (option_and_then flagged_system flag))
+chosen_system given name flag =
+    or_else given (or_else (option_and_then named_system name) (option_and_then flagged_system flag))
 
 -- the option's level, else the member's
 abbrev pub chosen_level : Option ℕ → Option Data → Option ℕ
@@ -109,7 +114,10 @@ unfoldable pub system_refusals : Option System → Option Data → Option Data �
 system_refusals given name flag =
     (NoSystem, is_none given && (is_none name && is_none flag))
     ∷ (UnknownSystem, is_none given && (is_bad named_system name || is_bad flagged_system flag))
-    ∷ (SystemsDisagree, is_none given && disagree (option_and_then named_system name) (option_and_then flagged_system flag))
+    ∷ (
+      SystemsDisagree,
+      is_none given && disagree (option_and_then named_system name) (option_and_then flagged_system flag),
+    )
     ∷ []
 
 -- of one level, where its two faults are these: the option and the member
@@ -131,7 +139,8 @@ size_refusals differs size member = (differs, is_other size member) ∷ []
 unfoldable pub limit_refusals : Option ℕ → List Refusal
 limit_refusals given = (BadMaxFields, not (nat_le 1 (chosen_limit given) && nat_le (chosen_limit given) 1000000)) ∷ []
 
--- all twelve. A system or a level that isn't chosen is refused by then, so what stands for it in the later ones is never seen
+-- all twelve. A system or a level that isn't chosen is refused by then, so what the later ones take for it is never
+-- seen
 unfoldable pub refusals_of : Option Data → Overrides → List Refusal
 refusals_of document given =
     let member = member_of (option_and_then parameters_of document) in
@@ -158,6 +167,8 @@ pub record IsSettled (document : Option Data) (given : Overrides) (setup : Confi
   pub unrefused : first_refusal (refusals_of document given) ≡ None
   pub system : (let member = member_of (option_and_then parameters_of document) in
       chosen_system given.system (member (codes "system")) (member (codes "isSourcePal"))) ≡ Some setup.system
-  pub black : chosen_level given.black (member_of (option_and_then parameters_of document) (codes "black16bIre")) ≡ Some setup.levels.black
-  pub white : chosen_level given.white (member_of (option_and_then parameters_of document) (codes "white16bIre")) ≡ Some setup.levels.white
+  pub black : chosen_level given.black (member_of (option_and_then parameters_of document) (codes "black16bIre"))
+      ≡ Some setup.levels.black
+  pub white : chosen_level given.white (member_of (option_and_then parameters_of document) (codes "white16bIre"))
+      ≡ Some setup.levels.white
   pub max_fields : setup.max_fields ≡ chosen_limit given.max_fields

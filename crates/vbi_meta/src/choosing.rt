@@ -2,9 +2,10 @@
 
 ghost use Rattle.std.specs.Prelude.{◌≡◌, Option, Some, None, IfOk, IfErr, OnOk, option_map, option_and_then};
 ghost use Rattle.serde_json.specs.View.{view};
-ghost use Rattle.vbi_meta.specs.Settings.{parameters_of, member_of, named_system, flagged_system, chosen_system, chosen_level};
-ghost use Rattle.vbi_meta.specs.Settings.{chosen_limit, document_refusals, system_refusals, level_refusals};
-ghost use Rattle.vbi_meta.specs.Settings.{order_refusals, size_refusals, limit_refusals, first_refusal, IsRefused, IsSettled};
+ghost use Rattle.vbi_meta.specs.Settings.{parameters_of, member_of, named_system, flagged_system};
+ghost use Rattle.vbi_meta.specs.Settings.{chosen_system, chosen_level, chosen_limit, first_refusal};
+ghost use Rattle.vbi_meta.specs.Settings.{document_refusals, system_refusals, level_refusals, order_refusals};
+ghost use Rattle.vbi_meta.specs.Settings.{size_refusals, limit_refusals, IsRefused, IsSettled};
 
 use crate::fault::MetaFault;
 use serde_json::Value;
@@ -20,7 +21,7 @@ pub struct Overrides {
     pub black: Option<u16>,
     /// The sample of white, in place of `white16bIre`.
     pub white: Option<u16>,
-    /// The most fields of a run; no metadata has it, and 1,000,000 stands where it isn't given.
+    /// The most fields of a run; no metadata has it, and it is 1,000,000 where it isn't given.
     pub max_fields: Option<u32>,
 }
 

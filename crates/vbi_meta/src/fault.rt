@@ -2,8 +2,8 @@
 
 use thiserror::Error;
 
-/// Why metadata or settings are refused, in the order in which the refusals are tried. `Display` gives the text that the
-/// program prints.
+/// Why metadata or settings are refused, in the order in which the refusals are tried. `Display` gives the text that
+/// the program prints.
 #[derive(Clone, Copy, Debug, PartialEq, Eq, Error)]
 pub enum MetaFault {
     /// The document has more than 268,435,456 bytes.

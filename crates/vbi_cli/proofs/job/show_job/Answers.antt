@@ -15,7 +15,9 @@ returns g c = search (
   rules,
   did_run g.R.Read.remaining g.W.Write.contents (Extracts report c.args.config.now) IsEndedBy
       (counts_of c.show-summary.new.intake c.show-summary.new.outlet)
-      c.args.input.now c.into_reader.result.now (intakes.device_of c.new-intake.result) (intakes.device_of c.show-summary.new.intake)
-      c.args.output.now c.into_writer.result.now (outlets.device_of c.new-outlet.result) (outlets.device_of c.show-summary.new.outlet)
+      c.args.input.now c.into_reader.result.now
+      (intakes.device_of c.new-intake.result) (intakes.device_of c.show-summary.new.intake)
+      c.args.output.now c.into_writer.result.now
+      (outlets.device_of c.new-outlet.result) (outlets.device_of c.show-summary.new.outlet)
       c.show-summary.result c.end_of.result,
 )
