@@ -33,19 +33,20 @@ use Rattle.vbi_cli.specs.declared.command_line.Verb.TheVariants.{Line, Extract, 
 
 -- ---- the settings
 
--- metadata, where it is given, is a document, and with the options it settles this
+-- metadata, where it is given, is a JSON document, and it and the options settle this config
 abbrev pub Settles : Option (List ℕ) → Overrides → ConfigView → Type 0
 Settles None given setup = IsSettled None given setup
 Settles (Some bytes) given setup =
     (value : Data) × IsMetadata bytes value × IsSettled (Some value) given setup
 
--- metadata, where it is given, isn't read for this reason, or it is a document and is refused for it with the options
+-- metadata, where it is given, isn't read for this reason; or it is a JSON document, and it and the options are refused
+-- for this reason
 abbrev pub Refuses : Option (List ℕ) → Overrides → MetaFault → Type 0
 Refuses None given fault = IsRefused None given fault
 Refuses (Some bytes) given fault =
     IsUnread bytes fault ⊎ ((value : Data) × IsMetadata bytes value × IsRefused (Some value) given fault)
 
--- with what metadata and options settle, P
+-- metadata and options settle a config, and P holds of it
 abbrev pub Under : Option (List ℕ) → Overrides → (ConfigView → Type 0) → Type 0
 Under meta given P = (c : ConfigView) × (Settles meta given c × P c)
 
@@ -99,13 +100,13 @@ module _ (c : ConfigView) (input0 input output0 output : Option (List ℕ)) wher
 
 -- ---- the job
 
--- P of a fault of metadata or settings
+-- where the answer is a fault of metadata or settings, P holds of it
 abbrev pub IfMeta : Result Ended AppFault → (MetaFault → Type 0) → Type 0
 IfMeta (Ok ended) P = ⊤
 IfMeta (Err (Meta fault)) P = P fault
 IfMeta (Err _) P = ⊤
 
--- P, for every answer but those faults
+-- P holds, unless the answer is one of those faults
 abbrev pub UnlessMeta : Result Ended AppFault → Type 0 → Type 0
 UnlessMeta (Ok ended) P = P
 UnlessMeta (Err (Meta fault)) P = ⊤
