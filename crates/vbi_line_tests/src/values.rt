@@ -1,6 +1,6 @@
 //! Refusals, and the boundaries of drawn half cells.
-use crate::{Levels, LevelsFault, System, Word24, WordFault, drawn_sample};
 use std::test::Fail;
+use vbi_words::{Levels, LevelsFault, System, Word24, WordFault, drawn_sample};
 
 // Columns from the start of the word, at which half cell j begins, and the last ends: the whole part of j times 315/22.
 const NTSC: [usize; 49] = [

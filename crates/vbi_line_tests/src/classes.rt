@@ -1,9 +1,7 @@
 //! Codes and formats of known words; the expected values are those of the table of classes.
 
-use crate::code::{Code, classify};
-use crate::format::{Format, format_of};
-use crate::word::{Word24, WordFault};
 use std::test::Fail;
+use vbi_words::{Code, Format, Word24, WordFault, classify, format_of};
 
 const CODES: [(u32, Code); 28] = [
     (0x88FFFF, Code::LeadIn),
