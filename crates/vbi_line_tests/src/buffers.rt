@@ -22,7 +22,7 @@ fn what_is_not_committed_is_not_held(rt: HostRuntime) {
 // The stored line has 0x2020 and 0x4040 as its samples; of 910, 14 are left after 56 blocks of 16.
 #[test]
 fn each_pass_counts_its_looks(rt: HostRuntime) -> Result<(), Fail> {
-    let bytes = stored_line()?;
+    let bytes = stored_line();
     let mut line = LineBuf::new(System::Ntsc);
     line.room().copy_from_slice(&bytes);
     line.commit(1820);

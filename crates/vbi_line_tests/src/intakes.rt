@@ -1,5 +1,6 @@
 //! A line filled from readers that cut, interrupt, fail and end.
 
+use byteorder::{ByteOrder, LittleEndian};
 use std::io::Read;
 use std::test::Fail;
 use vbi_line::{Filled, Intake, IntakeFault};
@@ -7,21 +8,21 @@ use vbi_test_devices::{Resumed, Tape};
 use vbi_words::{Levels, System, Word24, drawn_sample};
 
 /// 82CFFF drawn with NTSC levels 8224 and 16448: each byte is a space or an `@`.
-pub(crate) fn stored_line() -> Result<[u8; 1820], Fail> {
-    let levels = Levels::new(8224, 16448)?;
-    let word = Word24::new(0x82CFFF)?;
-    let mut bytes = [0; 1820];
+pub(crate) fn stored_line() -> [u8; 1820] {
+    let levels = Levels::new(8224, 16448).unwrap();
+    let word = Word24::new(0x82CFFF).unwrap();
+    let mut samples = [0; 910];
     for column in 0..910 {
-        let sample = drawn_sample(System::Ntsc, levels, Some(word), column);
-        bytes[2 * column] = (sample % 256) as u8;
-        bytes[2 * column + 1] = (sample / 256) as u8;
+        samples[column] = drawn_sample(System::Ntsc, levels, Some(word), column);
     }
-    Ok(bytes)
+    let mut bytes = [0; 1820];
+    LittleEndian::write_u16_into(&samples, &mut bytes);
+    bytes
 }
 
 #[test]
-fn the_stored_line_is_text(rt: HostRuntime) -> Result<(), Fail> {
-    let bytes = stored_line()?;
+fn the_stored_line_is_text(rt: HostRuntime) {
+    let bytes = stored_line();
     for (at, byte) in [
         (0, b' '),
         (327, b' '),
@@ -32,7 +33,6 @@ fn the_stored_line_is_text(rt: HostRuntime) -> Result<(), Fail> {
     ] {
         assert_eq!(rt; bytes.get(at), Some(&byte), "at {at}");
     }
-    Ok(())
 }
 
 /// How a reader of the stored line is set: the bytes that it has of it, the most of a read, the interruptions before the first
@@ -177,13 +177,13 @@ const ROWS: [(&str, Setting, Told, Option<Told>, u64); 12] = [
 
 /// A reader of some of a line.
 fn reader_of<'a>(line: &'a [u8], setting: &Setting) -> Tape<'a> {
-    let (bytes, _) = line.split_at(setting.bytes.min(line.len()));
+    let (front, _) = line.split_at(setting.bytes.min(line.len()));
     Tape {
         piece: setting.piece,
         interrupts: setting.interrupts,
         again: setting.again,
         fault: setting.fault,
-        ..Tape::new(bytes)
+        ..Tape::new(front)
     }
 }
 
@@ -193,8 +193,8 @@ fn told<R: Read>(answer: Answer, intake: &Intake<R>) -> Told {
 }
 
 #[test]
-fn a_line_is_filled_or_says_why_not(rt: HostRuntime) -> Result<(), Fail> {
-    let line = stored_line()?;
+fn a_line_is_filled_or_says_why_not(rt: HostRuntime) {
+    let line = stored_line();
     for (name, setting, first, second, asked) in ROWS {
         let mut reader = reader_of(&line, &setting);
         let mut intake = Intake::new(&mut reader, System::Ntsc);
@@ -208,12 +208,11 @@ fn a_line_is_filled_or_says_why_not(rt: HostRuntime) -> Result<(), Fail> {
         assert_eq!(rt; intake.fetched(), intake.held() as u64, "{name}");
         assert_eq!(rt; intake.into_reader().asked, asked, "{name}");
     }
-    Ok(())
 }
 
 #[test]
 fn the_last_byte_may_come_after_the_end(rt: HostRuntime) -> Result<(), Fail> {
-    let line = stored_line()?;
+    let line = stored_line();
     let (first, more) = line.as_slice().split_at_checked(1819).ok_or("short")?;
     let mut reader = Resumed { first, more };
     let mut intake = Intake::new(&mut reader, System::Ntsc);
@@ -225,8 +224,8 @@ fn the_last_byte_may_come_after_the_end(rt: HostRuntime) -> Result<(), Fail> {
 }
 
 #[test]
-fn a_cleared_line_holds_nothing(rt: HostRuntime) -> Result<(), Fail> {
-    let line = stored_line()?;
+fn a_cleared_line_holds_nothing(rt: HostRuntime) {
+    let line = stored_line();
     let mut reader = Tape::new(&line);
     let mut intake = Intake::new(&mut reader, System::Ntsc);
     assert_eq!(rt; intake.fill_line(), FULL);
@@ -235,5 +234,4 @@ fn a_cleared_line_holds_nothing(rt: HostRuntime) -> Result<(), Fail> {
     intake.clear_line();
     assert_eq!(rt; intake.held(), 0);
     assert_eq!(rt; intake.fetched(), 1820);
-    Ok(())
 }

@@ -1,8 +1,8 @@
 //! The vectors of `settings`.
 
-use crate::{MetaFault, Overrides, read_meta, settings};
 use std::alloc::{AllocError, Global};
 use std::test::Fail;
+use vbi_meta::{MetaFault, Overrides, read_meta, settings};
 use vbi_words::System;
 
 const NONE: Overrides = Overrides {

@@ -1,8 +1,8 @@
 //! The vectors of `read_meta`, and the texts of the faults.
 
-use crate::{META_LIMIT, MetaFault, Overrides, read_meta, settings};
 use std::alloc::{AllocError, Global};
 use std::test::Fail;
+use vbi_meta::{META_LIMIT, MetaFault, Overrides, read_meta, settings};
 
 const NONE: Overrides = Overrides {
     system: None,
