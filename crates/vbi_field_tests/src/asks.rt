@@ -2,8 +2,9 @@
 //! or for an error; a writer of one byte a write once for each, and once more where it fails. No run asks again after these, past
 //! the last field that is allowed neither.
 
+use crate::feeding::pushed;
 use crate::fields::{NONE, config, field, front, two_fields};
-use crate::runs::{Verb, ran};
+use crate::runs::{Verb, drew, ran};
 use std::test::Fail;
 use vbi_field::{RunFault, Summary};
 use vbi_test_devices::{Paper, Tape};
@@ -157,5 +158,21 @@ fn a_writer_of_one_byte_is_asked_once_for_each(rt: HostRuntime) -> Result<(), Fa
         assert_eq!(rt; done.result, ONE, "{verb:?}");
         assert_eq!(rt; (paper.asked, paper.flushed), (bytes, 0), "{verb:?}");
     }
+    Ok(())
+}
+
+#[test]
+fn no_writer_is_flushed(rt: HostRuntime) -> Result<(), Fail> {
+    let config = config(System::Ntsc, 5)?;
+    let stream = field(rt.alloc(), &config, NONE)?;
+    let mut paper = Paper::new(rt.alloc());
+    for verb in [Verb::Extract, Verb::Show] {
+        ran(verb, &config, &mut Tape::new(stream.as_slice()), &mut paper);
+        assert_eq!(rt; paper.flushed, 0, "{verb:?}");
+    }
+    drew(&config, Tape::new(b"82CFFF - -\n"), &mut paper);
+    assert_eq!(rt; paper.flushed, 0, "draw");
+    assert!(rt; pushed(&rt, config, &[stream.as_slice()], &mut paper).is_ok());
+    assert_eq!(rt; paper.flushed, 0, "a feeder");
     Ok(())
 }

@@ -30,7 +30,12 @@ fn end(rt: &impl Abort, feeder: Feeder, outlet: &mut Outlet<Paper>) -> Ended {
 }
 
 /// Pushes the pieces of a stream and ends it.
-fn pushed(rt: &impl Abort, config: Config, pieces: &[&[u8]], paper: &mut Paper) -> Ended {
+pub(crate) fn pushed(
+    rt: &impl Abort,
+    config: Config,
+    pieces: &[&[u8]],
+    paper: &mut Paper,
+) -> Ended {
     let mut outlet = Outlet::new(paper);
     let mut feeder = Feeder::begin(config, &mut outlet)?;
     for piece in pieces {

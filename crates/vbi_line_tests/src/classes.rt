@@ -99,7 +99,7 @@ fn line(value: u32) -> Option<Word24> {
 }
 
 #[test]
-fn classifies_known_words(rt: HostRuntime) -> Result<(), WordFault> {
+fn known_words_have_their_codes(rt: HostRuntime) -> Result<(), WordFault> {
     for (value, code) in CODES {
         assert_eq!(rt; classify(Word24::new(value)?), code, "{value:x}");
     }
@@ -107,7 +107,7 @@ fn classifies_known_words(rt: HostRuntime) -> Result<(), WordFault> {
 }
 
 #[test]
-fn finds_the_format(rt: HostRuntime) -> Result<(), Fail> {
+fn a_field_has_the_format_of_its_codes(rt: HostRuntime) -> Result<(), Fail> {
     for (values, format) in FORMATS {
         let words = [line(values[0]), line(values[1]), line(values[2])];
         assert_eq!(rt; format_of(&words), format, "{values:?}");
