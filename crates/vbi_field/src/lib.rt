@@ -33,20 +33,3 @@ pub use row_intake::RowIntake;
 pub use run::{extract, show};
 pub use summary::{RunFault, Summary};
 pub use word_row::WordRow;
-
-#[cfg(test)]
-mod test_runs;
-#[cfg(test)]
-mod test_tapes;
-#[cfg(test)]
-mod tests_circle;
-#[cfg(test)]
-mod tests_draw;
-#[cfg(test)]
-mod tests_extract;
-#[cfg(test)]
-mod tests_faults;
-#[cfg(test)]
-mod tests_feeder;
-#[cfg(test)]
-mod text_tests;

@@ -15,14 +15,6 @@ mod outcome;
 mod packed;
 mod reading;
 mod store;
-#[cfg(test)]
-mod tests_cases;
-#[cfg(test)]
-mod tests_devices;
-#[cfg(test)]
-mod tests_lines;
-#[cfg(test)]
-mod tests_packed;
 
 pub use counted::{Counted, Fail, RETRIES};
 pub use intake::{Filled, Intake, IntakeFault};

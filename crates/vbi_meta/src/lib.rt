@@ -13,8 +13,3 @@ mod reading;
 pub use choosing::{Overrides, settings};
 pub use fault::MetaFault;
 pub use reading::{META_LIMIT, read_meta};
-
-#[cfg(test)]
-mod reading_tests;
-#[cfg(test)]
-mod tests;

@@ -11,10 +11,6 @@ pub mod laws;
 mod levels;
 mod outcome;
 mod system;
-#[cfg(test)]
-mod tests_classes;
-#[cfg(test)]
-mod tests_values;
 mod word;
 
 pub use code::{Code, classify, digit};

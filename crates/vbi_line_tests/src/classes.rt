@@ -1,9 +1,7 @@
 //! Codes and formats of known words; the expected values are those of the table of classes.
 
-use crate::code::{Code, classify};
-use crate::format::{Format, format_of};
-use crate::word::{Word24, WordFault};
 use std::test::Fail;
+use vbi_words::{Code, Format, Word24, WordFault, classify, format_of};
 
 const CODES: [(u32, Code); 28] = [
     (0x88FFFF, Code::LeadIn),
@@ -101,7 +99,7 @@ fn line(value: u32) -> Option<Word24> {
 }
 
 #[test]
-fn classifies_known_words(rt: HostRuntime) -> Result<(), WordFault> {
+fn known_words_have_their_codes(rt: HostRuntime) -> Result<(), WordFault> {
     for (value, code) in CODES {
         assert_eq!(rt; classify(Word24::new(value)?), code, "{value:x}");
     }
@@ -109,7 +107,7 @@ fn classifies_known_words(rt: HostRuntime) -> Result<(), WordFault> {
 }
 
 #[test]
-fn finds_the_format(rt: HostRuntime) -> Result<(), Fail> {
+fn a_field_has_the_format_of_its_codes(rt: HostRuntime) -> Result<(), Fail> {
     for (values, format) in FORMATS {
         let words = [line(values[0]), line(values[1]), line(values[2])];
         assert_eq!(rt; format_of(&words), format, "{values:?}");

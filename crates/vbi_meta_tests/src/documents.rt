@@ -1,8 +1,8 @@
 //! The vectors of `read_meta`, and the texts of the faults.
 
-use crate::{META_LIMIT, MetaFault, Overrides, read_meta, settings};
 use std::alloc::{AllocError, Global};
 use std::test::Fail;
+use vbi_meta::{META_LIMIT, MetaFault, Overrides, read_meta, settings};
 
 const NONE: Overrides = Overrides {
     system: None,
@@ -15,7 +15,7 @@ const NONE: Overrides = Overrides {
 const NOT_JSON: [&[u8]; 4] = [b"", b"{\"a\":NaN}", b"{\"a\":\"\xff\"}", b"{} {}"];
 
 #[test]
-fn refuses_what_is_not_json(rt: HostRuntime) -> Result<(), Fail> {
+fn what_is_not_json_is_refused(rt: HostRuntime) -> Result<(), Fail> {
     for bytes in &NOT_JSON {
         assert_eq!(rt;
             read_meta(rt.alloc(), bytes).err(),
@@ -39,7 +39,7 @@ fn nested(alloc: Global, depth: usize) -> Result<Vec<u8>, AllocError> {
 }
 
 #[test]
-fn reads_127_levels_and_no_more(rt: HostRuntime) -> Result<(), Fail> {
+fn a_document_is_nested_at_most_127_deep(rt: HostRuntime) -> Result<(), Fail> {
     let alloc = rt.alloc();
     let value = read_meta(alloc, nested(alloc, 127)?.as_slice())?;
     let found = settings(Some(&value), &NONE).err();
@@ -54,7 +54,7 @@ fn zeros(alloc: Global, count: usize) -> Result<Vec<u8>, AllocError> {
 }
 
 #[test]
-fn reads_no_more_than_the_limit(rt: HostRuntime) -> Result<(), Fail> {
+fn a_document_over_the_limit_is_too_large(rt: HostRuntime) -> Result<(), Fail> {
     let alloc = rt.alloc();
     let bytes = zeros(alloc, META_LIMIT + 1)?;
     let found = read_meta(alloc, bytes.as_slice()).err();
@@ -111,7 +111,7 @@ fn faults_have_their_texts(rt: HostRuntime) -> Result<(), Fail> {
 
 /// To be run with each allocation failing in turn: the answer is that of ample memory, or want of memory.
 #[test]
-fn answers_want_of_memory_as_such(rt: HostRuntime) -> Result<(), Fail> {
+fn want_of_memory_is_answered_as_such(rt: HostRuntime) -> Result<(), Fail> {
     let alloc = rt.alloc();
     let text =
         b"{\"videoParameters\":{\"system\":\"NTSC\",\"fieldWidth\":910,\"fieldHeight\":263,\"black16bIre\":16384,\"white16bIre\":51200,\"sampleRate\":14318181.5},\"fields\":[]}";

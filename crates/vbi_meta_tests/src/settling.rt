@@ -1,8 +1,8 @@
 //! The vectors of `settings`.
 
-use crate::{MetaFault, Overrides, read_meta, settings};
 use std::alloc::{AllocError, Global};
 use std::test::Fail;
+use vbi_meta::{MetaFault, Overrides, read_meta, settings};
 use vbi_words::System;
 
 const NONE: Overrides = Overrides {
@@ -94,7 +94,7 @@ const EMPTY: [&str; 5] = [
 ];
 
 #[test]
-fn refuses_documents_without_parameters(rt: HostRuntime) -> Result<(), Fail> {
+fn documents_without_parameters_are_refused(rt: HostRuntime) -> Result<(), Fail> {
     for text in &EMPTY {
         for overrides in [NONE, ALL] {
             let fault = settled(rt.alloc(), text, &overrides).err();
@@ -215,7 +215,7 @@ const REFUSED: [(&str, Overrides, MetaFault); 26] = [
 ];
 
 #[test]
-fn refuses_in_order(rt: HostRuntime) -> Result<(), Fail> {
+fn refusals_come_in_order(rt: HostRuntime) -> Result<(), Fail> {
     let alloc = rt.alloc();
     for (members, overrides, fault) in &REFUSED {
         let text = document(alloc, members)?;
@@ -226,7 +226,7 @@ fn refuses_in_order(rt: HostRuntime) -> Result<(), Fail> {
 }
 
 #[test]
-fn takes_the_flag_alone(rt: HostRuntime) -> Result<(), Fail> {
+fn the_flag_alone_gives_the_system(rt: HostRuntime) -> Result<(), Fail> {
     let alloc = rt.alloc();
     let text = document(
         alloc,
@@ -277,7 +277,7 @@ const FULL_REFUSED: [(&str, &str, &str, &str, MetaFault); 4] = [
 ];
 
 #[test]
-fn settles_the_full_metadata(rt: HostRuntime) -> Result<(), Fail> {
+fn the_full_metadata_settles_a_run(rt: HostRuntime) -> Result<(), Fail> {
     let alloc = rt.alloc();
     let text = full(alloc, "910", "263", "16384", "51200")?;
     let text = text.as_str();
@@ -307,7 +307,7 @@ fn settles_the_full_metadata(rt: HostRuntime) -> Result<(), Fail> {
 }
 
 #[test]
-fn needs_no_metadata(rt: HostRuntime) -> Result<(), Fail> {
+fn options_alone_settle_a_run(rt: HostRuntime) -> Result<(), Fail> {
     assert_eq!(rt; settings(None, &NONE).err(), Some(MetaFault::NoSystem));
     assert_eq!(rt; settings(None, &NTSC).err(), Some(MetaFault::NoBlack));
     let config = settings(None, &LEVELS)?;

@@ -1,10 +1,8 @@
-//! The texts of known words, codes and causes, and a known report.
+//! The texts of known words, codes and causes.
 
-use crate::report::{report_entry, report_head, report_tail};
-use crate::{FieldReadings, cause_text, code_text, hex_text};
 use std::process::Abort;
-use std::test::Fail;
-use vbi_words::{Code, Levels, Outcome, Reading, System, Word24, WordFault, classify};
+use vbi_field::{cause_text, code_text, hex_text};
+use vbi_words::{Code, Outcome, Word24, WordFault, classify};
 
 const WORDS: [(u32, &str, &str); 29] = [
     (0x88FFFF, "88FFFF", "lead-in"),
@@ -72,7 +70,7 @@ fn is_text(rt: &impl Abort, text: &str, expected: &str) {
 }
 
 #[test]
-fn texts_of_known_words(rt: HostRuntime) -> Result<(), WordFault> {
+fn words_have_their_texts(rt: HostRuntime) -> Result<(), WordFault> {
     for &(value, hex, text) in &WORDS {
         let word = Word24::new(value)?;
         is_text(&rt, hex_text(word).as_str(), hex);
@@ -89,43 +87,11 @@ fn wide_numbers_have_all_digits(rt: HostRuntime) {
 }
 
 #[test]
-fn texts_of_causes(rt: HostRuntime) -> Result<(), WordFault> {
+fn causes_have_their_texts(rt: HostRuntime) -> Result<(), WordFault> {
     for &(outcome, text) in &CAUSES {
         is_text(&rt, cause_text(outcome).as_str(), text);
     }
     let word = Outcome::Word(Word24::new(0x82CFFF)?);
     is_text(&rt, cause_text(word).as_str(), "word");
-    Ok(())
-}
-
-fn read_as(outcome: Outcome, pass: u8) -> Reading {
-    Reading { outcome, pass }
-}
-
-#[test]
-fn reports_a_field(rt: HostRuntime) -> Result<(), Fail> {
-    let head = report_head(System::Ntsc, Levels::new(16384, 51200)?);
-    let first = "system NTSC 910x263 black 16384 white 51200\n";
-    is_text(&rt, head.as_str(), first);
-    let picture = read_as(Outcome::Word(Word24::new(0xF12345)?), 1);
-    let drawn = FieldReadings {
-        first: read_as(Outcome::Word(Word24::new(0x82CFFF)?), 1),
-        second: picture,
-        third: picture,
-    };
-    let lines =
-        "field 1 cav\n16 82CFFF picture stop\n17 F12345 picture 12345\n18 F12345 picture 12345\n";
-    is_text(&rt, report_entry(1, &drawn).as_str(), lines);
-    let blank = read_as(Outcome::Blank, 0);
-    let dark = FieldReadings {
-        first: blank,
-        second: read_as(Outcome::Change(34), 0),
-        third: blank,
-    };
-    let causes = "field 4294967295 neither\n16 none blank\n17 none change 34\n18 none blank\n";
-    is_text(&rt, report_entry(4294967295, &dark).as_str(), causes);
-    is_text(&rt, report_tail(1, 0).as_str(), "fields 1 cut none\n");
-    let cut = report_tail(0, 478659);
-    is_text(&rt, cut.as_str(), "fields 0 cut field 1 bytes 478659\n");
     Ok(())
 }

@@ -1,8 +1,11 @@
 //! The words of drawn fields come back, pulled and pushed.
-use crate::test_runs::{HEAD, PAL_HEAD, PAL_WORDS, TAIL, Verb, WORDS, config, drew, whole, writes};
-use crate::test_tapes::{blank_paper, tape_of};
-use crate::tests_feeder::feeds_chunks;
+
+use crate::feeding::feeds_chunks;
+use crate::fields::config;
+use crate::known::{HEAD, PAL_HEAD, PAL_WORDS, TAIL, WORDS};
+use crate::runs::{Verb, drew, whole, writes};
 use std::test::Fail;
+use vbi_test_devices::{Paper, Tape};
 use vbi_words::System;
 
 /// A text of words, and the document of its field.
@@ -19,8 +22,8 @@ const CIRCLES: [(System, &str, &[&str]); 2] = [
 fn drawn_words_come_back(rt: HostRuntime) -> Result<(), Fail> {
     for &(system, words, texts) in &CIRCLES {
         let config = config(system, 5)?;
-        let mut stream = blank_paper(rt.alloc());
-        let run = drew(&config, tape_of(words.as_bytes()), &mut stream);
+        let mut stream = Paper::new(rt.alloc());
+        let run = drew(&config, Tape::new(words.as_bytes()), &mut stream);
         assert_eq!(rt; run.result, Ok(1));
         let field = stream.taken.as_slice();
         let ended = whole(1, None, 3 * system.width() as u64);

@@ -3,8 +3,8 @@
 ghost use Rattle.std.specs.Prelude.{◌≡◌, length};
 ghost use Rattle.vbi_words.specs.Geometry.{width_of};
 
-use crate::tests_lines::{levels_of, line_of, set};
-use crate::{Packed, slice_lanes};
+use crate::lines::{levels_of, line_of, set};
+use vbi_line::{Packed, slice_lanes};
 use vbi_words::{Levels, System};
 
 /// The line of these samples as bits.
@@ -81,4 +81,14 @@ fn runs_go_on_across_words(rt: HostRuntime) {
     }
     let blank = packed_of(System::Pal, levels, &[0; 1135]);
     assert_eq!(rt; blank.next_run(0), (false, 1135));
+}
+
+#[test]
+fn slicing_is_one_pass_over_all_samples(rt: HostRuntime) {
+    for (system, width) in [(System::Ntsc, 910), (System::Pal, 1135)] {
+        let mut line = line_of(system, &[0; 1135]);
+        slice_lanes(&mut line, levels_of(system));
+        assert_eq!(rt; line.passes(), 1);
+        assert_eq!(rt; line.looks(), width);
+    }
 }

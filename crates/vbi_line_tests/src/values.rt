@@ -1,6 +1,6 @@
 //! Refusals, and the boundaries of drawn half cells.
-use crate::{Levels, LevelsFault, System, Word24, WordFault, drawn_sample};
 use std::test::Fail;
+use vbi_words::{Levels, LevelsFault, System, Word24, WordFault, drawn_sample};
 
 // Columns from the start of the word, at which half cell j begins, and the last ends: the whole part of j times 315/22.
 const NTSC: [usize; 49] = [
@@ -17,20 +17,20 @@ const PAL: [usize; 49] = [
 ];
 
 #[test]
-fn refuses_levels_out_of_order(rt: HostRuntime) {
+fn levels_out_of_order_are_refused(rt: HostRuntime) {
     assert_eq!(rt; Levels::new(5, 5), Err(LevelsFault::Order));
     assert!(rt; Levels::new(5, 6).is_ok());
 }
 
 #[test]
-fn refuses_numbers_that_are_no_words(rt: HostRuntime) {
+fn numbers_that_are_no_words_are_refused(rt: HostRuntime) {
     assert_eq!(rt; Word24::new(16_777_216), Err(WordFault::TooWide));
     assert_eq!(rt; Word24::new(8_388_607), Err(WordFault::TopBitClear));
     assert!(rt; Word24::new(8_388_608).is_ok());
 }
 
 #[test]
-fn has_the_geometry_of_both_systems(rt: HostRuntime) {
+fn both_systems_have_their_geometry(rt: HostRuntime) {
     assert_eq!(rt; System::Ntsc.name(), "NTSC");
     assert_eq!(rt; System::Pal.name(), "PAL");
     assert_eq!(rt; System::Ntsc.field_bytes(), 478_660);
@@ -41,7 +41,7 @@ fn has_the_geometry_of_both_systems(rt: HostRuntime) {
 
 // Of 24 ones each half cell differs from the one before it, so the row changes at each boundary but the first.
 #[test]
-fn draws_from_boundary_to_boundary(rt: HostRuntime) -> Result<(), Fail> {
+fn a_row_is_drawn_from_boundary_to_boundary(rt: HostRuntime) -> Result<(), Fail> {
     let levels = Levels::new(16384, 51200)?;
     let ones = Word24::new(0xFF_FFFF)?;
     for (system, boundaries) in [(System::Ntsc, NTSC), (System::Pal, PAL)] {

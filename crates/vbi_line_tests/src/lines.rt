@@ -3,9 +3,9 @@
 ghost use Rattle.std.specs.Prelude.{◌≡◌, []};
 ghost use Rattle.vbi_line.specs.Line.{IsFull};
 
-use crate::tests_cases::{Case, RUNS, Shape, TURNED, Told, WORDS};
-use crate::{Filled, Intake, LineBuf, read_line, read_twice};
+use crate::cases::{Case, RUNS, Shape, TURNED, Told, WORDS};
 use byteorder::{ByteOrder, LittleEndian};
+use vbi_line::{Filled, Intake, LineBuf, read_line, read_packed, read_twice, slice_lanes};
 use vbi_words::{Levels, Outcome, System, Word24, drawn_sample};
 
 /// The levels of the lines below.
@@ -101,6 +101,12 @@ fn plain(system: System, levels: Levels, samples: &[u16; 1135]) -> Told {
     in_numbers(read_line(&mut line_of(system, samples), system, levels))
 }
 
+/// The outcome of the packed levels of a line of these samples.
+fn by_bits(system: System, levels: Levels, samples: &[u16; 1135]) -> Told {
+    let packed = slice_lanes(&mut line_of(system, samples), levels);
+    in_numbers(read_packed(&packed, system))
+}
+
 /// The reading of a line of these samples, and its pass.
 fn reading(system: System, levels: Levels, samples: &[u16; 1135]) -> (Told, u8) {
     let reading = read_twice(&mut line_of(system, samples), system, levels);
@@ -139,6 +145,7 @@ fn is_told(case: &Case) -> bool {
         None => true,
     };
     plain_too
+        && by_bits(case.system, levels, &samples) == outcome
         && reading(case.system, levels, &samples) == case.reading
         && by_intake(case.system, levels, &samples) == Some((outcome, case.reading))
 }

@@ -1,0 +1,305 @@
+//! Texts of words as they are drawn, from readers that interrupt and fail to writers that cut, interrupt and fail.
+
+use crate::fields::config;
+use crate::runs::{Drawn, drew};
+use std::alloc::Global;
+use std::process::Abort;
+use std::test::Fail;
+use vbi_field::{Config, DrawFault};
+use vbi_test_devices::{Paper, Tape};
+use vbi_words::{Levels, System};
+
+const FIELD: u64 = 478660;
+
+type Ended = Result<u32, DrawFault>;
+
+const FIRST: Ended = Err(DrawFault::Row { number: 1 });
+
+const SECOND: Ended = Err(DrawFault::Row { number: 2 });
+
+/// A text, the limit of fields, the answer, the bytes fetched, how often the reader was asked (for each byte, and where the end is
+/// met once more), and the bytes written, of NTSC.
+const ROWS: [(&[u8], u32, Ended, u64, u64, u64); 16] = [
+    (b"", 9, Ok(0), 0, 1, 0),
+    (b"82CFFF - -", 9, Ok(1), 10, 11, FIELD),
+    (b"82CFFF - -", 1, Ok(1), 10, 11, FIELD),
+    (b"82CFFF - -\n- - F12345", 2, Ok(2), 21, 22, 2 * FIELD),
+    (
+        b"82CFFF F12345 F12345\n82CFFF F12345",
+        9,
+        SECOND,
+        34,
+        35,
+        FIELD,
+    ),
+    (b"7FFFFF - -", 9, FIRST, 10, 11, 0),
+    (b"7FFFFF - -\n- - -\n", 9, FIRST, 11, 11, 0),
+    (b"82cfff - -\n", 9, Ok(1), 11, 12, FIELD),
+    (b"82CFFF - -\r\n", 9, FIRST, 12, 12, 0),
+    (b"888888888888888888888888888888", 9, FIRST, 21, 21, 0),
+    (b"- - -\n\n", 1, Err(DrawFault::TooManyFields), 7, 7, FIELD),
+    (b"- - -\n", 1, Ok(1), 6, 7, FIELD),
+    (b"- - -\n", 9, Ok(1), 6, 7, FIELD),
+    (b"82CFFF  F12345 -", 9, FIRST, 16, 17, 0),
+    (b"82CFFF F12345 F12345 ", 9, FIRST, 21, 21, 0),
+    (b"- - -\n\n", 9, SECOND, 7, 7, FIELD),
+];
+
+/// Asserts that drawing a text of words answers so, and that the writer took the bytes that were counted and wasn't flushed.
+fn draws(rt: &impl Abort, config: &Config, words: Tape, mut paper: Paper, answer: Drawn) {
+    assert_eq!(rt; drew(config, words, &mut paper), answer);
+    assert!(rt; paper.taken.len() as u64 == answer.written, "{answer:?}");
+    assert_eq!(rt; paper.flushed, 0, "{answer:?}");
+}
+
+#[test]
+fn each_text_has_its_answer(rt: HostRuntime) -> Result<(), Fail> {
+    for &(bytes, limit, result, fetched, asked, written) in &ROWS {
+        let config = config(System::Ntsc, limit)?;
+        let answer = Drawn {
+            result,
+            fetched,
+            failures: 0,
+            asked,
+            written,
+        };
+        draws(
+            &rt,
+            &config,
+            Tape::new(bytes),
+            Paper::new(rt.alloc()),
+            answer,
+        );
+    }
+    Ok(())
+}
+
+/// Texts of words that draw the same field.
+const ALIKE: [(&str, &str); 2] = [
+    ("82cfff - -\n", "82CFFF - -\n"),
+    ("82cfff aBcDeF -", "82CFFF ABCDEF -"),
+];
+
+#[test]
+fn lower_case_draws_the_same_field(rt: HostRuntime) -> Result<(), Fail> {
+    let config = config(System::Ntsc, 9)?;
+    for (lower, upper) in ALIKE {
+        let mut first = Paper::new(rt.alloc());
+        let run = drew(&config, Tape::new(lower.as_bytes()), &mut first);
+        assert_eq!(rt; run.result, Ok(1), "{lower}");
+        let mut second = Paper::new(rt.alloc());
+        let run = drew(&config, Tape::new(upper.as_bytes()), &mut second);
+        assert_eq!(rt; run.result, Ok(1), "{upper}");
+        assert!(rt;
+            first.taken.as_slice() == second.taken.as_slice(),
+            "{lower}"
+        );
+    }
+    Ok(())
+}
+
+#[test]
+fn a_writer_that_cuts_and_interrupts_gets_the_same_field(rt: HostRuntime) -> Result<(), Fail> {
+    let config = config(System::Ntsc, 9)?;
+    let mut plain = Paper::new(rt.alloc());
+    drew(&config, Tape::new(b"82CFFF ABCDEF -"), &mut plain);
+    let mut cut = Paper {
+        piece: 1000,
+        interrupts: 16,
+        again: 16,
+        ..Paper::new(rt.alloc())
+    };
+    let run = drew(&config, Tape::new(b"82CFFF ABCDEF -"), &mut cut);
+    assert_eq!(rt; run.result, Ok(1));
+    assert!(rt; plain.taken.as_slice() == cut.taken.as_slice());
+    Ok(())
+}
+
+/// The bytes of two good rows that come before the fault, the limit of fields, the row of the fault and the bytes written.
+const READ_FAULTS: [(usize, u32, u32, u64); 5] = [
+    (0, 9, 1, 0),
+    (20, 9, 1, 0),
+    (21, 9, 2, FIELD),
+    (24, 9, 2, FIELD),
+    (21, 1, 2, FIELD),
+];
+
+#[test]
+fn a_read_fault_leaves_whole_fields(rt: HostRuntime) -> Result<(), Fail> {
+    for &(count, limit, number, written) in &READ_FAULTS {
+        let config = config(System::Ntsc, limit)?;
+        let words = Tape::failing(b"82CFFF F12345 F12345\n- - -\n", count);
+        let answer = Drawn {
+            result: Err(DrawFault::Read { number }),
+            fetched: count as u64,
+            failures: 1,
+            asked: count as u64 + 1,
+            written,
+        };
+        draws(&rt, &config, words, Paper::new(rt.alloc()), answer);
+    }
+    Ok(())
+}
+
+/// How a writer is set that takes 1,000 bytes of a field: the most of a write, the interruptions before each, and how often it is
+/// asked until it fails.
+const WRITE_FAULTS: [(usize, usize, u64); 3] = [(1_000_000, 0, 2), (1, 0, 1001), (8, 2, 378)];
+
+#[test]
+fn a_write_fault_has_its_count(rt: HostRuntime) -> Result<(), Fail> {
+    let config = config(System::Ntsc, 9)?;
+    for &(piece, interrupts, asked) in &WRITE_FAULTS {
+        let mut paper = Paper {
+            piece,
+            interrupts,
+            again: interrupts,
+            ..Paper::failing(rt.alloc(), 1000)
+        };
+        let words = Tape::new(b"82CFFF F12345 F12345\n");
+        let run = drew(&config, words, &mut paper);
+        assert_eq!(rt; run.result, Err(DrawFault::Write { written: 1000 }));
+        assert_eq!(rt; (run.written, run.fetched, run.asked), (1000, 21, 21));
+        assert_eq!(rt;
+            (paper.taken.len(), paper.asked, paper.flushed),
+            (1000, asked, 0)
+        );
+    }
+    Ok(())
+}
+
+/// A row, with so many interruptions before its first byte, and before each other byte and the end.
+fn interrupted(interrupts: usize, again: usize) -> Tape<'static> {
+    Tape {
+        interrupts,
+        again,
+        ..Tape::new(b"- - -\n")
+    }
+}
+
+// Sixteen interruptions in a row before each byte and the end are borne, and the seventeenth is the fault.
+#[test]
+fn sixteen_interruptions_before_each_byte_are_borne(rt: HostRuntime) -> Result<(), Fail> {
+    let config = config(System::Ntsc, 9)?;
+    let borne = Drawn {
+        result: Ok(1),
+        fetched: 6,
+        failures: 112,
+        asked: 119,
+        written: FIELD,
+    };
+    draws(
+        &rt,
+        &config,
+        interrupted(16, 16),
+        Paper::new(rt.alloc()),
+        borne,
+    );
+    let refused = Drawn {
+        result: Err(DrawFault::Read { number: 1 }),
+        fetched: 1,
+        failures: 17,
+        asked: 18,
+        written: 0,
+    };
+    draws(
+        &rt,
+        &config,
+        interrupted(0, 17),
+        Paper::new(rt.alloc()),
+        refused,
+    );
+    Ok(())
+}
+
+/// The sample at a column of a row of the first field.
+fn sample(bytes: &[u8], line_bytes: usize, row: usize, column: usize) -> Option<u32> {
+    let at = row
+        .wrapping_mul(line_bytes)
+        .wrapping_add(column.wrapping_mul(2));
+    let low = *bytes.get(at)?;
+    let high = *bytes.get(at.wrapping_add(1))?;
+    Some(u32::from(low) + 256 * u32::from(high))
+}
+
+const BLACK: Option<u32> = Some(16384);
+
+const WHITE: Option<u32> = Some(51200);
+
+/// A row, a column and the sample there.
+type Point = (usize, usize, Option<u32>);
+
+/// Asserts that the first field has these samples.
+fn has_samples(rt: &impl Abort, bytes: &[u8], line_bytes: usize, points: &[Point]) {
+    for &(row, column, expected) in points {
+        assert_eq!(rt; sample(bytes, line_bytes, row, column), expected);
+    }
+}
+
+/// Asserts that a text draws so many bytes, with these samples.
+fn draws_samples(
+    rt: &impl Abort,
+    alloc: Global,
+    system: System,
+    words: &[u8],
+    bytes: usize,
+    points: &[Point],
+) -> Result<(), Fail> {
+    let config = Config::new(system, Levels::new(16384, 51200)?, 9)?;
+    let mut paper = Paper::new(alloc);
+    drew(&config, Tape::new(words), &mut paper);
+    assert!(rt; paper.taken.len() == bytes);
+    has_samples(rt, paper.taken.as_slice(), 2 * system.width(), points);
+    Ok(())
+}
+
+const NTSC_SAMPLES: [Point; 18] = [
+    (14, 164, BLACK),
+    (15, 164, BLACK),
+    (16, 149, BLACK),
+    (16, 163, BLACK),
+    (16, 164, WHITE),
+    (16, 177, WHITE),
+    (16, 178, BLACK),
+    (16, 191, BLACK),
+    (16, 192, WHITE),
+    (16, 206, WHITE),
+    (16, 207, BLACK),
+    (17, 164, WHITE),
+    (17, 178, WHITE),
+    (17, 191, WHITE),
+    (17, 192, BLACK),
+    (17, 821, WHITE),
+    (17, 822, BLACK),
+    (18, 164, BLACK),
+];
+
+const PAL_SAMPLES: [Point; 7] = [
+    (15, 206, BLACK),
+    (15, 207, WHITE),
+    (15, 224, WHITE),
+    (15, 225, BLACK),
+    (15, 1023, WHITE),
+    (15, 1041, BLACK),
+    (16, 207, BLACK),
+];
+
+// The boundaries of half cells of one microsecond from column 150 or 190 on: floor(j * 315 / 22) and floor(j * 709379 / 40000).
+#[test]
+fn half_cells_are_drawn_from_boundary_to_boundary(rt: HostRuntime) -> Result<(), Fail> {
+    draws_samples(
+        &rt,
+        rt.alloc(),
+        System::Ntsc,
+        b"- F12345 800000",
+        478660,
+        &NTSC_SAMPLES,
+    )?;
+    draws_samples(
+        &rt,
+        rt.alloc(),
+        System::Pal,
+        b"F12345 - -",
+        710510,
+        &PAL_SAMPLES,
+    )
+}

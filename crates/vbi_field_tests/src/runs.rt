@@ -1,0 +1,143 @@
+//! Runs between a reader and a writer, what they answer, and what was written.
+
+use std::alloc::Global;
+use std::io::Read;
+use std::process::Abort;
+use vbi_field::{Config, DrawFault, Outlet, RowIntake, RunFault, Summary, draw, extract, show};
+use vbi_line::Intake;
+use vbi_test_devices::{Paper, Tape};
+
+/// How a run ended, and its counts.
+#[derive(Clone, Copy, Debug, PartialEq, Eq)]
+pub(crate) struct Done {
+    pub(crate) result: Result<Summary, RunFault>,
+    pub(crate) fetched: u64,
+    pub(crate) read_failures: u64,
+    pub(crate) written: u64,
+    pub(crate) write_failures: u64,
+}
+
+#[derive(Clone, Copy, Debug)]
+pub(crate) enum Verb {
+    Extract,
+    Show,
+}
+
+pub(crate) fn ran<R: Read>(verb: Verb, config: &Config, reader: &mut R, paper: &mut Paper) -> Done {
+    let mut intake = Intake::new(reader, config.system());
+    let mut outlet = Outlet::new(paper);
+    let result = match verb {
+        Verb::Extract => extract(config, &mut intake, &mut outlet),
+        Verb::Show => show(config, &mut intake, &mut outlet),
+    };
+    Done {
+        result,
+        fetched: intake.fetched(),
+        read_failures: intake.failures(),
+        written: outlet.written(),
+        write_failures: outlet.failures(),
+    }
+}
+
+/// How drawing a text of words ended, its counts, and how often the reader of the text was asked.
+#[derive(Clone, Copy, Debug, PartialEq, Eq)]
+pub(crate) struct Drawn {
+    pub(crate) result: Result<u32, DrawFault>,
+    pub(crate) fetched: u64,
+    pub(crate) failures: u64,
+    pub(crate) asked: u64,
+    pub(crate) written: u64,
+}
+
+/// Draws the fields of a text of words.
+pub(crate) fn drew(config: &Config, mut words: Tape, paper: &mut Paper) -> Drawn {
+    let mut rows = RowIntake::new(&mut words);
+    let mut outlet = Outlet::new(paper);
+    let result = draw(config, &mut rows, &mut outlet);
+    Drawn {
+        result,
+        fetched: rows.fetched(),
+        failures: rows.failures(),
+        written: outlet.written(),
+        asked: rows.into_reader().asked,
+    }
+}
+
+/// What a whole run answers.
+pub(crate) fn whole(fields: u32, cut: Option<u32>, looked: u64) -> Result<Summary, RunFault> {
+    Ok(Summary {
+        fields,
+        cut,
+        looked,
+    })
+}
+
+/// Whether a writer took so many bytes, and they begin these texts, one behind another.
+fn took(paper: &Paper, count: u64, texts: &[&str]) -> bool {
+    let mut rest = paper.taken.as_slice();
+    for text in texts {
+        let (front, more) = rest.split_at(rest.len().min(text.len()));
+        if !text.as_bytes().starts_with(front) {
+            return false;
+        }
+        rest = more;
+    }
+    rest.is_empty() && paper.taken.len() as u64 == count
+}
+
+/// Asserts that a writer took so many bytes of these texts and was never flushed.
+pub(crate) fn wrote(rt: &impl Abort, paper: &Paper, count: u64, texts: &[&str]) {
+    assert!(rt; took(paper, count, texts), "{count} bytes of {texts:?}");
+    assert_eq!(rt; paper.flushed, 0, "flushed");
+}
+
+/// The bytes of some short texts.
+pub(crate) fn total(texts: &[&str]) -> u64 {
+    let mut bytes = 0_u64;
+    for text in texts {
+        bytes = bytes.wrapping_add(text.len() as u64);
+    }
+    bytes
+}
+
+/// Asserts that a run between two devices ends so, and that what was written begins these texts.
+pub(crate) fn answers<R: Read + Drop>(
+    rt: &impl Abort,
+    verb: Verb,
+    config: &Config,
+    mut reader: R,
+    mut paper: Paper,
+    done: Done,
+    texts: &[&str],
+) {
+    assert_eq!(rt; ran(verb, config, &mut reader, &mut paper), done);
+    wrote(rt, &paper, done.written, texts);
+}
+
+/// Asserts that a run takes all of a stream and ends so, that no device fails, and that just these texts are written.
+pub(crate) fn writes(
+    rt: &impl Abort,
+    alloc: Global,
+    verb: Verb,
+    config: &Config,
+    stream: &[u8],
+    ended: Result<Summary, RunFault>,
+    texts: &[&str],
+) {
+    let done = Done {
+        result: ended,
+        fetched: stream.len() as u64,
+        read_failures: 0,
+        written: total(texts),
+        write_failures: 0,
+    };
+    answers(
+        rt,
+        verb,
+        config,
+        Tape::new(stream),
+        Paper::new(alloc),
+        done,
+        texts,
+    );
+}

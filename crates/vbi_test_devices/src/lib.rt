@@ -1,0 +1,13 @@
+//! Devices over memory for the tests of the other crates: readers and a writer that cut, interrupt and fail at set counts, and
+//! count how often they are asked. Stands on std alone, and no program uses it.
+#![tactic(auto)]
+
+mod paper;
+mod resumed;
+mod tape;
+mod zeros;
+
+pub use paper::Paper;
+pub use resumed::Resumed;
+pub use tape::Tape;
+pub use zeros::Zeros;
