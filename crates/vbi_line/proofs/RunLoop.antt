@@ -6,7 +6,7 @@ use Rattle.std.proofs.lemmas.List.{take_more, replicate_more, append-nil}
 use Rattle.std.proofs.lemmas.Bool.{cases_lt}
 use Rattle.vbi_words.specs.declared.system.System.{System}
 use Rattle.vbi_words.specs.declared.outcome.Outcome.TheVariants.{Change, Hold}
-use Rattle.vbi_words.specs.Geometry.{least_half, greatest_half}
+use Rattle.vbi_words.proofs.Sizes.{sizes_of}
 use Rattle.vbi_words.specs.Outcomes.{IsOutcome}
 use Rattle.vbi_words.specs.Levels.{level_at}
 use Rattle.vbi_words.proofs.Machine
@@ -22,12 +22,12 @@ use Rattle.vbi_line.proofs.Ending.{alive}
 last_level : (system : System) (state : State) (v : Bool) (k : ℕ) → 0 < k → (after_of system state (replicate k v) ≡ dead → ⊥) → level_of
     (after_of system state (replicate k v)) ≡ v
 last_level system state v zero some alive = absurd (omega arith)
-last_level system state v (suc k) some alive = ap level_of last ∙ Machine.next_level (least_half system) (greatest_half system) 24
+last_level system state v (suc k) some alive = ap level_of last ∙ Machine.next_level (sizes_of system)
     (after_of system state (replicate k v)) v (λ d. alive (last ∙ d))
   where
     last : after_of system state (replicate (suc k) v) ≡ next_of system (after_of system state (replicate k v)) v
     last = ap (λ (t : List Bool). after_of system state t) (ap (λ (j : ℕ). replicate j v) (sym (add-one k)) ∙ sym (replicate_more k v))
-        ∙ Machine.after-append (least_half system) (greatest_half system) 24 state (replicate k v) (v ∷ [])
+        ∙ Machine.after-append (sizes_of system) state (replicate k v) (v ∷ [])
 
 module _ (system : System) (levels : List Bool) (column : ℕ) (v : Bool) (count : ℕ) (run : IsRun levels column v count) where
   -- the levels up to a place in the run
@@ -46,7 +46,7 @@ module _ (system : System) (levels : List Bool) (column : ℕ) (v : Bool) (count
     after_levels : (k : ℕ) → k ≤ count → after_of system (state_of decoder) (replicate k v) ≡ state_after system (take (column + k) levels)
     after_levels k l =
         ap (λ (s : State). after_of system s (replicate k v)) so_far
-        ∙ sym (Machine.after-append (least_half system) (greatest_half system) 24 (lead 0) (take column levels) (replicate k v))
+        ∙ sym (Machine.after-append (sizes_of system) (lead 0) (take column levels) (replicate k v))
         ∙ ap (λ (t : List Bool). state_after system t) (sym (run_levels k l))
 
     pub goes_on : (new : State) → new ≡ after_of system (state_of decoder) (replicate count v) → new ≡ state_after system (take

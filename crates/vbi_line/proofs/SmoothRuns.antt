@@ -7,7 +7,7 @@ use Rattle.std.specs.Prelude.{not}
 use Rattle.vbi_words.specs.declared.system.System.{System}
 use Rattle.vbi_words.specs.Words.{IsWord, lowest_bits}
 use Rattle.vbi_words.specs.Shows.{Shows, ShowsNone}
-use Rattle.vbi_words.specs.Geometry.{least_half, greatest_half}
+use Rattle.vbi_words.proofs.Sizes.{sizes_of}
 use Rattle.vbi_words.specs.Levels.{level_at}
 use Rattle.vbi_words.specs.Smooth.{settle, smooth_of}
 use Rattle.vbi_words.proofs.DrawnShows.{equal_from}
@@ -138,7 +138,7 @@ here_is levels column x count r = ap (λ (k : ℕ). level_at levels k) (sym (add
 
 more : (system : System) (front : List Bool) (n : ℕ) (v : Bool) → state_after system (front ++ replicate n v) ≡ after_of system
     (state_after system front) (replicate n v)
-more system front n v = Machine.after-append (least_half system) (greatest_half system) 24 (lead 0) front (replicate n v)
+more system front n v = Machine.after-append (sizes_of system) (lead 0) front (replicate n v)
 
 module _ (system : System) (levels : List Bool) (column : ℕ) (out : Bool) (state : State) (h : Halfway system levels column out state) (x : Bool)
     (count : ℕ) (run : IsRun levels column x count) where

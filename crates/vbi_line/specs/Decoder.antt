@@ -1,7 +1,7 @@
 -- What a reader of levels knows, as a state of the machine that `vbi_words` is proved by. Only private contracts speak of it.
 use Rattle.std.specs.Prelude.{ℕ, ◌<◌, ◌^◌, ◌≡◌, ◌+◌, Option, Bool, List, replicate}
 use Rattle.vbi_words.specs.declared.system.System.{System}
-use Rattle.vbi_words.specs.Geometry.{least_half, greatest_half}
+use Rattle.vbi_words.proofs.Sizes.{sizes_of}
 use Rattle.vbi_words.specs.Words.{lowest_bits}
 use Rattle.vbi_words.proofs.Machine.{State, lead, first, second, tail, dead, stay, turn, next, after, limit, Fit}
 use Rattle.vbi_line.specs.declared.decoder.Decoder.{Decoder}
@@ -30,27 +30,27 @@ run_of (Tail bits) = 0
 
 -- the state after one more level like the last
 abbrev pub stay_of : System → State → State
-stay_of system state = stay (least_half system) (greatest_half system) 24 state
+stay_of system state = stay (sizes_of system) state
 
 -- the state after one of the other level
 abbrev pub turn_of : System → State → State
-turn_of system state = turn (least_half system) (greatest_half system) 24 state
+turn_of system state = turn (sizes_of system) state
 
 -- the state after one more level
 abbrev pub next_of : System → State → Bool → State
-next_of system state level = next (least_half system) (greatest_half system) 24 state level
+next_of system state level = next (sizes_of system) state level
 
 -- what holds of the states that levels lead to
 abbrev pub IsFit : System → State → Type 0
-IsFit system state = Fit (least_half system) (greatest_half system) 24 state
+IsFit system state = Fit (sizes_of system) state
 
 -- the greatest length of the last run, if it has one
 abbrev pub limit_of : System → State → Option ℕ
-limit_of system state = limit (least_half system) (greatest_half system) 24 state
+limit_of system state = limit (sizes_of system) state
 
 -- the state after these levels
 abbrev pub after_of : System → State → List Bool → State
-after_of system state levels = after (least_half system) (greatest_half system) 24 state levels
+after_of system state levels = after (sizes_of system) state levels
 
 -- lived of these levels can be read, and one more can't
 abbrev pub DiesAfter : System → State → Bool → ℕ → Type 0

@@ -10,6 +10,7 @@ use Rattle.vbi_words.specs.Geometry.{least_half, greatest_half}
 use Rattle.vbi_words.specs.Shows.{Shows, ShowsNone, Viable}
 use Rattle.vbi_words.specs.Levels.{level_at}
 use Rattle.vbi_words.specs.Outcomes.{FirstHopeless, Holds, IsOutcome}
+use Rattle.vbi_words.proofs.Sizes.{sizes_of}
 use Rattle.vbi_words.proofs.Machine
 use Rattle.vbi_words.proofs.Machine.{State, lead, first, second, tail, dead, level_of, is_lead}
 use Rattle.vbi_words.proofs.Shown
@@ -75,7 +76,7 @@ watch system levels (suc n) l = go (watch system levels n (omega arith)) (Machin
     go (inr alive) (inl dies) = inl (n, omega arith, alive, dies)
     go (inr alive) (inr living) = inr (λ e. living (ap (λ (k : ℕ). state_after system (take k levels)) (add-one n) ∙ e))
 
-ended_bits : (system : System) (state : State) (bits : List Bool) → Machine.Fit (least_half system) (greatest_half system) 24 state → ending_of system state ≡ Some bits → Shown.WordBits bits
+ended_bits : (system : System) (state : State) (bits : List Bool) → Machine.Fit (sizes_of system) state → ending_of system state ≡ Some bits → Shown.WordBits bits
 ended_bits system (lead n) bits fit e = cc
 ended_bits system (first v n done) bits fit e = cc
 ended_bits system (second v n done) bits fit e =

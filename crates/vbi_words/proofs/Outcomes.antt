@@ -10,6 +10,7 @@ use Rattle.vbi_words.specs.Words.{IsWord, lowest_bits}
 use Rattle.vbi_words.specs.Shows.{ShowsNone, Viable}
 use Rattle.vbi_words.specs.Levels.{level_at}
 use Rattle.vbi_words.specs.Outcomes.{AllLow, FirstHopeless, Holds, IsOutcome}
+use Rattle.vbi_words.proofs.Sizes.{sizes_of}
 use Rattle.vbi_words.proofs.Machine
 use Rattle.vbi_words.proofs.Machine.{State, lead, first, second, tail, dead, level_of, is_lead}
 use Rattle.vbi_words.proofs.Shown
@@ -17,18 +18,18 @@ use Rattle.vbi_words.proofs.Shown.{state_after, ending_of}
 
 -- the state after one more level
 pub after_one : (system : System) (levels : List Bool) (i : ℕ) → i < length levels
-    → state_after system (take (i + 1) levels) ≡ Machine.next (least_half system) (greatest_half system) 24 (state_after system (take i levels)) (get_or levels i false)
+    → state_after system (take (i + 1) levels) ≡ Machine.next (sizes_of system) (state_after system (take i levels)) (get_or levels i false)
 after_one system levels i within =
     ap (λ (t : List Bool). state_after system t) (take_more levels i false within)
-    ∙ Machine.after-append (least_half system) (greatest_half system) 24 (lead 0) (take i levels) (get_or levels i false ∷ [])
+    ∙ Machine.after-append (sizes_of system) (lead 0) (take i levels) (get_or levels i false ∷ [])
 
 -- the machine is dead once it was
 dead_later : (system : System) (levels : List Bool) (n : ℕ) → state_after system (take n levels) ≡ dead → state_after system levels ≡ dead
 dead_later system levels n e =
     ap (λ (t : List Bool). state_after system t) (sym (take-append-drop n levels))
-    ∙ Machine.after-append (least_half system) (greatest_half system) 24 (lead 0) (take n levels) (drop n levels)
-    ∙ ap (λ (s : State). Machine.after (least_half system) (greatest_half system) 24 s (drop n levels)) e
-    ∙ Machine.dead_after (least_half system) (greatest_half system) 24 (drop n levels)
+    ∙ Machine.after-append (sizes_of system) (lead 0) (take n levels) (drop n levels)
+    ∙ ap (λ (s : State). Machine.after (sizes_of system) s (drop n levels)) e
+    ∙ Machine.dead_after (sizes_of system) (drop n levels)
 
 dead_none : (system : System) (levels : List Bool) → state_after system levels ≡ dead → ShowsNone system levels
 dead_none system levels e = Shown.ended_none system levels (ap (λ (s : State). ending_of system s) e)
@@ -59,8 +60,8 @@ module _ (system : System) (levels : List Bool) (c : ℕ) (within : c < length l
           let start : state_after system (take c levels) ≡ lead 0 = ap (λ (j : ℕ). state_after system (take j levels)) (sym e) in
           let low : level_at levels c ≡ false = same ∙ ap level_of start in
           let next : state_after system (take (c + 1) levels) ≡ lead 1 = after_one system levels c within
-          ∙ ap (λ (s : State). Machine.next (least_half system) (greatest_half system) 24 s (get_or levels c false)) start
-          ∙ ap (λ (b : Bool). Machine.next (least_half system) (greatest_half system) 24 (lead 0) b) low in
+          ∙ ap (λ (s : State). Machine.next (sizes_of system) s (get_or levels c false)) start
+          ∙ ap (λ (b : Bool). Machine.next (sizes_of system) (lead 0) b) low in
           let bad : dead ≡ lead 1 = sym dies ∙ next in cc
       held (suc k) e =
           (omega arith, same ∙ before)
@@ -71,12 +72,12 @@ module _ (system : System) (levels : List Bool) (c : ℕ) (within : c < length l
           minus : c - 1 ≡ k
           minus = omega arith
 
-          last : state_after system (take c levels) ≡ Machine.next (least_half system) (greatest_half system) 24 (state_after system (take k levels)) (get_or levels k false)
+          last : state_after system (take c levels) ≡ Machine.next (sizes_of system) (state_after system (take k levels)) (get_or levels k false)
           last = ap (λ (j : ℕ). state_after system (take j levels)) at ∙ after_one system levels k (omega arith)
 
           before : level_of (state_after system (take c levels)) ≡ level_at levels (c - 1)
           before = ap level_of last
-              ∙ Machine.next_level (least_half system) (greatest_half system) 24 (state_after system (take k levels)) (get_or levels k false) (λ d. alive (last ∙ d))
+              ∙ Machine.next_level (sizes_of system) (state_after system (take k levels)) (get_or levels k false) (λ d. alive (last ∙ d))
               ∙ ap (λ (j : ℕ). level_at levels j) (sym minus)
 
   pub change_outcome : (level_at levels c ≡ level_of (state_after system (take c levels)) → ⊥) → IsOutcome system levels (Change c)
@@ -92,12 +93,12 @@ module _ (system : System) (levels : List Bool) (c : ℕ) (within : c < length l
           minus : c - 1 ≡ k
           minus = omega arith
 
-          last : state_after system (take c levels) ≡ Machine.next (least_half system) (greatest_half system) 24 (state_after system (take k levels)) (get_or levels k false)
+          last : state_after system (take c levels) ≡ Machine.next (sizes_of system) (state_after system (take k levels)) (get_or levels k false)
           last = ap (λ (j : ℕ). state_after system (take j levels)) at ∙ after_one system levels k (omega arith)
 
           before : level_of (state_after system (take c levels)) ≡ level_at levels (c - 1)
           before = ap level_of last
-              ∙ Machine.next_level (least_half system) (greatest_half system) 24 (state_after system (take k levels)) (get_or levels k false) (λ d. alive (last ∙ d))
+              ∙ Machine.next_level (sizes_of system) (state_after system (take k levels)) (get_or levels k false) (λ d. alive (last ∙ d))
               ∙ ap (λ (j : ℕ). level_at levels j) (sym minus)
 
 module _ (system : System) (levels : List Bool) where

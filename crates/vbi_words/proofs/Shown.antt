@@ -10,23 +10,12 @@ use Rattle.vbi_words.specs.Geometry.{least_half, greatest_half}
 use Rattle.vbi_words.specs.Words.{IsWord, lowest_bits}
 use Rattle.vbi_words.specs.Shows.{Shows, ShowsNone, Viable}
 use Rattle.vbi_words.specs.Outcomes.{AllLow}
+use Rattle.vbi_words.proofs.Sizes.{sizes_of, apart_of}
 use Rattle.vbi_words.proofs.Cutting
 use Rattle.vbi_words.proofs.Awaits
 use Rattle.vbi_words.proofs.Machine
 use Rattle.vbi_words.proofs.Machine.{State, lead, first, second, tail, dead}
 use Rattle.vbi_words.proofs.Bits
-
-pub positive : (system : System) → 0 < least_half system
-positive Ntsc = omega arith
-positive Pal = omega arith
-
-pub order : (system : System) → least_half system ≤ greatest_half system
-order Ntsc = omega arith
-order Pal = omega arith
-
-pub apart : (system : System) → greatest_half system < least_half system + least_half system
-apart Ntsc = omega arith
-apart Pal = omega arith
 
 -- the bits of a word
 abbrev pub WordBits : List Bool → Type 0
@@ -43,19 +32,19 @@ word_of bits (whole, (rest, begun)) =
     (n.0, (Bits.top_bit_then 23 n.0 rest (same ∙ begun), below), same)
 
 abbrev pub Draws : System → List Bool → List Bool → Type 0
-Draws system = Cutting.Draws (least_half system) (greatest_half system)
+Draws system = Cutting.Draws (sizes_of system)
 
 pub draws_from_shows : (system : System) (levels : List Bool) (w : ℕ) → Shows system levels w → Draws system (lowest_bits 24 w) levels
 draws_from_shows system levels w s = (
   s.before,
   s.drawn ++ replicate s.after false,
   s.whole,
-  Cutting.cells_from_spelled (least_half system) (greatest_half system) (lowest_bits 24 w) s.drawn s.after s.spelled,
+  Cutting.cells_from_spelled (sizes_of system) (lowest_bits 24 w) s.drawn s.after s.spelled,
 )
 
 pub shows_from_draws : (system : System) (levels : List Bool) (w : ℕ) → IsWord w → Draws system (lowest_bits 24 w) levels → Shows system levels w
 shows_from_draws system levels w (low, high) (a, rest, e, cells) =
-    let d = Cutting.drawn_from_cells (least_half system) (greatest_half system) (lowest_bits 24 w) rest cells in
+    let d = Cutting.drawn_from_cells (sizes_of system) (lowest_bits 24 w) rest cells in
     record {
       is_word = (low, high);
       before = a;
@@ -67,23 +56,23 @@ shows_from_draws system levels w (low, high) (a, rest, e, cells) =
 
 -- the machine's state after these levels
 abbrev pub state_after : System → List Bool → State
-state_after system levels = Machine.after (least_half system) (greatest_half system) 24 (lead 0) levels
+state_after system levels = Machine.after (sizes_of system) (lead 0) levels
 
 abbrev pub ending_of : System → State → Option (List Bool)
-ending_of system state = Machine.ending (least_half system) (greatest_half system) 24 state
+ending_of system state = Machine.ending (sizes_of system) state
 
-pub fit_after : (system : System) (levels : List Bool) → Machine.Fit (least_half system) (greatest_half system) 24 (state_after system levels)
-fit_after system levels = Machine.after_fit (least_half system) (greatest_half system) 24 (positive system) (order system) (omega arith) (lead 0) levels tt
+pub fit_after : (system : System) (levels : List Bool) → Machine.Fit (sizes_of system) (state_after system levels)
+fit_after system levels = Machine.after_fit (sizes_of system) (apart_of system) (lead 0) levels tt
 
 pub awaits_after : (system : System) (levels more bits : List Bool) → WordBits bits
-    → Draws system bits (levels ++ more) ↔ Awaits.Awaits (least_half system) (greatest_half system) 24 (state_after system levels) bits more
+    → Draws system bits (levels ++ more) ↔ Awaits.Awaits (sizes_of system) (state_after system levels) bits more
 awaits_after system levels more bits whole =
-    Awaits.after_step (least_half system) (greatest_half system) 24 (positive system) (order system) (apart system) (omega arith) (lead 0) levels bits more tt whole
+    Awaits.after_step (sizes_of system) (apart_of system) (lead 0) levels bits more tt whole
 
 pub draws_ended : (system : System) (levels bits : List Bool) → WordBits bits → Draws system bits levels ↔ (ending_of system (state_after system levels) ≡ Some bits)
 draws_ended system levels bits whole =
     let there = awaits_after system levels [] bits whole in
-    let here = Awaits.ended (least_half system) (greatest_half system) 24 (positive system) (order system) (apart system) (omega arith)
+    let here = Awaits.ended (sizes_of system) (apart_of system)
     (state_after system levels) bits (fit_after system levels) whole in (
       λ d. here.0 (there.0 (subst (Draws system bits) (sym (append-nil levels)) d)),
       λ e. subst (Draws system bits) (append-nil levels) (there.1 (here.1 e)),
@@ -108,11 +97,11 @@ one_word system levels v w s t =
 pub viable_alive : (system : System) (levels : List Bool) → Viable system levels → state_after system levels ≡ dead → ⊥
 viable_alive system levels (more, w, s) e =
     let a = (awaits_after system levels more (lowest_bits 24 w) (word_bits w s.is_word)).0 (draws_from_shows system (levels ++ more) w s) in
-    subst (λ (x : State). Awaits.Awaits (least_half system) (greatest_half system) 24 x (lowest_bits 24 w) more) e a
+    subst (λ (x : State). Awaits.Awaits (sizes_of system) x (lowest_bits 24 w) more) e a
 
 pub alive_viable : (system : System) (levels : List Bool) → (state_after system levels ≡ dead → ⊥) → Viable system levels
 alive_viable system levels alive =
-    let l = Awaits.live (least_half system) (greatest_half system) 24 (positive system) (order system) (apart system) (omega arith)
+    let l = Awaits.live (sizes_of system) (apart_of system)
     (state_after system levels) (fit_after system levels) alive in
     let w = word_of l.0 l.2 in (
       l.1,
@@ -130,10 +119,10 @@ viable_take system levels n v = viable_front system (take n levels) (drop n leve
 
 -- lows alone leave the machine in its first state, and nothing else does
 pub low_lead : (system : System) (levels : List Bool) → AllLow levels → Machine.is_lead (state_after system levels) ≡ true
-low_lead system levels low = Machine.lead_lows (least_half system) (greatest_half system) 24 0 levels (recursion_from_All (λ l. l ≡ false) levels low)
+low_lead system levels low = Machine.lead_lows (sizes_of system) 0 levels (recursion_from_All (λ l. l ≡ false) levels low)
 
 pub lead_low : (system : System) (levels : List Bool) → Machine.is_lead (state_after system levels) ≡ true → AllLow levels
-lead_low system levels e = All-from_recursion (λ l. l ≡ false) levels (Machine.lows_lead (least_half system) (greatest_half system) 24 (lead 0) levels e).1
+lead_low system levels e = All-from_recursion (λ l. l ≡ false) levels (Machine.lows_lead (sizes_of system) (lead 0) levels e).1
 
 pub ended_none : (system : System) (levels : List Bool) → ending_of system (state_after system levels) ≡ None → ShowsNone system levels
 ended_none system levels e w s = let f : Some (lowest_bits 24 w) ≡ None = sym (shows_ended system levels w s) ∙ e in cc
