@@ -40,7 +40,8 @@ pub struct Intake<'a, R> {
 }
 
 impl<'a, R: Read> Intake<'a, R> {
-    ghost use Rattle.vbi_line.specs.Intake.{device_of, failures_of, errors_of, streak_of, fetched_of, held_of, line_of, name_of};
+    ghost use Rattle.vbi_line.specs.Intake.{device_of, failures_of, errors_of, streak_of};
+    ghost use Rattle.vbi_line.specs.Intake.{fetched_of, held_of, line_of, name_of};
     ghost use Rattle.vbi_line.specs.Intake.{IsFresh, Fetches, IsFilled, HasCause, IsSameDevice, KeepsReader};
 
     /// An intake of lines of this system, which holds nothing and hasn't asked the reader.

@@ -1,6 +1,8 @@
 -- A drawn row shows its word.
-use Rattle.std.proofs.Common.{◌≡◌, ℕ, zero, suc, ◌≤◌, ◌<◌, ◌+◌, ◌-◌, ◌*◌, Bool, true, false, List, [], ◌∷◌, ◌++◌, ◌⊎◌, inl}
-use Rattle.std.proofs.Common.{inr, length, get_or, drop, refl, sym, ap, subst, ◌∙◌, arith, add-zero, append_assoc, Some, None}
+use Rattle.std.proofs.Common.{◌≡◌, ℕ, zero, suc, ◌≤◌, ◌<◌, ◌+◌, ◌-◌, ◌*◌, Bool}
+use Rattle.std.proofs.Common.{true, false, List, [], ◌∷◌, ◌++◌, ◌⊎◌, inl}
+use Rattle.std.proofs.Common.{inr, length, get_or, drop, refl, sym, ap, subst}
+use Rattle.std.proofs.Common.{◌∙◌, arith, add-zero, append_assoc, Some, None}
 use Rattle.std.proofs.Math.ListN.{replicate}
 use Rattle.std.proofs.Math.Seq.{drop-cons}
 use Rattle.std.proofs.lemmas.List.{append-nil, get_or-map, length-map, drop_all}

@@ -1,5 +1,6 @@
 -- How a word is drawn on a row: 48 half cells of one microsecond each (IEC 60857 and IEC 60856), from the start column on.
-use Rattle.std.specs.Prelude.{◌≡◌, ℕ, ◌≤◌, ◌<◌, ◌+◌, ◌*◌, ◌/◌, true, false, List, slice_index, slice_index_or, length, Option, Some, None}
+use Rattle.std.specs.Prelude.{◌≡◌, ℕ, ◌≤◌, ◌<◌, ◌+◌, ◌*◌, ◌/◌, true, false, List}
+use Rattle.std.specs.Prelude.{slice_index, slice_index_or, length, Option, Some, None}
 use Rattle.vbi_words.specs.declared.system.System.{System}
 use Rattle.vbi_words.specs.declared.system.System.TheVariants.{Ntsc, Pal}
 use Rattle.vbi_words.specs.Geometry.{width_of}

@@ -1,6 +1,7 @@
 //! Laws over the definitions: each function's contract is one, for every system, list of levels, word and pair of levels.
 
-ghost use Rattle.std.specs.Prelude.{◌≡◌, ℕ, ◌≤◌, ◌<◌, ◌+◌, ◌-◌, List, Bool, false, [], ◌∷◌, ◌++◌, replicate, Option, Some, None};
+ghost use Rattle.std.specs.Prelude.{◌≡◌, ℕ, ◌≤◌, ◌<◌, ◌+◌, ◌-◌, List, Bool, false};
+ghost use Rattle.std.specs.Prelude.{[], ◌∷◌, ◌++◌, replicate, Option, Some, None};
 ghost use Rattle.vbi_words.specs.declared.system.System.{System};
 ghost use Rattle.vbi_words.specs.declared.system.System.TheVariants.{Ntsc};
 ghost use Rattle.vbi_words.specs.declared.outcome.Outcome.TheVariants.{Word, Unfinished, Change, Hold};

@@ -1,7 +1,8 @@
 //! The two television systems and their geometry in ld-decode's TBC files.
 
 ghost use Rattle.std.specs.Prelude.{◌≡◌};
-ghost use Rattle.vbi_words.specs.Geometry.{width_of, height_of, line_bytes, field_bytes, least_half, greatest_half, start_of, name_of};
+ghost use Rattle.vbi_words.specs.Geometry.{width_of, height_of, line_bytes, field_bytes};
+ghost use Rattle.vbi_words.specs.Geometry.{least_half, greatest_half, start_of, name_of};
 
 /// Bytes of the longest line, that of PAL.
 pub const LONGEST_LINE: usize = 2270;

@@ -1,6 +1,7 @@
 -- `part_mut` lends a part of the array as a slice. The borrow checker shows no clause on what a loan
 -- of a part of an array leaves, so this proof walks the code by hand.
-use Rattle.std.proofs.Common.{◌≡◌, ℕ, ◌+◌, ◌-◌, ◌≤◌, List, [], ◌∷◌, ◌++◌, length, take, drop, refl, sym, ap, ◌∙◌, arith, w64}
+use Rattle.std.proofs.Common.{◌≡◌, ℕ, ◌+◌, ◌-◌, ◌≤◌, List, [], ◌∷◌, ◌++◌, length}
+use Rattle.std.proofs.Common.{take, drop, refl, sym, ap, ◌∙◌, arith, w64}
 use Rattle.std.proofs.lemmas.List.{length-take-le}
 use Rattle.std.proofs.raw_atomic.Walks.{proved}
 use seplogic.Ra.Ura.{Ura}
@@ -13,8 +14,10 @@ use types.Logic.{Logic, sem}
 use types.Mut.{open_ref}
 use types.SemTy.{cells}
 use types.Part.{agg}
-use types.Kit.{Item, ‵, ◌⊛◌, raw, given, some, later, ◌$◌, ◌∵◌, !, qed, by, done, move, keep, drop as let_go, show, rewrite}
-use types.Kit.{split, split3, join, learn, fsplit, fsplit3, fjoin, use1, use2, await, pick, suffices, frame, updating, group, now}
+use types.Kit.{Item, ‵, ◌⊛◌, raw, given, some, later, ◌$◌, ◌∵◌, !, qed}
+use types.Kit.{by, done, move, keep, drop as let_go, show, rewrite}
+use types.Kit.{split, split3, join, learn, fsplit, fsplit3, fjoin, use1}
+use types.Kit.{use2, await, pick, suffices, frame, updating, group, now}
 use types.Run.{stop, fld, addr, bin, and_then, no_more, returns, enter}
 use types.ByLocal.{alloc_all, pass_all, free_all, look_at, get, through, sets}
 use denote.Array.{Array}
@@ -35,7 +38,8 @@ use Rattle.vbi_line.specs.declared.store.LineBytes.{LineBytes}
 use Rattle.vbi_line.specs.contracts.store.LineBytes.{the_row as S}
 use Rattle.vbi_line.specs.contracts.store.LineBytes.part_mut as f
 use Rattle.vbi_line.specs.StoreLends.{with_part}
-use Rattle.vbi_line.proofs.StoreMemory.{in_parts, length-part, with_part-same, length-with_part, start, Left, bytes_out, bytes_in}
+use Rattle.vbi_line.proofs.StoreMemory.{in_parts, length-part, with_part-same}
+use Rattle.vbi_line.proofs.StoreMemory.{length-with_part, start, Left, bytes_out, bytes_in}
 use Rattle.vbi_line.proofs.store.LineBytes.part_mut.Statement.{statement}
 use Rattle.vbi_line.proofs.store.LineBytes.part_mut.Code as code
 
