@@ -15,8 +15,7 @@ use Rattle.vbi_words.specs.Outcomes.{AllLow}
 use Rattle.vbi_words.specs.Smooth.{smooth_of, Glitch}
 use Rattle.vbi_words.specs.declared.outcome.Outcome.TheVariants.{Word}
 use Rattle.vbi_words.specs.Readings.{IsReading}
-use Rattle.vbi_words.proofs.Runs.{not_same}
-use Rattle.vbi_words.proofs.DrawnShows.{equal_from}
+use Rattle.vbi_words.proofs.Runs.{not_same, equal_from}
 use Rattle.vbi_words.proofs.Smoothing.{length-smooth_of}
 use Rattle.vbi_words.proofs.SmoothKeeps.{moved, later, same_smooth}
 
