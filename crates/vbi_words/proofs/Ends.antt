@@ -111,22 +111,22 @@ module _ {sizes : Sizes} (ok : AreApart sizes) where
       )
   live (second v n done) fit alive = elim (cases_lt (length done) cells) [
     | inl few ↦
-      let todo : List Bool = rest_of sizes done (not v) in
-      let more : List Bool = replicate greatest (not v) ++ typical sizes todo in
-      let short : n ≤ greatest + greatest = Machine.fit_few sizes v n done few fit.1 in (
-        done ++ (not v ∷ todo),
-        replicate (greatest + greatest - n) v ++ more,
-        whole_from done (not v) fit.3 few,
-        (
-          not v ∷ todo,
-          refl,
-          rw Runs.run_joined (Cutting.double_half ok v todo more (n + (greatest + greatest - n)) (omega arith)
-              (omega arith) (half_then (not v) todo)),
-        ),
-      )
+        let todo : List Bool = rest_of sizes done (not v) in
+        let more : List Bool = replicate greatest (not v) ++ typical sizes todo in
+        let short : n ≤ greatest + greatest = Machine.fit_few sizes v n done few fit.1 in (
+          done ++ (not v ∷ todo),
+          replicate (greatest + greatest - n) v ++ more,
+          whole_from done (not v) fit.3 few,
+          (
+            not v ∷ todo,
+            refl,
+            rw Runs.run_joined (Cutting.double_half ok v todo more (n + (greatest + greatest - n)) (omega arith)
+                (omega arith) (half_then (not v) todo)),
+          ),
+        )
     | inr full ↦
-      let all : length done ≡ cells = omega (arith, fit.2) in
-      live_last v n done fit.3 all (λ high. Machine.fit_last sizes v n done all high fit.1)
+        let all : length done ≡ cells = omega (arith, fit.2) in
+        live_last v n done fit.3 all (λ high. Machine.fit_last sizes v n done all high fit.1)
   ]
   live (tail done) fit alive = (done, [], fit, (refl, (0, refl)))
   live dead fit alive = absurd (alive refl)

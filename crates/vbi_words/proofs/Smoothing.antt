@@ -62,7 +62,7 @@ latest_next s (suc (suc (suc j))) =
     let two : j + 2 ≡ suc (suc j) = omega arith in
     let three : j + 3 ≡ suc (suc (suc j)) = omega arith in
     let four : ℕ → ℕ → ℕ → ℕ → Bool = λ u v w k. settle (level_at s j) (level_at s u) (level_at s v) (level_at s w)
-        (latest s k) in
+    (latest s k) in
     ap (latest s) here ∙ ap (λ (k : ℕ). four k (j + 2) (j + 3) j) one ∙ ap (λ (k : ℕ). four (suc j) k (j + 3) j) two
     ∙ ap (λ (k : ℕ). four (suc j) (suc (suc j)) k j) three ∙ ap (four (suc j) (suc (suc j)) (suc (suc (suc j)))) below
 
@@ -76,7 +76,7 @@ from_next : (s : List Bool) (n : ℕ) (rest : List Bool)
 unfolding window
 from_next s n rest =
     let behind : Bool → List Bool = λ o. window o (level_at (padded s) (suc n)) (level_at (padded s) (suc (suc n)))
-        (level_at s n) rest in
+    (level_at s n) rest in
     ap (λ (o : Bool). o ∷ behind o) (sym (latest_next s n))
 
 -- the window's levels from column n on
@@ -87,12 +87,12 @@ column_level : (s rest : List Bool) (n i : ℕ) → drop n s ≡ rest → i < le
 column_level s [] n i e l = absurd (omega arith)
 column_level s (x ∷ rest) n i e l = elim (cases_lt n (length s)) [
   | inl inside ↦
-    let both : level_at s n ∷ drop (suc n) s ≡ x ∷ rest = sym (drop-cons s n false inside) ∙ e in
-    let head : x ≡ level_at s n = cc in
-    let tail : drop (suc n) s ≡ rest = cc in
-    let moved : from_column s n (x ∷ rest) ≡ latest s (suc n - 3) ∷ from_column s (suc n) rest
-    = ap (λ (y : Bool). from_column s n (y ∷ rest)) head ∙ from_next s n rest in
-    ap (λ (t : List Bool). get_or t i false) moved ∙ go (λ k m. column_level s rest (suc n) k tail m) i l
+      let both : level_at s n ∷ drop (suc n) s ≡ x ∷ rest = sym (drop-cons s n false inside) ∙ e in
+      let head : x ≡ level_at s n = cc in
+      let tail : drop (suc n) s ≡ rest = cc in
+      let moved : from_column s n (x ∷ rest) ≡ latest s (suc n - 3) ∷ from_column s (suc n) rest
+      = ap (λ (y : Bool). from_column s n (y ∷ rest)) head ∙ from_next s n rest in
+      ap (λ (t : List Bool). get_or t i false) moved ∙ go (λ k m. column_level s rest (suc n) k tail m) i l
   | inr past ↦ let none : [] ≡ x ∷ rest = sym (drop_all n s past) ∙ e in absurd cc
 ]
   where
@@ -200,8 +200,8 @@ latest_is s (suc n) = go (latest_is s n) (four_or_stay s n)
     last e u none not_here l f = elim (cases_lt e n) [
       | inl m ↦ none m f
       | inr m ↦
-        let same : e ≡ n = omega arith in
-        not_here u (subst (λ (k : ℕ). FourEqual s k u) same f)
+          let same : e ≡ n = omega arith in
+          not_here u (subst (λ (k : ℕ). FourEqual s k u) same f)
     ]
 
     go : LatestBefore s n (latest s n) → FourOrStay s n → LatestBefore s (suc n) (latest s (suc n))
@@ -232,8 +232,11 @@ only_at s c v w (inr (low, none)) (inl (e, m, other, never)) = absurd (none e w 
 only_at s c v w (inr (low, none)) (inr (low', never)) = low ∙ sym low'
 
 pub is_smooth : (s : List Bool) → IsSmooth s (smooth_of s)
-is_smooth s = (length-smooth_of s, λ c l. at_from_before s c (level_at (smooth_of s) c)
-    (subst (LatestBefore s (c - 2)) (sym (smooth_level s c l)) (latest_is s (c - 2))))
+is_smooth s = (
+  length-smooth_of s,
+  λ c l. at_from_before s c (level_at (smooth_of s) c)
+      (subst (LatestBefore s (c - 2)) (sym (smooth_level s c l)) (latest_is s (c - 2))),
+)
 
 pub only_smooth : (s t : List Bool) → IsSmooth s t → t ≡ smooth_of s
 only_smooth s t (same, each) = ext_get_or false t (smooth_of s) (same ∙ sym (length-smooth_of s))

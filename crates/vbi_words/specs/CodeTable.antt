@@ -1,13 +1,11 @@
--- The table of classes as functions of words, by which other definitions name a word's code and a field's format. `laws::one_code`
--- and `laws::one_format` show that they give the only code of `specs/Codes.antt` and the only format of `specs/Formats.antt`.
-use Rattle.std.specs.Prelude.{ℕ, ◌+◌, ◌*◌, ◌%◌, Bool, true, false, ◌&&◌, List, []}
-use Rattle.std.specs.Prelude.{◌∷◌, Option, Some, None, nat_le, if◌then◌else◌}
-use Rattle.std.specs.List.{list_any, list_all}
+-- The classes of code words a second time, as a table and the function that looks a word up in it. `laws::one_code` shows
+-- that the function gives the only code of `specs/Codes.antt`.
+use Rattle.std.specs.Prelude.{ℕ, ◌+◌, ◌*◌, ◌%◌, Bool, ◌&&◌, List, []}
+use Rattle.std.specs.Prelude.{◌∷◌, nat_le, if◌then◌else◌}
+use Rattle.std.specs.List.{list_all, range_with_len}
 use Rattle.vbi_words.specs.declared.code.Code.{Code}
 use Rattle.vbi_words.specs.declared.code.Code.TheVariants.{Picture, Chapter, Time, ClvPicture, CxOn, CxOff}
 use Rattle.vbi_words.specs.declared.code.Code.TheVariants.{Users, LeadIn, LeadOut, PictureStop, ClvMark, Other}
-use Rattle.vbi_words.specs.declared.format.Format.{Format}
-use Rattle.vbi_words.specs.declared.format.Format.TheVariants.{Cav, Clv, Both, Neither}
 use Rattle.vbi_words.specs.Codes.{digit_of, picture_of, seconds_of, last_two, last_three}
 
 -- a row of the table: the numbers whose digits bound the word's, and the code of a word that fits
@@ -16,11 +14,15 @@ pub record Row : Type 0 where
   pub greatest : ℕ
   pub code : Code
 
--- whether each of the word's digits is from that of least to that of greatest
+-- whether the word's digit at this place is from that of least to that of greatest
+abbrev pub fits_at : ℕ → Row → ℕ → Bool
+fits_at word row place =
+    nat_le (digit_of row.least place) (digit_of word place)
+    && nat_le (digit_of word place) (digit_of row.greatest place)
+
+-- whether each of the word's digits is
 abbrev pub fits : ℕ → Row → Bool
-fits word row =
-    list_all (λ place. nat_le (digit_of row.least place) (digit_of word place) && nat_le (digit_of word place) (digit_of row.greatest place))
-    (1 ∷ 2 ∷ 3 ∷ 4 ∷ 5 ∷ 6 ∷ [])
+fits word row = list_all (fits_at word row) (range_with_len 1 6)
 
 -- the rows, with the numbers of this word
 abbrev pub rows_of : ℕ → List Row
@@ -46,30 +48,3 @@ first_code word (row ∷ rows) = if fits word row then row.code else first_code 
 -- the code of a word
 unfoldable pub code_of : ℕ → Code
 code_of word = first_code word (rows_of word)
-
-abbrev pub is_cav_code : Code → Bool
-is_cav_code (Picture number) = true
-is_cav_code PictureStop = true
-is_cav_code _ = false
-
-abbrev pub is_clv_code : Code → Bool
-is_clv_code ClvMark = true
-is_clv_code (Time hours minutes) = true
-is_clv_code (ClvPicture seconds picture) = true
-is_clv_code _ = false
-
--- whether the line has a word whose code passes the test
-abbrev pub has_code : (Code → Bool) → Option ℕ → Bool
-has_code test None = false
-has_code test (Some word) = test (code_of word)
-
--- the format of a field with codes of these kinds
-abbrev pub format_from : Bool → Bool → Format
-format_from true true = Both
-format_from true false = Cav
-format_from false true = Clv
-format_from false false = Neither
-
--- the format of a field whose lines have these words, or none
-unfoldable pub format_of_lines : List (Option ℕ) → Format
-format_of_lines lines = format_from (list_any (has_code is_cav_code) lines) (list_any (has_code is_clv_code) lines)

@@ -16,8 +16,8 @@ ghost use Rattle.vbi_words.specs.Drawn.{IsDrawnRow};
 ghost use Rattle.vbi_words.specs.declared.code.Code.{Code};
 ghost use Rattle.vbi_words.specs.declared.format.Format.{Format};
 ghost use Rattle.vbi_words.specs.Codes.{IsCode};
-ghost use Rattle.vbi_words.specs.Formats.{IsFormat};
-ghost use Rattle.vbi_words.specs.CodeTable.{code_of, format_of_lines};
+ghost use Rattle.vbi_words.specs.Formats.{IsFormat, format_of_lines};
+ghost use Rattle.vbi_words.specs.CodeTable.{code_of};
 ghost use Rattle.vbi_words.specs.WorkedLines.{run_of_20, low_cell, long_lows, late_high, ones_of_11};
 
 /// A list of levels shows at most one word.
