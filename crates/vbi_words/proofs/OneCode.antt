@@ -7,9 +7,9 @@ use Rattle.vbi_words.specs.declared.code.Code.{Code}
 use Rattle.vbi_words.specs.declared.code.Code.TheVariants.{Picture, Chapter, Time, ClvPicture, CxOn, CxOff}
 use Rattle.vbi_words.specs.declared.code.Code.TheVariants.{Users, LeadIn, LeadOut, PictureStop, ClvMark, Other}
 use Rattle.vbi_words.specs.Codes.{digit_of, IsBetween, HasPattern, IsCode}
-use Rattle.vbi_words.specs.CodeTable.{Row, rows_of, first_code, fits_at, fits, code_of}
+use Rattle.vbi_words.specs.CodeTable.{Pattern, patterns_of, first_code, fits_at, fits, code_of}
 
--- ---- tests of numbers in a row
+-- ---- tests of consecutive numbers
 
 all_pass : (p : ℕ → Bool) (a n : ℕ) → ((k : ℕ) → a ≤ k → k < a + n → p k ≡ true)
     → list_all p (range_with_len a n) ≡ true
@@ -37,29 +37,29 @@ some_passes p a (suc n) e = elim (or_cases (p a) (list_any p (range_with_len (a 
       (r.0, omega (arith, r.1), omega (arith, r.2), r.3)
 ]
 
--- ---- no word matches two rows
+-- ---- no word matches two patterns
 
--- the word matches the pattern of the row
-abbrev pub Fits : ℕ → Row → Type 0
-Fits word row = IsBetween row.least row.greatest word
+-- the word matches the pattern
+abbrev pub Fits : ℕ → Pattern → Type 0
+Fits word pattern = IsBetween pattern.least pattern.greatest word
 
--- at this place one row's digits are below the other's
-abbrev below_at : ℕ → Row → Row → Bool
+-- at this place one pattern's digits are below the other's
+abbrev below_at : ℕ → Pattern → Pattern → Bool
 below_at place a b = ltb (digit_of a.greatest place) (digit_of b.least place)
 
--- at some place the digits of one row are below those of the other
-abbrev apart : Row → Row → Bool
+-- at some place the digits of one pattern are below those of the other
+abbrev apart : Pattern → Pattern → Bool
 apart a b = list_any (λ place. below_at place a b || below_at place b a) (range_with_len 1 6)
 
-below-not : (word place : ℕ) (a b : Row) → 1 ≤ place → place ≤ 6 → below_at place a b ≡ true → Fits word a → Fits word b
-    → ⊥
+below-not : (word place : ℕ) (a b : Pattern) → 1 ≤ place → place ≤ 6 → below_at place a b ≡ true → Fits word a
+    → Fits word b → ⊥
 below-not word place a b low high e x y =
     let l : digit_of a.greatest place < digit_of b.least place = ltb-true _ _ e in
     let p : digit_of word place ≤ digit_of a.greatest place = (x place low high).1 in
     let q : digit_of b.least place ≤ digit_of word place = (y place low high).0 in
     omega arith
 
-apart-not : (word : ℕ) (a b : Row) → apart a b ≡ true → Fits word a → Fits word b → ⊥
+apart-not : (word : ℕ) (a b : Pattern) → apart a b ≡ true → Fits word a → Fits word b → ⊥
 apart-not word a b e x y =
     let r = some_passes (λ place. below_at place a b || below_at place b a) 1 6 e in
     let last : r.0 ≤ 6 = omega (arith, r.2) in
@@ -68,49 +68,49 @@ apart-not word a b e x y =
       | inr h ↦ below-not word r.0 b a r.1 last h y x
     ]
 
--- the row is apart from each of the rows
-abbrev apart_from : Row → List Row → Bool
-apart_from row rows = list_all (apart row) rows
+-- the pattern is apart from each of the patterns
+abbrev apart_from : Pattern → List Pattern → Bool
+apart_from pattern patterns = list_all (apart pattern) patterns
 
--- each row is apart from each later one
-abbrev all_apart : List Row → Bool
+-- each pattern is apart from each later one
+abbrev all_apart : List Pattern → Bool
 all_apart [] = true
-all_apart (r ∷ rows) = apart_from r rows && all_apart rows
+all_apart (r ∷ patterns) = apart_from r patterns && all_apart patterns
 
-abbrev none : Row
+abbrev none : Pattern
 none = record { least = 0; greatest = 0; code = Other }
 
--- the word matches the row at this place of the list
-abbrev FitsAt : ℕ → List Row → ℕ → Type 0
-FitsAt word rows i = (i < length rows) × Fits word (get_or rows i none)
+-- the word matches the pattern at this place of the list
+abbrev FitsAt : ℕ → List Pattern → ℕ → Type 0
+FitsAt word patterns i = (i < length patterns) × Fits word (get_or patterns i none)
 
-later-not : (word : ℕ) (row : Row) (rows : List Row) → apart_from row rows ≡ true → Fits word row
-    → (i : ℕ) → FitsAt word rows i → ⊥
-later-not word row [] e x i (l, y) = omega arith
-later-not word row (r ∷ rows) e x zero (l, y) =
-    apart-not word row r (and_parts (apart row r) (apart_from row rows) e).0 x y
-later-not word row (r ∷ rows) e x (suc i) (l, y) =
-    later-not word row rows (and_parts (apart row r) (apart_from row rows) e).1 x i (omega arith, y)
+later-not : (word : ℕ) (pattern : Pattern) (patterns : List Pattern) → apart_from pattern patterns ≡ true
+    → Fits word pattern → (i : ℕ) → FitsAt word patterns i → ⊥
+later-not word pattern [] e x i (l, y) = omega arith
+later-not word pattern (r ∷ patterns) e x zero (l, y) =
+    apart-not word pattern r (and_parts (apart pattern r) (apart_from pattern patterns) e).0 x y
+later-not word pattern (r ∷ patterns) e x (suc i) (l, y) =
+    later-not word pattern patterns (and_parts (apart pattern r) (apart_from pattern patterns) e).1 x i (omega arith, y)
 
-one_row : (word : ℕ) (rows : List Row) → all_apart rows ≡ true → (i j : ℕ) → FitsAt word rows i → FitsAt word rows j
-    → i ≡ j
-one_row word [] e i j (k, x) (l, y) = omega arith
-one_row word (r ∷ rows) e zero zero x y = refl
-one_row word (r ∷ rows) e zero (suc j) (k, x) (l, y) =
-    let parts = and_parts (apart_from r rows) (all_apart rows) e in
-    absurd (later-not word r rows parts.0 x j (omega arith, y))
-one_row word (r ∷ rows) e (suc i) zero (k, x) (l, y) =
-    let parts = and_parts (apart_from r rows) (all_apart rows) e in
-    absurd (later-not word r rows parts.0 y i (omega arith, x))
-one_row word (r ∷ rows) e (suc i) (suc j) (k, x) (l, y) =
-    let parts = and_parts (apart_from r rows) (all_apart rows) e in
-    ap suc (one_row word rows parts.1 i j (omega arith, x) (omega arith, y))
+one_pattern : (word : ℕ) (patterns : List Pattern) → all_apart patterns ≡ true → (i j : ℕ) → FitsAt word patterns i
+    → FitsAt word patterns j → i ≡ j
+one_pattern word [] e i j (k, x) (l, y) = omega arith
+one_pattern word (r ∷ patterns) e zero zero x y = refl
+one_pattern word (r ∷ patterns) e zero (suc j) (k, x) (l, y) =
+    let parts = and_parts (apart_from r patterns) (all_apart patterns) e in
+    absurd (later-not word r patterns parts.0 x j (omega arith, y))
+one_pattern word (r ∷ patterns) e (suc i) zero (k, x) (l, y) =
+    let parts = and_parts (apart_from r patterns) (all_apart patterns) e in
+    absurd (later-not word r patterns parts.0 y i (omega arith, x))
+one_pattern word (r ∷ patterns) e (suc i) (suc j) (k, x) (l, y) =
+    let parts = and_parts (apart_from r patterns) (all_apart patterns) e in
+    ap suc (one_pattern word patterns parts.1 i j (omega arith, x) (omega arith, y))
 
 -- ---- a word has one code
 
--- the code is that of a row that the word matches
+-- the code is that of a pattern that the word matches
 abbrev Found : ℕ → Code → Type 0
-Found word code = (i : ℕ) × FitsAt word (rows_of word) i × (code ≡ (get_or (rows_of word) i none).code)
+Found word code = (i : ℕ) × FitsAt word (patterns_of word) i × (code ≡ (get_or (patterns_of word) i none).code)
 
 -- the word matches no pattern
 abbrev MatchesNone : ℕ → Type 0
@@ -141,46 +141,47 @@ one_code word c d x y = go (found word c x) (found word d y)
     go (inl a) (inr b) = absurd (a.1 d b.0)
     go (inr a) (inl b) = absurd (b.1 c a.0)
     go (inr (p, (i, x, ci))) (inr (q, (j, y, cj))) =
-        let same : i ≡ j = one_row word (rows_of word) refl i j x y in
-        ci ∙ ap (λ (n : ℕ). (get_or (rows_of word) n none).code) same ∙ sym cj
+        let same : i ≡ j = one_pattern word (patterns_of word) refl i j x y in
+        ci ∙ ap (λ (n : ℕ). (get_or (patterns_of word) n none).code) same ∙ sym cj
 
 -- ---- the code as a function
 
 -- the test is that of the relation
-fits-between : (word : ℕ) (row : Row) → fits word row ≡ true → Fits word row
-fits-between word row e place low high =
-    let parts = and_parts (leb (digit_of row.least place) (digit_of word place))
-    (leb (digit_of word place) (digit_of row.greatest place))
-    (each_passes (fits_at word row) 1 6 e place low (omega arith)) in
+fits-between : (word : ℕ) (pattern : Pattern) → fits word pattern ≡ true → Fits word pattern
+fits-between word pattern e place low high =
+    let parts = and_parts (leb (digit_of pattern.least place) (digit_of word place))
+    (leb (digit_of word place) (digit_of pattern.greatest place))
+    (each_passes (fits_at word pattern) 1 6 e place low (omega arith)) in
     (leb-true _ _ parts.0, leb-true _ _ parts.1)
 
-between-fits : (word : ℕ) (row : Row) → Fits word row → fits word row ≡ true
-between-fits word row x = all_pass (fits_at word row) 1 6 (λ place low high.
+between-fits : (word : ℕ) (pattern : Pattern) → Fits word pattern → fits word pattern ≡ true
+between-fits word pattern x = all_pass (fits_at word pattern) 1 6 (λ place low high.
     let here = x place low (omega arith) in
-    and_from (leb (digit_of row.least place) (digit_of word place))
-    (leb (digit_of word place) (digit_of row.greatest place)) (le-leb _ _ here.0) (le-leb _ _ here.1))
+    and_from (leb (digit_of pattern.least place) (digit_of word place))
+    (leb (digit_of word place) (digit_of pattern.greatest place)) (le-leb _ _ here.0) (le-leb _ _ here.1))
 
--- P holds of each row, one after the other
-abbrev Each : (Row → Type 0) → List Row → Type 0
+-- P holds of each pattern, one after the other
+abbrev Each : (Pattern → Type 0) → List Pattern → Type 0
 Each P [] = Unit {0}
-Each P (row ∷ rows) = P row × Each P rows
+Each P (pattern ∷ patterns) = P pattern × Each P patterns
 
--- what holds of the code of each row that the word fits, and of `Other` where it fits none, holds of the first code
-first_has : (P : Code → Type 0) (word : ℕ) (rows : List Row) → Each (λ row. Fits word row → P row.code) rows
-    → (Each (λ row. Fits word row → ⊥) rows → P Other) → P (first_code word rows)
+-- what holds of the code of each pattern that the word fits, and of `Other` where it fits none, holds of the first code
+first_has : (P : Code → Type 0) (word : ℕ) (patterns : List Pattern)
+    → Each (λ pattern. Fits word pattern → P pattern.code) patterns
+    → (Each (λ pattern. Fits word pattern → ⊥) patterns → P Other) → P (first_code word patterns)
 first_has P word [] each other = other tt
-first_has P word (row ∷ rows) each other =
-    go (λ f. first_has P word rows each.1 (λ none. other (f, none))) (fits word row) refl
+first_has P word (pattern ∷ patterns) each other =
+    go (λ f. first_has P word patterns each.1 (λ none. other (f, none))) (fits word pattern) refl
   where
-    go : ((Fits word row → ⊥) → P (first_code word rows)) → (b : Bool) → fits word row ≡ b
-        → P (cond b row.code (first_code word rows))
-    go later true e = each.0 (fits-between word row e)
-    go later false e = later (λ x. absurd (let h : fits word row ≡ true = between-fits word row x in cc))
+    go : ((Fits word pattern → ⊥) → P (first_code word patterns)) → (b : Bool) → fits word pattern ≡ b
+        → P (cond b pattern.code (first_code word patterns))
+    go later true e = each.0 (fits-between word pattern e)
+    go later false e = later (λ x. absurd (let h : fits word pattern ≡ true = between-fits word pattern x in cc))
 
 -- the function gives the word's code
 pub code_of_is : (word : ℕ) → IsCode word (code_of word)
 unfolding code_of
-code_of_is word = first_has (IsCode word) word (rows_of word) (
+code_of_is word = first_has (IsCode word) word (patterns_of word) (
   (λ x. (x, tt)),
   (
     (λ x. (x, tt)),
@@ -203,7 +204,7 @@ code_of_is word = first_has (IsCode word) word (rows_of word) (
   ),
 ) other
   where
-    other : Each (λ row. Fits word row → ⊥) (rows_of word) → MatchesNone word
+    other : Each (λ pattern. Fits word pattern → ⊥) (patterns_of word) → MatchesNone word
     other unfit LeadIn x = unfit.0 x
     other unfit LeadOut x = unfit.1.0 x
     other unfit (Picture n) x = unfit.1.1.0 x

@@ -117,7 +117,8 @@ module _ (system : System) (levels : List Bool) (v : Bool) where
       forth : (k : ℕ) → Viable system (levels ++ replicate (suc k) v) → suc k ≤ m
       forth k w = elim (cases_lt m (suc k)) [
         | inl beyond ↦
-            let dies = Stays.stays_beyond (sizes_of system) k m begun e (omega (arith, one, some)) (omega (arith, one)) in
+            let dies : Stays.stays (sizes_of system) k begun ≡ dead
+            = Stays.stays_beyond (sizes_of system) k m begun e (omega (arith, one, some)) (omega (arith, one)) in
             absurd (viable_alive system (levels ++ replicate (suc k) v) w (after k ∙ dies))
         | inr within ↦ within
       ]
