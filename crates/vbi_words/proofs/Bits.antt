@@ -54,6 +54,7 @@ same_from_lowest n v w a b e = same_from_bits_below n v w a b (bits_agree n v w 
 
 -- ---- one more bit at the end
 
+-- a bit as a number
 abbrev pub bit_of : Bool → ℕ
 bit_of true = 1
 bit_of false = 0
@@ -183,9 +184,11 @@ half_second (false ∷ bits) (suc k) l =
 
 -- half cell i of a word, as the code reads it
 module _ (w value i : ℕ) (within : i < 48) (same : value ≡ w) where
+  -- the word's bits
   abbrev bits : List Bool
   bits = lowest_bits 24 w
 
+  -- the bit that the code reads
   abbrev read : Bool
   read = eqb (value / 2 ^ (23 - i / 2) % 2) 1
 

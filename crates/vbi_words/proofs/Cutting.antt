@@ -11,6 +11,7 @@ use Rattle.vbi_words.proofs.Sizes.{Sizes, AreApart}
 use Rattle.vbi_words.proofs.Runs
 use Rattle.vbi_words.proofs.Runs.{Run}
 
+-- levels are low throughout
 abbrev pub Lows : List Bool → Type 0
 Lows levels = (n : ℕ) × (levels ≡ replicate n false)
 
@@ -68,6 +69,7 @@ module _ (sizes : Sizes) where
   DrawnHalves halves levels =
       (drawn : List Bool) × (after : ℕ) × Spells least greatest halves drawn × (levels ≡ drawn ++ replicate after false)
 
+  -- the same of the half cells of these bits
   abbrev pub Drawn : List Bool → List Bool → Type 0
   Drawn bits = DrawnHalves (flat_map cell_of bits)
 
@@ -101,10 +103,11 @@ module _ (sizes : Sizes) where
   abbrev pub First : Bool → Bool → List Bool → ℕ → List Bool → Type 0
   First b v bits n s = (b ≡ not v) × (least ≤ n) × (n ≤ greatest) × Half sizes (not v) bits (not v ∷ s)
 
-  -- the run that begins in the middle of a cell ends at a change: it is a single half or a double one
+  -- the run that begins in the middle of a cell ends at a change: it is a single half
   abbrev pub Single : List Bool → Bool → ℕ → List Bool → Type 0
   Single bits v n s = (least ≤ n) × (n ≤ greatest) × Cells sizes bits (not v ∷ s)
 
+  -- or a double one, with the first half of the next cell
   abbrev pub Double : List Bool → Bool → ℕ → List Bool → Type 0
   Double bits v n s = (todo : List Bool) × (bits ≡ not v ∷ todo) × (least + least ≤ n) × (n ≤ greatest + greatest)
       × Half sizes (not v) todo (not v ∷ s)

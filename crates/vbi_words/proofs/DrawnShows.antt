@@ -43,6 +43,7 @@ length-halves (false ∷ bits) = omega (arith, length-halves bits)
 
 module _ (system : System) (s : List Bool) (after : ℕ) (long : length s ≡ width_of system)
     (behind : drop (boundary system 48) s ≡ replicate after false) where
+  -- the column at which a half cell begins
   abbrev begin : ℕ → ℕ
   begin j = boundary system j
 
@@ -86,13 +87,15 @@ module _ (system : System) (s : List Bool) (after : ℕ) (long : length s ≡ wi
 
 module _ (system : System) (slicing : LevelsView) (word : ℕ) (order : slicing.black < slicing.white) (samples : List ℕ)
     (row : IsDrawnRow system slicing (Some word) samples) where
+  -- the row's levels
   abbrev levels : List Bool
   levels = levels_of slicing samples
 
-  -- the boundaries, and the level of the half cell between two of them
+  -- the column at which a half cell begins
   abbrev edge : ℕ → ℕ
   edge j = boundary system j
 
+  -- the level of a half cell
   abbrev half : ℕ → Bool
   half j = get_or (halves_of word) j false
 
@@ -143,6 +146,7 @@ module _ (system : System) (slicing : LevelsView) (word : ℕ) (order : slicing.
       ap (λ (i : ℕ). get_or levels i false) e ∙ outside k (omega arith) (inl l))
       ∙ ap (λ (i : ℕ). replicate (edge 0) false ++ drop i levels) none
 
+  -- how many columns are left behind the word
   abbrev left : ℕ
   left = width_of system - edge 48
 

@@ -77,6 +77,7 @@ abbrev all_apart : List Pattern → Bool
 all_apart [] = true
 all_apart (r ∷ patterns) = apart_from r patterns && all_apart patterns
 
+-- what a list of patterns has past its end
 abbrev none : Pattern
 none = record { least = 0; greatest = 0; code = Other }
 
@@ -116,6 +117,7 @@ Found word code = (i : ℕ) × FitsAt word (patterns_of word) i × (code ≡ (ge
 abbrev MatchesNone : ℕ → Type 0
 MatchesNone word = (c : Code) → HasPattern word c → ⊥
 
+-- the code stands in the table, or it is `Other` and the word matches no pattern
 abbrev FoundOrNone : ℕ → Code → Type 0
 FoundOrNone word code = ((code ≡ Other) × MatchesNone word) ⊎ (HasPattern word code × Found word code)
 

@@ -39,9 +39,11 @@ word_of bits (whole, (rest, begun)) =
 
 -- ---- the levels of a word's bits
 
+-- the levels draw these bits
 abbrev pub Draws : System → List Bool → List Bool → Type 0
 Draws system = Cutting.Draws (sizes_of system)
 
+-- the levels that a state still awaits for these bits
 abbrev AwaitsBits : System → State → List Bool → List Bool → Type 0
 AwaitsBits system = Awaits.Awaits (sizes_of system)
 

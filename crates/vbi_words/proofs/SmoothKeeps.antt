@@ -13,6 +13,7 @@ use Rattle.vbi_words.proofs.Smoothing.{window, smooth_window}
 abbrev pub steady : Bool → List Bool → List Bool
 steady v s = window v v v v s
 
+-- n lows
 abbrev lows : ℕ → List Bool
 lows n = replicate n false
 
@@ -187,6 +188,7 @@ lows_kept v (suc (suc (suc b))) =
 
 module _ (least greatest : ℕ) (four : 4 ≤ least) (halves drawn : List Bool)
     (spelled : Spells least greatest halves drawn) (a b : ℕ) where
+  -- the word and the lows behind it
   abbrev behind : List Bool
   behind = drawn ++ lows b
 

@@ -110,6 +110,7 @@ module _ (levels turned : List Bool) (x : Glitch levels turned) where
       get_or-take (g - 4) turned i false within ∙ x.others i (inl (omega arith))
       ∙ sym (get_or-take (g - 4) levels i false within))
 
+  -- the column behind the glitch and the four equal columns behind it
   abbrev end : ℕ
   end = g + m + 4
 
