@@ -61,7 +61,8 @@ module _ {levels : List Bool} {column : ℕ} {v : Bool} {count : ℕ} (run : IsR
   module _ (system : System) (decoder : Decoder) (so_far : state_of decoder ≡ state_at system levels column) where
     after_levels : (k : ℕ) → k ≤ count → after_run system (state_of decoder) k v ≡ state_at system levels (column + k)
     after_levels k l = ap (λ (s : State). after_run system s k v) so_far
-        ∙ sym (after_append system (take column levels) (replicate k v)) ∙ ap (state_after system) (sym (run_levels k l))
+        ∙ sym (after_append system (take column levels) (replicate k v))
+        ∙ ap (state_after system) (sym (run_levels k l))
 
     pub goes_on : (new : State) → new ≡ after_of system (state_of decoder) (replicate count v)
         → new ≡ state_at system levels (column + count)

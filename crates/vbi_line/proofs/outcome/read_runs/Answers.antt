@@ -1,4 +1,4 @@
-use Rattle.std.proofs.Common.{arith, sym, take, subst}
+use Rattle.std.proofs.Common.{◌≤◌, arith, length, sym, take, subst}
 use Rattle.vbi_words.proofs.SystemMachine.{IsFit, fit_after}
 use Rattle.vbi_line.specs.Decoder.{state_of}
 use Rattle.vbi_line.proofs.Ending.{fits, whole}
@@ -38,11 +38,13 @@ returns-else-lived-eq0 c =
 pub end-requires-clause-fit : goal.end-requires-clause-fit
 end-requires-clause-fit c =
     let now = c.loop-column in
-    let at_end = whole c.args.system c.args.packed.now now.column (omega arith) (state_of now.decoder) now.invariant.state in
-    fits c.args.system c.args.packed.now now.decoder at_end
+    let past : length c.args.packed.now ≤ now.column = omega arith in
+    fits c.args.system c.args.packed.now now.decoder
+    (whole c.args.system c.args.packed.now now.column past (state_of now.decoder) now.invariant.state)
 
 pub returns : goal.returns
 returns c =
     let now = c.loop-column in
+    let past : length c.args.packed.now ≤ now.column = omega arith in
     c.end.ensures c.args.packed.now
-    (whole c.args.system c.args.packed.now now.column (omega arith) (state_of now.decoder) now.invariant.state)
+    (whole c.args.system c.args.packed.now now.column past (state_of now.decoder) now.invariant.state)
