@@ -3,6 +3,7 @@ pub mod Ending
 pub mod FillSteps
 pub mod OneOutcome
 pub mod OneReading
+pub mod PackedRuns
 pub mod Packs
 pub mod Parts
 pub mod RunLoop

@@ -10,5 +10,7 @@ pub is_outcome : (system : System) (levels : List Bool) → IsOutcome system lev
 unfolding outcome_of
 is_outcome system levels = (found system levels).1
 
-pub same_outcome : (system : System) (levels : List Bool) (o : Outcome) → IsOutcome system levels o → o ≡ outcome_of system levels
-same_outcome system levels o is = one_outcome system levels o (outcome_of system levels) is (is_outcome system levels)
+pub same_outcome : (system : System) (levels : List Bool) (o : Outcome) → IsOutcome system levels o
+    → o ≡ outcome_of system levels
+same_outcome system levels o is =
+    one_outcome system levels o (outcome_of system levels) is (is_outcome system levels)

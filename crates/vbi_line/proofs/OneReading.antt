@@ -7,104 +7,107 @@ use Rattle.vbi_words.specs.declared.outcome.Reading.{Reading}
 use Rattle.vbi_words.specs.Shows.{ShowsNone}
 use Rattle.vbi_words.specs.Outcomes.{AllLow, IsOutcome}
 use Rattle.vbi_words.specs.Smooth.{smooth_of}
-use Rattle.vbi_words.specs.Readings.{Reads, ReadsNone, IsReading, reading_from}
+use Rattle.vbi_words.specs.Readings.{Reads, ReadsNone, IsReading, second_reading, reading_from}
 use Rattle.vbi_line.specs.OneOutcome.{outcome_of}
 use Rattle.vbi_line.specs.OneReading.{reading_of}
 use Rattle.vbi_line.proofs.OneOutcome.{is_outcome, same_outcome}
 
-pub by_outcomes : (system : System) (levels : List Bool) → reading_of system levels ≡ reading_from (outcome_of system levels) (outcome_of system
-    (smooth_of levels))
+pub by_outcomes : (system : System) (levels : List Bool)
+    → reading_of system levels ≡ reading_from (outcome_of system levels) (outcome_of system (smooth_of levels))
 unfolding reading_of
 by_outcomes system levels = refl
+
+-- an outcome and a pass as a reading
+abbrev with_pass : Outcome → ℕ → Reading
+with_pass o k = record { outcome = o; pass = k }
+
+-- ---- the reading where neither list shows a word
 
 -- an outcome other than a word
 abbrev NoWord : Outcome → Type 0
 NoWord o = (w : ℕ) → o ≡ Word w → ⊥
 
-no_word : (system : System) (levels : List Bool) (o : Outcome) → IsOutcome system levels o → ShowsNone system levels → NoWord o
-no_word system levels o is none w e = none w (subst (λ (x : Outcome). IsOutcome system levels x) e is)
+no_word : (system : System) (levels : List Bool) (o : Outcome) → IsOutcome system levels o → ShowsNone system levels
+    → NoWord o
+no_word system levels o is none w e = none w (subst (IsOutcome system levels) e is)
 
--- the reading where neither list shows a word
-reads_plain : (o p : Outcome) → NoWord o → NoWord p → reading_from o p ≡ record { outcome = o; pass = 0 }
+second_plain : (o p : Outcome) → NoWord p → second_reading o p ≡ with_pass o 0
+second_plain o (Word v) none = absurd (none v refl)
+second_plain o Blank none = refl
+second_plain o Unfinished none = refl
+second_plain o (Change d) none = refl
+second_plain o (Hold d) none = refl
+
+reads_plain : (o p : Outcome) → NoWord o → NoWord p → reading_from o p ≡ with_pass o 0
 reads_plain (Word w) p free none = absurd (free w refl)
 reads_plain Blank p free none = refl
-reads_plain Unfinished (Word v) free none = absurd (none v refl)
-reads_plain Unfinished Blank free none = refl
-reads_plain Unfinished Unfinished free none = refl
-reads_plain Unfinished (Change d) free none = refl
-reads_plain Unfinished (Hold d) free none = refl
-reads_plain (Change c) (Word v) free none = absurd (none v refl)
-reads_plain (Change c) Blank free none = refl
-reads_plain (Change c) Unfinished free none = refl
-reads_plain (Change c) (Change d) free none = refl
-reads_plain (Change c) (Hold d) free none = refl
-reads_plain (Hold c) (Word v) free none = absurd (none v refl)
-reads_plain (Hold c) Blank free none = refl
-reads_plain (Hold c) Unfinished free none = refl
-reads_plain (Hold c) (Change d) free none = refl
-reads_plain (Hold c) (Hold d) free none = refl
-
--- the reading where the smoothed levels show one
-reads_second : (system : System) (levels : List Bool) (o : Outcome) → IsOutcome system levels o → ShowsNone system levels → (AllLow levels → ⊥) →
-    (w : ℕ)
-    → reading_from o (Word w) ≡ record { outcome = Word w; pass = 2 }
-reads_second system levels (Word v) is none high w = absurd (none v is)
-reads_second system levels Blank is none high w = absurd (high is.1)
-reads_second system levels Unfinished is none high w = refl
-reads_second system levels (Change c) is none high w = refl
-reads_second system levels (Hold c) is none high w = refl
+reads_plain Unfinished p free none = second_plain Unfinished p none
+reads_plain (Change c) p free none = second_plain (Change c) p none
+reads_plain (Hold c) p free none = second_plain (Hold c) p none
 
 module _ (system : System) (levels : List Bool) where
-  abbrev told : Outcome → ℕ → Reading
-  told o k = record { outcome = o; pass = k }
+  -- the two outcomes, and the reading that they give
+  abbrev plain : Outcome
+  plain = outcome_of system levels
+
+  abbrev smooth : Outcome
+  smooth = outcome_of system (smooth_of levels)
 
   abbrev from_both : Reading
-  from_both = reading_from (outcome_of system levels) (outcome_of system (smooth_of levels))
+  from_both = reading_from plain smooth
 
-  only_plain : (o : Outcome) (pass : ℕ) → NoWord o → ReadsNone system levels o pass → told o pass ≡ from_both
+  -- ---- the reading where the smoothed levels show a word
+
+  reads_second : (o : Outcome) → IsOutcome system levels o → ShowsNone system levels → (AllLow levels → ⊥) → (w : ℕ)
+      → reading_from o (Word w) ≡ with_pass (Word w) 2
+  reads_second (Word v) is none high w = absurd (none v is)
+  reads_second Blank is none high w = absurd (high is.1)
+  reads_second Unfinished is none high w = refl
+  reads_second (Change c) is none high w = refl
+  reads_second (Hold c) is none high w = refl
+
+  -- ---- there is at most one
+
+  only_plain : (o : Outcome) (pass : ℕ) → NoWord o → ReadsNone system levels o pass → with_pass o pass ≡ from_both
   only_plain o pass free (p, is, none) =
-      let e : o ≡ outcome_of system levels = same_outcome system levels o is in
-      ap (λ (k : ℕ). told o k) p
-      ∙ sym (reads_plain o (outcome_of system (smooth_of levels)) free (no_word system (smooth_of levels) (outcome_of system (smooth_of levels))
-      (is_outcome system (smooth_of levels)) none))
-      ∙ ap (λ (x : Outcome). reading_from x (outcome_of system (smooth_of levels))) e
+      let second : NoWord smooth
+      = no_word system (smooth_of levels) smooth (is_outcome system (smooth_of levels)) none in
+      ap (with_pass o) p ∙ sym (reads_plain o smooth free second)
+      ∙ ap (λ (x : Outcome). reading_from x smooth) (same_outcome system levels o is)
 
-  only : (o : Outcome) (pass : ℕ) → Reads system levels o pass → told o pass ≡ from_both
+  only : (o : Outcome) (pass : ℕ) → Reads system levels o pass → with_pass o pass ≡ from_both
   only (Word w) pass (inl (p, shows)) =
-      let e : Word w ≡ outcome_of system levels = same_outcome system levels (Word w) shows in
-      ap (λ (k : ℕ). told (Word w) k) p ∙ ap (λ (x : Outcome). reading_from x (outcome_of system (smooth_of levels))) e
+      ap (with_pass (Word w)) p
+      ∙ ap (λ (x : Outcome). reading_from x smooth) (same_outcome system levels (Word w) shows)
   only (Word w) pass (inr (p, none, high, shows)) =
-      let e : Word w ≡ outcome_of system (smooth_of levels) = same_outcome system (smooth_of levels) (Word w) shows in
-      ap (λ (k : ℕ). told (Word w) k) p ∙ sym (reads_second system levels (outcome_of system levels) (is_outcome system levels) none high w)
-      ∙ ap (λ (x : Outcome). reading_from (outcome_of system levels) x) e
+      ap (with_pass (Word w)) p ∙ sym (reads_second plain (is_outcome system levels) none high w)
+      ∙ ap (reading_from plain) (same_outcome system (smooth_of levels) (Word w) shows)
   only Blank pass (p, is) =
-      let e : Blank ≡ outcome_of system levels = same_outcome system levels Blank is in
-      ap (λ (k : ℕ). told Blank k) p ∙ ap (λ (x : Outcome). reading_from x (outcome_of system (smooth_of levels))) e
+      ap (with_pass Blank) p ∙ ap (λ (x : Outcome). reading_from x smooth) (same_outcome system levels Blank is)
   only Unfinished pass r = only_plain Unfinished pass (λ w e. cc) r
   only (Change c) pass r = only_plain (Change c) pass (λ w e. cc) r
   only (Hold c) pass r = only_plain (Hold c) pass (λ w e. cc) r
 
-  -- there is one, from the outcomes of both lists
-  pub from_outcomes : (o p : Outcome) → IsOutcome system levels o → IsOutcome system (smooth_of levels) p → IsReading system levels (reading_from o p)
+  -- ---- there is one, from the outcomes of both lists
+
+  from_second : (o p : Outcome) → ShowsNone system levels → (AllLow levels → ⊥) → IsOutcome system (smooth_of levels) p
+      → (ShowsNone system (smooth_of levels) → Reads system levels o 0) → IsReading system levels (second_reading o p)
+  from_second o (Word v) none high is reads = inr (refl, none, high, is)
+  from_second o Blank none high is reads = reads is.0
+  from_second o Unfinished none high is reads = reads is.0
+  from_second o (Change d) none high is reads = reads is.0
+  from_second o (Hold d) none high is reads = reads is.0
+
+  pub from_outcomes : (o p : Outcome) → IsOutcome system levels o → IsOutcome system (smooth_of levels) p
+      → IsReading system levels (reading_from o p)
   from_outcomes (Word w) p is second = inl (refl, is)
   from_outcomes Blank p is second = (refl, is)
-  from_outcomes Unfinished (Word v) is second = inr (refl, is.0, is.1, second)
-  from_outcomes Unfinished Blank is second = (refl, is, second.0)
-  from_outcomes Unfinished Unfinished is second = (refl, is, second.0)
-  from_outcomes Unfinished (Change d) is second = (refl, is, second.0)
-  from_outcomes Unfinished (Hold d) is second = (refl, is, second.0)
-  from_outcomes (Change c) (Word v) is second = inr (refl, is.0, is.1, second)
-  from_outcomes (Change c) Blank is second = (refl, is, second.0)
-  from_outcomes (Change c) Unfinished is second = (refl, is, second.0)
-  from_outcomes (Change c) (Change d) is second = (refl, is, second.0)
-  from_outcomes (Change c) (Hold d) is second = (refl, is, second.0)
-  from_outcomes (Hold c) (Word v) is second = inr (refl, is.0, is.1, second)
-  from_outcomes (Hold c) Blank is second = (refl, is, second.0)
-  from_outcomes (Hold c) Unfinished is second = (refl, is, second.0)
-  from_outcomes (Hold c) (Change d) is second = (refl, is, second.0)
-  from_outcomes (Hold c) (Hold d) is second = (refl, is, second.0)
+  from_outcomes Unfinished p is second = from_second Unfinished p is.0 is.1 second (λ none. (refl, is, none))
+  from_outcomes (Change c) p is second = from_second (Change c) p is.0 is.1 second (λ none. (refl, is, none))
+  from_outcomes (Hold c) p is second = from_second (Hold c) p is.0 is.1 second (λ none. (refl, is, none))
 
-pub only_reading : (system : System) (levels : List Bool) (reading : Reading) → IsReading system levels reading → reading ≡ reading_of system levels
+pub only_reading : (system : System) (levels : List Bool) (reading : Reading) → IsReading system levels reading
+    → reading ≡ reading_of system levels
 unfolding reading_of
 only_reading system levels reading is = only system levels reading.outcome reading.pass is
 

@@ -1,109 +1,134 @@
 -- What the loop over a line's runs needs.
-use Rattle.std.proofs.Common.{◌≡◌, ℕ, zero, suc, ◌+◌, ◌<◌, ◌≤◌, Bool, false, List, [], ◌∷◌, ◌++◌, inl, inr, length, take, sym, ap, subst, ◌∙◌, arith}
+use Rattle.std.proofs.Common.{◌≡◌, ℕ, zero, suc, ◌+◌, ◌<◌, ◌≤◌, Bool, false, List, [], ◌∷◌}
+use Rattle.std.proofs.Common.{◌++◌, inl, inr, length, take, sym, ap, subst, ◌∙◌, arith}
 use Rattle.std.proofs.Common.{add-zero, add-one, append_assoc}
 use Rattle.std.proofs.Math.ListN.{replicate}
 use Rattle.std.proofs.lemmas.List.{take_more, replicate_more, append-nil}
 use Rattle.std.proofs.lemmas.Bool.{cases_lt}
 use Rattle.vbi_words.specs.declared.system.System.{System}
 use Rattle.vbi_words.specs.declared.outcome.Outcome.TheVariants.{Change, Hold}
-use Rattle.vbi_words.specs.Geometry.{least_half, greatest_half}
 use Rattle.vbi_words.specs.Outcomes.{IsOutcome}
 use Rattle.vbi_words.specs.Levels.{level_at}
+use Rattle.vbi_words.proofs.Sizes.{sizes_of}
 use Rattle.vbi_words.proofs.Machine
 use Rattle.vbi_words.proofs.Machine.{State, lead, dead, level_of}
-use Rattle.vbi_words.proofs.Shown.{state_after}
-use Rattle.vbi_words.proofs.Outcomes.{hold_outcome, change_outcome}
+use Rattle.vbi_words.proofs.SystemMachine.{next_of, after_of, state_after, state_at, after_append}
+use Rattle.vbi_words.proofs.Outcomes.{DiesAt, GoesOn, hold_outcome, change_outcome}
 use Rattle.vbi_line.specs.declared.decoder.Decoder.{Decoder}
-use Rattle.vbi_line.specs.Decoder.{state_of, next_of, after_of, DiesAfter}
+use Rattle.vbi_line.specs.Decoder.{state_of, DiesAfter}
 use Rattle.vbi_line.specs.Runs.{IsRun}
 use Rattle.vbi_line.proofs.Ending.{alive}
 
--- the level after a run is the run's
-last_level : (system : System) (state : State) (v : Bool) (k : ℕ) → 0 < k → (after_of system state (replicate k v) ≡ dead → ⊥) → level_of
-    (after_of system state (replicate k v)) ≡ v
-last_level system state v zero some alive = absurd (omega arith)
-last_level system state v (suc k) some alive = ap level_of last ∙ Machine.next_level (least_half system) (greatest_half system) 24
-    (after_of system state (replicate k v)) v (λ d. alive (last ∙ d))
-  where
-    last : after_of system state (replicate (suc k) v) ≡ next_of system (after_of system state (replicate k v)) v
-    last = ap (λ (t : List Bool). after_of system state t) (ap (λ (j : ℕ). replicate j v) (sym (add-one k)) ∙ sym (replicate_more k v))
-        ∙ Machine.after-append (least_half system) (greatest_half system) 24 state (replicate k v) (v ∷ [])
+-- a run with its length by another name
+pub counted : {levels : List Bool} {column : ℕ} {v : Bool} {m n : ℕ} → m ≡ n → IsRun levels column v n
+    → IsRun levels column v m
+counted {levels} {column} {v} e run = subst (IsRun levels column v) (sym e) run
 
-module _ (system : System) (levels : List Bool) (column : ℕ) (v : Bool) (count : ℕ) (run : IsRun levels column v count) where
+-- the state after a run of k levels v
+abbrev after_run : System → State → ℕ → Bool → State
+after_run system state k v = after_of system state (replicate k v)
+
+-- the level after a run is the run's
+last_level : (system : System) (state : State) (v : Bool) (k : ℕ) → 0 < k → (after_run system state k v ≡ dead → ⊥)
+    → level_of (after_run system state k v) ≡ v
+last_level system state v zero some alive = absurd (omega arith)
+last_level system state v (suc k) some alive =
+    ap level_of last ∙ Machine.next_level (sizes_of system) (after_run system state k v) v (λ d. alive (last ∙ d))
+  where
+    one_more : replicate (suc k) v ≡ replicate k v ++ v ∷ []
+    one_more = ap (λ (j : ℕ). replicate j v) (sym (add-one k)) ∙ sym (replicate_more k v)
+
+    last : after_run system state (suc k) v ≡ next_of system (after_run system state k v) v
+    last = ap (after_of system state) one_more ∙ Machine.after-append (sizes_of system) state (replicate k v) (v ∷ [])
+
+module _ {levels : List Bool} {column : ℕ} {v : Bool} {count : ℕ} (run : IsRun levels column v count) where
   -- the levels up to a place in the run
   run_levels : (k : ℕ) → k ≤ count → take (column + k) levels ≡ take column levels ++ replicate k v
   run_levels zero l = ap (λ (j : ℕ). take j levels) (add-zero column) ∙ sym (append-nil (take column levels))
   run_levels (suc k) l =
       let place : column + suc k ≡ (column + k) + 1 = omega arith in
-      ap (λ (j : ℕ). take j levels) place
-      ∙ take_more levels (column + k) false (omega (arith, run.inside))
+      let last : List Bool → List Bool = λ t. t ++ v ∷ [] in
+      ap (λ (j : ℕ). take j levels) place ∙ take_more levels (column + k) false (omega (arith, run.inside))
       ∙ ap (λ (b : Bool). take (column + k) levels ++ b ∷ []) (run.each k (omega arith))
-      ∙ ap (λ (t : List Bool). t ++ v ∷ []) (run_levels k (omega arith))
-      ∙ append_assoc (take column levels) (replicate k v) (v ∷ [])
-      ∙ ap (λ (t : List Bool). take column levels ++ t) (replicate_more k v ∙ ap (λ (j : ℕ). replicate j v) (add-one k))
+      ∙ ap last (run_levels k (omega arith)) ∙ append_assoc (take column levels) (replicate k v) (v ∷ [])
+      ∙ ap (λ (t : List Bool). take column levels ++ t)
+      (replicate_more k v ∙ ap (λ (j : ℕ). replicate j v) (add-one k))
 
-  module _ (decoder : Decoder) (so_far : state_of decoder ≡ state_after system (take column levels)) where
-    after_levels : (k : ℕ) → k ≤ count → after_of system (state_of decoder) (replicate k v) ≡ state_after system (take (column + k) levels)
-    after_levels k l =
-        ap (λ (s : State). after_of system s (replicate k v)) so_far
-        ∙ sym (Machine.after-append (least_half system) (greatest_half system) 24 (lead 0) (take column levels) (replicate k v))
-        ∙ ap (λ (t : List Bool). state_after system t) (sym (run_levels k l))
+  here : level_at levels column ≡ v
+  here = ap (level_at levels) (sym (add-zero column)) ∙ run.each 0 run.some
 
-    pub goes_on : (new : State) → new ≡ after_of system (state_of decoder) (replicate count v) → new ≡ state_after system (take
-        (column + count) levels)
+  -- the decoder has read the levels before the run
+  module _ (system : System) (decoder : Decoder) (so_far : state_of decoder ≡ state_at system levels column) where
+    after_levels : (k : ℕ) → k ≤ count → after_run system (state_of decoder) k v ≡ state_at system levels (column + k)
+    after_levels k l = ap (λ (s : State). after_run system s k v) so_far
+        ∙ sym (after_append system (take column levels) (replicate k v))
+        ∙ ap (state_after system) (sym (run_levels k l))
+
+    pub goes_on : (new : State) → new ≡ after_of system (state_of decoder) (replicate count v)
+        → new ≡ state_at system levels (column + count)
     goes_on new e = e ∙ after_levels count (omega arith)
 
     -- the next run has the other level
     pub turned : (next : Decoder) → state_of next ≡ after_of system (state_of decoder) (replicate count v)
         → column + count < length levels → level_at levels (column + count) ≡ level_of (state_of next) → ⊥
     turned next e l same =
-        run.ends l (same ∙ ap level_of e ∙ last_level system (state_of decoder) v count run.some (λ d. alive next (e ∙ d)))
-
-    living : state_after system (take column levels) ≡ dead → ⊥
-    living d = alive decoder (so_far ∙ d)
-
-    here : level_at levels column ≡ v
-    here = ap (λ (j : ℕ). level_at levels j) (sym (add-zero column)) ∙ run.each 0 run.some
+        let last = last_level system (state_of decoder) v count run.some (λ d. alive next (e ∙ d)) in
+        run.ends l (same ∙ ap level_of e ∙ last)
 
     pub changes : (0 < column → column < length levels → level_at levels column ≡ level_of (state_of decoder) → ⊥)
-        → (lived : ℕ) → lived ≡ 0 → DiesAfter system (state_of decoder) v lived → IsOutcome system levels (Change (column + lived))
+        → (lived : ℕ) → lived ≡ 0 → DiesAfter system (state_of decoder) v lived
+        → IsOutcome system levels (Change (column + lived))
     changes turns lived none dies =
         subst (λ (j : ℕ). IsOutcome system levels (Change j)) place
-        (change_outcome system levels column (omega (arith, run.inside, run.some)) living gone differs)
+        (change_outcome system levels column (record { within = inside; alive = living; dies = gone }) differs)
       where
         place : column ≡ column + lived
         place = omega (arith, none)
 
-        at_once : after_of system (state_of decoder) (replicate (0 + 1) v) ≡ dead
-        at_once = subst (λ (j : ℕ). after_of system (state_of decoder) (replicate (j + 1) v) ≡ dead) none dies.1
+        inside : column < length levels
+        inside = omega (arith, run.inside, run.some)
 
-        gone : state_after system (take (column + 1) levels) ≡ dead
+        living : state_at system levels column ≡ dead → ⊥
+        living d = alive decoder (so_far ∙ d)
+
+        at_once : after_run system (state_of decoder) (0 + 1) v ≡ dead
+        at_once = subst (λ (j : ℕ). after_run system (state_of decoder) (j + 1) v ≡ dead) none dies.1
+
+        gone : state_at system levels (column + 1) ≡ dead
         gone = sym (after_levels 1 (omega (arith, run.some))) ∙ at_once
 
-        start : column ≡ 0 → level_at levels column ≡ level_of (state_after system (take column levels)) → ⊥
+        -- the first level doesn't end the lows before a word, of which there are none
+        start : column ≡ 0 → GoesOn system levels column → ⊥
         start e same =
-            let lead_now : state_of decoder ≡ lead 0 = so_far ∙ ap (λ (j : ℕ). state_after system (take j levels)) e in
+            let lead_now : state_of decoder ≡ lead 0 = so_far ∙ ap (state_at system levels) e in
             let low : v ≡ false = sym here ∙ same ∙ ap level_of (sym so_far ∙ lead_now) in
-            let bad : dead ≡ lead (0 + 1) = sym at_once ∙ ap (λ (s : State). next_of system s v) lead_now ∙ ap (λ (b : Bool). next_of system
-            (lead 0) b) low in
+            let bad : dead ≡ lead (0 + 1) = sym at_once ∙ ap (λ (s : State). next_of system s v) lead_now
+            ∙ ap (next_of system (lead 0)) low in
             cc
 
-        differs : level_at levels column ≡ level_of (state_after system (take column levels)) → ⊥
+        differs : GoesOn system levels column → ⊥
         differs same = elim (cases_lt 0 column) [
-          | inl later ↦ turns later (omega (arith, run.inside, run.some)) (same ∙ ap level_of (sym so_far))
+          | inl later ↦ turns later inside (same ∙ ap level_of (sym so_far))
           | inr first ↦ start (omega arith) same
         ]
 
-    pub holds : (lived : ℕ) → 0 < lived → lived < count → DiesAfter system (state_of decoder) v lived → IsOutcome system levels (Hold
-        (column + lived))
-    holds lived some few dies =
-        hold_outcome system levels (column + lived) (omega (arith, run.inside))
-        (λ d. dies.0 (there ∙ d))
-        (ap (λ (j : ℕ). state_after system (take j levels)) place ∙ sym (after_levels (lived + 1) (omega arith)) ∙ dies.1)
-        (run.each lived few ∙ sym (ap level_of (sym there) ∙ last_level system (state_of decoder) v lived some dies.0))
+    pub holds : (lived : ℕ) → 0 < lived → lived < count → DiesAfter system (state_of decoder) v lived
+        → IsOutcome system levels (Hold (column + lived))
+    holds lived some few dies = hold_outcome system levels (column + lived) at same
       where
-        there : after_of system (state_of decoder) (replicate lived v) ≡ state_after system (take (column + lived) levels)
+        there : after_run system (state_of decoder) lived v ≡ state_at system levels (column + lived)
         there = after_levels lived (omega arith)
 
         place : (column + lived) + 1 ≡ column + (lived + 1)
         place = omega arith
+
+        at : DiesAt system levels (column + lived)
+        at = record {
+          within = omega (arith, run.inside);
+          alive = λ d. dies.0 (there ∙ d);
+          dies = ap (state_at system levels) place ∙ sym (after_levels (lived + 1) (omega arith)) ∙ dies.1;
+        }
+
+        same : GoesOn system levels (column + lived)
+        same = run.each lived few
+            ∙ sym (ap level_of (sym there) ∙ last_level system (state_of decoder) v lived some dies.0)

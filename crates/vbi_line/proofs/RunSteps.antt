@@ -1,30 +1,35 @@
 -- What reading a whole run needs.
-use Rattle.std.proofs.Common.{◌≡◌, ℕ, ◌+◌, ◌-◌, ◌<◌, ◌≤◌, Bool, Some, None, sym, subst, arith}
+use Rattle.std.proofs.Common.{◌≡◌, ℕ, ◌+◌, ◌-◌, ◌<◌, ◌≤◌, Bool, Some, None, sym, subst}
 use Rattle.std.proofs.Math.ListN.{replicate}
 use Rattle.vbi_words.specs.declared.system.System.{System}
-use Rattle.vbi_words.specs.Geometry.{least_half, greatest_half}
+use Rattle.vbi_words.proofs.Sizes.{sizes_of, apart_of}
 use Rattle.vbi_words.proofs.Machine.{State, length_of, grown, next_fit}
-use Rattle.vbi_words.proofs.Shown.{positive, order}
+use Rattle.vbi_words.proofs.SystemMachine.{next_of, after_of, limit_of, IsFit}
 use Rattle.vbi_words.proofs.Stays
 use Rattle.vbi_line.specs.declared.decoder.Decoder.{Decoder}
-use Rattle.vbi_line.specs.Decoder.{state_of, next_of, after_of, limit_of, DiesAfter, IsFit}
+use Rattle.vbi_line.specs.Decoder.{state_of, DiesAfter}
 use Rattle.vbi_line.proofs.Ending.{alive}
 
-module _ (system : System) (state : State) (v : Bool) (begun : Decoder) (is : state_of begun ≡ next_of system state v) where
-  pub free : (count : ℕ) → 0 < count → None ≡ limit_of system (state_of begun) → after_of system state (replicate count v) ≡ grown (count - 1)
-      (state_of begun)
-  free count some e = Stays.run_free (least_half system) (greatest_half system) 24 state v (state_of begun) is (alive begun) count some (sym e)
-
-  pub within : (count m : ℕ) → 0 < count → Some m ≡ limit_of system (state_of begun) → length_of (state_of begun) + (count - 1) ≤ m
+-- a run of v, behind whose first level the decoder is `begun`
+module _ (system : System) (state : State) (v : Bool) (begun : Decoder)
+    (is : state_of begun ≡ next_of system state v) where
+  pub free : (count : ℕ) → 0 < count → None ≡ limit_of system (state_of begun)
       → after_of system state (replicate count v) ≡ grown (count - 1) (state_of begun)
-  within count m some e l = Stays.run_within (least_half system) (greatest_half system) 24 state v (state_of begun) is (alive begun) count m some
-      (sym e) l
+  free count some e = Stays.run_free (sizes_of system) state v (state_of begun) is (alive begun) count some (sym e)
 
-  pub fits : (m : ℕ) → IsFit system state → Some m ≡ limit_of system (state_of begun) → length_of (state_of begun) ≤ m
-  fits m fit e = Stays.fit_limit (least_half system) (greatest_half system) 24 (state_of begun) m
-      (subst (λ (s : State). IsFit system s) (sym is) (next_fit (least_half system) (greatest_half system) 24 (positive system) (order system)
-      (omega arith) state v fit))
-      (sym e)
+  pub within : (count m : ℕ) → 0 < count → Some m ≡ limit_of system (state_of begun)
+      → length_of (state_of begun) + (count - 1) ≤ m
+      → after_of system state (replicate count v) ≡ grown (count - 1) (state_of begun)
+  within count m some e l =
+      Stays.run_within (sizes_of system) state v (state_of begun) is (alive begun) count m some (sym e) l
 
-  pub dies : (m : ℕ) → IsFit system state → Some m ≡ limit_of system (state_of begun) → DiesAfter system state v (1 + m - length_of (state_of begun))
-  dies m fit e = Stays.run_dies (least_half system) (greatest_half system) 24 state v (state_of begun) is (alive begun) m (sym e) (fits m fit e)
+  pub fits : (m : ℕ) → IsFit system state → Some m ≡ limit_of system (state_of begun)
+      → length_of (state_of begun) ≤ m
+  fits m fit e =
+      let next : IsFit system (next_of system state v) = next_fit (sizes_of system) (apart_of system) state v fit in
+      Stays.fit_limit (sizes_of system) (state_of begun) m (subst (IsFit system) (sym is) next) (sym e)
+
+  pub dies : (m : ℕ) → IsFit system state → Some m ≡ limit_of system (state_of begun)
+      → DiesAfter system state v (1 + m - length_of (state_of begun))
+  dies m fit e =
+      Stays.run_dies (sizes_of system) state v (state_of begun) is (alive begun) m (sym e) (fits m fit e)

@@ -1,5 +1,5 @@
--- Bounds on the sizes of a field.
-use Rattle.std.proofs.Common.{◌≡◌, ◌*◌, ◌≤◌, ◌<◌, refl, lit≤, lit<}
+-- Bounds on the sizes of a line.
+use Rattle.std.proofs.Common.{◌≡◌, ◌*◌, ◌≤◌, refl, lit≤}
 use Rattle.vbi_words.specs.declared.system.System.{System}
 use Rattle.vbi_words.specs.declared.system.System.TheVariants.{Ntsc, Pal}
 use Rattle.vbi_words.specs.Geometry.{width_of, line_bytes}
@@ -8,11 +8,6 @@ use Rattle.vbi_words.specs.Geometry.{width_of, line_bytes}
 pub line_bytes-le : (s : System) → line_bytes s ≤ 2270
 line_bytes-le Ntsc = lit≤ tt
 line_bytes-le Pal = lit≤ tt
-
--- a line isn't empty
-pub line_bytes-pos : (s : System) → 0 < line_bytes s
-line_bytes-pos Ntsc = lit< tt
-line_bytes-pos Pal = lit< tt
 
 -- a line has two bytes a sample
 pub line_bytes-twice : (s : System) → line_bytes s ≡ 2 * width_of s

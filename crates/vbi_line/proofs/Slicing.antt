@@ -1,17 +1,20 @@
--- LevelsView samples into levels.
-use Rattle.std.proofs.Common.{◌≡◌, ℕ, zero, suc, ◌+◌, ◌-◌, ◌*◌, ◌%◌, ◌^◌, ◌<◌, ◌≤◌, Bool, true, false, cond, ltb, nat_eq, nat_lt, List, [], ◌∷◌, ◌++◌}
-use Rattle.std.proofs.Common.{◌⊎◌, inl, inr, map, length, get_or, Some, None, refl, sym, ap, subst, ◌∙◌, arith, lit≤}
+-- Slicing samples into levels.
+use Rattle.std.proofs.Common.{◌≡◌, ℕ, zero, suc, ◌+◌, ◌-◌, ◌*◌, ◌%◌, ◌^◌, ◌<◌, ◌≤◌, Bool}
+use Rattle.std.proofs.Common.{true, false, cond, ltb, nat_eq, nat_lt, List, [], ◌∷◌, ◌++◌}
+use Rattle.std.proofs.Common.{inl, inr, map, length, get_or, Some, None, refl, sym, ap, subst, ◌∙◌, arith, lit≤}
 use Rattle.std.specs.Prelude.{replicate}
 use Rattle.std.proofs.lemmas.Bool.{cases_lt}
-use Rattle.std.proofs.lemmas.List.{get_or-map, length-map, length-append, ext_get_or, get_or_append_left, get_or-append-add}
+use Rattle.std.proofs.lemmas.List.{get_or-map, length-map, length-append, ext_get_or}
+use Rattle.std.proofs.lemmas.List.{get_or_append_left, get_or-append-add}
 use Rattle.std.proofs.lemmas.List.FromFn.{length-map-range_with_len, get_or-map-range_with_len}
 use Rattle.std.proofs.lemmas.Simd.{tops_compared, zip2_splat_left, mask_l-mod, mask_l-lt, bit_mask_l}
 use lib.Lanes.{zip2, mask_l, top}
 use mir.Val.{bits, hbits}
 use mir.Syntax.{w16}
 use Rattle.vbi_words.specs.Levels.{LevelsView, is_high_of, samples_of, row_levels, level_at}
-use Rattle.vbi_line.specs.Line.{Line, sample_at, KeepsBytes, LooksAtBlock, IsNextBlock, IsNextBlockAt, IsNextSample, IsNextSampleAt}
 use Rattle.vbi_words.specs.Geometry.{width_of}
+use Rattle.vbi_line.specs.Line.{Line, sample_at, KeepsBytes, LooksAtBlock, IsNextBlock}
+use Rattle.vbi_line.specs.Line.{IsNextBlockAt, IsNextSample, IsNextSampleAt}
 use Rattle.vbi_line.specs.Packing.{level_of_bit, levels_in}
 
 -- ---- sixteen samples
@@ -22,39 +25,46 @@ bit_of_level false = refl
 
 -- a mask has the bits of its list
 pub levels_of_mask : (levels : List Bool) (count : ℕ) → length levels ≡ count → levels_in count (mask_l levels) ≡ levels
-levels_of_mask levels count long =
-    ext_get_or false (levels_in count (mask_l levels)) levels (length-map-range_with_len (level_of_bit (mask_l levels)) 0 count ∙ sym long) (λ i l.
-    get_or-map-range_with_len (level_of_bit (mask_l levels)) 0 count i i false (omega (
-      arith,
-      length-map-range_with_len (level_of_bit
-          (mask_l levels)) 0 count,
-    )) (omega arith)
-    ∙ ap (λ (x : ℕ). nat_eq x 1) (bit_mask_l levels i) ∙ bit_of_level (get_or levels i false))
+levels_of_mask levels count long = ext_get_or false (levels_in count mask) levels (whole ∙ sym long) each
+  where
+    mask : ℕ
+    mask = mask_l levels
+
+    whole : length (levels_in count mask) ≡ count
+    whole = length-map-range_with_len (level_of_bit mask) 0 count
+
+    each : (i : ℕ) → i < length (levels_in count mask) → get_or (levels_in count mask) i false ≡ get_or levels i false
+    each i l =
+        let inside : i < count = omega (arith, whole) in
+        get_or-map-range_with_len (level_of_bit mask) 0 count i i false inside (omega arith)
+        ∙ ap (λ (x : ℕ). nat_eq x 1) (bit_mask_l levels i) ∙ bit_of_level (get_or levels i false)
+
+-- which samples are above this one
+abbrev pub above : ℕ → List ℕ → List Bool
+above low samples = map (λ sample. nat_lt low sample) samples
+
+-- the mask that the comparison of sixteen lanes makes
+abbrev pub lanes_mask : ℕ → List ℕ → ℕ
+lanes_mask low samples =
+    mask_l (map (top (hbits w16)) (zip2 (λ a b. cond (ltb a b) (2 ^ bits w16 - 1) 0) (replicate 16 low) samples))
+    % 2 ^ 64
 
 pub mask_above : (samples : List ℕ) (low : ℕ) → length samples ≡ 16
-    → mask_l (map (top (hbits w16)) (zip2 (λ a b. cond (ltb a b) (2 ^ bits w16 - 1) 0) (replicate 16 low) samples)) % 2 ^ 64 ≡ mask_l (map
-    (λ sample. nat_lt low sample) samples)
+    → lanes_mask low samples ≡ mask_l (above low samples)
 mask_above samples low long =
-    ap (λ (ms : List Bool). mask_l ms % 2 ^ 64) (tops_compared w16 ltb (replicate 16 low) samples ∙ zip2_splat_left ltb low 16 samples long)
-    ∙ mask_l-mod (map (λ sample. nat_lt low sample) samples) 64 (rw (length-map, long) (lit≤ tt))
+    let tops = tops_compared w16 ltb (replicate 16 low) samples ∙ zip2_splat_left ltb low 16 samples long in
+    ap (λ (ms : List Bool). mask_l ms % 2 ^ 64) tops
+    ∙ mask_l-mod (above low samples) 64 (rw (length-map, long) (lit≤ tt))
 
 pub levels_above : (samples : List ℕ) (low : ℕ) → length samples ≡ 16
-    → levels_in 16 (mask_l (map (top (hbits w16)) (zip2 (λ a b. cond (ltb a b) (2 ^ bits w16 - 1) 0) (replicate 16 low) samples)) % 2 ^ 64) ≡ map
-    (λ sample. nat_lt low sample) samples
+    → levels_in 16 (lanes_mask low samples) ≡ above low samples
 levels_above samples low long =
-    ap (λ (x : ℕ). levels_in 16 x) (mask_above samples low long)
-    ∙ levels_of_mask (map (λ sample. nat_lt low sample) samples) 16 (rw (length-map, long) refl)
+    ap (levels_in 16) (mask_above samples low long) ∙ levels_of_mask (above low samples) 16 (rw (length-map, long) refl)
 
-pub above-lt : (samples : List ℕ) (low : ℕ) → length samples ≡ 16
-    → mask_l (map (top (hbits w16)) (zip2 (λ a b. cond (ltb a b) (2 ^ bits w16 - 1) 0) (replicate 16 low) samples)) % 2 ^ 64 < 2 ^ 16
+pub above-lt : (samples : List ℕ) (low : ℕ) → length samples ≡ 16 → lanes_mask low samples < 2 ^ 16
 above-lt samples low long =
-    let e : length (map (λ sample. nat_lt low sample) samples) ≡ 16 = rw (length-map, long) refl in
-    rw (mask_above samples low long) (rw e at (mask_l-lt (map (λ sample. nat_lt low sample) samples)))
-
--- one level in a bit
-pub one_level : (b : Bool) → levels_in 1 (cond b 1 0) ≡ b ∷ []
-one_level true = refl
-one_level false = refl
+    let e : length (above low samples) ≡ 16 = rw (length-map, long) refl in
+    rw (mask_above samples low long) (rw e at (mask_l-lt (above low samples)))
 
 -- ---- the samples of a row
 
@@ -80,25 +90,26 @@ abbrev pub Sliced : LevelsView → List ℕ → List Bool → Type 0
 Sliced slicing held levels = (k : ℕ) → k < length levels → level_at levels k ≡ is_high_of slicing (sample_at held k)
 
 pub sliced_more : (slicing : LevelsView) (held : List ℕ) (levels more : List Bool) → Sliced slicing held levels
-    → ((k : ℕ) → k < length more → level_at more k ≡ is_high_of slicing (sample_at held (length levels + k))) → Sliced slicing held (levels ++ more)
-sliced_more slicing held levels more sliced new k l = go (cases_lt k (length levels))
-  where
-    go : (k < length levels) ⊎ (length levels ≤ k) → level_at (levels ++ more) k ≡ is_high_of slicing (sample_at held k)
-    go (inl before) = get_or_append_left levels more false k before ∙ sliced k before
-    go (inr behind) =
-        let j : ℕ = k - length levels in
-        let place : k ≡ length levels + j = omega arith in
-        ap (level_at (levels ++ more)) place ∙ get_or-append-add levels more j false
-        ∙ new j (omega (arith, length-append levels more)) ∙ ap (λ (i : ℕ). is_high_of slicing (sample_at held i)) (sym place)
+    → ((k : ℕ) → k < length more → level_at more k ≡ is_high_of slicing (sample_at held (length levels + k)))
+    → Sliced slicing held (levels ++ more)
+sliced_more slicing held levels more sliced new k l = elim (cases_lt k (length levels)) [
+  | inl before ↦ get_or_append_left levels more false k before ∙ sliced k before
+  | inr behind ↦
+    let j : ℕ = k - length levels in
+    let place : k ≡ length levels + j = omega arith in
+    ap (level_at (levels ++ more)) place ∙ get_or-append-add levels more j false
+    ∙ new j (omega (arith, length-append levels more))
+    ∙ ap (λ (i : ℕ). is_high_of slicing (sample_at held i)) (sym place)
+]
 
-pub sliced_all : (slicing : LevelsView) (held : List ℕ) (levels : List Bool) (width : ℕ) → length held ≡ 2 * width → length levels ≡ width
-    → Sliced slicing held levels
-    → levels ≡ row_levels slicing held
+pub sliced_all : (slicing : LevelsView) (held : List ℕ) (levels : List Bool) (width : ℕ) → length held ≡ 2 * width
+    → length levels ≡ width → Sliced slicing held levels → levels ≡ row_levels slicing held
 sliced_all slicing held levels width full long sliced =
-    ext_get_or false levels (row_levels slicing held)
-    (long ∙ sym (length-map (samples_of held) (is_high_of slicing) ∙ length-samples_of held width full)) (λ k l.
-    sliced k l ∙ ap (is_high_of slicing) (sym (sample_of held k (omega arith)))
-    ∙ sym (get_or-map (is_high_of slicing) (samples_of held) k 0 false (omega (arith, length-samples_of held width full))))
+    let samples : List ℕ = samples_of held in
+    let count : length samples ≡ width = length-samples_of held width full in
+    ext_get_or false levels (row_levels slicing held) (long ∙ sym (length-map samples (is_high_of slicing) ∙ count))
+    (λ k l. sliced k l ∙ ap (is_high_of slicing) (sym (sample_of held k (omega arith)))
+    ∙ sym (get_or-map (is_high_of slicing) samples k 0 false (omega (arith, count))))
 
 -- ---- a block
 
@@ -107,23 +118,29 @@ pub keeps_on : (first middle last : Line) → KeepsBytes first middle → KeepsB
 keeps_on first middle last k l = record { system = l.system ∙ k.system; held = l.held ∙ k.held; room = l.room ∙ k.room }
 
 -- what the latest pass gives at a known cursor
-pub block_given : (old new : Line) (cursor : ℕ) (before block : List ℕ) → old.cursors ≡ cursor ∷ before → IsNextBlock old (Some block) new
-    → LooksAtBlock old cursor before block new
-block_given old new cursor before block at gives = subst (λ (cursors : List ℕ). IsNextBlockAt cursors old (Some block) new) at gives
+pub block_given : (old new : Line) (cursor : ℕ) (before block : List ℕ) → old.cursors ≡ cursor ∷ before
+    → IsNextBlock old (Some block) new → LooksAtBlock old cursor before block new
+block_given old new cursor before block at gives =
+    subst (λ (cursors : List ℕ). IsNextBlockAt cursors old (Some block) new) at gives
 
-pub line_ended : (old new : Line) (cursor : ℕ) (before : List ℕ) → old.cursors ≡ cursor ∷ before → IsNextSample old None new
-    → cursor ≡ width_of old.system
-line_ended old new cursor before at gives = (subst (λ (cursors : List ℕ). IsNextSampleAt cursors old None new) at gives).0
+pub line_ended : (old new : Line) (cursor : ℕ) (before : List ℕ) → old.cursors ≡ cursor ∷ before
+    → IsNextSample old None new → cursor ≡ width_of old.system
+line_ended old new cursor before at gives =
+    (subst (λ (cursors : List ℕ). IsNextSampleAt cursors old None new) at gives).0
 
 -- a pass that gave as many samples as there are levels gives a block, and the levels of the block are added
-module _ (slicing : LevelsView) (first old : Line) (levels : List Bool) (before : List ℕ) (block : List ℕ) (new : Line) (low : ℕ) (more : List Bool)
-    (bytes : KeepsBytes first old) (sliced : Sliced slicing first.held levels) (gives : LooksAtBlock old (length levels) before block new)
-    (test : (sample : ℕ) → is_high_of slicing sample ≡ nat_lt low sample) (are : more ≡ map (λ sample. nat_lt low sample) block) where
+module _ (slicing : LevelsView) (levels : List Bool) (low : ℕ) {first old new : Line} {before block : List ℕ}
+    {more : List Bool} (bytes : KeepsBytes first old) (gives : LooksAtBlock old (length levels) before block new)
+    (are : more ≡ above low block) where
   pub length-block : length more ≡ 16
   length-block = ap length are ∙ length-map block (λ sample. nat_lt low sample) ∙ gives.long
 
-  pub block_sliced : Sliced slicing first.held (levels ++ more)
-  block_sliced = sliced_more slicing first.held levels more sliced (λ k l.
+  pub block_sliced : Sliced slicing first.held levels
+      → ((sample : ℕ) → is_high_of slicing sample ≡ nat_lt low sample) → Sliced slicing first.held (levels ++ more)
+  block_sliced sliced test = sliced_more slicing first.held levels more sliced (λ k l.
       let inside : k < length block = omega (arith, length-block, gives.long) in
-      ap (λ (t : List Bool). level_at t k) are ∙ get_or-map (λ sample. nat_lt low sample) block k 0 false inside ∙ sym (test (get_or block k 0))
-      ∙ ap (is_high_of slicing) (gives.samples k (omega (arith, gives.long)) ∙ ap (λ (held : List ℕ). sample_at held (length levels + k)) bytes.held))
+      let sample : get_or block k 0 ≡ sample_at first.held (length levels + k)
+      = gives.samples k (omega (arith, gives.long))
+      ∙ ap (λ (held : List ℕ). sample_at held (length levels + k)) bytes.held in
+      ap (λ (t : List Bool). level_at t k) are ∙ get_or-map (λ sample. nat_lt low sample) block k 0 false inside
+      ∙ sym (test (get_or block k 0)) ∙ ap (is_high_of slicing) sample)

@@ -1,5 +1,6 @@
 -- Smoothed levels by whole runs.
-use Rattle.std.proofs.Common.{◌≡◌, ℕ, suc, zero, ◌+◌, ◌-◌, ◌<◌, ◌≤◌, Bool, false, true, List, [], ◌∷◌, ◌++◌, ◌⊎◌, inl, inr, length, drop, refl, sym}
+use Rattle.std.proofs.Common.{◌≡◌, ℕ, suc, zero, ◌+◌, ◌-◌, ◌<◌, ◌≤◌, Bool, false, true}
+use Rattle.std.proofs.Common.{List, [], ◌∷◌, ◌++◌, ◌⊎◌, inl, inr, length, drop, refl, sym}
 use Rattle.std.proofs.Common.{ap, subst, ◌∙◌, arith, append_assoc, add-zero, Some, None}
 use Rattle.std.proofs.Math.ListN.{replicate}
 use Rattle.std.proofs.lemmas.List.{append-nil, drop_all}
@@ -7,24 +8,25 @@ use Rattle.std.specs.Prelude.{not}
 use Rattle.vbi_words.specs.declared.system.System.{System}
 use Rattle.vbi_words.specs.Words.{IsWord, lowest_bits}
 use Rattle.vbi_words.specs.Shows.{Shows, ShowsNone}
-use Rattle.vbi_words.specs.Geometry.{least_half, greatest_half}
 use Rattle.vbi_words.specs.Levels.{level_at}
 use Rattle.vbi_words.specs.Smooth.{settle, smooth_of}
-use Rattle.vbi_words.proofs.DrawnShows.{equal_from}
-use Rattle.vbi_words.proofs.Machine
-use Rattle.vbi_words.proofs.Machine.{State, lead, dead}
-use Rattle.vbi_words.proofs.Runs.{run_joined}
-use Rattle.vbi_words.proofs.Shown.{state_after, viable_alive, fit_after, ending_of, ended_shows, ended_none}
+use Rattle.vbi_words.proofs.Machine.{State, dead}
+use Rattle.vbi_words.proofs.Runs.{run_joined, equal_from}
+use Rattle.vbi_words.proofs.SystemMachine.{after_of, ending_of, IsFit, state_after, fit_after, after_append}
+use Rattle.vbi_words.proofs.Shown.{viable_alive, ended_shows, ended_none}
 use Rattle.vbi_words.proofs.Smoothing.{window, smooth_window}
 use Rattle.vbi_words.proofs.SmoothKeeps.{steady, steady_same}
 use Rattle.vbi_line.specs.Runs.{IsRun}
-use Rattle.vbi_line.specs.Decoder.{IsFit, DiesAfter, after_of}
+use Rattle.vbi_line.specs.Decoder.{DiesAfter}
 
--- a run of x begins here: the level before was another, or all was x
+-- ---- a run in the window
+
+-- a run of x begins behind these levels: the last of them is another, or all of them are x
 abbrev pub Turns : Bool → Bool → Bool → Bool → Bool → Type 0
 Turns out a b c x = (c ≡ not x) ⊎ ((out ≡ x) × (a ≡ x) × (b ≡ x) × (c ≡ x))
 
-long_turn : (out a b x : Bool) (s : List Bool) → window out a b (not x) (x ∷ x ∷ x ∷ x ∷ s) ≡ out ∷ out ∷ out ∷ x ∷ steady x s
+long_turn : (out a b x : Bool) (s : List Bool)
+    → window out a b (not x) (x ∷ x ∷ x ∷ x ∷ s) ≡ out ∷ out ∷ out ∷ x ∷ steady x s
 unfolding window
 long_turn out true true true s = refl
 long_turn out true false true s = refl
@@ -44,15 +46,19 @@ long_run out a b c x (suc (suc zero)) s t l = absurd (omega arith)
 long_run out a b c x (suc (suc (suc zero))) s t l = absurd (omega arith)
 long_run out a b c x (suc (suc (suc (suc k)))) s (inl e) l =
     let f : suc k ≡ suc (suc (suc (suc k))) - 3 = omega arith in
-    ap (λ (y : Bool). window out a b y (x ∷ x ∷ x ∷ x ∷ (replicate k x ++ s))) e ∙ long_turn out a b x (replicate k x ++ s)
-    ∙ ap (λ (t : List Bool). out ∷ out ∷ out ∷ x ∷ t) (steady_same x k s) ∙ ap (λ (n : ℕ). out ∷ out ∷ out ∷ (replicate n x ++ steady x s)) f
+    ap (λ (y : Bool). window out a b y (x ∷ x ∷ x ∷ x ∷ (replicate k x ++ s))) e
+    ∙ long_turn out a b x (replicate k x ++ s)
+    ∙ ap (λ (t : List Bool). out ∷ out ∷ out ∷ x ∷ t) (steady_same x k s)
+    ∙ ap (λ (n : ℕ). out ∷ out ∷ out ∷ (replicate n x ++ steady x s)) f
 long_run out a b c x (suc (suc (suc (suc k)))) s (inr (e, f, g, h)) l =
     let n : suc k ≡ suc (suc (suc (suc k))) - 3 = omega arith in
-    rw (e, f, g, h) (steady_same x (suc (suc (suc (suc k)))) s ∙ ap (λ (m : ℕ). x ∷ x ∷ x ∷ (replicate m x ++ steady x s)) n)
+    rw (e, f, g, h) (steady_same x (suc (suc (suc (suc k)))) s
+    ∙ ap (λ (m : ℕ). x ∷ x ∷ x ∷ (replicate m x ++ steady x s)) n)
 
--- the last three levels behind a short run
+-- behind a short run the window still gives the level before it, and x is the last of its levels
 abbrev pub ShortRun : Bool → Bool → Bool → Bool → Bool → ℕ → List Bool → Type 0
-ShortRun out a b c x k s = (a' : Bool) × (b' : Bool) × (window out a b c (replicate k x ++ s) ≡ replicate k out ++ window out a' b' x s)
+ShortRun out a b c x k s =
+    (a' : Bool) × (b' : Bool) × (window out a b c (replicate k x ++ s) ≡ replicate k out ++ window out a' b' x s)
 
 kept_first : (a b x out : Bool) → settle a b (not x) x out ≡ out
 kept_first true true true out = refl
@@ -74,7 +80,8 @@ kept_third : (x out : Bool) → settle (not x) x x x out ≡ out
 kept_third true out = refl
 kept_third false out = refl
 
-one_more : (out a b c x : Bool) (s : List Bool) → settle a b c x out ≡ out → window out a b c (x ∷ s) ≡ out ∷ window out b c x s
+one_more : (out a b c x : Bool) (s : List Bool) → settle a b c x out ≡ out
+    → window out a b c (x ∷ s) ≡ out ∷ window out b c x s
 unfolding window
 one_more out a b c x s e = ap (λ (o : Bool). o ∷ window o b c x s) e
 
@@ -82,16 +89,16 @@ short_turn : (out a b x : Bool) (k : ℕ) (s : List Bool) → 0 < k → k < 4 �
 short_turn out a b x zero s p l = absurd (omega arith)
 short_turn out a b x (suc zero) s p l = (b, not x, one_more out a b (not x) x s (kept_first a b x out))
 short_turn out a b x (suc (suc zero)) s p l =
-    (not x, x, one_more out a b (not x) x (x ∷ s) (kept_first a b x out) ∙ ap (λ t. out ∷ t) (one_more out b (not x) x x s (kept_second b x out)))
-short_turn out a b x (suc (suc (suc zero))) s p l = (
-  x,
-  x,
-  one_more out a b (not x) x (x ∷ x ∷ s) (kept_first a b x out) ∙ ap (λ t. out ∷ t) (one_more out b (not x) x x (x ∷ s) (kept_second b x out)
-      ∙ ap (λ t. out ∷ t) (one_more out (not x) x x x s (kept_third x out))),
-)
+    let second = one_more out b (not x) x x s (kept_second b x out) in
+    (not x, x, one_more out a b (not x) x (x ∷ s) (kept_first a b x out) ∙ ap (λ t. out ∷ t) second)
+short_turn out a b x (suc (suc (suc zero))) s p l =
+    let third = one_more out (not x) x x x s (kept_third x out) in
+    let second = one_more out b (not x) x x (x ∷ s) (kept_second b x out) ∙ ap (λ t. out ∷ t) third in
+    (x, x, one_more out a b (not x) x (x ∷ x ∷ s) (kept_first a b x out) ∙ ap (λ t. out ∷ t) second)
 short_turn out a b x (suc (suc (suc (suc k)))) s p l = absurd (omega arith)
 
-pub short_run : (out a b c x : Bool) (k : ℕ) (s : List Bool) → Turns out a b c x → 0 < k → k < 4 → ShortRun out a b c x k s
+pub short_run : (out a b c x : Bool) (k : ℕ) (s : List Bool) → Turns out a b c x → 0 < k → k < 4
+    → ShortRun out a b c x k s
 short_run out a b c x k s (inl e) p l =
     let r = short_turn out a b x k s p l in
     (r.0, r.1, ap (λ (y : Bool). window out a b y (replicate k x ++ s)) e ∙ r.2)
@@ -99,7 +106,7 @@ short_run out a b c x k s (inr (e, f, g, h)) p l = (x, x, rw (e, f, g, h) (stead
 
 -- ---- the loop
 
--- the smoothed levels of the columns before this one, and what the window makes of those behind it
+-- the smoothed levels of the columns before this one, and what the window makes of the columns from this one on
 pub record Halfway (system : System) (levels : List Bool) (column : ℕ) (out : Bool) (state : State) : Type 0 where
   pub front : List Bool
   pub a : Bool
@@ -108,10 +115,6 @@ pub record Halfway (system : System) (levels : List Bool) (column : ℕ) (out : 
   pub whole : smooth_of levels ≡ front ++ window out a b c (drop column levels)
   pub state_is : state ≡ state_after system front
   pub turns : column < length levels → Turns out a b c (level_at levels column)
-
--- behind a state that is dead no word is shown
-dead_none : (system : System) (s front rest : List Bool) → s ≡ front ++ rest → state_after system front ≡ dead → ShowsNone system s
-dead_none system s front rest e d w shows = viable_alive system front (rest, w, subst (λ (t : List Bool). Shows system t w) e shows) d
 
 pub begins : (system : System) (levels : List Bool) → Halfway system levels 0 false (state_after system [])
 begins system levels = record {
@@ -128,22 +131,38 @@ begins system levels = record {
     first true = inl refl
     first false = inr (refl, refl, refl, refl)
 
--- the levels of a run
-run_dropped : (levels : List Bool) (column : ℕ) (x : Bool) (count : ℕ) → IsRun levels column x count
-    → drop column levels ≡ replicate count x ++ drop (column + count) levels
-run_dropped levels column x count r = equal_from levels column count x r.inside r.each
+-- the state behind a run of n levels v
+state_on : (system : System) (front : List Bool) (v : Bool) (n : ℕ) (state new : State)
+    → state ≡ state_after system front → new ≡ after_of system state (replicate n v)
+    → new ≡ state_after system (front ++ replicate n v)
+state_on system front v n state new is e =
+    e ∙ ap (λ (s : State). after_of system s (replicate n v)) is ∙ sym (after_append system front (replicate n v))
 
-here_is : (levels : List Bool) (column : ℕ) (x : Bool) (count : ℕ) → IsRun levels column x count → level_at levels column ≡ x
-here_is levels column x count r = ap (λ (k : ℕ). level_at levels k) (sym (add-zero column)) ∙ r.each 0 r.some
+-- no word is shown where the machine dies in a run of n levels v
+run_dies : (system : System) (s front rest : List Bool) (v : Bool) (n : ℕ) (state : State)
+    → s ≡ front ++ (replicate n v ++ rest) → state ≡ state_after system front
+    → (lived : ℕ) → lived < n → DiesAfter system state v lived → ShowsNone system s
+run_dies system s front rest v n state e is lived within dies w shows =
+    let k : ℕ = lived + 1 in
+    let count : n ≡ k + (n - k) = omega arith in
+    let whole : s ≡ (front ++ replicate k v) ++ (replicate (n - k) v ++ rest)
+    = e ∙ ap (λ (m : ℕ). front ++ (replicate m v ++ rest)) count
+    ∙ ap (λ (t : List Bool). front ++ t) (sym (run_joined k (n - k) v rest))
+    ∙ sym (append_assoc front (replicate k v) (replicate (n - k) v ++ rest)) in
+    let gone : state_after system (front ++ replicate k v) ≡ dead
+    = sym (state_on system front v k state dead is (sym dies.1)) in
+    viable_alive system (front ++ replicate k v)
+    (replicate (n - k) v ++ rest, w, subst (λ (t : List Bool). Shows system t w) whole shows) gone
 
-more : (system : System) (front : List Bool) (n : ℕ) (v : Bool) → state_after system (front ++ replicate n v) ≡ after_of system
-    (state_after system front) (replicate n v)
-more system front n v = Machine.after-append (least_half system) (greatest_half system) 24 (lead 0) front (replicate n v)
+module _ {system : System} {levels : List Bool} {column : ℕ} {out : Bool} {state : State}
+    (h : Halfway system levels column out state) {x : Bool} {count : ℕ} (run : IsRun levels column x count) where
+  abbrev rest : List Bool
+  rest = drop (column + count) levels
 
-module _ (system : System) (levels : List Bool) (column : ℕ) (out : Bool) (state : State) (h : Halfway system levels column out state) (x : Bool)
-    (count : ℕ) (run : IsRun levels column x count) where
   turning : Turns out h.a h.b h.c x
-  turning = subst (λ (y : Bool). Turns out h.a h.b h.c y) (here_is levels column x count run) (h.turns (omega (arith, run.some, run.inside)))
+  turning =
+      let here : level_at levels column ≡ x = ap (level_at levels) (sym (add-zero column)) ∙ run.each 0 run.some in
+      subst (Turns out h.a h.b h.c) here (h.turns (omega (arith, run.some, run.inside)))
 
   next_turn : (o a b : Bool) → column + count < length levels → Turns o a b x (level_at levels (column + count))
   next_turn o a b l = go x (level_at levels (column + count)) (run.ends l)
@@ -154,19 +173,22 @@ module _ (system : System) (levels : List Bool) (column : ℕ) (out : Bool) (sta
       go false true ne = inl refl
       go false false ne = absurd (ne refl)
 
-  spread : (a b c : Bool) → window out a b c (drop column levels) ≡ window out a b c (replicate count x ++ drop (column + count) levels)
-  spread a b c = ap (λ (t : List Bool). window out a b c t) (run_dropped levels column x count run)
+  spread : (a b c : Bool) → window out a b c (drop column levels) ≡ window out a b c (replicate count x ++ rest)
+  spread a b c = ap (window out a b c) (equal_from levels column count x run.inside run.each)
 
   pub fits : IsFit system state
-  fits = subst (λ (s : State). IsFit system s) (sym h.state_is) (fit_after system h.front)
+  fits = subst (IsFit system) (sym h.state_is) (fit_after system h.front)
 
-  short_whole : (l : count < 4) → (a : Bool) × (b : Bool) × (smooth_of levels ≡ h.front ++ (replicate count out ++ window out a b x (drop
-      (column + count) levels)))
+  -- ---- a run of fewer than four columns
+
+  short_whole : count < 4
+      → (a : Bool) × (b : Bool) × (smooth_of levels ≡ h.front ++ (replicate count out ++ window out a b x rest))
   short_whole l =
-      let r = short_run out h.a h.b h.c x count (drop (column + count) levels) turning run.some l in
+      let r = short_run out h.a h.b h.c x count rest turning run.some l in
       (r.0, r.1, h.whole ∙ ap (λ (t : List Bool). h.front ++ t) (spread h.a h.b h.c ∙ r.2))
 
-  pub short_on : count < 4 → (new : State) → new ≡ after_of system state (replicate count out) → Halfway system levels (column + count) out new
+  pub short_on : count < 4 → (new : State) → new ≡ after_of system state (replicate count out)
+      → Halfway system levels (column + count) out new
   short_on l new e =
       let r = short_whole l in
       record {
@@ -174,90 +196,86 @@ module _ (system : System) (levels : List Bool) (column : ℕ) (out : Bool) (sta
         a = r.0;
         b = r.1;
         c = x;
-        whole = r.2 ∙ sym (append_assoc h.front (replicate count out) (window out r.0 r.1 x (drop (column + count) levels)));
-        state_is = e ∙ ap (λ (s : State). after_of system s (replicate count out)) h.state_is ∙ sym (more system h.front count out);
+        whole = r.2 ∙ sym (append_assoc h.front (replicate count out) (window out r.0 r.1 x rest));
+        state_is = state_on system h.front out count state new h.state_is e;
         turns = next_turn out r.0 r.1;
       }
 
-  pub short_dies : count < 4 → (lived : ℕ) → lived < count → DiesAfter system state out lived → ShowsNone system (smooth_of levels)
-  short_dies l lived within dies =
+  pub short_dies : count < 4 → (lived : ℕ) → lived < count → DiesAfter system state out lived
+      → ShowsNone system (smooth_of levels)
+  short_dies l =
       let r = short_whole l in
-      let e : count ≡ (lived + 1) + (count - (lived + 1)) = omega arith in
-      dead_none system (smooth_of levels) (h.front ++ replicate (lived + 1) out) (replicate (count - (lived + 1)) out ++ window out r.0 r.1 x
-      (drop (column + count) levels))
-      (r.2 ∙ ap (λ (n : ℕ). h.front ++ (replicate n out ++ window out r.0 r.1 x (drop (column + count) levels))) e
-      ∙ ap (λ (t : List Bool). h.front ++ t) (sym (run_joined (lived + 1) (count - (lived + 1)) out (window out r.0 r.1 x (drop
-      (column + count) levels))))
-      ∙ sym (append_assoc h.front (replicate (lived + 1) out) (replicate (count - (lived + 1)) out ++ window out r.0 r.1 x (drop
-      (column + count) levels))))
-      (more system h.front (lived + 1) out ∙ ap (λ (s : State). after_of system s (replicate (lived + 1) out)) (sym h.state_is) ∙ dies.1)
+      run_dies system (smooth_of levels) h.front (window out r.0 r.1 x rest) out count state r.2 h.state_is
 
-  long_whole : 4 ≤ count → smooth_of levels ≡ h.front ++ (replicate 3 out ++ (replicate (count - 3) x ++ steady x (drop (column + count) levels)))
-  long_whole l = h.whole ∙ ap (λ (t : List Bool). h.front ++ t) (spread h.a h.b h.c ∙ long_run out h.a h.b h.c x count (drop
-      (column + count) levels) turning l)
+  -- ---- a longer run: its first three columns have the level before it
 
-  pub first_dies : 4 ≤ count → (lived : ℕ) → lived < 3 → DiesAfter system state out lived → ShowsNone system (smooth_of levels)
-  first_dies l lived within dies =
-      let rest : List Bool = replicate (count - 3) x ++ steady x (drop (column + count) levels) in
-      let e : 3 ≡ (lived + 1) + (3 - (lived + 1)) = omega arith in
-      dead_none system (smooth_of levels) (h.front ++ replicate (lived + 1) out) (replicate (3 - (lived + 1)) out ++ rest)
-      (long_whole l ∙ ap (λ (n : ℕ). h.front ++ (replicate n out ++ rest)) e
-      ∙ ap (λ (t : List Bool). h.front ++ t) (sym (run_joined (lived + 1) (3 - (lived + 1)) out rest))
-      ∙ sym (append_assoc h.front (replicate (lived + 1) out) (replicate (3 - (lived + 1)) out ++ rest)))
-      (more system h.front (lived + 1) out ∙ ap (λ (s : State). after_of system s (replicate (lived + 1) out)) (sym h.state_is) ∙ dies.1)
+  long_whole : 4 ≤ count
+      → smooth_of levels ≡ h.front ++ (replicate 3 out ++ (replicate (count - 3) x ++ steady x rest))
+  long_whole l = h.whole
+      ∙ ap (λ (t : List Bool). h.front ++ t) (spread h.a h.b h.c ∙ long_run out h.a h.b h.c x count rest turning l)
+
+  pub first_dies : 4 ≤ count → (lived : ℕ) → lived < 3 → DiesAfter system state out lived
+      → ShowsNone system (smooth_of levels)
+  first_dies l = run_dies system (smooth_of levels) h.front (replicate (count - 3) x ++ steady x rest) out 3 state
+      (long_whole l) h.state_is
 
   module _ (l : 4 ≤ count) (middle : State) (e : middle ≡ after_of system state (replicate 3 out)) where
-    middle_is : middle ≡ state_after system (h.front ++ replicate 3 out)
-    middle_is = e ∙ ap (λ (s : State). after_of system s (replicate 3 out)) h.state_is ∙ sym (more system h.front 3 out)
+    -- the smoothed levels up to the fourth column of the run
+    abbrev begun : List Bool
+    begun = h.front ++ replicate 3 out
+
+    middle_is : middle ≡ state_after system begun
+    middle_is = state_on system h.front out 3 state middle h.state_is e
 
     pub middle_fits : IsFit system middle
-    middle_fits = subst (λ (s : State). IsFit system s) (sym middle_is) (fit_after system (h.front ++ replicate 3 out))
+    middle_fits = subst (IsFit system) (sym middle_is) (fit_after system begun)
 
-    middle_whole : smooth_of levels ≡ (h.front ++ replicate 3 out) ++ (replicate (count - 3) x ++ steady x (drop (column + count) levels))
-    middle_whole = long_whole l ∙ sym (append_assoc h.front (replicate 3 out) (replicate (count - 3) x ++ steady x (drop (column + count) levels)))
+    middle_whole : smooth_of levels ≡ begun ++ (replicate (count - 3) x ++ steady x rest)
+    middle_whole =
+        long_whole l ∙ sym (append_assoc h.front (replicate 3 out) (replicate (count - 3) x ++ steady x rest))
 
-    pub long_on : (new : State) → new ≡ after_of system middle (replicate (count - 3) x) → Halfway system levels (column + count) x new
+    pub long_on : (new : State) → new ≡ after_of system middle (replicate (count - 3) x)
+        → Halfway system levels (column + count) x new
     long_on new f = record {
-      front = (h.front ++ replicate 3 out) ++ replicate (count - 3) x;
+      front = begun ++ replicate (count - 3) x;
       a = x;
       b = x;
       c = x;
-      whole = middle_whole ∙ sym (append_assoc (h.front ++ replicate 3 out) (replicate (count - 3) x) (steady x (drop (column + count) levels)));
-      state_is = f ∙ ap (λ (s : State). after_of system s (replicate (count - 3) x)) middle_is ∙ sym (more system (h.front ++ replicate 3 out)
-          (count - 3) x);
+      whole = middle_whole ∙ sym (append_assoc begun (replicate (count - 3) x) (steady x rest));
+      state_is = state_on system begun x (count - 3) middle new middle_is f;
       turns = next_turn x x x;
     }
 
-    pub second_dies : (lived : ℕ) → lived < count - 3 → DiesAfter system middle x lived → ShowsNone system (smooth_of levels)
-    second_dies lived within dies =
-        let rest : List Bool = steady x (drop (column + count) levels) in
-        let front : List Bool = h.front ++ replicate 3 out in
-        let f : count - 3 ≡ (lived + 1) + (count - 3 - (lived + 1)) = omega arith in
-        dead_none system (smooth_of levels) (front ++ replicate (lived + 1) x) (replicate (count - 3 - (lived + 1)) x ++ rest)
-        (middle_whole ∙ ap (λ (n : ℕ). front ++ (replicate n x ++ rest)) f
-        ∙ ap (λ (t : List Bool). front ++ t) (sym (run_joined (lived + 1) (count - 3 - (lived + 1)) x rest))
-        ∙ sym (append_assoc front (replicate (lived + 1) x) (replicate (count - 3 - (lived + 1)) x ++ rest)))
-        (more system front (lived + 1) x ∙ ap (λ (s : State). after_of system s (replicate (lived + 1) x)) (sym middle_is) ∙ dies.1)
+    pub second_dies : (lived : ℕ) → lived < count - 3 → DiesAfter system middle x lived
+        → ShowsNone system (smooth_of levels)
+    second_dies =
+        run_dies system (smooth_of levels) begun (steady x rest) x (count - 3) middle middle_whole middle_is
+
+-- ---- at the end
 
 window_empty : (out a b c : Bool) → window out a b c [] ≡ []
 unfolding window
 window_empty out a b c = refl
 
--- at the end
-module _ (system : System) (levels : List Bool) (column : ℕ) (out : Bool) (state : State) (h : Halfway system levels column out state)
-    (past : length levels ≤ column) where
+module _ {system : System} {levels : List Bool} {column : ℕ} {out : Bool} {state : State}
+    (h : Halfway system levels column out state) (past : length levels ≤ column) where
   all : smooth_of levels ≡ h.front
-  all = h.whole ∙ ap (λ (t : List Bool). h.front ++ window out h.a h.b h.c t) (drop_all column levels past) ∙ ap (λ
-      (t : List Bool). h.front ++ t) (window_empty out h.a h.b h.c) ∙ append-nil h.front
+  all = h.whole ∙ ap (λ (t : List Bool). h.front ++ window out h.a h.b h.c t) (drop_all column levels past)
+      ∙ ap (λ (t : List Bool). h.front ++ t) (window_empty out h.a h.b h.c) ∙ append-nil h.front
 
   at_end : state ≡ state_after system (smooth_of levels)
-  at_end = h.state_is ∙ ap (λ (t : List Bool). state_after system t) (sym all)
+  at_end = h.state_is ∙ ap (state_after system) (sym all)
+
+  -- how the machine ends, by the state
+  ending : ending_of system (state_after system (smooth_of levels)) ≡ ending_of system state
+  ending = ap (ending_of system) (sym at_end)
 
   pub fits_end : IsFit system state
-  fits_end = subst (λ (s : State). IsFit system s) (sym at_end) (fit_after system (smooth_of levels))
+  fits_end = subst (IsFit system) (sym at_end) (fit_after system (smooth_of levels))
 
-  pub shows : (w : ℕ) → IsWord w → ending_of system state ≡ Some (lowest_bits 24 w) → Shows system (smooth_of levels) w
-  shows w range e = ended_shows system (smooth_of levels) w range (ap (λ (s : State). ending_of system s) (sym at_end) ∙ e)
+  pub shows : (w : ℕ) → IsWord w → ending_of system state ≡ Some (lowest_bits 24 w)
+      → Shows system (smooth_of levels) w
+  shows w range e = ended_shows system (smooth_of levels) w range (ending ∙ e)
 
   pub none : ending_of system state ≡ None → ShowsNone system (smooth_of levels)
-  none e = ended_none system (smooth_of levels) (ap (λ (s : State). ending_of system s) (sym at_end) ∙ e)
+  none e = ended_none system (smooth_of levels) (ending ∙ e)

@@ -1,4 +1,4 @@
--- What the reader's steps need of the bits of a number.
+-- What a decoder's steps need of the bits of a number.
 use Rattle.std.proofs.Common.{◌≡◌, ℕ, ◌+◌, ◌*◌, ◌^◌, ◌≤◌, true, false, [], ◌∷◌, ◌++◌, refl, sym, ap, ◌∙◌, add-zero}
 use Rattle.std.proofs.lemmas.Bool.Decides.{nat_tests}
 use Rattle.vbi_words.specs.Words.{lowest_bits}
@@ -13,8 +13,9 @@ pub push_one : (cells bits : ℕ) → lowest_bits (cells + 1) (2 * bits + 1) ≡
 push_one cells bits = lowest-push cells bits true
 
 pub push_zero : (cells bits : ℕ) → lowest_bits (cells + 1) (2 * bits) ≡ lowest_bits cells bits ++ false ∷ []
-push_zero cells bits = ap (λ (x : ℕ). lowest_bits (cells + 1) x) (sym (add-zero (2 * bits))) ∙ lowest-push cells bits false
+push_zero cells bits = ap (lowest_bits (cells + 1)) (sym (add-zero (2 * bits))) ∙ lowest-push cells bits false
 
+-- what the steps of a decoder cite
 pub ruleset steps = (length-lowest_bits, nat_tests, lowest-one, push_one, push_zero)
 
 -- a word whose bits begin with a one

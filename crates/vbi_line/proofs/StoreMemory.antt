@@ -29,17 +29,25 @@ use Rattle.vbi_line.specs.StoreLends.{with_part}
 
 -- ---- the lists
 
+-- the elements from one place up to another
+abbrev pub part_of : List ℕ → ℕ → ℕ → List ℕ
+part_of xs from to = take (to - from) (drop from xs)
+
 -- a list is what stands before a part, the part, and what stands behind it
-pub in_parts : (xs : List ℕ) (from to : ℕ) → from ≤ to → take from xs ++ (take (to - from) (drop from xs) ++ drop to xs) ≡ xs
+pub in_parts : (xs : List ℕ) (from to : ℕ) → from ≤ to → take from xs ++ (part_of xs from to ++ drop to xs) ≡ xs
 in_parts xs from to le =
     let ends : from + (to - from) ≡ to = omega arith in
-    ap (λ l. take from xs ++ (take (to - from) (drop from xs) ++ l)) (ap (λ k. drop k xs) (sym ends) ∙ sym (drop-drop (to - from) from xs))
+    let behind : drop to xs ≡ drop (to - from) (drop from xs)
+    = ap (λ k. drop k xs) (sym ends) ∙ sym (drop-drop (to - from) from xs) in
+    ap (λ l. take from xs ++ (part_of xs from to ++ l)) behind
     ∙ ap (λ l. take from xs ++ l) (take-append-drop (to - from) (drop from xs))
     ∙ take-append-drop from xs
 
 -- how long a part is
-pub length-part : (xs : List ℕ) (from to : ℕ) → from ≤ to → to ≤ length xs → length (take (to - from) (drop from xs)) ≡ to - from
-length-part xs from to le inside = let l = length-drop from xs in length-take-le (to - from) (drop from xs) (omega arith)
+pub length-part : (xs : List ℕ) (from to : ℕ) → from ≤ to → to ≤ length xs → length (part_of xs from to) ≡ to - from
+length-part xs from to le inside =
+    let l = length-drop from xs in
+    length-take-le (to - from) (drop from xs) (omega arith)
 
 -- a part is written over by as many bytes
 pub with_part-same : (xs : List ℕ) (from to : ℕ) (ws : List ℕ) → length ws ≡ to - from
@@ -59,9 +67,12 @@ length-with_part xs from to ws le inside long =
     omega arith
 
 -- ---- the memory
+
+-- the type of the array
 abbrev array_ty : Ty
 array_ty = ty_array (ty_int w8) 2270
 
+-- the one field of the struct
 abbrev fields : List Member
 fields = record { row = Array u8 2270; ty = array_ty } ∷ []
 
@@ -69,7 +80,8 @@ fields = record { row = Array u8 2270; ty = array_ty } ∷ []
 abbrev pub start : ℕ → ℕ
 start o = o + up (align array_ty) 0
 
-as_tuple : (d : LineBytes) (b o : ℕ) → part_at the_row full_share d b o ≡ part_at (Struct (shape the_type)) full_share (d.bytes, tt) b o
+as_tuple : (d : LineBytes) (b o : ℕ)
+    → part_at the_row full_share d b o ≡ part_at (Struct (shape the_type)) full_share (d.bytes, tt) b o
 as_tuple d b o = Recorded-part (Struct (shape the_type)) the_type.D the_type.to the_type.to_one full_share d b o
 
 module _ {M : Type 1} {𝓤 : Ura M} (𝓛 : Logic 𝓤) (b o : ℕ) where
@@ -85,8 +97,8 @@ module _ {M : Type 1} {𝓤 : Ura M} (𝓛 : Logic 𝓤) (b o : ℕ) where
       qed 𝓛 (‵ (part_at the_row full_share d b o) ∷ []) ∵
       rewrite ! 0 (λ (f : Fml). ‵ f) (as_tuple d b o) refl $
       use1 𝓛 (‵ (fsep (part_at (Array u8 2270) full_share d.bytes b (start o)) ftrue) ⊛ raw Left)
-      (Struct-left 𝓛 full_share the_type.name fields (lawful_Lones 𝓛 fields (Array-Lawful 𝓛 u8 (uint_Lawful 𝓛 w8) 2270, tt))
-      (d.bytes, tt) b o) $
+      (Struct-left 𝓛 full_share the_type.name fields
+      (lawful_Lones 𝓛 fields (Array-Lawful 𝓛 u8 (uint_Lawful 𝓛 w8) 2270, tt)) (d.bytes, tt) b o) $
       split ! $ fsplit ! $ move ! (1 ∷ []) $ let_go ! $
       use1 𝓛 (‵ (fsep (feq ℕ (length d.bytes) 2270) (row u8 full_share d.bytes b (start o))))
       (Array-apart 𝓛 u8 full_share tt 2270 d.bytes b (start o)) $ fsplit ! $ feq_l ! (λ long.
@@ -98,7 +110,8 @@ module _ {M : Type 1} {𝓤 : Ura M} (𝓛 : Logic 𝓤) (b o : ℕ) where
       qed 𝓛 (‵ (cells (mem u8) d.bytes b (start o)) ∷ raw Left ∷ []) ∵
       use1 𝓛 (‵ (row u8 full_share d.bytes b (start o))) (whole_out 𝓛 u8 d.bytes b (start o)) $
       feq_i ! ℕ (length d.bytes) 2270 long $ fjoin ! $
-      use1 𝓛 (‵ (part_at (Array u8 2270) full_share d.bytes b (start o))) (Array-whole 𝓛 u8 full_share 2270 d.bytes b (start o)) $
+      use1 𝓛 (‵ (part_at (Array u8 2270) full_share d.bytes b (start o)))
+      (Array-whole 𝓛 u8 full_share 2270 d.bytes b (start o)) $
       nothing ! $ move ! (1 ∷ 0 ∷ []) $ fjoin ! $
       use2 𝓛 (‵ (part_at (Struct (shape the_type)) full_share (d.bytes, tt) b o))
       (left_Struct 𝓛 full_share the_type.name fields (d.bytes, tt) b o) $

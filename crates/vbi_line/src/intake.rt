@@ -40,7 +40,8 @@ pub struct Intake<'a, R> {
 }
 
 impl<'a, R: Read> Intake<'a, R> {
-    ghost use Rattle.vbi_line.specs.Intake.{device_of, failures_of, errors_of, streak_of, fetched_of, held_of, line_of, name_of};
+    ghost use Rattle.vbi_line.specs.Intake.{device_of, failures_of, errors_of, streak_of};
+    ghost use Rattle.vbi_line.specs.Intake.{fetched_of, held_of, line_of, name_of};
     ghost use Rattle.vbi_line.specs.Intake.{IsFresh, Fetches, IsFilled, HasCause, IsSameDevice, KeepsReader};
 
     /// An intake of lines of this system, which holds nothing and hasn't asked the reader.
@@ -107,12 +108,12 @@ impl<'a, R: Read> Intake<'a, R> {
     }
 
     /// The outcome of the line that is held, by one pass over its samples; columns in it are counted from 0.
-    pub fn outcome(&mut self, levels: Levels) -> Outcome
+    pub fn outcome(&mut self, slicing: Levels) -> Outcome
         requires full { IsFull (line_of self.old) }
         requires passes { (line_of self.old).cursors ≡ [] }
         requires looked { (line_of self.old).looked ≤ 2 ^ 61 }
-        ensures outcome { IsOutcome (line_of self.old).system (row_levels levels (held_of self.old)) result }
-        ensures same { result ≡ outcome_of (line_of self.old).system (row_levels levels (held_of self.old)) }
+        ensures outcome { IsOutcome (line_of self.old).system (row_levels slicing (held_of self.old)) result }
+        ensures same { result ≡ outcome_of (line_of self.old).system (row_levels slicing (held_of self.old)) }
 
         // One pass has looked at each sample once.
         ensures reader { KeepsReader self.old self.new }
@@ -121,16 +122,16 @@ impl<'a, R: Read> Intake<'a, R> {
         ensures looked { (line_of self.new).looked ≡ (line_of self.old).looked + width_of (line_of self.old).system }
     {
         let system = self.line.system();
-        read_line(&mut self.line, system, levels)
+        read_line(&mut self.line, system, slicing)
     }
 
     /// The reading of the line that is held: its outcome, or the word that its smoothed levels show.
-    pub fn reading(&mut self, levels: Levels) -> Reading
+    pub fn reading(&mut self, slicing: Levels) -> Reading
         requires full { IsFull (line_of self.old) }
         requires passes { (line_of self.old).cursors ≡ [] }
         requires looked { (line_of self.old).looked ≤ 2 ^ 61 }
-        ensures reading { IsReading (line_of self.old).system (row_levels levels (held_of self.old)) result }
-        ensures same { result ≡ reading_of (line_of self.old).system (row_levels levels (held_of self.old)) }
+        ensures reading { IsReading (line_of self.old).system (row_levels slicing (held_of self.old)) result }
+        ensures same { result ≡ reading_of (line_of self.old).system (row_levels slicing (held_of self.old)) }
 
         // One pass has looked at each sample once.
         ensures reader { KeepsReader self.old self.new }
@@ -139,7 +140,7 @@ impl<'a, R: Read> Intake<'a, R> {
         ensures looked { (line_of self.new).looked ≡ (line_of self.old).looked + width_of (line_of self.old).system }
     {
         let system = self.line.system();
-        read_twice(&mut self.line, system, levels)
+        read_twice(&mut self.line, system, slicing)
     }
 
     /// Holds nothing again.

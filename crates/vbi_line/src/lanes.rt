@@ -15,10 +15,10 @@ use vbi_words::Levels;
 const LANES: usize = 16;
 
 /// The greatest sample that is low. Half of the sum, rounded down, fits in 16 bits, which twice a sample may not.
-fn greatest_low(levels: Levels) -> u16
-    ensures { (sample : ℕ) → is_high_of levels sample ≡ nat_lt result sample }
+fn greatest_low(slicing: Levels) -> u16
+    ensures { (sample : ℕ) → is_high_of slicing sample ≡ nat_lt result sample }
 {
-    ((u32::from(levels.black()) + u32::from(levels.white())) / 2) as u16
+    ((u32::from(slicing.black()) + u32::from(slicing.white())) / 2) as u16
 }
 
 /// A bit for each of sixteen samples, the first the lowest: whether the sample is above `low`.
@@ -32,11 +32,11 @@ fn bits_above(samples: [u16; 16], low: u16) -> u64
 }
 
 /// The levels of a line, by one pass: whole blocks of sixteen samples, and the rest one by one.
-pub fn slice_lanes(line: &mut LineBuf, levels: Levels) -> Packed
+pub fn slice_lanes(line: &mut LineBuf, slicing: Levels) -> Packed
     requires full { IsFull line.old }
     requires room { length line.old.cursors < 2 }
     requires looked { line.old.looked ≤ 2 ^ 62 }
-    ensures levels { result ≡ row_levels levels line.old.held }
+    ensures levels { result ≡ row_levels slicing line.old.held }
     ensures width { length result ≡ width_of line.old.system }
 
     // The new pass has looked at each sample.
@@ -44,7 +44,7 @@ pub fn slice_lanes(line: &mut LineBuf, levels: Levels) -> Packed
     ensures pass { line.new.cursors ≡ width_of line.old.system ∷ line.old.cursors }
     ensures looked { line.new.looked ≡ line.old.looked + width_of line.old.system }
 {
-    let low = greatest_low(levels);
+    let low = greatest_low(slicing);
     line.start_pass();
     let mut packed = Packed::new();
     while let Some(block) = line.next_block() {

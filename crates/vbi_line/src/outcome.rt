@@ -14,20 +14,20 @@ use crate::decoder::Decoder;
 use vbi_words::{Levels, Outcome, System};
 
 /// The outcome of a line made for the system, by one pass over its samples; columns in it are counted from 0.
-pub fn read_line(line: &mut LineBuf, system: System, levels: Levels) -> Outcome
+pub fn read_line(line: &mut LineBuf, system: System, slicing: Levels) -> Outcome
     requires full { IsFull line.old }
     requires system { line.old.system ≡ system }
     requires passes { line.old.cursors ≡ [] }
     requires looked { line.old.looked ≤ 2 ^ 61 }
-    ensures outcome { IsOutcome system (row_levels levels line.old.held) result }
-    ensures same { result ≡ outcome_of system (row_levels levels line.old.held) }
+    ensures outcome { IsOutcome system (row_levels slicing line.old.held) result }
+    ensures same { result ≡ outcome_of system (row_levels slicing line.old.held) }
 
     // One pass has looked at each sample once.
     ensures bytes { KeepsBytes line.old line.new }
     ensures pass { line.new.cursors ≡ width_of system ∷ [] }
     ensures looked { line.new.looked ≡ line.old.looked + width_of system }
 {
-    let packed = slice_lanes(line, levels);
+    let packed = slice_lanes(line, slicing);
     read_packed(&packed, system)
 }
 

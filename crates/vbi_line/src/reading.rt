@@ -18,20 +18,20 @@ use vbi_words::{Levels, Outcome, Reading, System, Word24};
 
 /// The reading of a line made for the system. Two passes over its samples would be allowed; the levels of one are kept, and the
 /// smoothed levels are made of them.
-pub fn read_twice(line: &mut LineBuf, system: System, levels: Levels) -> Reading
+pub fn read_twice(line: &mut LineBuf, system: System, slicing: Levels) -> Reading
     requires full { IsFull line.old }
     requires system { line.old.system ≡ system }
     requires passes { line.old.cursors ≡ [] }
     requires looked { line.old.looked ≤ 2 ^ 61 }
-    ensures reading { IsReading system (row_levels levels line.old.held) result }
-    ensures same { result ≡ reading_of system (row_levels levels line.old.held) }
+    ensures reading { IsReading system (row_levels slicing line.old.held) result }
+    ensures same { result ≡ reading_of system (row_levels slicing line.old.held) }
 
     // One pass has looked at each sample once.
     ensures bytes { KeepsBytes line.old line.new }
     ensures pass { line.new.cursors ≡ width_of system ∷ [] }
     ensures looked { line.new.looked ≡ line.old.looked + width_of system }
 {
-    let packed = slice_lanes(line, levels);
+    let packed = slice_lanes(line, slicing);
     read_both(&packed, system)
 }
 

@@ -1,25 +1,28 @@
--- The bits of a number as a list.
-use Rattle.std.proofs.Common.{get_or, ◌≡◌, ℕ, suc, zero, ◌≤◌, ◌<◌, ◌+◌, ◌-◌, ◌*◌, ◌/◌, ◌%◌, ◌^◌, Bool, true, false, eqb, List, [], ◌∷◌}
-use Rattle.std.proofs.Common.{◌++◌, ◌⊎◌, inl, inr, refl, ap, sym, ◌∙◌, subst, arith, append_assoc, zero-add, add-one, length, add-zero}
+-- The bits of a number as a list, and its half cells.
+use Rattle.std.proofs.Common.{get_or, ◌≡◌, ℕ, suc, zero, ◌≤◌, ◌<◌, ◌+◌, ◌-◌, ◌*◌, ◌/◌, ◌%◌, ◌^◌, Bool, true, false, eqb}
+use Rattle.std.proofs.Common.{List, [], ◌∷◌, ◌++◌, ◌⊎◌, inl, inr, refl, ap, sym, ◌∙◌, subst, arith, append_assoc}
+use Rattle.std.proofs.Common.{zero-add, add-one, length, add-zero}
 use Rattle.std.proofs.lemmas.Nat.{pow-add}
-use Rattle.std.proofs.lemmas.Nat.Bits.{bit_at-lt, bit_at-suc, bit_at_lowest, bit_at_above, bit_at_cat_high, same_from_bits_below}
+use Rattle.std.proofs.lemmas.Nat.Bits.{bit_at-lt, bit_at-suc, bit_at_lowest, bit_at_above, bit_at_cat_high}
+use Rattle.std.proofs.lemmas.Nat.Bits.{same_from_bits_below}
 use Rattle.std.proofs.lemmas.Bool.{eqb-true, eqb-false, eq-eqb, ne_eqb, cases_lt}
 use Rattle.std.proofs.lemmas.List.{append-nil}
 use Rattle.std.specs.Int.{bit_at}
 use Rattle.std.specs.Prelude.{not}
 use Rattle.std.specs.List.{flat_map}
 use Rattle.vbi_words.specs.Words.{lowest_bits, cell_of}
+use Rattle.vbi_words.proofs.Runs.{same_head, same_tail}
+
+-- whether this bit of the number is a one
+abbrev bit_is_one : ℕ → ℕ → Bool
+bit_is_one w i = eqb (bit_at w i) 1
 
 pub length-lowest_bits : (n w : ℕ) → length (lowest_bits n w) ≡ n
 unfolding lowest_bits
 length-lowest_bits zero w = refl
 length-lowest_bits (suc n) w = ap suc (length-lowest_bits n w)
 
-head_of : (a b : Bool) (s t : List Bool) → a ∷ s ≡ b ∷ t → a ≡ b
-head_of a b s t e = cc
-
-tail_of : (a b : Bool) (s t : List Bool) → a ∷ s ≡ b ∷ t → s ≡ t
-tail_of a b s t e = cc
+-- ---- numbers with the same bits
 
 -- two bits that test alike are equal
 same_bit : (a b : ℕ) → a < 2 → b < 2 → eqb a 1 ≡ eqb b 1 → a ≡ b
@@ -27,57 +30,74 @@ same_bit a b la lb e = go (eqb a 1) refl
   where
     go : (t : Bool) → eqb a 1 ≡ t → a ≡ b
     go true f = eqb-true a 1 f ∙ sym (eqb-true b 1 (sym e ∙ f))
-    go false f = let x : a ≡ 1 → ⊥ = eqb-false a 1 f in let y : b ≡ 1 → ⊥ = eqb-false b 1 (sym e ∙ f) in omega arith
+    go false f =
+        let x : a ≡ 1 → ⊥ = eqb-false a 1 f in
+        let y : b ≡ 1 → ⊥ = eqb-false b 1 (sym e ∙ f) in
+        omega arith
 
 bits_agree : (n v w : ℕ) → lowest_bits n v ≡ lowest_bits n w → (i : ℕ) → i < n → bit_at v i ≡ bit_at w i
 unfolding lowest_bits
 bits_agree zero v w e i l = absurd (omega arith)
-bits_agree (suc n) v w e i l = go (λ below. bits_agree n v w (tail_of _ _ (lowest_bits n v) (lowest_bits n w) e) i below) (cases_lt i n)
+bits_agree (suc n) v w e i l = go (λ below. bits_agree n v w (same_tail e) i below) (cases_lt i n)
   where
     go : (i < n → bit_at v i ≡ bit_at w i) → (i < n) ⊎ (n ≤ i) → bit_at v i ≡ bit_at w i
     go before (inl below) = before below
-    go before (inr above) = let same : i ≡ n = omega arith in
-        subst (λ (k : ℕ). bit_at v k ≡ bit_at w k) (sym same)
-        (same_bit (bit_at v n) (bit_at w n) (bit_at-lt v n) (bit_at-lt w n) (head_of _ _ (lowest_bits n v) (lowest_bits n w) e))
+    go before (inr above) =
+        let same : n ≡ i = omega arith in
+        let here : bit_at v n ≡ bit_at w n
+        = same_bit (bit_at v n) (bit_at w n) (bit_at-lt v n) (bit_at-lt w n) (same_head e) in
+        subst (λ (k : ℕ). bit_at v k ≡ bit_at w k) same here
 
 -- two numbers of n bits with the same bits are equal
 pub same_from_lowest : (n v w : ℕ) → v < 2 ^ n → w < 2 ^ n → lowest_bits n v ≡ lowest_bits n w → v ≡ w
 same_from_lowest n v w a b e = same_from_bits_below n v w a b (bits_agree n v w e)
 
+-- ---- one more bit at the end
+
+-- a bit as a number
 abbrev pub bit_of : Bool → ℕ
 bit_of true = 1
 bit_of false = 0
 
-last_bit : (a : ℕ) (b : Bool) → eqb (bit_at (2 * a + bit_of b) 0) 1 ≡ b
+last_bit : (a : ℕ) (b : Bool) → bit_is_one (2 * a + bit_of b) 0 ≡ b
 last_bit a true = eq-eqb (bit_at (2 * a + 1) 0) 1 (bit_at_lowest (2 * a + 1) ∙ omega arith)
-last_bit a false = ne_eqb (bit_at (2 * a + 0) 0) 1 (λ e. let x : (2 * a + 0) % 2 ≡ 1 = sym (bit_at_lowest (2 * a + 0)) ∙ e in omega arith)
+last_bit a false = ne_eqb (bit_at (2 * a + 0) 0) 1
+    (λ e. let x : (2 * a + 0) % 2 ≡ 1 = sym (bit_at_lowest (2 * a + 0)) ∙ e in omega arith)
 
 half_of : (a : ℕ) (b : Bool) → (2 * a + bit_of b) / 2 ≡ a
 half_of a true = omega arith
 half_of a false = omega arith
 
--- one more bit at the end
 pub lowest-push : (n a : ℕ) (b : Bool) → lowest_bits (n + 1) (2 * a + bit_of b) ≡ lowest_bits n a ++ b ∷ []
 unfolding lowest_bits
 lowest-push n a b = rw add-one (go n)
   where
-    go : (n : ℕ) → lowest_bits (suc n) (2 * a + bit_of b) ≡ lowest_bits n a ++ b ∷ []
+    more : ℕ
+    more = 2 * a + bit_of b
+
+    go : (n : ℕ) → lowest_bits (suc n) more ≡ lowest_bits n a ++ b ∷ []
     go zero = ap (λ (x : Bool). x ∷ []) (last_bit a b)
     go (suc n) =
-        let head : bit_at (2 * a + bit_of b) (suc n) ≡ bit_at a n = bit_at-suc (2 * a + bit_of b) n ∙ ap (λ (x : ℕ). bit_at x n) (half_of a b) in
-        ap (λ (x : ℕ). eqb x 1 ∷ lowest_bits (suc n) (2 * a + bit_of b)) head ∙ ap (λ (t : List Bool). eqb (bit_at a n) 1 ∷ t) (go n)
+        let head : bit_at more (suc n) ≡ bit_at a n
+        = bit_at-suc more n ∙ ap (λ (x : ℕ). bit_at x n) (half_of a b) in
+        ap (λ (x : ℕ). eqb x 1 ∷ lowest_bits (suc n) more) head
+        ∙ ap (λ (t : List Bool). bit_is_one a n ∷ t) (go n)
+
+-- ---- the number of a list of bits
 
 -- the number of these bits behind those of a
 value_behind : ℕ → List Bool → ℕ
 value_behind a [] = a
 value_behind a (b ∷ bits) = value_behind (2 * a + bit_of b) bits
 
-lowest-value_behind : (n a : ℕ) (bits : List Bool) → lowest_bits (n + length bits) (value_behind a bits) ≡ lowest_bits n a ++ bits
+lowest-value_behind : (n a : ℕ) (bits : List Bool)
+    → lowest_bits (n + length bits) (value_behind a bits) ≡ lowest_bits n a ++ bits
 unfolding value_behind
 lowest-value_behind n a [] = rw (add-zero, append-nil) refl
 lowest-value_behind n a (b ∷ bits) =
     let e : n + suc (length bits) ≡ (n + 1) + length bits = omega arith in
-    ap (λ (k : ℕ). lowest_bits k (value_behind (2 * a + bit_of b) bits)) e ∙ lowest-value_behind (n + 1) (2 * a + bit_of b) bits
+    ap (λ (k : ℕ). lowest_bits k (value_behind (2 * a + bit_of b) bits)) e
+    ∙ lowest-value_behind (n + 1) (2 * a + bit_of b) bits
     ∙ ap (λ (t : List Bool). t ++ bits) (lowest-push n a b) ∙ append_assoc (lowest_bits n a) (b ∷ []) bits
 
 bit_below : (b : Bool) → bit_of b < 2
@@ -95,24 +115,25 @@ value-below n a (b ∷ bits) l =
 -- each list of bits is that of a number
 pub number_of : (bits : List Bool) → (w : ℕ) × (w < 2 ^ length bits) × (lowest_bits (length bits) w ≡ bits)
 unfolding lowest_bits
-number_of bits = (
-  value_behind 0 bits,
-  subst (λ (k : ℕ). value_behind 0 bits < 2 ^ k) (zero-add (length bits)) (value-below 0 0 bits (omega arith)),
-  ap (λ (k : ℕ). lowest_bits k (value_behind 0 bits)) (sym (zero-add (length bits))) ∙ lowest-value_behind 0 0 bits ∙ none,
-)
-  where
-    none : lowest_bits 0 0 ++ bits ≡ bits
-    none = refl
+number_of bits =
+    let e : 0 + length bits ≡ length bits = zero-add (length bits) in (
+      value_behind 0 bits,
+      subst (λ (k : ℕ). value_behind 0 bits < 2 ^ k) e (value-below 0 0 bits (omega arith)),
+      ap (λ (k : ℕ). lowest_bits k (value_behind 0 bits)) (sym e) ∙ lowest-value_behind 0 0 bits,
+    )
+
+-- ---- the top bit
 
 -- the first of n + 1 bits
 pub top_bit_set : (n w : ℕ) → 2 ^ n ≤ w → w < 2 ^ (suc n) → lowest_bits (suc n) w ≡ true ∷ lowest_bits n w
 unfolding lowest_bits
 top_bit_set n w low high =
     let r : ℕ = w - 2 ^ n in
-    let e : 1 * 2 ^ n + r ≡ w = omega arith in
+    let e : w ≡ 1 * 2 ^ n + r = omega arith in
     let small : r < 2 ^ n = omega (arith, pow-add 2 n 1, high, ap (λ (k : ℕ). 2 ^ k) (add-one n)) in
     let nothing : n - n ≡ 0 = omega arith in
-    let one : bit_at w n ≡ 1 = ap (λ (x : ℕ). bit_at x n) (sym e) ∙ bit_at_cat_high 1 n r n small (omega arith) ∙ ap (λ (k : ℕ). bit_at 1 k) nothing in
+    let one : bit_at w n ≡ 1 = ap (λ (x : ℕ). bit_at x n) e ∙ bit_at_cat_high 1 n r n small (omega arith)
+    ∙ ap (λ (k : ℕ). bit_at 1 k) nothing in
     ap (λ (x : Bool). x ∷ lowest_bits n w) (eq-eqb (bit_at w n) 1 one)
 
 pub top_bit_then : (n w : ℕ) (rest : List Bool) → lowest_bits (suc n) w ≡ true ∷ rest → 2 ^ n ≤ w
@@ -121,58 +142,68 @@ top_bit_then n w rest e = go (cases_lt w (2 ^ n))
   where
     go : (w < 2 ^ n) ⊎ (2 ^ n ≤ w) → 2 ^ n ≤ w
     go (inl small) =
-        let one : bit_at w n ≡ 1 = eqb-true (bit_at w n) 1 (head_of _ _ (lowest_bits n w) rest e) in
+        let one : bit_at w n ≡ 1 = eqb-true (bit_at w n) 1 (same_head e) in
         absurd (omega (arith, one, bit_at_above w n n small (omega arith)))
     go (inr large) = large
 
--- ---- the halves of a number
+-- ---- the half cells of a number
 
-pub bit_read : (n w k : ℕ) → k < n → get_or (lowest_bits n w) k false ≡ eqb (bit_at w (n - 1 - k)) 1
+pub bit_read : (n w k : ℕ) → k < n → get_or (lowest_bits n w) k false ≡ bit_is_one w (n - 1 - k)
 unfolding lowest_bits
 bit_read zero w k l = absurd (omega arith)
-bit_read (suc n) w zero l = let e : n ≡ suc n - 1 - 0 = omega arith in ap (λ (i : ℕ). eqb (bit_at w i) 1) e
-bit_read (suc n) w (suc k) l = let e : n - 1 - k ≡ suc n - 1 - suc k = omega arith in bit_read n w k (omega arith) ∙ ap (λ (i : ℕ). eqb (bit_at w i) 1) e
+bit_read (suc n) w zero l = let e : n ≡ suc n - 1 - 0 = omega arith in ap (bit_is_one w) e
+bit_read (suc n) w (suc k) l =
+    let e : n - 1 - k ≡ suc n - 1 - suc k = omega arith in
+    bit_read n w k (omega arith) ∙ ap (bit_is_one w) e
 
-pub half_first : (bits : List Bool) (k : ℕ) → k < length bits → get_or (flat_map cell_of bits) (2 * k) false ≡ not (get_or bits k false)
+-- half cell i of the cells of these bits
+abbrev half : List Bool → ℕ → Bool
+half bits i = get_or (flat_map cell_of bits) i false
+
+pub half_first : (bits : List Bool) (k : ℕ) → k < length bits → half bits (2 * k) ≡ not (get_or bits k false)
 half_first [] k l = absurd (omega arith)
 half_first (true ∷ bits) zero l = refl
 half_first (false ∷ bits) zero l = refl
-half_first (true ∷ bits) (suc k) l = let e : 2 * suc k ≡ suc (suc (2 * k)) = omega arith in
-    ap (λ (i : ℕ). get_or (flat_map cell_of (true ∷ bits)) i false) e ∙ half_first bits k (omega arith)
-half_first (false ∷ bits) (suc k) l = let e : 2 * suc k ≡ suc (suc (2 * k)) = omega arith in
-    ap (λ (i : ℕ). get_or (flat_map cell_of (false ∷ bits)) i false) e ∙ half_first bits k (omega arith)
+half_first (true ∷ bits) (suc k) l =
+    let e : 2 * suc k ≡ suc (suc (2 * k)) = omega arith in
+    ap (half (true ∷ bits)) e ∙ half_first bits k (omega arith)
+half_first (false ∷ bits) (suc k) l =
+    let e : 2 * suc k ≡ suc (suc (2 * k)) = omega arith in
+    ap (half (false ∷ bits)) e ∙ half_first bits k (omega arith)
 
-pub half_second : (bits : List Bool) (k : ℕ) → k < length bits → get_or (flat_map cell_of bits) (2 * k + 1) false ≡ get_or bits k false
+pub half_second : (bits : List Bool) (k : ℕ) → k < length bits → half bits (2 * k + 1) ≡ get_or bits k false
 half_second [] k l = absurd (omega arith)
 half_second (true ∷ bits) zero l = refl
 half_second (false ∷ bits) zero l = refl
-half_second (true ∷ bits) (suc k) l = let e : 2 * suc k + 1 ≡ suc (suc (2 * k + 1)) = omega arith in
-    ap (λ (i : ℕ). get_or (flat_map cell_of (true ∷ bits)) i false) e ∙ half_second bits k (omega arith)
-half_second (false ∷ bits) (suc k) l = let e : 2 * suc k + 1 ≡ suc (suc (2 * k + 1)) = omega arith in
-    ap (λ (i : ℕ). get_or (flat_map cell_of (false ∷ bits)) i false) e ∙ half_second bits k (omega arith)
+half_second (true ∷ bits) (suc k) l =
+    let e : 2 * suc k + 1 ≡ suc (suc (2 * k + 1)) = omega arith in
+    ap (half (true ∷ bits)) e ∙ half_second bits k (omega arith)
+half_second (false ∷ bits) (suc k) l =
+    let e : 2 * suc k + 1 ≡ suc (suc (2 * k + 1)) = omega arith in
+    ap (half (false ∷ bits)) e ∙ half_second bits k (omega arith)
 
--- half cell i of a word
-pub half_low : (w i : ℕ) → i < 48 → i % 2 ≡ 0 → get_or (flat_map cell_of (lowest_bits 24 w)) i false ≡ not (eqb (bit_at w (23 - i / 2)) 1)
-half_low w i l even =
-    let e : i ≡ 2 * (i / 2) = omega arith in
-    let within : i / 2 < length (lowest_bits 24 w) = omega (arith, length-lowest_bits 24 w) in
-    ap (λ (j : ℕ). get_or (flat_map cell_of (lowest_bits 24 w)) j false) e ∙ half_first (lowest_bits 24 w) (i / 2) within
-    ∙ ap not (bit_read 24 w (i / 2) (omega arith))
-
-pub half_high : (w i : ℕ) → i < 48 → (i % 2 ≡ 0 → ⊥) → get_or (flat_map cell_of (lowest_bits 24 w)) i false ≡ eqb (bit_at w (23 - i / 2)) 1
-half_high w i l odd =
-    let e : i ≡ 2 * (i / 2) + 1 = omega arith in
-    let within : i / 2 < length (lowest_bits 24 w) = omega (arith, length-lowest_bits 24 w) in
-    ap (λ (j : ℕ). get_or (flat_map cell_of (lowest_bits 24 w)) j false) e ∙ half_second (lowest_bits 24 w) (i / 2) within
-    ∙ bit_read 24 w (i / 2) (omega arith)
-
--- as the code reads them
+-- half cell i of a word, as the code reads it
 module _ (w value i : ℕ) (within : i < 48) (same : value ≡ w) where
-  read : eqb (value / 2 ^ (23 - i / 2) % 2) 1 ≡ eqb (bit_at w (23 - i / 2)) 1
-  read = ap (λ (x : ℕ). eqb (x / 2 ^ (23 - i / 2) % 2) 1) same
+  -- the word's bits
+  abbrev bits : List Bool
+  bits = lowest_bits 24 w
 
-  pub half_even : i % 2 ≡ 0 → not (eqb (value / 2 ^ (23 - i / 2) % 2) 1) ≡ get_or (flat_map cell_of (lowest_bits 24 w)) i false
-  half_even even = ap not read ∙ sym (half_low w i within even)
+  -- the bit that the code reads
+  abbrev read : Bool
+  read = eqb (value / 2 ^ (23 - i / 2) % 2) 1
 
-  pub half_odd : (i % 2 ≡ 0 → ⊥) → eqb (value / 2 ^ (23 - i / 2) % 2) 1 ≡ get_or (flat_map cell_of (lowest_bits 24 w)) i false
-  half_odd odd = read ∙ sym (half_high w i within odd)
+  inside : i / 2 < length bits
+  inside = omega (arith, length-lowest_bits 24 w)
+
+  bit_is : read ≡ get_or bits (i / 2) false
+  bit_is = ap (λ (x : ℕ). bit_is_one x (23 - i / 2)) same ∙ sym (bit_read 24 w (i / 2) (omega arith))
+
+  pub half_even : i % 2 ≡ 0 → not read ≡ half bits i
+  half_even even =
+      let e : 2 * (i / 2) ≡ i = omega arith in
+      ap not bit_is ∙ sym (half_first bits (i / 2) inside) ∙ ap (half bits) e
+
+  pub half_odd : (i % 2 ≡ 0 → ⊥) → read ≡ half bits i
+  half_odd odd =
+      let e : 2 * (i / 2) + 1 ≡ i = omega arith in
+      bit_is ∙ sym (half_second bits (i / 2) inside) ∙ ap (half bits) e

@@ -2,29 +2,44 @@
 use Rattle.std.proofs.Common.{◌≡◌, ℕ, suc, zero, ◌≤◌, ◌<◌, ◌+◌, ◌-◌, max, Bool, true, false, List, []}
 use Rattle.std.proofs.Common.{◌∷◌, ◌++◌, ◌⊎◌, inl, inr, refl, ap, sym, ◌∙◌, subst, arith, append_assoc}
 use Rattle.std.proofs.Math.ListN.{replicate}
+use Rattle.std.proofs.Math.Bool.{not-not}
 use Rattle.std.specs.Prelude.{not}
 use Rattle.std.specs.List.{flat_map}
 use Rattle.vbi_words.specs.Words.{cell_of}
 use Rattle.vbi_words.specs.Shows.{Spells}
+use Rattle.vbi_words.proofs.Sizes.{Sizes, AreApart}
 use Rattle.vbi_words.proofs.Runs
+use Rattle.vbi_words.proofs.Runs.{Run}
 
+-- levels are low throughout
 abbrev pub Lows : List Bool → Type 0
 Lows levels = (n : ℕ) × (levels ≡ replicate n false)
 
 -- levels are the cells of these bits, from the start of a cell, and then lows
-abbrev pub Cells : ℕ → ℕ → List Bool → List Bool → Type 0
-Cells least greatest [] = Lows
-Cells least greatest (b ∷ bits) = Runs.Run least greatest (not b) (Runs.Run least greatest b (Cells least greatest bits))
+abbrev pub Cells : Sizes → List Bool → List Bool → Type 0
+Cells sizes [] = Lows
+Cells sizes (b ∷ bits) = Run sizes (not b) (Run sizes b (Cells sizes bits))
+
+-- levels are one half cell of v, then the cells of these bits, and then lows
+abbrev pub Half : Sizes → Bool → List Bool → List Bool → Type 0
+Half sizes v bits = Run sizes v (Cells sizes bits)
 
 -- levels are lows, then the cells of these bits, then lows
-abbrev pub Draws : ℕ → ℕ → List Bool → List Bool → Type 0
-Draws least greatest bits levels = (before : ℕ) × (rest : List Bool) × (levels ≡ replicate before false ++ rest) × Cells least greatest bits rest
+abbrev pub Draws : Sizes → List Bool → List Bool → Type 0
+Draws sizes bits levels =
+    (before : ℕ) × (rest : List Bool) × (levels ≡ replicate before false ++ rest) × Cells sizes bits rest
 
-module _ (least greatest : ℕ) where
+module _ (sizes : Sizes) where
+  open sizes use {least, greatest}
+
+  -- the levels spell the half cells of these bits
+  abbrev SpellsCells : List Bool → List Bool → Type 0
+  SpellsCells bits = Spells least greatest (flat_map cell_of bits)
+
   halves_spelled : (a b : Bool) (bits : List Bool) (levels : List Bool) (after : ℕ)
-      → ((rest : List Bool) → Spells least greatest (flat_map cell_of bits) rest → Cells least greatest bits (rest ++ replicate after false))
+      → ((rest : List Bool) → SpellsCells bits rest → Cells sizes bits (rest ++ replicate after false))
       → Spells least greatest (a ∷ b ∷ flat_map cell_of bits) levels
-      → Runs.Run least greatest a (Runs.Run least greatest b (Cells least greatest bits)) (levels ++ replicate after false)
+      → Run sizes a (Half sizes b bits) (levels ++ replicate after false)
   halves_spelled a b bits levels after ih (n, r, low, high, e, (m, q, low', high', e', s)) = record {
     count = n;
     rest = r ++ replicate after false;
@@ -41,185 +56,219 @@ module _ (least greatest : ℕ) where
     };
   }
 
-  pub cells_from_spelled : (bits levels : List Bool) (after : ℕ) → Spells least greatest (flat_map cell_of bits) levels
-      → Cells least greatest bits (levels ++ replicate after false)
+  pub cells_from_spelled : (bits levels : List Bool) (after : ℕ) → SpellsCells bits levels
+      → Cells sizes bits (levels ++ replicate after false)
   cells_from_spelled [] levels after e = (after, rw e)
-  cells_from_spelled (true ∷ bits) levels after s = halves_spelled false true bits levels after (λ rest t. cells_from_spelled bits rest after t) s
-  cells_from_spelled (false ∷ bits) levels after s = halves_spelled true false bits levels after (λ rest t. cells_from_spelled bits rest after t) s
+  cells_from_spelled (true ∷ bits) levels after s =
+      halves_spelled false true bits levels after (λ rest t. cells_from_spelled bits rest after t) s
+  cells_from_spelled (false ∷ bits) levels after s =
+      halves_spelled true false bits levels after (λ rest t. cells_from_spelled bits rest after t) s
 
-  -- the levels of the cells, without the lows behind them
+  -- the levels of these half cells, without the lows behind them
+  abbrev DrawnHalves : List Bool → List Bool → Type 0
+  DrawnHalves halves levels =
+      (drawn : List Bool) × (after : ℕ) × Spells least greatest halves drawn × (levels ≡ drawn ++ replicate after false)
+
+  -- the same of the half cells of these bits
   abbrev pub Drawn : List Bool → List Bool → Type 0
-  Drawn bits levels = (drawn : List Bool) × (after : ℕ) × Spells least greatest (flat_map cell_of bits) drawn × (levels ≡ drawn ++ replicate after false)
+  Drawn bits = DrawnHalves (flat_map cell_of bits)
 
-  run_drawn : (a b : Bool) (bits levels : List Bool)
-      → ((rest : List Bool) → Cells least greatest bits rest → Drawn bits rest)
-      → Runs.Run least greatest a (Runs.Run least greatest b (Cells least greatest bits)) levels
-      → (drawn : List Bool) × (after : ℕ) × Spells least greatest (a ∷ b ∷ flat_map cell_of bits) drawn × (levels ≡ drawn ++ replicate after false)
+  run_drawn : (a b : Bool) (bits levels : List Bool) → ((rest : List Bool) → Cells sizes bits rest → Drawn bits rest)
+      → Run sizes a (Half sizes b bits) levels → DrawnHalves (a ∷ b ∷ flat_map cell_of bits) levels
   run_drawn a b bits levels ih r =
       let q = r.then in
-      let d = ih q.rest q.then in (
+      let d = ih q.rest q.then in
+      let second : q.rest ≡ d.0 ++ replicate d.1 false = d.3 in
+      let first : r.rest ≡ replicate q.count b ++ (d.0 ++ replicate d.1 false)
+      = q.whole ∙ ap (λ (t : List Bool). replicate q.count b ++ t) second in (
         replicate r.count a ++ (replicate q.count b ++ d.0),
         d.1,
-        (r.count, replicate q.count b ++ d.0, r.at_least, r.at_most, refl, (q.count, d.0, q.at_least, q.at_most, refl, d.2)),
-        rw (append_assoc, append_assoc) (r.whole ∙ ap (λ (t : List Bool). replicate r.count a ++ t) (q.whole ∙ ap (λ (t : List Bool). replicate q.count b ++ t) d.3)),
+        (
+          r.count,
+          replicate q.count b ++ d.0,
+          r.at_least,
+          r.at_most,
+          refl,
+          (q.count, d.0, q.at_least, q.at_most, refl, d.2),
+        ),
+        rw (append_assoc, append_assoc) (r.whole ∙ ap (λ (t : List Bool). replicate r.count a ++ t) first),
       )
 
-  pub drawn_from_cells : (bits levels : List Bool) → Cells least greatest bits levels → Drawn bits levels
+  pub drawn_from_cells : (bits levels : List Bool) → Cells sizes bits levels → Drawn bits levels
   drawn_from_cells [] levels lows = ([], lows.0, refl, lows.1)
   drawn_from_cells (true ∷ bits) levels r = run_drawn false true bits levels (λ rest t. drawn_from_cells bits rest t) r
   drawn_from_cells (false ∷ bits) levels r = run_drawn true false bits levels (λ rest t. drawn_from_cells bits rest t) r
 
-module _ (least greatest : ℕ) (positive : 0 < least) where
+  -- the run that begins at a cell's start ends at a change: it is the first half
+  abbrev pub First : Bool → Bool → List Bool → ℕ → List Bool → Type 0
+  First b v bits n s = (b ≡ not v) × (least ≤ n) × (n ≤ greatest) × Half sizes (not v) bits (not v ∷ s)
+
+  -- the run that begins in the middle of a cell ends at a change: it is a single half
+  abbrev pub Single : List Bool → Bool → ℕ → List Bool → Type 0
+  Single bits v n s = (least ≤ n) × (n ≤ greatest) × Cells sizes bits (not v ∷ s)
+
+  -- or a double one, with the first half of the next cell
+  abbrev pub Double : List Bool → Bool → ℕ → List Bool → Type 0
+  Double bits v n s = (todo : List Bool) × (bits ≡ not v ∷ todo) × (least + least ≤ n) × (n ≤ greatest + greatest)
+      × Half sizes (not v) todo (not v ∷ s)
+
+  -- the first low half joins the lows before it
+  abbrev pub LowHalf : List Bool → ℕ → List Bool → Type 0
+  LowHalf todo n s = (least ≤ n) × Half sizes true todo (true ∷ s)
+
+pub lows_head : (v : Bool) (s : List Bool) → Lows (v ∷ s) → v ≡ false
+lows_head v s (zero, e) = cc
+lows_head v s (suc n, e) = cc
+
+pub lows_tail : (v : Bool) (s : List Bool) → Lows (v ∷ s) → Lows s
+lows_tail v s (zero, e) = cc
+lows_tail v s (suc n, e) = (n, Runs.same_tail e)
+
+-- lows have no change
+lows_change : (v : Bool) (k : ℕ) (s : List Bool) → Lows (replicate k v ++ (not v ∷ s)) → 0 < k → ⊥
+lows_change v zero s l some = omega arith
+lows_change v (suc k) s l some =
+    go k (lows_head v (replicate k v ++ (not v ∷ s)) l) (lows_tail v (replicate k v ++ (not v ∷ s)) l)
+  where
+    go : (k : ℕ) → v ≡ false → Lows (replicate k v ++ (not v ∷ s)) → ⊥
+    go zero e l = Runs.not_same v (e ∙ sym (lows_head (not v) s l))
+    go (suc k) e l = go k e (lows_tail v (replicate k v ++ (not v ∷ s)) l)
+
+module _ {sizes : Sizes} (ok : AreApart sizes) where
+  open sizes use {least, greatest}
+
   -- lows alone are the start of no cell
-  pub cells_not_alone : (b v : Bool) (bits : List Bool) (n : ℕ) → Cells least greatest (b ∷ bits) (replicate n v) → ⊥
-  cells_not_alone true v bits n r = Runs.no_change least greatest positive v false (Cells least greatest bits) n r
-  cells_not_alone false v bits n r = Runs.no_change least greatest positive v true (Cells least greatest bits) n r
+  pub cells_not_alone : (b v : Bool) (bits : List Bool) (n : ℕ) → Cells sizes (b ∷ bits) (replicate n v) → ⊥
+  cells_not_alone true v bits n r = Runs.no_change ok v false n r
+  cells_not_alone false v bits n r = Runs.no_change ok v true n r
 
-  pub lows_head : (v : Bool) (s : List Bool) → Lows (v ∷ s) → v ≡ false
-  lows_head v s (zero, e) = cc
-  lows_head v s (suc n, e) = cc
-
-  pub lows_tail : (v : Bool) (s : List Bool) → Lows (v ∷ s) → Lows s
-  lows_tail v s (zero, e) = cc
-  lows_tail v s (suc n, e) = (n, Runs.same_tail v false s (replicate n false) e)
+  -- ---- levels that are too long
 
   -- no list is as long as this in one level at a cell's start
-  pub cell_too_long : (b v : Bool) (bits s : List Bool) (n : ℕ) → greatest < n → Cells least greatest (b ∷ bits) (replicate n v ++ s) → ⊥
+  pub cell_too_long : (b v : Bool) (bits s : List Bool) (n : ℕ) → greatest < n
+      → Cells sizes (b ∷ bits) (replicate n v ++ s) → ⊥
   cell_too_long b v bits s n long r =
-      let half : v ≡ not b = Runs.run_head_of least greatest positive (not b) v (Runs.Run least greatest b (Cells least greatest bits)) n s (omega arith) r in
-      let r' : Runs.Run least greatest v (Runs.Run least greatest b (Cells least greatest bits)) (replicate n v ++ s) = subst (λ (x : Bool). Runs.Run least greatest x (Runs.Run least greatest b (Cells least greatest bits)) (replicate n v ++ s)) (sym half) r in
-      let c = Runs.run_too_long least greatest positive v (Runs.Run least greatest b (Cells least greatest bits)) n s long r' in
-      let next : v ≡ b = Runs.run_head_of least greatest positive b v (Cells least greatest bits) c.1 s (omega (arith, c.2, c.3)) c.4 in
+      let half : v ≡ not b = Runs.run_head_of ok v n s (omega arith) r in
+      let first : Run sizes v (Half sizes b bits) (replicate n v ++ s)
+      = subst (λ (x : Bool). Run sizes x (Half sizes b bits) (replicate n v ++ s)) (sym half) r in
+      let c = Runs.run_too_long ok v n s long first in
+      let next : v ≡ b = Runs.run_head_of ok v c.1 s (omega (arith, c.2, c.3)) c.4 in
       Runs.not_same b (sym next ∙ half)
 
   -- nor twice as long in the middle of a cell that isn't the last
-  pub half_too_long : (b v : Bool) (bits s : List Bool) (n : ℕ) → greatest + greatest < n → Runs.Run least greatest v (Cells least greatest (b ∷ bits)) (replicate n v ++ s) → ⊥
+  pub half_too_long : (b v : Bool) (bits s : List Bool) (n : ℕ) → greatest + greatest < n
+      → Half sizes v (b ∷ bits) (replicate n v ++ s) → ⊥
   half_too_long b v bits s n long r =
-      let c = Runs.run_too_long least greatest positive v (Cells least greatest (b ∷ bits)) n s (omega arith) r in
+      let c = Runs.run_too_long ok v n s (omega arith) r in
       cell_too_long b v bits s c.1 (omega (arith, c.2, c.3)) c.4
 
   -- the high half of the last cell
-  pub last_too_long : (s : List Bool) (n : ℕ) → greatest < n → Runs.Run least greatest true Lows (replicate n true ++ s) → ⊥
+  pub last_too_long : (s : List Bool) (n : ℕ) → greatest < n → Half sizes true [] (replicate n true ++ s) → ⊥
   last_too_long s n long r =
-      let c = Runs.run_too_long least greatest positive true Lows n s long r in
+      let c = Runs.run_too_long ok true n s long r in
       go c.1 (omega (arith, c.2, c.3)) c.4
     where
       go : (k : ℕ) → 0 < k → Lows (replicate k true ++ s) → ⊥
       go zero some l = omega arith
       go (suc k) some l = let e : true ≡ false = lows_head true (replicate k true ++ s) l in cc
 
-  -- the run that begins at a cell's start ends at a change: it is the first half
-  pub cell_at_change : (b v : Bool) (bits s : List Bool) (n : ℕ) → 0 < n → Cells least greatest (b ∷ bits) (replicate n v ++ (not v ∷ s))
-      → (b ≡ not v) × (least ≤ n) × (n ≤ greatest) × Runs.Run least greatest (not v) (Cells least greatest bits) (not v ∷ s)
+  -- ---- a change of level
+
+  pub cell_at_change : (b v : Bool) (bits s : List Bool) (n : ℕ) → 0 < n
+      → Cells sizes (b ∷ bits) (replicate n v ++ (not v ∷ s)) → First sizes b v bits n s
   cell_at_change b v bits s n some r =
-      let half : v ≡ not b = Runs.run_head_of least greatest positive (not b) v (Runs.Run least greatest b (Cells least greatest bits)) n (not v ∷ s) some r in
-      let bit : b ≡ not v = sym (Runs.not_not b) ∙ ap not (sym half) in
-      let r' : Runs.Run least greatest v (Runs.Run least greatest (not v) (Cells least greatest bits)) (replicate n v ++ (not v ∷ s))
-      = subst (λ (x : Bool). Runs.Run least greatest v (Runs.Run least greatest x (Cells least greatest bits)) (replicate n v ++ (not v ∷ s))) bit
-      (subst (λ (x : Bool). Runs.Run least greatest x (Runs.Run least greatest b (Cells least greatest bits)) (replicate n v ++ (not v ∷ s))) (sym half) r) in
-      let c = Runs.run_at_change least greatest positive v (Runs.Run least greatest (not v) (Cells least greatest bits)) n s r' in
+      let half : v ≡ not b = Runs.run_head_of ok v n (not v ∷ s) some r in
+      let bit : b ≡ not v = sym (not-not b) ∙ ap not (sym half) in
+      let levels : List Bool = replicate n v ++ (not v ∷ s) in
+      let first : Run sizes v (Half sizes b bits) levels
+      = subst (λ (x : Bool). Run sizes x (Half sizes b bits) levels) (sym half) r in
+      let both : Run sizes v (Half sizes (not v) bits) levels
+      = subst (λ (x : Bool). Run sizes v (Half sizes x bits) levels) bit first in
+      let c = Runs.run_at_change ok v n s both in
       finish bit c.0 c.1 c.2 c.3 c.4 c.5
     where
       finish : b ≡ not v → (m k : ℕ) → least ≤ m → m ≤ greatest → n ≡ m + k
-          → Runs.Run least greatest (not v) (Cells least greatest bits) (replicate k v ++ (not v ∷ s))
-          → (b ≡ not v) × (least ≤ n) × (n ≤ greatest) × Runs.Run least greatest (not v) (Cells least greatest bits) (not v ∷ s)
+          → Half sizes (not v) bits (replicate k v ++ (not v ∷ s)) → First sizes b v bits n s
       finish bit m zero low high e p = (bit, omega arith, omega arith, p)
-      finish bit m (suc k) low high e p = absurd (Runs.not_same v (Runs.run_head least greatest positive (not v) v (Cells least greatest bits) (replicate k v ++ (not v ∷ s)) p))
+      finish bit m (suc k) low high e p = absurd (Runs.not_same v (Runs.run_head ok p))
 
-  -- lows have no change
-  pub lows_change : (v : Bool) (k : ℕ) (s : List Bool) → 0 < k → Lows (replicate k v ++ (not v ∷ s)) → ⊥
-  lows_change v zero s some l = omega arith
-  lows_change v (suc k) s some l = go k (lows_head v (replicate k v ++ (not v ∷ s)) l) (lows_tail v (replicate k v ++ (not v ∷ s)) l)
-    where
-      go : (k : ℕ) → v ≡ false → Lows (replicate k v ++ (not v ∷ s)) → ⊥
-      go zero e l = Runs.not_same v (e ∙ sym (lows_head (not v) s l))
-      go (suc k) e l = go k e (lows_tail v (replicate k v ++ (not v ∷ s)) l)
-
-  -- the run that begins in the middle of a cell ends at a change: it is a single half or a double one
-  abbrev pub Single : List Bool → Bool → ℕ → List Bool → Type 0
-  Single bits v n s = (least ≤ n) × (n ≤ greatest) × Cells least greatest bits (not v ∷ s)
-
-  abbrev pub Double : List Bool → Bool → ℕ → List Bool → Type 0
-  Double bits v n s = (todo : List Bool) × (bits ≡ not v ∷ todo) × (least + least ≤ n) × (n ≤ greatest + greatest)
-      × Runs.Run least greatest (not v) (Cells least greatest todo) (not v ∷ s)
-
-  pub half_at_change : (v : Bool) (bits s : List Bool) (n : ℕ) → Runs.Run least greatest v (Cells least greatest bits) (replicate n v ++ (not v ∷ s))
-      → Single bits v n s ⊎ Double bits v n s
+  pub half_at_change : (v : Bool) (bits s : List Bool) (n : ℕ) → Half sizes v bits (replicate n v ++ (not v ∷ s))
+      → Single sizes bits v n s ⊎ Double sizes bits v n s
   half_at_change v bits s n r =
-      let c = Runs.run_at_change least greatest positive v (Cells least greatest bits) n s r in
+      let c = Runs.run_at_change ok v n s r in
       go bits c.0 c.1 c.2 c.3 c.4 c.5
     where
-      go : (bits : List Bool) → (m k : ℕ) → least ≤ m → m ≤ greatest → n ≡ m + k → Cells least greatest bits (replicate k v ++ (not v ∷ s))
-          → Single bits v n s ⊎ Double bits v n s
+      go : (bits : List Bool) → (m k : ℕ) → least ≤ m → m ≤ greatest → n ≡ m + k
+          → Cells sizes bits (replicate k v ++ (not v ∷ s)) → Single sizes bits v n s ⊎ Double sizes bits v n s
       go bits m zero low high e p = inl (omega arith, omega arith, p)
-      go [] m (suc k) low high e p = absurd (lows_change v (suc k) s (omega arith) p)
+      go [] m (suc k) low high e p = absurd (lows_change v (suc k) s p (omega arith))
       go (b ∷ todo) m (suc k) low high e p =
           let c = cell_at_change b v todo s (suc k) (omega arith) p in
           inr (todo, ap (λ (x : Bool). x ∷ todo) c.0, omega (arith, c.1), omega (arith, c.2), c.3)
 
-  pub single_half : (v : Bool) (bits s : List Bool) (n : ℕ) → least ≤ n → n ≤ greatest → Cells least greatest bits s
-      → Runs.Run least greatest v (Cells least greatest bits) (replicate n v ++ s)
-  single_half v bits s n low high p = record { count = n; rest = s; at_least = low; at_most = high; whole = refl; then = p }
+  -- ---- half cells in front of levels
 
-  pub double_half : (v : Bool) (todo s : List Bool) (n : ℕ) → least ≤ greatest → least + least ≤ n → n ≤ greatest + greatest
-      → Runs.Run least greatest (not v) (Cells least greatest todo) s
-      → Runs.Run least greatest v (Cells least greatest (not v ∷ todo)) (replicate n v ++ s)
-  double_half v todo s n order low high p =
+  pub single_half : (v : Bool) (bits s : List Bool) (n : ℕ) → least ≤ n → n ≤ greatest → Cells sizes bits s
+      → Half sizes v bits (replicate n v ++ s)
+  single_half v bits s n low high p =
+      record { count = n; rest = s; at_least = low; at_most = high; whole = refl; then = p }
+
+  pub first_half : (v : Bool) (todo s : List Bool) (n : ℕ) → least ≤ n → n ≤ greatest → Half sizes (not v) todo s
+      → Cells sizes (not v ∷ todo) (replicate n v ++ s)
+  first_half v todo s n low high p = record {
+    count = n;
+    rest = s;
+    at_least = low;
+    at_most = high;
+    whole = ap (λ (x : Bool). replicate n x ++ s) (sym (not-not v));
+    then = p;
+  }
+
+  pub double_half : (v : Bool) (todo s : List Bool) (n : ℕ) → least + least ≤ n → n ≤ greatest + greatest
+      → Half sizes (not v) todo s → Half sizes v (not v ∷ todo) (replicate n v ++ s)
+  double_half v todo s n low high p =
       let m : ℕ = max least (n - greatest) in
       let k : ℕ = n - m in
       let e : n ≡ m + k = omega arith in
-      let second : Cells least greatest (not v ∷ todo) (replicate k v ++ s)
-      = record {
-        count = k;
-        rest = s;
-        at_least = omega arith;
-        at_most = omega arith;
-        whole = ap (λ (x : Bool). replicate k x ++ s) (sym (Runs.not_not v));
-        then = p;
-      } in
       record {
         count = m;
         rest = replicate k v ++ s;
         at_least = omega arith;
         at_most = omega arith;
         whole = ap (λ (j : ℕ). replicate j v ++ s) e ∙ sym (Runs.run_joined m k v s);
-        then = second;
+        then = first_half v todo s k (omega arith) (omega arith) p;
       }
 
-  pub first_half : (v : Bool) (todo s : List Bool) (n : ℕ) → least ≤ n → n ≤ greatest
-      → Runs.Run least greatest (not v) (Cells least greatest todo) s → Cells least greatest (not v ∷ todo) (replicate n v ++ s)
-  first_half v todo s n low high p =
-      record { count = n; rest = s; at_least = low; at_most = high; whole = ap (λ (x : Bool). replicate n x ++ s) (sym (Runs.not_not v)); then = p }
+  -- ---- lows before a word
 
-  -- the first low half joins the lows before it
-  pub lead_at_change : (todo s : List Bool) (n : ℕ) → Draws least greatest (true ∷ todo) (replicate n false ++ (true ∷ s))
-      → (least ≤ n) × Runs.Run least greatest true (Cells least greatest todo) (true ∷ s)
+  pub lead_at_change : (todo s : List Bool) (n : ℕ) → Draws sizes (true ∷ todo) (replicate n false ++ (true ∷ s))
+      → LowHalf sizes todo n s
   lead_at_change todo s n (a, rest, e, r) =
       let whole : replicate n false ++ (true ∷ s) ≡ replicate (a + r.count) false ++ r.rest
       = e ∙ ap (λ (t : List Bool). replicate a false ++ t) r.whole ∙ Runs.run_joined a r.count false r.rest in
       let c = Runs.cut (a + r.count) n false s r.rest whole in
-      go c.0 c.1 (subst (Runs.Run least greatest true (Cells least greatest todo)) c.2 r.then) r.at_least
+      go c.0 c.1 (subst (Half sizes true todo) c.2 r.then) r.at_least
     where
-      go : (k : ℕ) → n ≡ a + r.count + k → Runs.Run least greatest true (Cells least greatest todo) (replicate k false ++ (true ∷ s)) → least ≤ r.count
-          → (least ≤ n) × Runs.Run least greatest true (Cells least greatest todo) (true ∷ s)
+      go : (k : ℕ) → n ≡ a + r.count + k → Half sizes true todo (replicate k false ++ (true ∷ s)) → least ≤ r.count
+          → LowHalf sizes todo n s
       go zero e p low = (omega arith, p)
-      go (suc k) e p low = absurd (Runs.not_same false (Runs.run_head least greatest positive true false (Cells least greatest todo) (replicate k false ++ (true ∷ s)) p))
+      go (suc k) e p low = absurd (Runs.not_same false (Runs.run_head ok p))
 
-  pub lead_then : (todo s : List Bool) (n : ℕ) → least ≤ greatest → least ≤ n → Runs.Run least greatest true (Cells least greatest todo) s
-      → Draws least greatest (true ∷ todo) (replicate n false ++ s)
-  lead_then todo s n order low p =
+  pub lead_then : (todo s : List Bool) (n : ℕ) → least ≤ n → Half sizes true todo s
+      → Draws sizes (true ∷ todo) (replicate n false ++ s)
+  lead_then todo s n low p =
       let e : n ≡ (n - least) + least = omega arith in (
         n - least,
         replicate least false ++ s,
         ap (λ (j : ℕ). replicate j false ++ s) e ∙ sym (Runs.run_joined (n - least) least false s),
-        first_half false todo s least (omega arith) order p,
+        first_half false todo s least (omega arith) ok.order p,
       )
 
   -- lows alone are no word
-  pub lead_not_alone : (todo : List Bool) (n : ℕ) → Draws least greatest (true ∷ todo) (replicate n false) → ⊥
+  pub lead_not_alone : (todo : List Bool) (n : ℕ) → Draws sizes (true ∷ todo) (replicate n false) → ⊥
   lead_not_alone todo n (a, rest, e, r) = go a n e
     where
       go : (a n : ℕ) → replicate n false ≡ replicate a false ++ rest → ⊥
-      go zero n e = cells_not_alone true false todo n (subst (Cells least greatest (true ∷ todo)) (sym e) r)
+      go zero n e = cells_not_alone true false todo n (subst (Cells sizes (true ∷ todo)) (sym e) r)
       go (suc a) zero e = cc
-      go (suc a) (suc n) e = go a n (Runs.same_tail false false (replicate n false) (replicate a false ++ rest) e)
+      go (suc a) (suc n) e = go a n (Runs.same_tail e)

@@ -6,25 +6,26 @@ use Rattle.std.proofs.lemmas.Bool.{cond_both, cases_order, eqb-true, and_parts}
 use Rattle.vbi_words.specs.declared.system.System.{System}
 use Rattle.vbi_words.specs.declared.outcome.Outcome.{Outcome}
 use Rattle.vbi_words.specs.declared.outcome.Outcome.TheVariants.{Word, Blank, Unfinished, Change, Hold}
-use Rattle.vbi_words.specs.Geometry.{least_half, greatest_half}
-use Rattle.vbi_words.specs.Shows.{Shows, ShowsNone, Viable}
+use Rattle.vbi_words.specs.Geometry.{least_half}
+use Rattle.vbi_words.specs.Shows.{Viable}
 use Rattle.vbi_words.specs.Levels.{level_at}
 use Rattle.vbi_words.specs.Outcomes.{FirstHopeless, Holds, IsOutcome}
 use Rattle.vbi_words.proofs.Machine
 use Rattle.vbi_words.proofs.Machine.{State, lead, first, second, tail, dead, level_of, is_lead}
+use Rattle.vbi_words.proofs.SystemMachine.{IsFit, ending_of, state_after, state_at, fit_after}
 use Rattle.vbi_words.proofs.Shown
-use Rattle.vbi_words.proofs.Shown.{state_after, ending_of}
+use Rattle.vbi_words.proofs.Shown.{WordBits}
 use Rattle.vbi_words.proofs.Outcomes
+use Rattle.vbi_words.proofs.Outcomes.{DiesAt, GoesOn}
 
 -- ---- at most one
 
-no_word : (system : System) (levels : List Bool) (o : Outcome) (w : ℕ) → Shows system levels w → ShowsNone system levels → Word w ≡ o
-no_word system levels o w s none = absurd (none w s)
-
-not_hopeless : (system : System) (levels : List Bool) (c : ℕ) → Viable system levels → FirstHopeless system levels c → ⊥
+not_hopeless : (system : System) (levels : List Bool) (c : ℕ) → Viable system levels → FirstHopeless system levels c
+    → ⊥
 not_hopeless system levels c v h = h.hopeless (Shown.viable_take system levels (c + 1) v)
 
-same_column : (system : System) (levels : List Bool) (c d : ℕ) → FirstHopeless system levels c → FirstHopeless system levels d → c ≡ d
+same_column : (system : System) (levels : List Bool) (c d : ℕ) → FirstHopeless system levels c
+    → FirstHopeless system levels d → c ≡ d
 same_column system levels c d h k = go (cases_order c d)
   where
     go : (c ≡ d) ⊎ ((c < d) ⊎ (d < c)) → c ≡ d
@@ -32,7 +33,13 @@ same_column system levels c d h k = go (cases_order c d)
     go (inr (inl l)) = absurd (h.hopeless (k.before c l))
     go (inr (inr l)) = absurd (k.hopeless (h.before d l))
 
-pub one_outcome : (system : System) (levels : List Bool) (o p : Outcome) → IsOutcome system levels o → IsOutcome system levels p → o ≡ p
+-- one column isn't a change and a hold
+not_both : (system : System) (levels : List Bool) (c d : ℕ) → IsOutcome system levels (Change c)
+    → IsOutcome system levels (Hold d) → ⊥
+not_both system levels c d s t = s.3 (subst (Holds levels) (same_column system levels d c t.2 s.2) t.3)
+
+pub one_outcome : (system : System) (levels : List Bool) (o p : Outcome) → IsOutcome system levels o
+    → IsOutcome system levels p → o ≡ p
 one_outcome system levels (Word v) (Word w) s t = ap Word (Shown.one_word system levels v w s t)
 one_outcome system levels (Word v) Blank s t = absurd (t.0 v s)
 one_outcome system levels (Word v) Unfinished s t = absurd (t.0 v s)
@@ -52,60 +59,89 @@ one_outcome system levels (Change c) (Word w) s t = absurd (s.0 w t)
 one_outcome system levels (Change c) Blank s t = absurd (s.1 t.1)
 one_outcome system levels (Change c) Unfinished s t = absurd (not_hopeless system levels c t.2 s.2)
 one_outcome system levels (Change c) (Change d) s t = ap Change (same_column system levels c d s.2 t.2)
-one_outcome system levels (Change c) (Hold d) s t = absurd (s.3 (subst (Holds levels) (same_column system levels d c t.2 s.2) t.3))
+one_outcome system levels (Change c) (Hold d) s t = absurd (not_both system levels c d s t)
 one_outcome system levels (Hold c) (Word w) s t = absurd (s.0 w t)
 one_outcome system levels (Hold c) Blank s t = absurd (s.1 t.1)
 one_outcome system levels (Hold c) Unfinished s t = absurd (not_hopeless system levels c t.2 s.2)
-one_outcome system levels (Hold c) (Change d) s t = absurd (t.3 (subst (Holds levels) (same_column system levels c d s.2 t.2) s.3))
+one_outcome system levels (Hold c) (Change d) s t = absurd (not_both system levels d c t s)
 one_outcome system levels (Hold c) (Hold d) s t = ap Hold (same_column system levels c d s.2 t.2)
 
 -- ---- and one
 
--- the machine dies at one of the first n levels, or is alive behind them
-abbrev Dies : System → List Bool → Type 0
-Dies system levels = (c : ℕ) × (c < length levels) × (state_after system (take c levels) ≡ dead → ⊥) × (state_after system (take (c + 1) levels) ≡ dead)
-
-watch : (system : System) (levels : List Bool) (n : ℕ) → n ≤ length levels → Dies system levels ⊎ (state_after system (take n levels) ≡ dead → ⊥)
-watch system levels zero l = inr (λ e. cc)
-watch system levels (suc n) l = go (watch system levels n (omega arith)) (Machine.is_dead (state_after system (take (n + 1) levels)))
-  where
-    go : Dies system levels ⊎ (state_after system (take n levels) ≡ dead → ⊥) → (state_after system (take (n + 1) levels) ≡ dead) ⊎ (state_after system (take (n + 1) levels) ≡ dead → ⊥)
-        → Dies system levels ⊎ (state_after system (take (suc n) levels) ≡ dead → ⊥)
-    go (inl d) now = inl d
-    go (inr alive) (inl dies) = inl (n, omega arith, alive, dies)
-    go (inr alive) (inr living) = inr (λ e. living (ap (λ (k : ℕ). state_after system (take k levels)) (add-one n) ∙ e))
-
-ended_bits : (system : System) (state : State) (bits : List Bool) → Machine.Fit (least_half system) (greatest_half system) 24 state → ending_of system state ≡ Some bits → Shown.WordBits bits
+-- the bits with which the machine ends are those of a word
+ended_bits : (system : System) (state : State) (bits : List Bool) → IsFit system state
+    → ending_of system state ≡ Some bits → WordBits bits
 ended_bits system (lead n) bits fit e = cc
 ended_bits system (first v n done) bits fit e = cc
 ended_bits system (second v n done) bits fit e =
-    cond_both (eqb (length done) 24 && leb (least_half system) n) (Some done) None (λ o. o ≡ Some bits → Shown.WordBits bits)
-    (λ t f. let same : done ≡ bits = cc in subst Shown.WordBits same (eqb-true (length done) 24 (and_parts (eqb (length done) 24) (leb (least_half system) n) t).0, fit.3))
+    cond_both (full && leb (least_half system) n) (Some done) None (λ o. o ≡ Some bits → WordBits bits)
+    (λ t f. let same : done ≡ bits = cc in
+    let all : length done ≡ 24 = eqb-true (length done) 24 (and_parts full (leb (least_half system) n) t).0 in
+    subst WordBits same (all, fit.3))
     (λ t f. cc) e
-ended_bits system (tail done) bits fit e = let same : done ≡ bits = cc in subst Shown.WordBits same fit
+  where
+    full : Bool
+    full = eqb (length done) 24
+ended_bits system (tail done) bits fit e = let same : done ≡ bits = cc in subst WordBits same fit
 ended_bits system dead bits fit e = cc
+
+module _ (system : System) (levels : List Bool) where
+  -- some outcome of the levels
+  abbrev SomeOutcome : Type 0
+  SomeOutcome = (o : Outcome) × IsOutcome system levels o
+
+  -- the machine dies at one of the first n levels, or is alive behind them
+  abbrev Watched : ℕ → Type 0
+  Watched n = ((c : ℕ) × DiesAt system levels c) ⊎ (state_at system levels n ≡ dead → ⊥)
+
+  watch : (n : ℕ) → n ≤ length levels → Watched n
+  watch zero l = inr (λ e. cc)
+  watch (suc n) l = go (watch n (omega arith)) (Machine.is_dead (state_at system levels (n + 1)))
+    where
+      go : Watched n → (state_at system levels (n + 1) ≡ dead) ⊎ (state_at system levels (n + 1) ≡ dead → ⊥)
+          → Watched (suc n)
+      go (inl d) now = inl d
+      go (inr alive) (inl dies) = inl (n, record { within = omega arith; alive = alive; dies = dies })
+      go (inr alive) (inr living) = inr (λ e. living (ap (state_at system levels) (add-one n) ∙ e))
+
+  -- where the machine dies
+  at_death : (c : ℕ) → DiesAt system levels c → (a b : Bool) → level_at levels c ≡ a
+      → level_of (state_at system levels c) ≡ b → SomeOutcome
+  at_death c there a b e f = go a b e f
+    where
+      held : GoesOn system levels c → SomeOutcome
+      held same = (Hold c, Outcomes.hold_outcome system levels c there same)
+
+      changed : (GoesOn system levels c → ⊥) → SomeOutcome
+      changed differs = (Change c, Outcomes.change_outcome system levels c there differs)
+
+      go : (a b : Bool) → level_at levels c ≡ a → level_of (state_at system levels c) ≡ b → SomeOutcome
+      go true true e f = held (e ∙ sym f)
+      go true false e f = changed (λ s. let x : true ≡ false = sym e ∙ s ∙ f in cc)
+      go false true e f = changed (λ s. let x : false ≡ true = sym e ∙ s ∙ f in cc)
+      go false false e f = held (e ∙ sym f)
+
+  -- where it is alive at the end
+  at_end : (state_after system levels ≡ dead → ⊥) → (o : Option (List Bool)) (b : Bool)
+      → ending_of system (state_after system levels) ≡ o → is_lead (state_after system levels) ≡ b → SomeOutcome
+  at_end alive (Some bits) b e f =
+      let fit = fit_after system levels in
+      let w = Shown.word_of bits (ended_bits system (state_after system levels) bits fit e) in
+      (Word w.0, Outcomes.word_outcome system levels w.0 w.1 (e ∙ ap Some (sym w.2)))
+  at_end alive None true e f = (Blank, Outcomes.blank_outcome system levels f)
+  at_end alive None false e f = (Unfinished, Outcomes.unfinished_outcome system levels alive f e)
 
 pub found : (system : System) (levels : List Bool) → (o : Outcome) × IsOutcome system levels o
 found system levels = go (watch system levels (length levels) (omega arith))
   where
+    state : State
+    state = state_after system levels
+
     all : take (length levels) levels ≡ levels
     all = take_all (length levels) levels (omega arith)
 
-    end : (state_after system levels ≡ dead → ⊥) → (o : Option (List Bool)) → ending_of system (state_after system levels) ≡ o → (b : Bool) → is_lead (state_after system levels) ≡ b
-        → (o : Outcome) × IsOutcome system levels o
-    end alive (Some bits) e b f =
-        let w = Shown.word_of bits (ended_bits system (state_after system levels) bits (Shown.fit_after system levels) e) in
-        (Word w.0, Outcomes.word_outcome system levels w.0 w.1 (e ∙ ap Some (sym w.2)))
-    end alive None e true f = (Blank, Outcomes.blank_outcome system levels f)
-    end alive None e false f = (Unfinished, Outcomes.unfinished_outcome system levels alive f e)
-
-    held : (c : ℕ) (within : c < length levels) (alive : state_after system (take c levels) ≡ dead → ⊥) (dies : state_after system (take (c + 1) levels) ≡ dead)
-        → (a b : Bool) → level_at levels c ≡ a → level_of (state_after system (take c levels)) ≡ b → (o : Outcome) × IsOutcome system levels o
-    held c within alive dies true true e f = (Hold c, Outcomes.hold_outcome system levels c within alive dies (e ∙ sym f))
-    held c within alive dies true false e f = (Change c, Outcomes.change_outcome system levels c within alive dies (λ s. let x : true ≡ false = sym e ∙ s ∙ f in cc))
-    held c within alive dies false true e f = (Change c, Outcomes.change_outcome system levels c within alive dies (λ s. let x : false ≡ true = sym e ∙ s ∙ f in cc))
-    held c within alive dies false false e f = (Hold c, Outcomes.hold_outcome system levels c within alive dies (e ∙ sym f))
-
-    go : Dies system levels ⊎ (state_after system (take (length levels) levels) ≡ dead → ⊥) → (o : Outcome) × IsOutcome system levels o
-    go (inl (c, within, alive, dies)) = held c within alive dies (level_at levels c) (level_of (state_after system (take c levels))) refl refl
-    go (inr alive) = end (λ e. alive (ap (λ (t : List Bool). state_after system t) all ∙ e)) (ending_of system (state_after system levels)) refl (is_lead (state_after system levels)) refl
+    go : Watched system levels (length levels) → (o : Outcome) × IsOutcome system levels o
+    go (inl (c, there)) =
+        at_death system levels c there (level_at levels c) (level_of (state_at system levels c)) refl refl
+    go (inr alive) = at_end system levels (λ e. alive (ap (state_after system) all ∙ e)) (ending_of system state)
+        (is_lead state) refl refl

@@ -1,164 +1,87 @@
 -- A field has one format.
-use Rattle.std.proofs.Common.{◌≡◌, ℕ, Bool, true, false, List, Option, Some, None, Any, refl, ap, sym, ◌∙◌}
+use Rattle.std.proofs.Common.{◌≡◌, ℕ, Bool, true, false, List, Option, Some, None, Any, IsTrue, ◌↔◌}
+use Rattle.std.proofs.Common.{refl, ap, sym, ◌∙◌, subst}
 use Rattle.std.specs.List.{list_any}
 use Rattle.std.proofs.lemmas.List.Folds.{Any-from_list_any, list_any_at}
 use Rattle.vbi_words.specs.declared.code.Code.{Code}
-use Rattle.vbi_words.specs.declared.code.Code.TheVariants.{Picture, Chapter, Time, ClvPicture, CxOn, CxOff}
-use Rattle.vbi_words.specs.declared.code.Code.TheVariants.{Users, LeadIn, LeadOut, PictureStop, ClvMark, Other}
 use Rattle.vbi_words.specs.declared.format.Format.{Format}
 use Rattle.vbi_words.specs.declared.format.Format.TheVariants.{Cav, Clv, Both, Neither}
-use Rattle.vbi_words.specs.CodeTable.{code_of, has_code, is_cav_code, is_clv_code, format_from, format_of_lines}
-use Rattle.vbi_words.specs.Formats.{IsCavCode, IsClvCode, IsCavLine, IsClvLine, IsFormat}
+use Rattle.vbi_words.specs.CodeTable.{code_of}
+use Rattle.vbi_words.specs.Formats.{is_cav_code, is_clv_code, HasCode, names_cav, names_clv, IsFormat}
+use Rattle.vbi_words.specs.Formats.{has_code, format_from, format_of_lines}
 use Rattle.vbi_words.proofs.OneCode.{code_of_is, only_code_of}
 
--- ---- codes
+-- ---- lines with a code that passes the test
 
-cav_from : (code : Code) → is_cav_code code ≡ true → IsCavCode code
-cav_from (Picture n) e = tt
-cav_from PictureStop e = tt
-cav_from LeadIn e = absurd cc
-cav_from LeadOut e = absurd cc
-cav_from (Chapter n) e = absurd cc
-cav_from ClvMark e = absurd cc
-cav_from (Time h m) e = absurd cc
-cav_from (ClvPicture s p) e = absurd cc
-cav_from (CxOn n) e = absurd cc
-cav_from (CxOff n) e = absurd cc
-cav_from (Users d n) e = absurd cc
-cav_from Other e = absurd cc
+module _ (test : Code → Bool) where
+  line_from : (line : Option ℕ) → has_code test line ≡ true → HasCode test line
+  line_from None e = absurd cc
+  line_from (Some word) e = (code_of word, code_of_is word, e)
 
-cav_to : (code : Code) → IsCavCode code → is_cav_code code ≡ true
-cav_to (Picture n) x = refl
-cav_to PictureStop x = refl
-cav_to LeadIn x = absurd x
-cav_to LeadOut x = absurd x
-cav_to (Chapter n) x = absurd x
-cav_to ClvMark x = absurd x
-cav_to (Time h m) x = absurd x
-cav_to (ClvPicture s p) x = absurd x
-cav_to (CxOn n) x = absurd x
-cav_to (CxOff n) x = absurd x
-cav_to (Users d n) x = absurd x
-cav_to Other x = absurd x
+  line_to : (line : Option ℕ) → HasCode test line → has_code test line ≡ true
+  line_to None x = absurd x
+  line_to (Some word) (code, is, e) = ap test (sym (only_code_of word code is)) ∙ e
 
-clv_from : (code : Code) → is_clv_code code ≡ true → IsClvCode code
-clv_from ClvMark e = tt
-clv_from (Time h m) e = tt
-clv_from (ClvPicture s p) e = tt
-clv_from (Picture n) e = absurd cc
-clv_from PictureStop e = absurd cc
-clv_from LeadIn e = absurd cc
-clv_from LeadOut e = absurd cc
-clv_from (Chapter n) e = absurd cc
-clv_from (CxOn n) e = absurd cc
-clv_from (CxOff n) e = absurd cc
-clv_from (Users d n) e = absurd cc
-clv_from Other e = absurd cc
+  any_from : (lines : List (Option ℕ)) → list_any (has_code test) lines ≡ true → Any (HasCode test) lines
+  any_from lines e = go (Any-from_list_any (has_code test) lines e)
+    where
+      go : Any (λ line. has_code test line ≡ true) lines → Any (HasCode test) lines
+      go (k, x, l, here, h) = (k, x, l, here, line_from x h)
 
-clv_to : (code : Code) → IsClvCode code → is_clv_code code ≡ true
-clv_to ClvMark x = refl
-clv_to (Time h m) x = refl
-clv_to (ClvPicture s p) x = refl
-clv_to (Picture n) x = absurd x
-clv_to PictureStop x = absurd x
-clv_to LeadIn x = absurd x
-clv_to LeadOut x = absurd x
-clv_to (Chapter n) x = absurd x
-clv_to (CxOn n) x = absurd x
-clv_to (CxOff n) x = absurd x
-clv_to (Users d n) x = absurd x
-clv_to Other x = absurd x
+  any_to : (lines : List (Option ℕ)) → Any (HasCode test) lines → list_any (has_code test) lines ≡ true
+  any_to lines (k, x, l, here, h) = list_any_at (has_code test) lines k x l (ap (has_code test) here ∙ line_to x h)
 
--- ---- lines
+  any_code : (lines : List (Option ℕ)) → IsTrue (list_any (has_code test) lines) ↔ Any (HasCode test) lines
+  any_code lines = (any_from lines, any_to lines)
 
-cav_line_from : (line : Option ℕ) → has_code is_cav_code line ≡ true → IsCavLine line
-cav_line_from None e = absurd cc
-cav_line_from (Some word) e = (code_of word, code_of_is word, cav_from (code_of word) e)
-
-cav_line_to : (line : Option ℕ) → IsCavLine line → has_code is_cav_code line ≡ true
-cav_line_to None x = absurd x
-cav_line_to (Some word) (code, is, cav) = ap is_cav_code (sym (only_code_of word code is)) ∙ cav_to code cav
-
-clv_line_from : (line : Option ℕ) → has_code is_clv_code line ≡ true → IsClvLine line
-clv_line_from None e = absurd cc
-clv_line_from (Some word) e = (code_of word, code_of_is word, clv_from (code_of word) e)
-
-clv_line_to : (line : Option ℕ) → IsClvLine line → has_code is_clv_code line ≡ true
-clv_line_to None x = absurd x
-clv_line_to (Some word) (code, is, clv) = ap is_clv_code (sym (only_code_of word code is)) ∙ clv_to code clv
-
--- ---- lists of lines
-
-any_from : (test : Option ℕ → Bool) (P : Option ℕ → Type 0) → ((line : Option ℕ) → test line ≡ true → P line)
-    → (lines : List (Option ℕ)) → list_any test lines ≡ true → Any P lines
-any_from test P each lines e = go (Any-from_list_any test lines e)
-  where
-    go : Any (λ line. test line ≡ true) lines → Any P lines
-    go (k, x, l, here, h) = (k, x, l, here, each x h)
-
-any_to : (test : Option ℕ → Bool) (P : Option ℕ → Type 0) → ((line : Option ℕ) → P line → test line ≡ true)
-    → (lines : List (Option ℕ)) → Any P lines → list_any test lines ≡ true
-any_to test P each lines (k, x, l, here, h) = list_any_at test lines k x l (ap test here ∙ each x h)
-
-not_any : (test : Option ℕ → Bool) (P : Option ℕ → Type 0) → ((line : Option ℕ) → test line ≡ true → P line)
-    → (lines : List (Option ℕ)) → (Any P lines → ⊥) → list_any test lines ≡ false
-not_any test P each lines none = go (list_any test lines) refl
-  where
-    go : (b : Bool) → list_any test lines ≡ b → b ≡ false
-    go true e = absurd (none (any_from test P each lines e))
-    go false e = refl
-
-any_none : (test : Option ℕ → Bool) (P : Option ℕ → Type 0) → ((line : Option ℕ) → P line → test line ≡ true)
-    → (lines : List (Option ℕ)) → list_any test lines ≡ false → Any P lines → ⊥
-any_none test P each lines e x = let h : list_any test lines ≡ true = any_to test P each lines x in absurd cc
+-- two tests of one fact are the same
+same_test : (a b : Bool) (P : Type 0) → IsTrue a ↔ P → IsTrue b ↔ P → a ≡ b
+same_test true true P x y = refl
+same_test true false P x y = sym (y.1 (x.0 refl))
+same_test false true P x y = x.1 (y.0 refl)
+same_test false false P x y = refl
 
 -- ---- the format
 
-abbrev cav : List (Option ℕ) → Bool
-cav lines = list_any (has_code is_cav_code) lines
+cav_named : (a b : Bool) → names_cav (format_from a b) ≡ a
+cav_named true true = refl
+cav_named true false = refl
+cav_named false true = refl
+cav_named false false = refl
 
-abbrev clv : List (Option ℕ) → Bool
-clv lines = list_any (has_code is_clv_code) lines
+clv_named : (a b : Bool) → names_clv (format_from a b) ≡ b
+clv_named true true = refl
+clv_named true false = refl
+clv_named false true = refl
+clv_named false false = refl
 
-some_cav : (lines : List (Option ℕ)) → Any IsCavLine lines → cav lines ≡ true
-some_cav lines x = any_to (has_code is_cav_code) IsCavLine cav_line_to lines x
-
-some_clv : (lines : List (Option ℕ)) → Any IsClvLine lines → clv lines ≡ true
-some_clv lines x = any_to (has_code is_clv_code) IsClvLine clv_line_to lines x
-
-no_cav : (lines : List (Option ℕ)) → (Any IsCavLine lines → ⊥) → cav lines ≡ false
-no_cav lines x = not_any (has_code is_cav_code) IsCavLine cav_line_from lines x
-
-no_clv : (lines : List (Option ℕ)) → (Any IsClvLine lines → ⊥) → clv lines ≡ false
-no_clv lines x = not_any (has_code is_clv_code) IsClvLine clv_line_from lines x
-
-has_cav : (lines : List (Option ℕ)) → cav lines ≡ true → Any IsCavLine lines
-has_cav lines e = any_from (has_code is_cav_code) IsCavLine cav_line_from lines e
-
-has_clv : (lines : List (Option ℕ)) → clv lines ≡ true → Any IsClvLine lines
-has_clv lines e = any_from (has_code is_clv_code) IsClvLine clv_line_from lines e
-
-lacks_cav : (lines : List (Option ℕ)) → cav lines ≡ false → Any IsCavLine lines → ⊥
-lacks_cav lines e = any_none (has_code is_cav_code) IsCavLine cav_line_to lines e
-
-lacks_clv : (lines : List (Option ℕ)) → clv lines ≡ false → Any IsClvLine lines → ⊥
-lacks_clv lines e = any_none (has_code is_clv_code) IsClvLine clv_line_to lines e
+-- a format is known by the kinds of code that it names
+by_names : (format : Format) → format ≡ format_from (names_cav format) (names_clv format)
+by_names Cav = refl
+by_names Clv = refl
+by_names Both = refl
+by_names Neither = refl
 
 -- the function gives the field's format
 pub format_is : (lines : List (Option ℕ)) → IsFormat lines (format_of_lines lines)
 unfolding format_of_lines
-format_is lines = go (cav lines) (clv lines) refl refl
-  where
-    go : (a b : Bool) → cav lines ≡ a → clv lines ≡ b → IsFormat lines (format_from a b)
-    go true true x y = (has_cav lines x, has_clv lines y)
-    go true false x y = (has_cav lines x, lacks_clv lines y)
-    go false true x y = (lacks_cav lines x, has_clv lines y)
-    go false false x y = (lacks_cav lines x, lacks_clv lines y)
+format_is lines =
+    let cav : Bool = list_any (has_code is_cav_code) lines in
+    let clv : Bool = list_any (has_code is_clv_code) lines in
+    record {
+      cav = subst (λ (b : Bool). IsTrue b ↔ Any (HasCode is_cav_code) lines) (sym (cav_named cav clv))
+          (any_code is_cav_code lines);
+      clv = subst (λ (b : Bool). IsTrue b ↔ Any (HasCode is_clv_code) lines) (sym (clv_named cav clv))
+          (any_code is_clv_code lines);
+    }
 
 -- a field's format is what the function gives
 pub only_format : (lines : List (Option ℕ)) (format : Format) → IsFormat lines format → format ≡ format_of_lines lines
 unfolding format_of_lines
-only_format lines Both (x, y) = sym (rw (some_cav lines x, some_clv lines y) refl)
-only_format lines Cav (x, y) = sym (rw (some_cav lines x, no_clv lines y) refl)
-only_format lines Clv (x, y) = sym (rw (no_cav lines x, some_clv lines y) refl)
-only_format lines Neither (x, y) = sym (rw (no_cav lines x, no_clv lines y) refl)
+only_format lines format x =
+    let cav : names_cav format ≡ list_any (has_code is_cav_code) lines = same_test (names_cav format)
+    (list_any (has_code is_cav_code) lines) (Any (HasCode is_cav_code) lines) x.cav (any_code is_cav_code lines) in
+    let clv : names_clv format ≡ list_any (has_code is_clv_code) lines = same_test (names_clv format)
+    (list_any (has_code is_clv_code) lines) (Any (HasCode is_clv_code) lines) x.clv (any_code is_clv_code lines) in
+    by_names format ∙ ap (λ (b : Bool). format_from b (names_clv format)) cav
+    ∙ ap (format_from (list_any (has_code is_cav_code) lines)) clv

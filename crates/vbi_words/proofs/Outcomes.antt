@@ -1,111 +1,98 @@
 -- What the machine says of the outcome of a list of levels.
-use Rattle.std.proofs.Common.{◌≡◌, ℕ, suc, zero, ◌<◌, ◌+◌, ◌-◌, Bool, true, false, List, [], ◌∷◌, Some}
-use Rattle.std.proofs.Common.{None, refl, ap, sym, ◌∙◌, subst, arith, length, take, drop, get_or}
-use Rattle.std.proofs.Math.ListN.{take-append-drop}
-use Rattle.std.proofs.lemmas.List.{take_more, take-take}
+use Rattle.std.proofs.Common.{◌≡◌, ℕ, suc, zero, ◌<◌, ◌+◌, ◌-◌, Bool, true, false, List}
+use Rattle.std.proofs.Common.{None, refl, ap, sym, ◌∙◌, subst, arith, length, take}
+use Rattle.std.proofs.lemmas.List.{take-take}
 use Rattle.vbi_words.specs.declared.system.System.{System}
 use Rattle.vbi_words.specs.declared.outcome.Outcome.TheVariants.{Word, Blank, Unfinished, Change, Hold}
-use Rattle.vbi_words.specs.Geometry.{least_half, greatest_half}
-use Rattle.vbi_words.specs.Words.{IsWord, lowest_bits}
+use Rattle.vbi_words.specs.Words.{IsWord}
 use Rattle.vbi_words.specs.Shows.{ShowsNone, Viable}
 use Rattle.vbi_words.specs.Levels.{level_at}
 use Rattle.vbi_words.specs.Outcomes.{AllLow, FirstHopeless, Holds, IsOutcome}
+use Rattle.vbi_words.proofs.Sizes.{sizes_of}
 use Rattle.vbi_words.proofs.Machine
 use Rattle.vbi_words.proofs.Machine.{State, lead, first, second, tail, dead, level_of, is_lead}
+use Rattle.vbi_words.proofs.SystemMachine.{next_of, ending_of, state_after, state_at, state_next, dead_later}
 use Rattle.vbi_words.proofs.Shown
-use Rattle.vbi_words.proofs.Shown.{state_after, ending_of}
-
--- the state after one more level
-pub after_one : (system : System) (levels : List Bool) (i : ℕ) → i < length levels
-    → state_after system (take (i + 1) levels) ≡ Machine.next (least_half system) (greatest_half system) 24 (state_after system (take i levels)) (get_or levels i false)
-after_one system levels i within =
-    ap (λ (t : List Bool). state_after system t) (take_more levels i false within)
-    ∙ Machine.after-append (least_half system) (greatest_half system) 24 (lead 0) (take i levels) (get_or levels i false ∷ [])
-
--- the machine is dead once it was
-dead_later : (system : System) (levels : List Bool) (n : ℕ) → state_after system (take n levels) ≡ dead → state_after system levels ≡ dead
-dead_later system levels n e =
-    ap (λ (t : List Bool). state_after system t) (sym (take-append-drop n levels))
-    ∙ Machine.after-append (least_half system) (greatest_half system) 24 (lead 0) (take n levels) (drop n levels)
-    ∙ ap (λ (s : State). Machine.after (least_half system) (greatest_half system) 24 s (drop n levels)) e
-    ∙ Machine.dead_after (least_half system) (greatest_half system) 24 (drop n levels)
 
 dead_none : (system : System) (levels : List Bool) → state_after system levels ≡ dead → ShowsNone system levels
-dead_none system levels e = Shown.ended_none system levels (ap (λ (s : State). ending_of system s) e)
+dead_none system levels e = Shown.ended_none system levels (ap (ending_of system) e)
 
 dead_high : (system : System) (levels : List Bool) → state_after system levels ≡ dead → AllLow levels → ⊥
 dead_high system levels e low = let f : false ≡ true = ap is_lead (sym e) ∙ Shown.low_lead system levels low in cc
 
-module _ (system : System) (levels : List Bool) (c : ℕ) (within : c < length levels)
-    (alive : state_after system (take c levels) ≡ dead → ⊥) (dies : state_after system (take (c + 1) levels) ≡ dead) where
+-- a state that isn't dead has the level of the column before it
+level_before : (system : System) (levels : List Bool) (k : ℕ) → k < length levels
+    → (state_at system levels (k + 1) ≡ dead → ⊥) → level_of (state_at system levels (k + 1)) ≡ level_at levels k
+level_before system levels k within alive =
+    let last = state_next system levels k within in
+    ap level_of last
+    ∙ Machine.next_level (sizes_of system) (state_at system levels k) (level_at levels k) (λ d. alive (last ∙ d))
+
+-- the machine dies at column c
+pub record DiesAt (system : System) (levels : List Bool) (c : ℕ) : Type 0 where
+  pub within : c < length levels
+  pub alive : state_at system levels c ≡ dead → ⊥
+  pub dies : state_at system levels (c + 1) ≡ dead
+
+-- the level at column c is that of the machine's last run
+abbrev pub GoesOn : System → List Bool → ℕ → Type 0
+GoesOn system levels c = level_at levels c ≡ level_of (state_at system levels c)
+
+module _ (system : System) (levels : List Bool) (c : ℕ) (there : DiesAt system levels c) where
   hopeless : FirstHopeless system levels c
   hopeless = record {
-    inside = within;
-    before = λ d l. subst (Viable system) (shorter d l) (Shown.viable_take system (take c levels) (d + 1) (Shown.alive_viable system (take c levels) alive));
-    hopeless = λ v. Shown.viable_alive system (take (c + 1) levels) v dies;
+    inside = there.within;
+    before = λ d l. subst (Viable system) (take-take (d + 1) c levels (omega arith))
+        (Shown.viable_take system (take c levels) (d + 1) living);
+    hopeless = λ v. Shown.viable_alive system (take (c + 1) levels) v there.dies;
   }
     where
-      shorter : (d : ℕ) → d < c → take (d + 1) (take c levels) ≡ take (d + 1) levels
-      shorter d l = take-take (d + 1) c levels (omega arith)
+      living : Viable system (take c levels)
+      living = Shown.alive_viable system (take c levels) there.alive
 
   gone : state_after system levels ≡ dead
-  gone = dead_later system levels (c + 1) dies
+  gone = dead_later system levels (c + 1) there.dies
 
-  pub hold_outcome : level_at levels c ≡ level_of (state_after system (take c levels)) → IsOutcome system levels (Hold c)
+  -- behind the first column, the machine's last run has the level of the column before
+  run_level : (k : ℕ) → k + 1 ≡ c → level_of (state_at system levels c) ≡ level_at levels (c - 1)
+  run_level k e =
+      let inside = there.within in
+      let minus : k ≡ c - 1 = omega arith in
+      let alive : state_at system levels (k + 1) ≡ dead → ⊥
+      = λ d. there.alive (ap (state_at system levels) (sym e) ∙ d) in
+      ap (λ (j : ℕ). level_of (state_at system levels j)) (sym e) ∙ level_before system levels k (omega arith) alive
+      ∙ ap (level_at levels) minus
+
+  -- the first column isn't that of a death by a low level
+  not_first : 0 ≡ c → GoesOn system levels c → ⊥
+  not_first e same =
+      let start : state_at system levels c ≡ lead 0 = ap (state_at system levels) (sym e) in
+      let low : level_at levels c ≡ false = same ∙ ap level_of start in
+      let next : state_at system levels (c + 1) ≡ lead 1 = state_next system levels c there.within
+      ∙ ap (λ (s : State). next_of system s (level_at levels c)) start ∙ ap (next_of system (lead 0)) low in
+      let bad : dead ≡ lead 1 = sym there.dies ∙ next in cc
+
+  pub hold_outcome : GoesOn system levels c → IsOutcome system levels (Hold c)
   hold_outcome same = (dead_none system levels gone, dead_high system levels gone, hopeless, held c refl)
     where
       held : (k : ℕ) → k ≡ c → Holds levels c
-      held zero e =
-          let start : state_after system (take c levels) ≡ lead 0 = ap (λ (j : ℕ). state_after system (take j levels)) (sym e) in
-          let low : level_at levels c ≡ false = same ∙ ap level_of start in
-          let next : state_after system (take (c + 1) levels) ≡ lead 1 = after_one system levels c within
-          ∙ ap (λ (s : State). Machine.next (least_half system) (greatest_half system) 24 s (get_or levels c false)) start
-          ∙ ap (λ (b : Bool). Machine.next (least_half system) (greatest_half system) 24 (lead 0) b) low in
-          let bad : dead ≡ lead 1 = sym dies ∙ next in cc
-      held (suc k) e =
-          (omega arith, same ∙ before)
-        where
-          at : c ≡ k + 1
-          at = omega arith
+      held zero e = absurd (not_first e same)
+      held (suc k) e = (omega arith, same ∙ run_level k (omega arith))
 
-          minus : c - 1 ≡ k
-          minus = omega arith
-
-          last : state_after system (take c levels) ≡ Machine.next (least_half system) (greatest_half system) 24 (state_after system (take k levels)) (get_or levels k false)
-          last = ap (λ (j : ℕ). state_after system (take j levels)) at ∙ after_one system levels k (omega arith)
-
-          before : level_of (state_after system (take c levels)) ≡ level_at levels (c - 1)
-          before = ap level_of last
-              ∙ Machine.next_level (least_half system) (greatest_half system) 24 (state_after system (take k levels)) (get_or levels k false) (λ d. alive (last ∙ d))
-              ∙ ap (λ (j : ℕ). level_at levels j) (sym minus)
-
-  pub change_outcome : (level_at levels c ≡ level_of (state_after system (take c levels)) → ⊥) → IsOutcome system levels (Change c)
-  change_outcome differs = (dead_none system levels gone, dead_high system levels gone, hopeless, λ (positive, same). moved c refl positive same)
+  pub change_outcome : (GoesOn system levels c → ⊥) → IsOutcome system levels (Change c)
+  change_outcome differs = (dead_none system levels gone, dead_high system levels gone, hopeless, moved c refl)
     where
-      moved : (k : ℕ) → k ≡ c → 0 < c → level_at levels c ≡ level_at levels (c - 1) → ⊥
-      moved zero e positive same = omega arith
-      moved (suc k) e positive same = differs (same ∙ sym before)
-        where
-          at : c ≡ k + 1
-          at = omega arith
-
-          minus : c - 1 ≡ k
-          minus = omega arith
-
-          last : state_after system (take c levels) ≡ Machine.next (least_half system) (greatest_half system) 24 (state_after system (take k levels)) (get_or levels k false)
-          last = ap (λ (j : ℕ). state_after system (take j levels)) at ∙ after_one system levels k (omega arith)
-
-          before : level_of (state_after system (take c levels)) ≡ level_at levels (c - 1)
-          before = ap level_of last
-              ∙ Machine.next_level (least_half system) (greatest_half system) 24 (state_after system (take k levels)) (get_or levels k false) (λ d. alive (last ∙ d))
-              ∙ ap (λ (j : ℕ). level_at levels j) (sym minus)
+      moved : (k : ℕ) → k ≡ c → Holds levels c → ⊥
+      moved zero e (positive, same) = omega arith
+      moved (suc k) e (positive, same) = differs (same ∙ sym (run_level k (omega arith)))
 
 module _ (system : System) (levels : List Bool) where
-  pub word_outcome : (w : ℕ) → IsWord w → ending_of system (state_after system levels) ≡ Some (lowest_bits 24 w) → IsOutcome system levels (Word w)
+  pub word_outcome : (w : ℕ) → IsWord w → Shown.EndsWith system levels w → IsOutcome system levels (Word w)
   word_outcome w range e = Shown.ended_shows system levels w range e
 
   pub blank_outcome : is_lead (state_after system levels) ≡ true → IsOutcome system levels Blank
-  blank_outcome e = (Shown.ended_none system levels (none (state_after system levels) e), Shown.lead_low system levels e)
+  blank_outcome e =
+      (Shown.ended_none system levels (none (state_after system levels) e), Shown.lead_low system levels e)
     where
       none : (state : State) → is_lead state ≡ true → ending_of system state ≡ None
       none (lead n) e = refl
@@ -114,8 +101,8 @@ module _ (system : System) (levels : List Bool) where
       none (tail done) e = cc
       none dead e = cc
 
-  pub unfinished_outcome : (state_after system levels ≡ dead → ⊥) → is_lead (state_after system levels) ≡ false → ending_of system (state_after system levels) ≡ None
-      → IsOutcome system levels Unfinished
+  pub unfinished_outcome : (state_after system levels ≡ dead → ⊥) → is_lead (state_after system levels) ≡ false
+      → ending_of system (state_after system levels) ≡ None → IsOutcome system levels Unfinished
   unfinished_outcome alive high none = (
     Shown.ended_none system levels none,
     (λ low. let e : false ≡ true = sym high ∙ Shown.low_lead system levels low in cc),

@@ -1,61 +1,65 @@
 -- What the machine says of the words that a list of levels shows, and of the lists that begin with it.
-use Rattle.std.proofs.Common.{◌≡◌, ℕ, ◌≤◌, ◌<◌, ◌+◌, ◌^◌, Bool, true, false, List, [], ◌++◌, ◌↔◌, Option}
-use Rattle.std.proofs.Common.{Some, None, ap, sym, ◌∙◌, subst, arith, append_assoc, length, take, drop}
+use Rattle.std.proofs.Common.{◌≡◌, ℕ, ◌<◌, ◌^◌, Bool, true, false, List, [], ◌++◌, ◌↔◌}
+use Rattle.std.proofs.Common.{Some, None, ap, sym, ◌∙◌, subst, append_assoc, length, take, drop}
 use Rattle.std.proofs.Math.ListN.{replicate, take-append-drop}
 use Rattle.std.proofs.lemmas.List.{append-nil}
 use Rattle.std.proofs.lemmas.List.Elements.{All-from_recursion, recursion_from_All}
 use Rattle.vbi_words.specs.declared.system.System.{System}
-use Rattle.vbi_words.specs.declared.system.System.TheVariants.{Ntsc, Pal}
-use Rattle.vbi_words.specs.Geometry.{least_half, greatest_half}
 use Rattle.vbi_words.specs.Words.{IsWord, lowest_bits}
 use Rattle.vbi_words.specs.Shows.{Shows, ShowsNone, Viable}
 use Rattle.vbi_words.specs.Outcomes.{AllLow}
+use Rattle.vbi_words.proofs.Sizes.{sizes_of, apart_of}
 use Rattle.vbi_words.proofs.Cutting
 use Rattle.vbi_words.proofs.Awaits
+use Rattle.vbi_words.proofs.Ends
 use Rattle.vbi_words.proofs.Machine
-use Rattle.vbi_words.proofs.Machine.{State, lead, first, second, tail, dead}
+use Rattle.vbi_words.proofs.Machine.{State, lead, dead}
+use Rattle.vbi_words.proofs.SystemMachine.{state_after, ending_of, fit_after}
 use Rattle.vbi_words.proofs.Bits
 
-pub positive : (system : System) → 0 < least_half system
-positive Ntsc = omega arith
-positive Pal = omega arith
-
-pub order : (system : System) → least_half system ≤ greatest_half system
-order Ntsc = omega arith
-order Pal = omega arith
-
-pub apart : (system : System) → greatest_half system < least_half system + least_half system
-apart Ntsc = omega arith
-apart Pal = omega arith
+-- ---- a word and its bits
 
 -- the bits of a word
 abbrev pub WordBits : List Bool → Type 0
 WordBits bits = (length bits ≡ 24) × Machine.Begun bits
 
-pub word_bits : (w : ℕ) → IsWord w → WordBits (lowest_bits 24 w)
+-- the bits of a number
+abbrev bits_of : ℕ → List Bool
+bits_of w = lowest_bits 24 w
+
+pub word_bits : (w : ℕ) → IsWord w → WordBits (bits_of w)
 word_bits w (low, high) = (Bits.length-lowest_bits 24 w, (lowest_bits 23 w, Bits.top_bit_set 23 w low high))
 
-pub word_of : (bits : List Bool) → WordBits bits → (w : ℕ) × IsWord w × (lowest_bits 24 w ≡ bits)
+pub word_of : (bits : List Bool) → WordBits bits → (w : ℕ) × IsWord w × (bits_of w ≡ bits)
 word_of bits (whole, (rest, begun)) =
     let n = Bits.number_of bits in
     let below : n.0 < 2 ^ 24 = subst (λ (k : ℕ). n.0 < 2 ^ k) whole n.1 in
-    let same : lowest_bits 24 n.0 ≡ bits = subst (λ (k : ℕ). lowest_bits k n.0 ≡ bits) whole n.2 in
+    let same : bits_of n.0 ≡ bits = subst (λ (k : ℕ). lowest_bits k n.0 ≡ bits) whole n.2 in
     (n.0, (Bits.top_bit_then 23 n.0 rest (same ∙ begun), below), same)
 
-abbrev pub Draws : System → List Bool → List Bool → Type 0
-Draws system = Cutting.Draws (least_half system) (greatest_half system)
+-- ---- the levels of a word's bits
 
-pub draws_from_shows : (system : System) (levels : List Bool) (w : ℕ) → Shows system levels w → Draws system (lowest_bits 24 w) levels
+-- the levels draw these bits
+abbrev pub Draws : System → List Bool → List Bool → Type 0
+Draws system = Cutting.Draws (sizes_of system)
+
+-- the levels that a state still awaits for these bits
+abbrev AwaitsBits : System → State → List Bool → List Bool → Type 0
+AwaitsBits system = Awaits.Awaits (sizes_of system)
+
+pub draws_from_shows : (system : System) (levels : List Bool) (w : ℕ) → Shows system levels w
+    → Draws system (bits_of w) levels
 draws_from_shows system levels w s = (
   s.before,
   s.drawn ++ replicate s.after false,
   s.whole,
-  Cutting.cells_from_spelled (least_half system) (greatest_half system) (lowest_bits 24 w) s.drawn s.after s.spelled,
+  Cutting.cells_from_spelled (sizes_of system) (bits_of w) s.drawn s.after s.spelled,
 )
 
-pub shows_from_draws : (system : System) (levels : List Bool) (w : ℕ) → IsWord w → Draws system (lowest_bits 24 w) levels → Shows system levels w
+pub shows_from_draws : (system : System) (levels : List Bool) (w : ℕ) → IsWord w → Draws system (bits_of w) levels
+    → Shows system levels w
 shows_from_draws system levels w (low, high) (a, rest, e, cells) =
-    let d = Cutting.drawn_from_cells (least_half system) (greatest_half system) (lowest_bits 24 w) rest cells in
+    let d = Cutting.drawn_from_cells (sizes_of system) (bits_of w) rest cells in
     record {
       is_word = (low, high);
       before = a;
@@ -65,75 +69,84 @@ shows_from_draws system levels w (low, high) (a, rest, e, cells) =
       whole = e ∙ ap (λ (t : List Bool). replicate a false ++ t) d.3;
     }
 
--- the machine's state after these levels
-abbrev pub state_after : System → List Bool → State
-state_after system levels = Machine.after (least_half system) (greatest_half system) 24 (lead 0) levels
-
-abbrev pub ending_of : System → State → Option (List Bool)
-ending_of system state = Machine.ending (least_half system) (greatest_half system) 24 state
-
-pub fit_after : (system : System) (levels : List Bool) → Machine.Fit (least_half system) (greatest_half system) 24 (state_after system levels)
-fit_after system levels = Machine.after_fit (least_half system) (greatest_half system) 24 (positive system) (order system) (omega arith) (lead 0) levels tt
-
 pub awaits_after : (system : System) (levels more bits : List Bool) → WordBits bits
-    → Draws system bits (levels ++ more) ↔ Awaits.Awaits (least_half system) (greatest_half system) 24 (state_after system levels) bits more
-awaits_after system levels more bits whole =
-    Awaits.after_step (least_half system) (greatest_half system) 24 (positive system) (order system) (apart system) (omega arith) (lead 0) levels bits more tt whole
+    → Draws system bits (levels ++ more) ↔ AwaitsBits system (state_after system levels) bits more
+awaits_after system levels more bits whole = Awaits.after_step (apart_of system) (lead 0) levels bits more tt whole
 
-pub draws_ended : (system : System) (levels bits : List Bool) → WordBits bits → Draws system bits levels ↔ (ending_of system (state_after system levels) ≡ Some bits)
+pub draws_ended : (system : System) (levels bits : List Bool) → WordBits bits
+    → Draws system bits levels ↔ (ending_of system (state_after system levels) ≡ Some bits)
 draws_ended system levels bits whole =
     let there = awaits_after system levels [] bits whole in
-    let here = Awaits.ended (least_half system) (greatest_half system) 24 (positive system) (order system) (apart system) (omega arith)
-    (state_after system levels) bits (fit_after system levels) whole in (
+    let here = Ends.ended (apart_of system) (state_after system levels) bits (fit_after system levels) whole in (
       λ d. here.0 (there.0 (subst (Draws system bits) (sym (append-nil levels)) d)),
       λ e. subst (Draws system bits) (append-nil levels) (there.1 (here.1 e)),
     )
 
--- a word is shown exactly where the machine ends with its bits
-pub shows_ended : (system : System) (levels : List Bool) (w : ℕ) → Shows system levels w → ending_of system (state_after system levels) ≡ Some (lowest_bits 24 w)
-shows_ended system levels w s =
-    (draws_ended system levels (lowest_bits 24 w) (word_bits w s.is_word)).0 (draws_from_shows system levels w s)
+-- ---- the word that a list shows
 
-pub ended_shows : (system : System) (levels : List Bool) (w : ℕ) → IsWord w → ending_of system (state_after system levels) ≡ Some (lowest_bits 24 w) → Shows system levels w
+-- the machine ends with the bits of this word
+abbrev pub EndsWith : System → List Bool → ℕ → Type 0
+EndsWith system levels w = ending_of system (state_after system levels) ≡ Some (bits_of w)
+
+-- a word is shown exactly where the machine ends with its bits
+pub shows_ended : (system : System) (levels : List Bool) (w : ℕ) → Shows system levels w → EndsWith system levels w
+shows_ended system levels w s =
+    (draws_ended system levels (bits_of w) (word_bits w s.is_word)).0 (draws_from_shows system levels w s)
+
+pub ended_shows : (system : System) (levels : List Bool) (w : ℕ) → IsWord w → EndsWith system levels w
+    → Shows system levels w
 ended_shows system levels w range e =
-    shows_from_draws system levels w range ((draws_ended system levels (lowest_bits 24 w) (word_bits w range)).1 e)
+    shows_from_draws system levels w range ((draws_ended system levels (bits_of w) (word_bits w range)).1 e)
+
+pub ended_none : (system : System) (levels : List Bool) → ending_of system (state_after system levels) ≡ None
+    → ShowsNone system levels
+ended_none system levels e w s = let f : Some (bits_of w) ≡ None = sym (shows_ended system levels w s) ∙ e in cc
 
 -- a list of levels shows at most one word
 pub one_word : (system : System) (levels : List Bool) (v w : ℕ) → Shows system levels v → Shows system levels w → v ≡ w
 one_word system levels v w s t =
-    let same : Some (lowest_bits 24 v) ≡ Some (lowest_bits 24 w) = sym (shows_ended system levels v s) ∙ shows_ended system levels w t in
+    let same : Some (bits_of v) ≡ Some (bits_of w)
+    = sym (shows_ended system levels v s) ∙ shows_ended system levels w t in
     Bits.same_from_lowest 24 v w s.is_word.1 t.is_word.1 cc
+
+-- ---- viable lists
 
 -- a list is viable exactly where the machine isn't dead
 pub viable_alive : (system : System) (levels : List Bool) → Viable system levels → state_after system levels ≡ dead → ⊥
 viable_alive system levels (more, w, s) e =
-    let a = (awaits_after system levels more (lowest_bits 24 w) (word_bits w s.is_word)).0 (draws_from_shows system (levels ++ more) w s) in
-    subst (λ (x : State). Awaits.Awaits (least_half system) (greatest_half system) 24 x (lowest_bits 24 w) more) e a
+    let drawn : Draws system (bits_of w) (levels ++ more) = draws_from_shows system (levels ++ more) w s in
+    subst (λ (x : State). AwaitsBits system x (bits_of w) more) e
+    ((awaits_after system levels more (bits_of w) (word_bits w s.is_word)).0 drawn)
 
-pub alive_viable : (system : System) (levels : List Bool) → (state_after system levels ≡ dead → ⊥) → Viable system levels
+pub alive_viable : (system : System) (levels : List Bool) → (state_after system levels ≡ dead → ⊥)
+    → Viable system levels
 alive_viable system levels alive =
-    let l = Awaits.live (least_half system) (greatest_half system) 24 (positive system) (order system) (apart system) (omega arith)
-    (state_after system levels) (fit_after system levels) alive in
-    let w = word_of l.0 l.2 in (
+    let l = Ends.live (apart_of system) (state_after system levels) (fit_after system levels) alive in
+    let w = word_of l.0 l.2 in
+    let drawn : Draws system l.0 (levels ++ l.1) = (awaits_after system levels l.1 l.0 l.2).1 l.3 in (
       l.1,
       w.0,
       shows_from_draws system (levels ++ l.1) w.0 w.1
-          (subst (λ (t : List Bool). Draws system t (levels ++ l.1)) (sym w.2) ((awaits_after system levels l.1 l.0 l.2).1 l.3)),
+          (subst (λ (t : List Bool). Draws system t (levels ++ l.1)) (sym w.2) drawn),
     )
 
 -- each front of a viable list is viable
 pub viable_front : (system : System) (front rest : List Bool) → Viable system (front ++ rest) → Viable system front
-viable_front system front rest (more, w, s) = (rest ++ more, w, subst (λ (t : List Bool). Shows system t w) (append_assoc front rest more) s)
+viable_front system front rest (more, w, s) =
+    (rest ++ more, w, subst (λ (t : List Bool). Shows system t w) (append_assoc front rest more) s)
 
 pub viable_take : (system : System) (levels : List Bool) (n : ℕ) → Viable system levels → Viable system (take n levels)
-viable_take system levels n v = viable_front system (take n levels) (drop n levels) (subst (Viable system) (sym (take-append-drop n levels)) v)
+viable_take system levels n v =
+    viable_front system (take n levels) (drop n levels) (subst (Viable system) (sym (take-append-drop n levels)) v)
 
--- lows alone leave the machine in its first state, and nothing else does
-pub low_lead : (system : System) (levels : List Bool) → AllLow levels → Machine.is_lead (state_after system levels) ≡ true
-low_lead system levels low = Machine.lead_lows (least_half system) (greatest_half system) 24 0 levels (recursion_from_All (λ l. l ≡ false) levels low)
+-- ---- lows alone leave the machine in its first state, and nothing else does
 
-pub lead_low : (system : System) (levels : List Bool) → Machine.is_lead (state_after system levels) ≡ true → AllLow levels
-lead_low system levels e = All-from_recursion (λ l. l ≡ false) levels (Machine.lows_lead (least_half system) (greatest_half system) 24 (lead 0) levels e).1
+pub low_lead : (system : System) (levels : List Bool) → AllLow levels
+    → Machine.is_lead (state_after system levels) ≡ true
+low_lead system levels low =
+    Machine.lead_lows (sizes_of system) 0 levels (recursion_from_All (λ l. l ≡ false) levels low)
 
-pub ended_none : (system : System) (levels : List Bool) → ending_of system (state_after system levels) ≡ None → ShowsNone system levels
-ended_none system levels e w s = let f : Some (lowest_bits 24 w) ≡ None = sym (shows_ended system levels w s) ∙ e in cc
+pub lead_low : (system : System) (levels : List Bool) → Machine.is_lead (state_after system levels) ≡ true
+    → AllLow levels
+lead_low system levels e =
+    All-from_recursion (λ l. l ≡ false) levels (Machine.lows_lead (sizes_of system) (lead 0) levels e).1

@@ -8,13 +8,16 @@ use Rattle.vbi_words.specs.WorkedLines.{run_of_20, low_cell, long_lows, late_hig
 use Rattle.vbi_words.proofs.Outcomes
 
 pub run_of_20_changes : IsOutcome Ntsc run_of_20 (Change 34)
-run_of_20_changes = Outcomes.change_outcome Ntsc run_of_20 34 (lit< tt) (λ e. cc) refl (λ e. let bad : false ≡ true = e in cc)
+run_of_20_changes = Outcomes.change_outcome Ntsc run_of_20 34
+    (record { within = lit< tt; alive = λ e. cc; dies = refl }) (λ e. let bad : false ≡ true = e in cc)
 
 pub low_cell_holds : IsOutcome Ntsc low_cell (Hold 46)
-low_cell_holds = Outcomes.hold_outcome Ntsc low_cell 46 (lit< tt) (λ e. cc) refl refl
+low_cell_holds =
+    Outcomes.hold_outcome Ntsc low_cell 46 (record { within = lit< tt; alive = λ e. cc; dies = refl }) refl
 
 pub long_lows_hold : IsOutcome Ntsc long_lows (Hold 72)
-long_lows_hold = Outcomes.hold_outcome Ntsc long_lows 72 (lit< tt) (λ e. cc) refl refl
+long_lows_hold =
+    Outcomes.hold_outcome Ntsc long_lows 72 (record { within = lit< tt; alive = λ e. cc; dies = refl }) refl
 
 pub late_high_unfinished : IsOutcome Ntsc late_high Unfinished
 late_high_unfinished = Outcomes.unfinished_outcome Ntsc late_high (λ e. cc) refl refl

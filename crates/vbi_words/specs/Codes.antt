@@ -1,4 +1,5 @@
--- The classes of code words and the numbers that they carry: this project's own table, after the codes of IEC 60857 and IEC 60856.
+-- The classes of code words and the numbers that they carry: this project's own table of the codes of IEC 60857 and
+-- IEC 60856.
 use Rattle.std.specs.Prelude.{◌≡◌, ℕ, ◌≤◌, ◌+◌, ◌-◌, ◌*◌, ◌/◌, ◌%◌, ◌^◌}
 use Rattle.vbi_words.specs.declared.code.Code.{Code}
 use Rattle.vbi_words.specs.declared.code.Code.TheVariants.{Picture, Chapter, Time, ClvPicture, CxOn, CxOff}
@@ -8,7 +9,7 @@ use Rattle.vbi_words.specs.declared.code.Code.TheVariants.{Users, LeadIn, LeadOu
 abbrev pub digit_of : ℕ → ℕ → ℕ
 digit_of word place = word / 16 ^ (6 - place) % 16
 
--- each of the word's six digits is from the digit that least has at that place to the one that greatest has there
+-- each of the word's six digits is from that of least to that of greatest at its place
 abbrev pub IsBetween : ℕ → ℕ → ℕ → Type 0
 IsBetween least greatest word =
     (place : ℕ) → 1 ≤ place → place ≤ 6
@@ -29,12 +30,17 @@ HasPattern word (CxOff number) = IsBetween 0x8BA000 0x8BAFFF word
 HasPattern word (Users digit number) = IsBetween 0x80D000 0x87DFFF word
 HasPattern word Other = ⊥
 
--- the five digits of a picture's word as a number; digit 2 counts without its top bit
+-- the five last digits of a picture's word as a number; digit 2 counts without its top bit
 abbrev pub picture_of : ℕ → ℕ
 picture_of word =
-    10000 * (digit_of word 2 % 8) + 1000 * digit_of word 3 + 100 * digit_of word 4 + 10 * digit_of word 5 + digit_of word 6
+    10000 * (digit_of word 2 % 8) + 1000 * digit_of word 3 + 100 * digit_of word 4 + 10 * digit_of word 5
+    + digit_of word 6
 
--- the seconds of a CLV picture's word
+-- the number of a chapter's word; digit 2 counts without its top bit
+abbrev pub chapter_of : ℕ → ℕ
+chapter_of word = 10 * (digit_of word 2 % 8) + digit_of word 3
+
+-- the seconds of a CLV picture's word: digit 2, from A on, has the tens
 abbrev pub seconds_of : ℕ → ℕ
 seconds_of word = 10 * (digit_of word 2 - 10) + digit_of word 4
 
@@ -46,13 +52,13 @@ last_two word = 10 * digit_of word 5 + digit_of word 6
 abbrev pub last_three : ℕ → ℕ
 last_three word = 256 * digit_of word 4 + 16 * digit_of word 5 + digit_of word 6
 
--- the code's numbers are those of the word's digits; in pictures and chapters digit 2 counts without its top bit
+-- the code's numbers are those of the word's digits
 abbrev pub HasNumbers : ℕ → Code → Type 0
 HasNumbers word LeadIn = Unit {0}
 HasNumbers word LeadOut = Unit {0}
 HasNumbers word (Picture number) = number ≡ picture_of word
 HasNumbers word PictureStop = Unit {0}
-HasNumbers word (Chapter number) = number ≡ 10 * (digit_of word 2 % 8) + digit_of word 3
+HasNumbers word (Chapter number) = number ≡ chapter_of word
 HasNumbers word ClvMark = Unit {0}
 HasNumbers word (Time hours minutes) = (hours ≡ digit_of word 2) × (minutes ≡ last_two word)
 HasNumbers word (ClvPicture seconds picture) = (seconds ≡ seconds_of word) × (picture ≡ last_two word)

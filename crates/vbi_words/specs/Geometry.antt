@@ -1,5 +1,6 @@
--- The numbers of the two systems. Line and field sizes are those of ld-decode's TBC files (samples at four times the colour
--- subcarrier, so 315/22 or 17.734475 million a second); the tolerance of a half cell and the drawn start are this project's own.
+-- The numbers of the two systems. The sizes of a line and a field are those of ld-decode's TBC files, which have four
+-- samples to a cycle of the colour subcarrier (315/22 or 17.734475 million samples a second). The limits of a half cell
+-- and the column at which a word is drawn are this project's own.
 use Rattle.std.specs.Prelude.{ℕ, List, codes}
 use Rattle.vbi_words.specs.declared.system.System.{System}
 use Rattle.vbi_words.specs.declared.system.System.TheVariants.{Ntsc, Pal}
@@ -14,7 +15,7 @@ abbrev pub height_of : System → ℕ
 height_of Ntsc = 263
 height_of Pal = 313
 
--- bytes of a line, two a sample
+-- bytes of a line, two for each sample
 abbrev pub line_bytes : System → ℕ
 line_bytes Ntsc = 1820
 line_bytes Pal = 2270
@@ -24,7 +25,7 @@ abbrev pub field_bytes : System → ℕ
 field_bytes Ntsc = 478660
 field_bytes Pal = 710510
 
--- the fewest samples of a half cell of one microsecond
+-- the fewest samples of a half cell, which lasts one microsecond
 abbrev pub least_half : System → ℕ
 least_half Ntsc = 11
 least_half Pal = 14

@@ -1,7 +1,8 @@
--- Samples, and the levels that they are sliced into (this project's own rule). A level is a `Bool`: `false` is low, `true` is high.
+-- Samples, and the levels that they are sliced into (this project's own rule).
+-- A level is a `Bool`: `false` is low, `true` is high.
 use Rattle.std.specs.Prelude.{ℕ, ◌+◌, ◌*◌, Bool, false, List, [], ◌∷◌, map, nat_lt, slice_index_or}
 
--- the samples of black and of white
+-- the sample values of black and of white, between which a line is sliced
 pub record LevelsView : Type 0 where
   pub black : ℕ
   pub white : ℕ
@@ -14,7 +15,7 @@ is_high_of slicing sample = nat_lt (slicing.black + slicing.white) (2 * sample)
 abbrev pub levels_of : LevelsView → List ℕ → List Bool
 levels_of slicing samples = map (is_high_of slicing) samples
 
--- the samples in a row's bytes, two bytes each, the low one first
+-- the samples in a row's bytes: two bytes each, the low one first
 abbrev pub samples_of : List ℕ → List ℕ
 samples_of [] = []
 samples_of (low ∷ []) = []
@@ -24,6 +25,6 @@ samples_of (low ∷ high ∷ bytes) = (low + 256 * high) ∷ samples_of bytes
 abbrev pub row_levels : LevelsView → List ℕ → List Bool
 row_levels slicing bytes = levels_of slicing (samples_of bytes)
 
--- the level at a column; past the end low
+-- the level at a column, counted from 0; low past the end
 abbrev pub level_at : List Bool → ℕ → Bool
 level_at levels column = slice_index_or levels column false

@@ -1,4 +1,4 @@
--- The outcome of a line's levels: the word that they show, or why they show none (the causes are this project's own).
+-- The outcome of a line's levels: the word that they show, or why they show none (these causes are this project's own).
 use Rattle.std.specs.Prelude.{◌≡◌, ℕ, ◌<◌, ◌+◌, ◌-◌, Bool, false, List, All, take, length}
 use Rattle.vbi_words.specs.declared.system.System.{System}
 use Rattle.vbi_words.specs.declared.outcome.Outcome.{Outcome}
@@ -10,7 +10,7 @@ use Rattle.vbi_words.specs.Shows.{Shows, ShowsNone, Viable}
 abbrev pub AllLow : List Bool → Type 0
 AllLow levels = All (λ level. level ≡ false) levels
 
--- column c is the first at which no list that begins with the levels up to it shows a word
+-- column c is the first hopeless one: no list that begins with the levels up to it shows a word
 pub record FirstHopeless (system : System) (levels : List Bool) (c : ℕ) : Type 0 where
   pub inside : c < length levels
   pub before : (d : ℕ) → d < c → Viable system (take (d + 1) levels)
@@ -20,10 +20,12 @@ pub record FirstHopeless (system : System) (levels : List Bool) (c : ℕ) : Type
 abbrev pub Holds : List Bool → ℕ → Type 0
 Holds levels c = (0 < c) × (level_at levels c ≡ level_at levels (c - 1))
 
--- the outcome of the levels: the first case that applies. That the levels aren't viable follows from a hopeless column.
+-- the outcome of the levels; exactly one holds of each list, as `laws::one_outcome` of the crate `vbi_line` says
 abbrev pub IsOutcome : System → List Bool → Outcome → Type 0
 IsOutcome system levels (Word w) = Shows system levels w
 IsOutcome system levels Blank = ShowsNone system levels × AllLow levels
 IsOutcome system levels Unfinished = ShowsNone system levels × (AllLow levels → ⊥) × Viable system levels
-IsOutcome system levels (Change c) = ShowsNone system levels × (AllLow levels → ⊥) × FirstHopeless system levels c × (Holds levels c → ⊥)
-IsOutcome system levels (Hold c) = ShowsNone system levels × (AllLow levels → ⊥) × FirstHopeless system levels c × Holds levels c
+IsOutcome system levels (Change c) =
+    ShowsNone system levels × (AllLow levels → ⊥) × FirstHopeless system levels c × (Holds levels c → ⊥)
+IsOutcome system levels (Hold c) =
+    ShowsNone system levels × (AllLow levels → ⊥) × FirstHopeless system levels c × Holds levels c

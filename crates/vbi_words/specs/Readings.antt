@@ -1,4 +1,4 @@
--- The reading of a line's levels: their outcome, or the word that the smoothed levels show.
+-- The reading of a line's levels: their outcome, or the word that the smoothed levels show (this project's own rule).
 use Rattle.std.specs.Prelude.{◌≡◌, ℕ, ◌⊎◌, Bool, List}
 use Rattle.vbi_words.specs.declared.system.System.{System}
 use Rattle.vbi_words.specs.declared.outcome.Outcome.{Outcome}
@@ -8,11 +8,12 @@ use Rattle.vbi_words.specs.Shows.{Shows, ShowsNone}
 use Rattle.vbi_words.specs.Outcomes.{AllLow, IsOutcome}
 use Rattle.vbi_words.specs.Smooth.{smooth_of}
 
--- neither the levels nor the smoothed ones show a word, and a level is high: the outcome is the levels' own
+-- the levels have this outcome, and the smoothed levels show no word either
 abbrev pub ReadsNone : System → List Bool → Outcome → ℕ → Type 0
-ReadsNone system levels outcome pass = (pass ≡ 0) × IsOutcome system levels outcome × ShowsNone system (smooth_of levels)
+ReadsNone system levels outcome pass =
+    (pass ≡ 0) × IsOutcome system levels outcome × ShowsNone system (smooth_of levels)
 
--- The outcome and the pass of a reading, case by case.
+-- the outcome and the pass of a reading, case by case
 abbrev pub Reads : System → List Bool → Outcome → ℕ → Type 0
 Reads system levels (Word w) pass =
     ((pass ≡ 1) × Shows system levels w)
@@ -22,12 +23,19 @@ Reads system levels Unfinished pass = ReadsNone system levels Unfinished pass
 Reads system levels (Change c) pass = ReadsNone system levels (Change c) pass
 Reads system levels (Hold c) pass = ReadsNone system levels (Hold c) pass
 
+-- the reading of the levels; each list has exactly one, as `laws::one_reading` of the crate `vbi_line` says
 abbrev pub IsReading : System → List Bool → Reading → Type 0
 IsReading system levels reading = Reads system levels reading.outcome reading.pass
 
--- the reading, from the outcome of the levels and that of the smoothed ones
+-- ---- as a function of two outcomes, that of the levels and that of the smoothed levels
+
+-- where the levels show no word and some level is high
+abbrev pub second_reading : Outcome → Outcome → Reading
+second_reading plain (Word w) = record { outcome = Word w; pass = 2 }
+second_reading plain _ = record { outcome = plain; pass = 0 }
+
+-- the reading
 abbrev pub reading_from : Outcome → Outcome → Reading
 reading_from (Word w) smooth = record { outcome = Word w; pass = 1 }
 reading_from Blank smooth = record { outcome = Blank; pass = 0 }
-reading_from plain (Word w) = record { outcome = Word w; pass = 2 }
-reading_from plain _ = record { outcome = plain; pass = 0 }
+reading_from plain smooth = second_reading plain smooth

@@ -1,4 +1,5 @@
--- What a line shows: a code word in biphase (IEC 60857 and IEC 60856), its half cells as long as the system's tolerance allows.
+-- What a line shows: a code word in biphase code (IEC 60857 and IEC 60856), whose half cells have any length that the
+-- system allows.
 use Rattle.std.specs.Prelude.{◌≡◌, ℕ, ◌≤◌, Bool, false, List, [], ◌∷◌, ◌++◌, replicate}
 use Rattle.vbi_words.specs.declared.system.System.{System}
 use Rattle.vbi_words.specs.Geometry.{least_half, greatest_half}
@@ -11,7 +12,7 @@ Spells least greatest (h ∷ halves) levels =
     (n : ℕ) × (rest : List Bool) × (least ≤ n) × (n ≤ greatest) × (levels ≡ replicate n h ++ rest)
     × Spells least greatest halves rest
 
--- the levels show the word: some lows, then its half cells in order, each of a length that the system allows, then some lows
+-- the levels show the word: some lows, its half cells in order, each of a length that the system allows, and some lows
 pub record Shows (system : System) (levels : List Bool) (word : ℕ) : Type 0 where
   pub is_word : IsWord word
   pub before : ℕ

@@ -2,26 +2,28 @@
 use Rattle.std.specs.Prelude.{ℕ, Bool, true, false, List, ◌++◌, replicate}
 use Rattle.std.specs.List.{flat_map}
 
--- n low columns, and n high ones
+-- n low columns
 abbrev pub low : ℕ → List Bool
 low n = replicate n false
 
+-- n high columns
 abbrev pub high : ℕ → List Bool
 high n = replicate n true
 
--- the high run may still become a double one, until the level changes
+-- 20 high columns are more than one half cell and fewer than two, so the change behind them, at column 34, is hopeless
 abbrev pub run_of_20 : List Bool
 run_of_20 = low 14 ++ (high 20 ++ low 876)
 
--- the low run begins a cell, so it can't be a double one
+-- the low run behind the first cell is one half cell, of 18 columns at most: the 19th, at column 46, is hopeless
 abbrev pub low_cell : List Bool
 low_cell = low 14 ++ (high 14 ++ low 882)
 
--- the low run begins in the middle of the second cell, and passes the length of two half cells
+-- the high run is two half cells, and so may be the low run behind it, of at most 36 columns: the 37th, at column 72,
+-- is hopeless
 abbrev pub long_lows : List Bool
 long_lows = low 14 ++ (high 22 ++ low 874)
 
--- a high run that a longer line could still end
+-- the last 10 columns are high, and a longer line could still show a word
 abbrev pub late_high : List Bool
 late_high = low 900 ++ high 10
 

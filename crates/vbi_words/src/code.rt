@@ -1,4 +1,4 @@
-//! The classes of code words.
+//! The classes of code words (IEC 60857 for NTSC discs, IEC 60856 for PAL discs).
 
 ghost use Rattle.std.specs.Prelude.{◌≡◌, ◌↔◌, ◌≤◌, ◌<◌, ◌+◌, ◌-◌, ◌*◌, IsTrue};
 ghost use Rattle.vbi_words.specs.declared.code.Code.{Code};
@@ -7,36 +7,36 @@ ghost use Rattle.vbi_words.specs.Codes.{digit_of, IsBetween, last_three, HasNumb
 
 use crate::word::Word24;
 
-/// What a code word says, by its six hexadecimal digits. In a code made by hand the numbers may be any.
+/// What a code word says, by its six hexadecimal digits. The ranges are those of the codes that `classify` returns.
 #[derive(Clone, Copy, Debug, PartialEq, Eq)]
 pub enum Code {
-    /// A CAV picture number, of five decimal digits, the first below 8.
+    /// The number of a picture on a CAV disc, from 0 to 79,999.
     Picture(u32),
     /// A chapter number, from 0 to 79.
     Chapter(u8),
-    /// A CLV time code.
+    /// The programme time of a CLV disc, in hours and minutes.
     Time {
         /// Hours, from 0 to 9.
         hours: u8,
         /// Minutes, from 0 to 99.
         minutes: u8,
     },
-    /// A CLV picture number within a minute.
+    /// A picture of a CLV disc, by its time within the minute.
     ClvPicture {
         /// Seconds, from 0 to 59.
         seconds: u8,
         /// The picture within its second, from 0 to 99.
         picture: u8,
     },
-    /// A programme status code with CX noise reduction on: its last three hexadecimal digits.
+    /// The programme status code of a disc with CX noise reduction: the last three hexadecimal digits, from 0 to 4,095.
     CxOn(u16),
-    /// A programme status code with CX noise reduction off: its last three hexadecimal digits.
+    /// The programme status code of a disc without it: the last three hexadecimal digits, from 0 to 4,095.
     CxOff(u16),
     /// A users' code.
     Users {
-        /// Digit 2 of the word, from 0 to 7.
+        /// The second digit of the word, from 0 to 7.
         digit: u8,
-        /// The last three hexadecimal digits.
+        /// The last three hexadecimal digits, from 0 to 4,095.
         number: u16,
     },
     /// The lead-in of the disc.
@@ -51,7 +51,7 @@ pub enum Code {
     Other,
 }
 
-/// A number's hexadecimal digit at a place from 1 to 6, of which 1 is the sixth from the right and 6 the last.
+/// The hexadecimal digit of a number at a place from 1, the sixth from the right, to 6, the last.
 pub fn digit(word: u32, place: u32) -> u8
     requires low { 1 ≤ place }
     requires high { place ≤ 6 }
@@ -61,7 +61,7 @@ pub fn digit(word: u32, place: u32) -> u8
     (word / 16_u32.pow(6 - place) % 16) as u8
 }
 
-/// Whether each digit of the word is from that of `least` to that of `greatest` at its place.
+/// Whether each of the word's six digits is from that of `least` to that of `greatest` at its place.
 fn is_between(word: u32, least: u32, greatest: u32) -> bool
     ensures { IsTrue result ↔ IsBetween least greatest word }
 {
@@ -74,14 +74,14 @@ fn is_between(word: u32, least: u32, greatest: u32) -> bool
     true
 }
 
-/// The number of the word's last three hexadecimal digits.
+/// The number that the word's last three hexadecimal digits make.
 fn three_digits(word: u32) -> u16
     ensures { result ≡ last_three word }
 {
     256 * u16::from(digit(word, 4)) + 16 * u16::from(digit(word, 5)) + u16::from(digit(word, 6))
 }
 
-/// The picture number of a picture's word.
+/// The number of a picture's word. The second digit counts without its top bit.
 fn picture(word: u32) -> u32
     ensures { HasNumbers word (Code.Picture result) }
 {
@@ -92,7 +92,7 @@ fn picture(word: u32) -> u32
         + u32::from(digit(word, 6))
 }
 
-/// The seconds of a CLV picture's word.
+/// The seconds of a CLV picture's word. The second digit, from A to F, has the tens.
 fn seconds(word: u32) -> u8
     requires { IsBetween 0x8AE000 0x8FE999 word }
     ensures { result ≡ 10 * (digit_of word 2 - 10) + digit_of word 4 }
@@ -100,7 +100,7 @@ fn seconds(word: u32) -> u8
     10 * (digit(word, 2) - 10) + digit(word, 4)
 }
 
-/// The code of the word.
+/// The code of a word's number.
 fn code_of_number(word: u32) -> Code
     ensures { IsCode word result }
 {
@@ -140,7 +140,7 @@ fn code_of_number(word: u32) -> Code
     }
 }
 
-/// The one code of the word.
+/// The code of a word: each word has exactly one.
 pub fn classify(word: Word24) -> Code
     ensures is { IsCode word result }
     ensures only { (code : Code) → IsCode word code → code ≡ result }

@@ -1,4 +1,4 @@
-//! How a word is drawn on a row.
+//! How a word is drawn on a row of samples.
 
 ghost use Rattle.std.specs.Prelude.{◌≡◌, ◌+◌, ◌≤◌, ◌<◌, Some};
 ghost use Rattle.vbi_words.specs.Drawn.{boundary, IsDrawn};
@@ -8,8 +8,9 @@ use crate::levels::Levels;
 use crate::system::System;
 use crate::word::Word24;
 
-/// The half cell of a drawn word, counted from 0, in which a column lies; from 48 on the word has ended. A half cell covers
-/// the columns from j times a microsecond on, so column c of the word lies in the last j that has j times 315/22 below c + 1.
+/// The half cell of a drawn word, counted from 0, in which a column lies; from 48 on the word has ended.
+// Half cell j begins at the whole part of j microseconds in samples. So a column that is c columns into the word lies
+// in the last half cell j with j * 315/22 < c + 1 (NTSC).
 fn half_at(system: System, column: usize) -> usize
     requires from_start { start_of system ≤ column }
     requires on_line { column < width_of system }
@@ -23,28 +24,30 @@ fn half_at(system: System, column: usize) -> usize
     }
 }
 
-/// The sample at a column of the drawn row of a word, or of none: white in a high half cell, black elsewhere.
-pub fn drawn_sample(system: System, levels: Levels, word: Option<Word24>, column: usize) -> u16
+/// The sample at a column, counted from 0, of the row drawn for a word or for none: white in a high half cell of the
+/// word, black elsewhere. The word's 48 half cells last one microsecond each (IEC 60857 and IEC 60856).
+pub fn drawn_sample(system: System, slicing: Levels, word: Option<Word24>, column: usize) -> u16
     requires { column < width_of system }
-    ensures { IsDrawn system levels word column result }
+    ensures { IsDrawn system slicing word column result }
 {
     match word {
-        Some(word) => word_sample(system, levels, word, column),
-        None => levels.black(),
+        Some(word) => word_sample(system, slicing, word, column),
+        None => slicing.black(),
     }
 }
 
-fn word_sample(system: System, levels: Levels, word: Word24, column: usize) -> u16
+/// The sample at a column of the row drawn for a word.
+fn word_sample(system: System, slicing: Levels, word: Word24, column: usize) -> u16
     requires { column < width_of system }
-    ensures { IsDrawn system levels (Some word) column result }
+    ensures { IsDrawn system slicing (Some word) column result }
 {
     if column < system.start() {
-        return levels.black();
+        return slicing.black();
     }
     let half = half_at(system, column);
     if half < 48 && word.half(half) {
-        levels.white()
+        slicing.white()
     } else {
-        levels.black()
+        slicing.black()
     }
 }

@@ -1,8 +1,8 @@
 //! The format of a field.
 
-ghost use Rattle.std.specs.Prelude.{◌≡◌, ◌↔◌, IsTrue};
-ghost use Rattle.vbi_words.specs.CodeTable.{format_of_lines};
-ghost use Rattle.vbi_words.specs.Formats.{IsCavLine, IsClvLine, IsFormat};
+ghost use Rattle.std.specs.Prelude.{◌≡◌};
+ghost use Rattle.std.specs.List.{list_any};
+ghost use Rattle.vbi_words.specs.Formats.{is_cav_code, is_clv_code, has_code, IsFormat, format_from, format_of_lines};
 
 use crate::code::{Code, classify};
 use crate::word::Word24;
@@ -22,7 +22,7 @@ pub enum Format {
 
 /// Whether the line has a word with a CAV code.
 fn is_cav(line: Option<Word24>) -> bool
-    ensures { IsTrue result ↔ IsCavLine line }
+    ensures { result ≡ has_code is_cav_code line }
 {
     match line {
         Some(word) => matches!(classify(word), Code::Picture(_) | Code::PictureStop),
@@ -32,7 +32,7 @@ fn is_cav(line: Option<Word24>) -> bool
 
 /// Whether the line has a word with a CLV code.
 fn is_clv(line: Option<Word24>) -> bool
-    ensures { IsTrue result ↔ IsClvLine line }
+    ensures { result ≡ has_code is_clv_code line }
 {
     match line {
         Some(word) => matches!(
@@ -43,20 +43,29 @@ fn is_clv(line: Option<Word24>) -> bool
     }
 }
 
-/// The format of lines with these words.
-fn find_format(words: &[Option<Word24>; 3]) -> Format
-    ensures { IsFormat words.now result }
+/// Whether one of the lines has a word with a CAV code.
+fn any_cav(lines: &[Option<Word24>]) -> bool
+    ensures { result ≡ list_any (has_code is_cav_code) lines.now }
 {
-    let cav = is_cav(words[0]) || is_cav(words[1]) || is_cav(words[2]);
-    let clv = is_clv(words[0]) || is_clv(words[1]) || is_clv(words[2]);
-    if cav && clv {
-        Format::Both
-    } else if cav {
-        Format::Cav
-    } else if clv {
-        Format::Clv
-    } else {
-        Format::Neither
+    lines.iter().any(|line| is_cav(*line))
+}
+
+/// Whether one of the lines has a word with a CLV code.
+fn any_clv(lines: &[Option<Word24>]) -> bool
+    ensures { result ≡ list_any (has_code is_clv_code) lines.now }
+{
+    lines.iter().any(|line| is_clv(*line))
+}
+
+/// The format that names these kinds of code.
+fn naming(cav: bool, clv: bool) -> Format
+    ensures { result ≡ format_from cav clv }
+{
+    match (cav, clv) {
+        (true, true) => Format::Both,
+        (true, false) => Format::Cav,
+        (false, true) => Format::Clv,
+        (false, false) => Format::Neither,
     }
 }
 
@@ -65,5 +74,5 @@ pub fn format_of(words: &[Option<Word24>; 3]) -> Format
     ensures is { IsFormat words.now result }
     ensures value { result ≡ format_of_lines words.now }
 {
-    find_format(words)
+    naming(any_cav(words), any_clv(words))
 }

@@ -3,9 +3,12 @@
 ghost use Rattle.std.specs.Prelude.{◌≡◌, ◌↔◌, ◌<◌, ◌≤◌, ◌^◌, IfOk};
 ghost use Rattle.vbi_words.specs.Levels.{LevelsView, is_high_of};
 
+use std::error::Error;
+use std::fmt;
 use std::marker::Model;
 
-/// The samples of black and of white; black is the lower.
+/// The sample values of black and of white, each from 0 to 65,535: a line is sliced midway between them. Black is below
+/// white.
 #[derive(Clone, Copy, Debug, PartialEq, Eq)]
 pub struct Levels {
     black: u16,
@@ -22,15 +25,25 @@ impl Model for Levels {
     ghost inverse = { λ v. record { black = v.black; white = v.white } };
 }
 
-/// Why two samples are no levels.
+/// Why two sample values can't be black and white.
 #[derive(Clone, Copy, Debug, PartialEq, Eq)]
 pub enum LevelsFault {
-    /// Black isn't below white.
+    /// Black is not below white.
     Order,
 }
 
+impl fmt::Display for LevelsFault {
+    fn fmt<W: fmt::Write>(&self, f: &mut fmt::Formatter<W>) -> fmt::Result {
+        match self {
+            LevelsFault::Order => write!(f, "black level is not below white level"),
+        }
+    }
+}
+
+impl Error for LevelsFault {}
+
 impl Levels {
-    /// The levels of these samples.
+    /// Black and white of these values; `Order` where black is not below white.
     pub fn new(black: u16, white: u16) -> Result<Levels, LevelsFault>
         ensures ok { IfOk result (λ l. l ≡ record { black = black; white = white }) }
         ensures order { (result ≡ Err LevelsFault.Order) ↔ (white ≤ black) }
@@ -41,21 +54,21 @@ impl Levels {
         Ok(Levels { black, white })
     }
 
-    /// The sample of black.
+    /// The sample value of black.
     pub fn black(self) -> u16
         ensures { result ≡ self.black }
     {
         self.black
     }
 
-    /// The sample of white.
+    /// The sample value of white.
     pub fn white(self) -> u16
         ensures { result ≡ self.white }
     {
         self.white
     }
 
-    /// Whether twice the sample is more than black and white together; a sample exactly midway is low.
+    /// Whether a sample is high: above the middle of black and white. A sample exactly midway is low.
     pub fn is_high(self, sample: u16) -> bool
         ensures { result ≡ is_high_of self sample }
     {

@@ -1,7 +1,9 @@
-//! The words of LaserDisc lines: geometry of TBC fields, levels, code words and their classes, and how a word is drawn.
-//! Stands on nothing but std. `specs/` says what a line shows, its outcome and its reading; every call meets these
-//! definitions, for both systems and all levels. The module `laws` has what holds of the definitions themselves, as that a
-//! line shows at most one word. No call allocates, and none can fail but by a refusal that its contract names.
+//! The code words of LaserDiscs (IEC 60857 and IEC 60856) and the lines of video that show them.
+//!
+//! Here are the geometry of ld-decode's TBC files, the comparison that makes a sample high or low, code words and their
+//! classes, and how a word is drawn. The definitions of what a line shows, of its outcome and of its reading are in
+//! `specs/`, and the module `laws` says what holds of them, as that a line shows at most one word. Only std is used.
+//! Nothing allocates, and a call fails only as its contract says.
 #![tactic(auto)]
 
 mod code;

@@ -1,12 +1,13 @@
 //! The two television systems and their geometry in ld-decode's TBC files.
 
 ghost use Rattle.std.specs.Prelude.{◌≡◌};
-ghost use Rattle.vbi_words.specs.Geometry.{width_of, height_of, line_bytes, field_bytes, least_half, greatest_half, start_of, name_of};
+ghost use Rattle.vbi_words.specs.Geometry.{width_of, height_of, line_bytes, field_bytes};
+ghost use Rattle.vbi_words.specs.Geometry.{least_half, greatest_half, start_of, name_of};
 
-/// Bytes of the longest line, that of PAL.
+/// The bytes of the longest line, that of PAL.
 pub const LONGEST_LINE: usize = 2270;
 
-/// A television system. Each call gives one number of its TBC geometry, in samples, lines, columns or bytes.
+/// A television system, with the sizes of its lines and fields in ld-decode's TBC files.
 #[derive(Clone, Copy, Debug, PartialEq, Eq)]
 pub enum System {
     /// 525 lines (discs after IEC 60857), sampled at 315/22 MHz.
@@ -50,7 +51,7 @@ impl System {
         self.line_bytes() * self.height()
     }
 
-    /// The fewest samples of a half cell of one microsecond.
+    /// The fewest samples of a half cell, which lasts one microsecond (this project's own limit).
     pub fn half_min(self) -> usize
         ensures { result ≡ least_half self }
     {
@@ -60,7 +61,7 @@ impl System {
         }
     }
 
-    /// The most samples of a half cell of one microsecond.
+    /// The most samples of a half cell (this project's own limit).
     pub fn half_max(self) -> usize
         ensures { result ≡ greatest_half self }
     {
@@ -70,7 +71,7 @@ impl System {
         }
     }
 
-    /// The column at which a drawn word begins.
+    /// The column, counted from 0, at which a drawn word begins (this project's own choice).
     pub fn start(self) -> usize
         ensures { result ≡ start_of self }
     {
@@ -80,7 +81,7 @@ impl System {
         }
     }
 
-    /// The name that ld-decode's metadata has: `NTSC` or `PAL`.
+    /// The name in ld-decode's metadata: `NTSC` or `PAL`.
     pub fn name(self) -> &'static str
         ensures { result.now ≡ name_of self }
     {

@@ -3,9 +3,11 @@
 ghost use Rattle.std.specs.Prelude.{◌≡◌, ◌↔◌, ℕ, ◌≤◌, ◌<◌, ◌^◌, IfOk, false, slice_index_or};
 ghost use Rattle.vbi_words.specs.Words.{IsWord, halves_of};
 
+use std::error::Error;
+use std::fmt;
 use std::marker::Model;
 
-/// A code word of 24 bits whose top bit is 1 (IEC 60857 and IEC 60856; the top bit is this project's own rule).
+/// A code word of 24 bits (IEC 60857 and IEC 60856) whose top bit is 1 (this project's own rule).
 #[derive(Clone, Copy, Debug, PartialEq, Eq)]
 pub struct Word24 {
     value: u32,
@@ -21,17 +23,28 @@ impl Model for Word24 {
     ghost inverse = { λ v. record { value = v } };
 }
 
-/// Why a number is no word.
+/// Why a number is not a code word.
 #[derive(Clone, Copy, Debug, PartialEq, Eq)]
 pub enum WordFault {
     /// It has more than 24 bits.
     TooWide,
-    /// Its bit 23 is 0.
+    /// Its top bit, bit 23, is 0.
     TopBitClear,
 }
 
+impl fmt::Display for WordFault {
+    fn fmt<W: fmt::Write>(&self, f: &mut fmt::Formatter<W>) -> fmt::Result {
+        match self {
+            WordFault::TooWide => write!(f, "word has more than 24 bits"),
+            WordFault::TopBitClear => write!(f, "top bit of word is not set"),
+        }
+    }
+}
+
+impl Error for WordFault {}
+
 impl Word24 {
-    /// The word of this value.
+    /// The word with this number: `TooWide` from 16,777,216 on, `TopBitClear` below 8,388,608.
     pub fn new(value: u32) -> Result<Word24, WordFault>
         ensures ok { IfOk result (λ w. w ≡ value) }
         ensures too_wide { (result ≡ Err WordFault.TooWide) ↔ (2 ^ 24 ≤ value) }
@@ -54,7 +67,8 @@ impl Word24 {
         self.value
     }
 
-    /// Whether half cell i, counted from 0, is high: a one is low and then high, a zero high and then low.
+    /// Whether half cell i, counted from 0 to 47, is high. Each bit, the most significant first, has two half cells: a
+    /// one is low and then high, a zero is high and then low.
     pub fn half(self, i: usize) -> bool
         requires { i < 48 }
         ensures { result ≡ slice_index_or (halves_of self) i false }

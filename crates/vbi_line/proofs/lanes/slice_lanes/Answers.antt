@@ -7,38 +7,36 @@ use Rattle.vbi_line.proofs.lanes.slice_lanes.Goals as goal
 
 pub loop-block-preserved : goal.loop-block-preserved
 loop-block-preserved c =
-    let now = c.loop-block.invariant in
+    let old = c.loop-block in
+    let now = old.invariant in
     let first = c.args.line.now in
-    let gives = block_given c.loop-block.line c.next_block.new.self (length c.loop-block.packed) first.cursors c.in-Some.block now.cursors
+    let new = c.next_block.new.self in
+    let slicing = c.args.slicing in
+    let low = c.greatest_low-low.result in
+    let gives = block_given old.line new (length old.packed) first.cursors c.in-Some.block now.cursors
     c.in-Some.ensures.gives in
     let more = levels_in 16 c.bits_above.result in
-    let long : length more ≡ 16
-    = length-block c.args.levels first c.loop-block.line c.loop-block.packed first.cursors c.in-Some.block c.next_block.new.self
-    c.greatest_low-low.result more
-    now.bytes now.sliced gives c.greatest_low-low.ensures c.bits_above.ensures.levels in
-    let count : length c.push.new.self ≡ length c.loop-block.packed + 16 = omega (
-      arith,
-      ap length c.push.ensures,
-      length-append c.loop-block.packed more,
-      long,
-    ) in
+    let are = c.bits_above.ensures.levels in
+    let long : length more ≡ 16 = length-block slicing old.packed low now.bytes gives are in
+    let count : length c.push.new.self ≡ length old.packed + 16
+    = omega (arith, ap length c.push.ensures, length-append old.packed more, long) in
     record {
-      bytes = keeps_on first c.loop-block.line c.next_block.new.self now.bytes gives.bytes;
+      bytes = keeps_on first old.line new now.bytes gives.bytes;
       cursors = gives.cursors ∙ ap (λ (k : ℕ). k ∷ first.cursors) (sym count);
       looked = omega (arith, gives.looked, now.looked);
       inside = omega (arith, gives.inside, ap width_of now.bytes.system);
       blocks = omega (arith, now.blocks);
-      sliced = subst (Sliced c.args.levels first.held) (sym c.push.ensures)
-          (block_sliced c.args.levels first c.loop-block.line c.loop-block.packed first.cursors c.in-Some.block c.next_block.new.self
-          c.greatest_low-low.result more
-          now.bytes now.sliced gives c.greatest_low-low.ensures c.bits_above.ensures.levels);
+      sliced = subst (Sliced slicing first.held) (sym c.push.ensures)
+          (block_sliced slicing old.packed low now.bytes gives are now.sliced c.greatest_low-low.ensures);
     }
 
 pub returns-clause-levels : goal.returns-clause-levels
 returns-clause-levels c =
-    let now = c.loop-sample.invariant in
+    let old = c.loop-sample in
+    let now = old.invariant in
     let first = c.args.line.now in
-    let ended = line_ended c.loop-sample.line c.next_sample.new.self (length c.loop-sample.packed) first.cursors now.cursors
+    let ended = line_ended old.line c.next_sample.new.self (length old.packed) first.cursors now.cursors
     c.in_default-next_sample.ensures.gives in
-    let long : length c.loop-sample.packed ≡ width_of first.system = ended ∙ ap width_of now.bytes.system in
-    sliced_all c.args.levels first.held c.loop-sample.packed (width_of first.system) (c.requires.full ∙ line_bytes-twice first.system) long now.sliced
+    let long : length old.packed ≡ width_of first.system = ended ∙ ap width_of now.bytes.system in
+    let full = c.requires.full ∙ line_bytes-twice first.system in
+    sliced_all c.args.slicing first.held old.packed (width_of first.system) full long now.sliced

@@ -11,7 +11,7 @@ invariant-loop-block l = record {
   looked : l.line.looked ≡ l.fn.line.looked + length l.packed;
   inside : length l.packed ≤ width_of l.fn.line.system;
   blocks : length l.packed % 16 ≡ 0;
-  sliced : Sliced l.fn.levels l.fn.line.held l.packed;
+  sliced : Sliced l.fn.slicing l.fn.line.held l.packed;
 }
 
 abbrev pub decreases-loop-block : goal.decreases-loop-block
@@ -23,7 +23,7 @@ invariant-loop-sample l = record {
   cursors : l.line.cursors ≡ length l.packed ∷ l.fn.line.cursors;
   looked : l.line.looked ≡ l.fn.line.looked + length l.packed;
   inside : length l.packed ≤ width_of l.fn.line.system;
-  sliced : Sliced l.fn.levels l.fn.line.held l.packed;
+  sliced : Sliced l.fn.slicing l.fn.line.held l.packed;
 }
 
 abbrev pub decreases-loop-sample : goal.decreases-loop-sample

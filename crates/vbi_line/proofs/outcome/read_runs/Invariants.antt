@@ -1,14 +1,14 @@
-use Rattle.std.proofs.Common.{◌≡◌, ◌-◌, ◌<◌, ◌≤◌, length, take}
+use Rattle.std.proofs.Common.{◌≡◌, ◌-◌, ◌<◌, ◌≤◌, length}
 use Rattle.vbi_words.specs.Levels.{level_at}
 use Rattle.vbi_words.proofs.Machine.{level_of}
-use Rattle.vbi_words.proofs.Shown.{state_after}
+use Rattle.vbi_words.proofs.SystemMachine.{state_at}
 use Rattle.vbi_line.specs.Decoder.{state_of, IsSound, run_of}
 use Rattle.vbi_line.proofs.outcome.read_runs.Given as goal
 
 abbrev pub invariant-loop-column : goal.invariant-loop-column
 invariant-loop-column l = record {
   inside : l.column ≤ length l.packed;
-  state : state_of l.decoder ≡ state_after l.system (take l.column l.packed);
+  state : state_of l.decoder ≡ state_at l.system l.packed l.column;
   sound : IsSound l.decoder;
   run : run_of l.decoder ≤ l.column;
   turns : 0 < l.column → l.column < length l.packed → level_at l.packed l.column ≡ level_of (state_of l.decoder) → ⊥;

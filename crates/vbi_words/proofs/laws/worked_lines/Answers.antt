@@ -1,4 +1,5 @@
-use Rattle.vbi_words.proofs.WorkedLines.{run_of_20_changes, low_cell_holds, long_lows_hold, late_high_unfinished, ones_shown}
+use Rattle.vbi_words.proofs.WorkedLines.{run_of_20_changes, low_cell_holds, long_lows_hold}
+use Rattle.vbi_words.proofs.WorkedLines.{late_high_unfinished, ones_shown}
 use Rattle.vbi_words.proofs.laws.worked_lines.Goals as goal
 
 pub returns : goal.returns

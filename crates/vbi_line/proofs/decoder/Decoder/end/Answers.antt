@@ -3,10 +3,14 @@ use Rattle.vbi_line.proofs.Ending.{shows, blank, unfinished}
 use Rattle.vbi_line.proofs.decoder.Decoder.end.Goals as goal
 
 pub returns-in-Some : goal.returns-in-Some
-returns-in-Some c = λ levels e. shows c.args.system levels c.args.self e c.in-Some.word c.in-Some.ensures.some.0 c.in-Some.ensures.some.1
+returns-in-Some c = λ levels e.
+    let some = c.in-Some.ensures.some in
+    shows c.args.system levels c.args.self e c.in-Some.word some.0 some.1
 
 pub returns-then-is_lead : goal.returns-then-is_lead
-returns-then-is_lead c = λ levels e. blank c.args.system levels c.args.self e (sym c.is_lead.ensures ∙ c.if-is_lead.true)
+returns-then-is_lead c = λ levels e.
+    blank c.args.system levels c.args.self e (sym c.is_lead.ensures ∙ c.if-is_lead.true)
 
 pub returns-else-is_lead : goal.returns-else-is_lead
-returns-else-is_lead c = λ levels e. unfinished c.args.system levels c.args.self e c.in-None.ensures.none (sym c.is_lead.ensures ∙ c.if-is_lead.false)
+returns-else-is_lead c = λ levels e.
+    unfinished c.args.system levels c.args.self e c.in-None.ensures.none (sym c.is_lead.ensures ∙ c.if-is_lead.false)

@@ -1,4 +1,4 @@
-use Rattle.std.proofs.Common.{subst}
+use Rattle.std.proofs.Common.{List, Bool, subst}
 use Rattle.vbi_words.specs.declared.system.System.{System}
 use Rattle.vbi_words.specs.Levels.{row_levels}
 use Rattle.vbi_words.specs.Outcomes.{IsOutcome}
@@ -7,4 +7,6 @@ use Rattle.vbi_line.proofs.intake.Intake.outcome.Goals as goal
 
 pub returns-clause-outcome : goal.returns-clause-outcome
 returns-clause-outcome g c =
-    subst (λ (s : System). IsOutcome s (row_levels c.args.levels (held_of c.args.self.now)) c.read_line.result) c.system-system.ensures c.read_line.ensures.outcome
+    let levels : List Bool = row_levels c.args.slicing (held_of c.args.self.now) in
+    let P : System → Type 0 = λ s. IsOutcome s levels c.read_line.result in
+    subst P c.system-system.ensures c.read_line.ensures.outcome

@@ -1,38 +1,55 @@
-use Rattle.std.proofs.Common.{arith, sym, ap, ◌∙◌, ◌≡◌, ◌<◌, List, Bool}
+use Rattle.std.proofs.Common.{arith, ap, sym, ◌∙◌, ◌≡◌, ◌<◌, ℕ, List, Bool}
 use Rattle.vbi_words.specs.Levels.{level_at}
-use Rattle.vbi_line.specs.Packing.{packed_level}
-use Rattle.vbi_line.proofs.Packs.{length-unpacked, level_unpacked, each_on, run_in_word, run_to_width}
+use Rattle.vbi_line.specs.Packing.{packed_level, unpacked}
+use Rattle.vbi_line.proofs.Packs.{length-unpacked, level_unpacked}
+use Rattle.vbi_line.proofs.PackedRuns.{RunSoFar, each_on, run_in_word, run_to_width}
 use Rattle.vbi_line.proofs.packed.Packed.next_run.Goals as goal
+
+-- the level that was read is that of the words
+level_is : (words : List ℕ) (width column : ℕ) (levels : List Bool) (level : Bool) → unpacked words width ≡ levels
+    → level ≡ level_at levels column → column < width → level ≡ packed_level words column
+level_is words width column levels level view here within =
+    here ∙ ap (λ (t : List Bool). level_at t column) (sym view) ∙ level_unpacked words width column within
 
 pub returns-then-place-equal-lt64 : goal.returns-then-place-equal-lt64
 returns-then-place-equal-lt64 c =
     let b = c.self.inside in
+    let now = c.loop-end in
     let long = length-unpacked b.words b.width in
     let before = rw (← c.self.view_is) at c.requires in
     let within : c.args.column < b.width = omega arith in
-    let here : c.level-level.result ≡ packed_level b.words c.args.column
-    = c.level-level.ensures ∙ ap (λ (t : List Bool). level_at t c.args.column) (sym c.self.view_is)
-    ∙ level_unpacked b.words b.width c.args.column within in
-    rw (← c.self.view_is, c.min.ensures) (
-    run_in_word b.words b.width c.args.column c.loop-end.end c.level-level.result c.equal_bits-equal.result c.self.invariant.words
-    c.self.invariant.width within here
-    c.loop-end.invariant.from c.loop-end-test.true c.loop-end.invariant.each c.equal_bits-equal.ensures c.if-place-equal-lt64.true)
+    let level = c.level-level in
+    let so_far : RunSoFar b.words b.width c.args.column now.end level.result c.equal_bits-equal.result = record {
+      long = c.self.invariant.words;
+      room = c.self.invariant.width;
+      within = within;
+      here = level_is b.words b.width c.args.column c.args.self.now level.result c.self.view_is level.ensures within;
+      from = now.invariant.from;
+      before = c.loop-end-test.true;
+      each = now.invariant.each;
+      bits = c.equal_bits-equal.ensures;
+    } in
+    rw (← c.self.view_is, c.min.ensures) (run_in_word so_far c.if-place-equal-lt64.true)
 
 pub loop-end-preserved : goal.loop-end-preserved
 loop-end-preserved c =
     let b = c.self.inside in
+    let now = c.loop-end in
     let long = length-unpacked b.words b.width in
     let before = rw (← c.self.view_is) at c.requires in
     let within : c.args.column < b.width = omega arith in
-    let here : c.level-level.result ≡ packed_level b.words c.args.column
-    = c.level-level.ensures ∙ ap (λ (t : List Bool). level_at t c.args.column) (sym c.self.view_is)
-    ∙ level_unpacked b.words b.width c.args.column within in
-    record {
-      from = omega arith;
-      each = each_on b.words b.width c.args.column c.loop-end.end c.level-level.result c.equal_bits-equal.result c.self.invariant.words
-          c.self.invariant.width within here
-          c.loop-end.invariant.from c.loop-end-test.true c.loop-end.invariant.each c.equal_bits-equal.ensures;
-    }
+    let level = c.level-level in
+    let so_far : RunSoFar b.words b.width c.args.column now.end level.result c.equal_bits-equal.result = record {
+      long = c.self.invariant.words;
+      room = c.self.invariant.width;
+      within = within;
+      here = level_is b.words b.width c.args.column c.args.self.now level.result c.self.view_is level.ensures within;
+      from = now.invariant.from;
+      before = c.loop-end-test.true;
+      each = now.invariant.each;
+      bits = c.equal_bits-equal.ensures;
+    } in
+    record { from = omega arith; each = each_on so_far }
 
 pub overflow_sub-result-2 : goal.overflow_sub-result-2
 overflow_sub-result-2 c =
@@ -42,9 +59,9 @@ overflow_sub-result-2 c =
 
 pub returns : goal.returns
 returns c =
-    let long = length-unpacked c.self.inside.words c.self.inside.width in
+    let b = c.self.inside in
+    let long = length-unpacked b.words b.width in
     let within = rw (← c.self.view_is) at c.requires in
-    let inside : c.args.column < c.self.inside.width = omega arith in
-    rw (← c.self.view_is) (run_to_width c.self.inside.words c.self.inside.width c.args.column c.loop-end.end c.level-level.result inside
-    c.loop-end-test.false
-    c.loop-end.invariant.each)
+    let inside : c.args.column < b.width = omega arith in
+    rw (← c.self.view_is) (run_to_width b.words b.width c.args.column c.loop-end.end c.level-level.result inside
+    c.loop-end-test.false c.loop-end.invariant.each)

@@ -1,7 +1,7 @@
-use Rattle.std.proofs.Common.{arith, ap, ◌∙◌, ◌+◌, ◌≤◌, ◌%◌, ◌/◌, ◌++◌, List, Bool}
+use Rattle.std.proofs.Common.{arith, ap, ◌∙◌, ◌/◌, ◌++◌, List, Bool}
 use Rattle.std.proofs.lemmas.List.{length-set}
 use Rattle.vbi_line.specs.Packing.{levels_in}
-use Rattle.vbi_line.proofs.Packs.{length-unpacked, grown_rest, grown_levels}
+use Rattle.vbi_line.proofs.Packs.{HasRoom, length-unpacked, pushed_rest, pushed_levels}
 use Rattle.vbi_line.proofs.packed.Packed.push.Goals as goal
 
 pub bounds-self-inside-column : goal.bounds-self-inside-column
@@ -22,13 +22,18 @@ invariant_of-self c =
     let long = length-unpacked b.words b.width in
     let before = rw (← c.self.view_is) at c.requires.room in
     let before_word = rw (← c.self.view_is) at c.requires.word in
-    let room : b.width + c.args.count ≤ 1152 = omega arith in
-    let word : b.width % 64 + c.args.count ≤ 64 = omega arith in
+    let has : HasRoom b.words b.width c.args.bits c.args.count = record {
+      long = c.self.invariant.words;
+      room = omega arith;
+      within = omega arith;
+      some = c.requires.some;
+      few = c.requires.bits;
+      rest = c.self.invariant.rest;
+    } in
     record {
       words = length-set b.words (b.width / 64) _ ∙ c.self.invariant.words;
-      width = room;
-      rest = grown_rest b.words b.width c.args.bits c.args.count c.self.invariant.words room word c.requires.some c.requires.bits
-          c.self.invariant.rest;
+      width = has.room;
+      rest = pushed_rest has;
     }
 
 pub returns : goal.returns
@@ -37,7 +42,12 @@ returns c =
     let long = length-unpacked b.words b.width in
     let before = rw (← c.self.view_is) at c.requires.room in
     let before_word = rw (← c.self.view_is) at c.requires.word in
-    let room : b.width + c.args.count ≤ 1152 = omega arith in
-    let word : b.width % 64 + c.args.count ≤ 64 = omega arith in
-    grown_levels b.words b.width c.args.bits c.args.count c.self.invariant.words room word c.requires.some c.requires.bits c.self.invariant.rest
-    ∙ ap (λ (t : List Bool). t ++ levels_in c.args.count c.args.bits) c.self.view_is
+    let has : HasRoom b.words b.width c.args.bits c.args.count = record {
+      long = c.self.invariant.words;
+      room = omega arith;
+      within = omega arith;
+      some = c.requires.some;
+      few = c.requires.bits;
+      rest = c.self.invariant.rest;
+    } in
+    pushed_levels has ∙ ap (λ (t : List Bool). t ++ levels_in c.args.count c.args.bits) c.self.view_is

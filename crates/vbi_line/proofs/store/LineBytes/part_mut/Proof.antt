@@ -1,6 +1,7 @@
 -- `part_mut` lends a part of the array as a slice. The borrow checker shows no clause on what a loan
 -- of a part of an array leaves, so this proof walks the code by hand.
-use Rattle.std.proofs.Common.{◌≡◌, ℕ, ◌+◌, ◌-◌, ◌≤◌, List, [], ◌∷◌, ◌++◌, length, take, drop, refl, sym, ap, ◌∙◌, arith, w64}
+use Rattle.std.proofs.Common.{◌≡◌, ℕ, ◌+◌, ◌-◌, ◌≤◌, List, [], ◌∷◌, ◌++◌, length}
+use Rattle.std.proofs.Common.{take, drop, refl, sym, ap, ◌∙◌, arith, w64}
 use Rattle.std.proofs.lemmas.List.{length-take-le}
 use Rattle.std.proofs.raw_atomic.Walks.{proved}
 use seplogic.Ra.Ura.{Ura}
@@ -13,8 +14,10 @@ use types.Logic.{Logic, sem}
 use types.Mut.{open_ref}
 use types.SemTy.{cells}
 use types.Part.{agg}
-use types.Kit.{Item, ‵, ◌⊛◌, raw, given, some, later, ◌$◌, ◌∵◌, !, qed, by, done, move, keep, drop as let_go, show, rewrite}
-use types.Kit.{split, split3, join, learn, fsplit, fsplit3, fjoin, use1, use2, await, pick, suffices, frame, updating, group, now}
+use types.Kit.{Item, ‵, ◌⊛◌, raw, given, some, later, ◌$◌, ◌∵◌, !, qed}
+use types.Kit.{by, done, move, keep, drop as let_go, show, rewrite}
+use types.Kit.{split, split3, join, learn, fsplit, fsplit3, fjoin, use1}
+use types.Kit.{use2, await, pick, suffices, frame, updating, group, now}
 use types.Run.{stop, fld, addr, bin, and_then, no_more, returns, enter}
 use types.ByLocal.{alloc_all, pass_all, free_all, look_at, get, through, sets}
 use denote.Array.{Array}
@@ -35,10 +38,12 @@ use Rattle.vbi_line.specs.declared.store.LineBytes.{LineBytes}
 use Rattle.vbi_line.specs.contracts.store.LineBytes.{the_row as S}
 use Rattle.vbi_line.specs.contracts.store.LineBytes.part_mut as f
 use Rattle.vbi_line.specs.StoreLends.{with_part}
-use Rattle.vbi_line.proofs.StoreMemory.{in_parts, length-part, with_part-same, length-with_part, start, Left, bytes_out, bytes_in}
+use Rattle.vbi_line.proofs.StoreMemory.{part_of, in_parts, length-part, with_part-same}
+use Rattle.vbi_line.proofs.StoreMemory.{length-with_part, start, Left, bytes_out, bytes_in}
 use Rattle.vbi_line.proofs.store.LineBytes.part_mut.Statement.{statement}
 use Rattle.vbi_line.proofs.store.LineBytes.part_mut.Code as code
 
+-- what of the parameters is kept to the end
 abbrev stayed : Stays f.ended.signature.params f.ended.kept
 stayed = (
   stay_dropped (RefMutOf (0 ∷ []) tt (plain (λ _. S)) (λ _. tt)) no,
@@ -46,34 +51,43 @@ stayed = (
 )
 
 -- the bytes from one place up to another are lent, and the rest is kept until they come back
-module _ {M : Type 1} {𝓤 : Ura M} (𝓛 : Logic 𝓤) (κ : Lft) (q : Share) (b o : ℕ) (γ : GName) (d : LineBytes) (from to : ℕ) where
+module _ {M : Type 1} {𝓤 : Ura M} (𝓛 : Logic 𝓤) (κ : Lft) (q : Share) (b o : ℕ) (γ : GName)
+    (d : LineBytes) (from to : ℕ) where
   open 𝓛 use {H, A}
 
+  -- the bytes
   abbrev xs : List ℕ
   xs = d.bytes
 
+  -- those before the part
   abbrev front : List ℕ
   front = take from xs
 
+  -- the part
   abbrev part : List ℕ
-  part = take (to - from) (drop from xs)
+  part = part_of xs from to
 
+  -- those behind it
   abbrev back : List ℕ
   back = drop to xs
 
+  -- the struct with the part written over
   abbrev after : List ℕ → LineBytes
   after ws = record { bytes = with_part xs from to ws }
 
-  -- bytes at an offset, and where the part and what is behind it begin
+  -- bytes at an offset
   abbrev Bytes : List ℕ → ℕ → SProp 𝓤
   Bytes ys p = sem 𝓛 (cells (mem u8) ys b p)
 
+  -- where the part begins
   abbrev place : ℕ
   place = from + start o
 
+  -- where n bytes from there end
   abbrev past : ℕ → ℕ
   past n = at place (mem u8).size n
 
+  -- what is kept while the part is lent
   abbrev Rest : SProp 𝓤
   Rest = sep 𝓤 (Bytes front (start o)) (sep 𝓤 (Bytes back (past (length part))) (Left 𝓛 b o))
 
@@ -95,17 +109,21 @@ module _ {M : Type 1} {𝓤 : Ura M} (𝓛 : Logic 𝓤) (κ : Lft) (q : Share) 
       rewrite ! 2 (λ n. ‵ (cells (mem u8) back b (past n))) (sym same) refl $ move ! (0 ∷ 2 ∷ []) $
       use2 𝓛 (‵ (cells (mem u8) (ws ++ back) b place)) (join_app 𝓛 (mem u8) ws back b place) $
       rewrite ! 0 (λ p. ‵ (cells (mem u8) (ws ++ back) b p)) (sym (placed (omega arith))) refl $ move ! (1 ∷ 0 ∷ []) $
-      use2 𝓛 (‵ (cells (mem u8) (front ++ (ws ++ back)) b (start o))) (join_app 𝓛 (mem u8) front (ws ++ back) b (start o)) $
+      use2 𝓛 (‵ (cells (mem u8) (front ++ (ws ++ back)) b (start o)))
+      (join_app 𝓛 (mem u8) front (ws ++ back) b (start o)) $
       rewrite ! 0 (λ ys. ‵ (cells (mem u8) ys b (start o))) all refl $
       by ! (bytes_in 𝓛 b o (after ws) (length-with_part xs from to ws le (omega arith) (same ∙ count) ∙ long))
 
   -- the part as a slice of n bytes
   abbrev Slice : ℕ → GName → Fml
-  Slice n δ = (MutSlice (named 0) κ u8).own_val (record { ref_ptr = (b, place); ghost_name = δ; now = part }) (slice_val (b, place) n ∷ [])
+  Slice n δ = (MutSlice (named 0) κ u8).own_val (record { ref_ptr = (b, place); ghost_name = δ; now = part })
+      (slice_val (b, place) n ∷ [])
 
+  -- what the caller gets: the slice, the lifetime's token, and what follows when the loan ends
   abbrev Lent : ℕ → GName → SProp 𝓤
   Lent n δ = sep 𝓤 (sem 𝓛 (Slice n δ)) (sep 𝓤 (A.lft κ q) (sem 𝓛 (follows S (Array u8 0) γ δ after)))
 
+  -- the same as an item of a proof
   abbrev lent : ℕ → GName → Item 𝓤
   lent n δ = ‵ (Slice n δ) ⊛ ‵ (flft κ q) ⊛ ‵ (follows S (Array u8 0) γ δ after)
 
@@ -122,7 +140,8 @@ module _ {M : Type 1} {𝓤 : Ura M} (𝓛 : Logic 𝓤) (κ : Lft) (q : Share) 
       learn ! (λ long. split ! $
       let count = length-part xs from to le (omega arith) in
       rewrite ! 0 (λ ys. ‵ (cells (mem u8) ys b (start o))) (sym (in_parts xs from to le)) refl $
-      use1 𝓛 (‵ (cells (mem u8) front b (start o)) ⊛ ‵ (cells (mem u8) (part ++ back) b (at (start o) (mem u8).size (length front))))
+      use1 𝓛 (‵ (cells (mem u8) front b (start o))
+      ⊛ ‵ (cells (mem u8) (part ++ back) b (at (start o) (mem u8).size (length front))))
       (cut_app 𝓛 (mem u8) front (part ++ back) b (start o)) $
       split ! $ move ! (1 ∷ []) $
       rewrite ! 0 (λ p. ‵ (cells (mem u8) (part ++ back) b p)) (placed (omega arith)) refl $
@@ -145,8 +164,8 @@ part_mut_spec 𝓤 𝓛 𝓜 𝓡 wired =
     (λ κs. (mut_vals, (uint_vals w64, (uint_vals w64, tt))))
     (λ κs. (mut_Tells (named 0) κs.0 S, (uint_Tells w64, (uint_Tells w64, tt))))
     (λ κs qs bounds a _ are.
-    let κ = κs.0 in let q = qs.0 in let b = a.0.ref_ptr.0 in let o = a.0.ref_ptr.1 in let γ = a.0.ghost_name in let d = a.0.now in
-    let from = a.1.0 in let to = a.1.1.0 in
+    let κ = κs.0 in let q = qs.0 in let b = a.0.ref_ptr.0 in let o = a.0.ref_ptr.1 in let γ = a.0.ghost_name in
+    let d = a.0.now in let from = a.1.0 in let to = a.1.1.0 in
     let y : W.Ghost = ((κs, qs, bounds, a, (mut_vals a.0, (uint_vals w64 from, (uint_vals w64 to, tt)))), tt) in
     qed 𝓛 (
     ((‵ (flft κ q) ⊛ ‵ ftrue) ⊛ ‵ (owns (MutRef (named 0) κ S ∷ usize ∷ usize ∷ []) a y.0.4))
@@ -155,18 +174,21 @@ part_mut_spec 𝓤 𝓛 𝓜 𝓡 wired =
     ) ∵
     move ! (1 ∷ []) $ heard ! _ (λ ok. split ! $ split ! $ move ! (2 ∷ []) $ fsplit ! $ keep ! (0 ∷ 2 ∷ []) $
     enter ! _ _ _ _ _ $
-    alloc_all ! (λ l. pass_all ! refl ((tt, tt), ((tt, record { fits = are.1.0.1 }), ((tt, record { fits = are.1.1.0.1 }), tt))) $
+    alloc_all ! (λ l. pass_all ! refl
+    ((tt, tt), ((tt, record { fits = are.1.0.1 }), ((tt, record { fits = are.1.1.0.1 }), tt))) $
     -- [the reference; its token; the locals]
     sets ! (addr ! (through ! refl (fld ! refl (stop !)))) refl (tt, tt) $
     sets ! (bin ! (get ! refl) (get ! refl) tt) refl (tt, tt) $
     sets ! (bin ! (get ! refl) (get ! refl) ok.0) refl (tt, record { fits = omega arith }) $
     sets ! (addr ! (through ! refl (stop !))) refl (tt, tt) $
-    sets ! (agg ! (and_then ! (get ! refl) (and_then ! (get ! refl) (no_more !)))) refl (tt, (tt, (record { fits = omega arith }, tt))) $
-    use2 𝓛 (later (some (lent 𝓛 κ q b o γ d from to (to - from)))) (lends 𝓛 κ q b o γ d from to ok.0 ok.1 (mut_vals a.0)) $
+    sets ! (agg ! (and_then ! (get ! refl) (and_then ! (get ! refl) (no_more !)))) refl
+    (tt, (tt, (record { fits = omega arith }, tt))) $
+    use2 𝓛 (later (some (lent 𝓛 κ q b o γ d from to (to - from))))
+    (lends 𝓛 κ q b o γ d from to ok.0 ok.1 (mut_vals a.0)) $
     await ! tt $ pick ! (λ δ. split3 ! $
     returns ! (look_at ! 0 refl) $ free_all ! refl $
     suffices ! _ (ends_at 𝓛 f.ended stayed c y (slice_val (b, from + start o) (to - from))
-    (record { ref_ptr = (b, from + start o); ghost_name = δ; now = take (to - from) (drop from d.bytes) })
+    (record { ref_ptr = (b, from + start o); ghost_name = δ; now = part_of d.bytes from to })
     (tt, (tt, (tt, tt))) (tt, (tt, (tt, tt)))) $
     nothing ! $ nothing ! $ fjoin ! $ nothing ! $ fjoin ! $ nothing ! $ fjoin ! $ join ! $
     nothing ! $ move ! (2 ∷ 0 ∷ []) $ join ! $ join ! $ frame ! $ says ! refl $ done !))))
