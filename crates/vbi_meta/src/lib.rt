@@ -7,6 +7,7 @@
 
 mod choosing;
 mod fault;
+pub mod laws;
 mod reading;
 
 pub use choosing::{Overrides, settings};
