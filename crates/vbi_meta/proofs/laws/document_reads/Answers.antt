@@ -1,4 +1,4 @@
-use Rattle.vbi_meta.proofs.DocumentTexts.{pieces_print}
+use Rattle.vbi_meta.proofs.ValueReads.{stream_reads}
 use Rattle.vbi_meta.proofs.laws.document_reads.Goals as goal
 
 pub returns : goal.returns
