@@ -1,5 +1,5 @@
-use Rattle.vbi_meta.proofs.ValueReads.{stream_reads}
+use Rattle.vbi_meta.proofs.DocumentReads.{document_is_read}
 use Rattle.vbi_meta.proofs.laws.document_reads.Goals as goal
 
 pub returns : goal.returns
-returns c = ?
+returns c = document_is_read
