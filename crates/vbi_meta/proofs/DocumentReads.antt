@@ -1,5 +1,5 @@
 -- The document of a stream is read as its value.
-use Rattle.std.proofs.Common.{◌≡◌, ℕ, ◌+◌, ◌*◌, ◌/◌, ◌%◌, ◌==◌, ◌<◌, ◌≤◌, ◌^◌, List, [], ◌∷◌, ◌++◌, length, Some, IsUtf8, map}
+use Rattle.std.proofs.Common.{◌≡◌, ℕ, ◌*◌, ◌/◌, ◌%◌, ◌<◌, ◌≤◌, ◌^◌, List, [], ◌∷◌, ◌++◌, length, Some, map}
 use Rattle.std.proofs.Common.{false, refl, sym, ap, ◌∙◌, subst, arith, option_and_then, append-nil}
 use Rattle.std.proofs.lemmas.Str.{IsUtf8-append}
 use Rattle.std.specs.List.{range_with_len}
@@ -17,8 +17,7 @@ use Rattle.serde_json.specs.Read.{of_json, max_depth, read}
 use Rattle.vbi_words.specs.declared.system.System.{System}
 use Rattle.vbi_words.specs.declared.system.System.TheVariants.{Ntsc, Pal}
 use Rattle.vbi_words.specs.Geometry.{field_bytes}
-use Rattle.vbi_field.specs.ConfigView.{ConfigView, allowed_bytes}
-use Rattle.vbi_field.specs.Document.{tail_of}
+use Rattle.vbi_field.specs.ConfigView.{ConfigView}
 use Rattle.vbi_field.specs.Kinds.{document}
 use Rattle.vbi_field.specs.Stream.{fields_of, rest_of, field_readings}
 use Rattle.vbi_field.specs.Texts.{begun_of, document_of}

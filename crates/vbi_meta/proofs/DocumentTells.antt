@@ -1,12 +1,12 @@
 -- What is found in the document of a stream is what its lines show.
-use Rattle.std.proofs.Common.{◌≡◌, ◌≢◌, ℕ, zero, suc, ◌+◌, ◌==◌, ◌<◌, ◌≤◌, List, Bool, true, false, Option, Some, None, option_and_then}
+use Rattle.std.proofs.Common.{◌≡◌, ℕ, zero, suc, ◌+◌, ◌<◌, ◌≤◌, List, Bool, Option, Some, None, option_and_then}
 use Rattle.std.proofs.Common.{cond, [], ◌∷◌, refl, sym, ap, ◌∙◌, subst, inl, inr, ◌⊎◌, map, arith}
 use Rattle.std.proofs.Math.Dec.{eqb-suc-zero}
 use Rattle.std.proofs.lemmas.Bool.{cases_lt}
 use Rattle.std.specs.List.{range_with_len}
 use Rattle.std.specs.Prelude.{codes, length}
-use Rattle.serde_json.specs.Data.{Data, Items, null}
-use Rattle.serde_json.specs.Find.{get, at, get_item, as_str}
+use Rattle.serde_json.specs.Data.{Data, null}
+use Rattle.serde_json.specs.Find.{at, get_item, as_str}
 use Rattle.serde_json.specs.Read.{read}
 use Rattle.serde_json.specs.View.{items_of}
 use Rattle.vbi_words.specs.declared.outcome.Outcome.{Outcome}
@@ -22,7 +22,7 @@ use Rattle.vbi_field.specs.ConfigView.{ConfigView}
 use Rattle.vbi_field.specs.Document.{value_of}
 use Rattle.vbi_field.specs.Stream.{fields_of, rest_of, row_of, row_reading, field_readings}
 use Rattle.vbi_meta.specs.DocumentValue.{object_of, whole_of, document_value, field_value, cut_value}
-use Rattle.vbi_meta.specs.ReadBack.{field_in, number_in, word_in, cause_in, pass_in, cut_in, cut_number_in}
+use Rattle.vbi_meta.specs.ReadBack.{field_in, word_in, cut_in}
 use Rattle.vbi_meta.specs.ReadBack.{TellsLine, TellsCut, ShowsWord, Tells}
 use Rattle.vbi_field.specs.Kinds.{document}
 use Rattle.vbi_field.specs.Texts.{document_of}

@@ -1,5 +1,5 @@
 -- What a line's reading gives to a document: numbers of 64 bits, and a cause in UTF-8 with nothing to escape.
-use Rattle.std.proofs.Common.{◌≡◌, ℕ, ◌+◌, ◌*◌, ◌%◌, ◌<◌, ◌≤◌, ◌^◌, Bool, List, [], ◌∷◌, ◌++◌, length, drop, decimal, IsUtf8}
+use Rattle.std.proofs.Common.{◌≡◌, ℕ, ◌+◌, ◌*◌, ◌<◌, ◌≤◌, ◌^◌, Bool, List, [], ◌∷◌, ◌++◌, length, drop, decimal, IsUtf8}
 use Rattle.std.proofs.Common.{◌∙◌, refl, ap, ap₂, inl, inr, arith, lit<, true}
 use Rattle.std.proofs.lemmas.List.{length-take, length-map}
 use Rattle.std.proofs.lemmas.Fmt.{decimal_is_IsNumeral, IsAscii-decimal}

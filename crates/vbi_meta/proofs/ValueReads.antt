@@ -31,7 +31,7 @@ use Rattle.vbi_field.specs.declared.readings.FieldReadings.{FieldReadings}
 use Rattle.vbi_meta.specs.DocumentValue.{object_of, array_of, whole_of, lines_of, words_value, field_value, parameters_value, cut_value}
 use Rattle.vbi_meta.proofs.DocumentTexts.{tokens_of, parameters_json, cut_json, entries_json, document_json}
 use Rattle.vbi_meta.proofs.RecordTexts.{Pieces, count_json, lines_json, words_json, record_json}
-use Rattle.vbi_meta.proofs.ShownLines.{IsShown, AreShown, decimal_utf8}
+use Rattle.vbi_meta.proofs.ShownLines.{AreShown, decimal_utf8}
 
 -- ---- keys that differ
 
