@@ -38,36 +38,43 @@ read_tokens : (text : List ℕ) {j : json.Json} {d : Data} → tokens text ≡ j
 read_tokens text {j} {d} e h reads =
     ap (λ ts. option_and_then of_json (option_and_then (λ p. json.if_last p.0 p.1) (json.value max_depth ts)))
     (e ∙ sym (append-nil (json_tokens j)))
-    ∙ ap (λ o. option_and_then of_json (option_and_then (λ p. json.if_last p.0 p.1) o)) (value-json_tokens j max_depth [] h)
+    ∙ ap (λ o. option_and_then of_json (option_and_then (λ p. json.if_last p.0 p.1) o))
+    (value-json_tokens j max_depth [] h)
     ∙ reads.is
 
 -- by the grammar alone it is that tree
-parsed_tokens : (text : List ℕ) (j : json.Json) → tokens text ≡ json_tokens j → depth j ≤ max_depth → json.document text ≡ Some j
+parsed_tokens : (text : List ℕ) (j : json.Json) → tokens text ≡ json_tokens j → depth j ≤ max_depth
+    → json.document text ≡ Some j
 parsed_tokens text j e h =
-    ap (λ ts. option_and_then (λ p. json.if_last p.0 p.1) (json.value json.max_depth ts)) (e ∙ sym (append-nil (json_tokens j)))
+    ap (λ ts. option_and_then (λ p. json.if_last p.0 p.1) (json.value json.max_depth ts))
+    (e ∙ sym (append-nil (json_tokens j)))
     ∙ ap (option_and_then (λ p. json.if_last p.0 p.1)) (value-json_tokens j json.max_depth [] (omega arith))
 
 -- a text of pieces and a line feed, where their tokens are those of a tree
-module _ (ps : Pieces) (gaps : AreGaps ps) (j : json.Json) (d : Data) (same : tokens_of ps ≡ json_tokens j) (reads : Reads j d)
+module _ (ps : Pieces) (gaps : AreGaps ps) (j : json.Json) (d : Data) (same : tokens_of ps ≡ json_tokens j)
+    (reads : Reads j d)
     (shallow : depth j ≤ max_depth) where
   abbrev line : List ℕ
   line = print_spaced false ps ++ 10 ∷ []
 
   line_tokens : tokens line ≡ json_tokens j
   line_tokens =
-      let printable : ArePrintable (map (λ p. p.1) ps) = subst ArePrintable (sym same) (ArePrintable-json_tokens j reads.numbers) in
+      let printable : ArePrintable (map (λ p. p.1) ps) = subst ArePrintable (sym same)
+      (ArePrintable-json_tokens j reads.numbers) in
       tokens-line_feed (print_spaced false ps) ∙ tokens-print_spaced ps gaps printable ∙ same
 
   line_is_read : IsReadAs line d
   line_is_read = record {
-    utf8 = IsUtf8-append _ _ (printed_utf8 false ps gaps (subst AreUtf8 (sym same) reads.utf8)) (IsUtf8-are_ascii _ refl);
+    utf8 = IsUtf8-append _ _ (printed_utf8 false ps gaps (subst AreUtf8 (sym same) reads.utf8))
+        (IsUtf8-are_ascii _ refl);
     value_of_text = read_tokens line line_tokens shallow reads;
     unique = (j, parsed_tokens line j line_tokens shallow, reads.unique);
   }
 
 -- ---- the numbers of a run
 
-fields_within : (system : System) (fields bytes : ℕ) → bytes ≤ fields * field_bytes system → bytes / field_bytes system ≤ fields
+fields_within : (system : System) (fields bytes : ℕ) → bytes ≤ fields * field_bytes system
+    → bytes / field_bytes system ≤ fields
 fields_within Ntsc fields bytes h = omega arith
 fields_within Pal fields bytes h = omega arith
 
@@ -80,21 +87,31 @@ small_rest Pal bytes = omega arith
 
 -- ---- the document
 
-pub document_is_read : (c : ConfigView) (z : List ℕ) → IsOfRun c z → IsReadAs (document_of document c z) (document_value c z)
+pub document_is_read : (c : ConfigView) (z : List ℕ) → IsOfRun c z
+    → IsReadAs (document_of document c z) (document_value c z)
 unfolding begun_of
 document_is_read c z run =
     let readings = field_readings c z in
     let is = range_with_len 0 (fields_of c z) in
-    let reads = stream_reads c readings (fields_of c z) (rest_of c z) (omega (arith, run.config.black)) (omega (arith, run.config.white))
-        (field_shown c z) (omega (arith, few_fields c z run)) (small_rest c.system (length z)) in
+    let reads = stream_reads c readings (fields_of c z) (rest_of c z) (omega (arith, run.config.black))
+    (omega (arith, run.config.white))
+    (field_shown c z) (omega (arith, few_fields c z run)) (small_rest c.system (length z)) in
     let P : List ℕ → Type 0 = λ text. IsReadAs text (document_value c z) in
     subst P (pieces_print c readings (fields_of c z) (rest_of c z) (field_shown c z) is)
-    (line_is_read (pieces c readings (fields_of c z) (rest_of c z) is) (pieces_gaps c readings (fields_of c z) (rest_of c z) is)
+    (line_is_read (pieces c readings (fields_of c z) (rest_of c z) is)
+    (pieces_gaps c readings (fields_of c z) (rest_of c z) is)
     (document_json c readings (fields_of c z) (rest_of c z) is) (document_value c z)
-    (pieces_tokens c readings (fields_of c z) (rest_of c z) is) reads (stream_depth c readings (fields_of c z) (rest_of c z) is))
+    (pieces_tokens c readings (fields_of c z) (rest_of c z) is) reads
+    (stream_depth c readings (fields_of c z) (rest_of c z) is))
 
 -- ---- as metadata
 
-pub is_metadata : (text : List ℕ) (value : Data) → IsReadAs text value → length text ≤ most_bytes → IsMetadata text value
+pub is_metadata : (text : List ℕ) (value : Data) → IsReadAs text value → length text ≤ most_bytes
+    → IsMetadata text value
 is_metadata text value is short =
-    record { short = short; utf8 = is.utf8; reading = is.value_of_text; nested = depth-read text value is.value_of_text }
+    record {
+      short = short;
+      utf8 = is.utf8;
+      reading = is.value_of_text;
+      nested = depth-read text value is.value_of_text;
+    }

@@ -1,6 +1,6 @@
 -- What is found in the document of a stream is what its lines show.
 use Rattle.std.proofs.Common.{◌≡◌, ℕ, zero, suc, ◌+◌, ◌<◌, ◌≤◌, List, Bool, Option, Some, None, option_and_then}
-use Rattle.std.proofs.Common.{cond, [], ◌∷◌, refl, sym, ap, ◌∙◌, subst, inl, inr, ◌⊎◌, map, arith}
+use Rattle.std.proofs.Common.{cond, refl, sym, ap, ◌∙◌, subst, inl, inr, ◌⊎◌, map, arith}
 use Rattle.std.proofs.Math.Dec.{eqb-suc-zero}
 use Rattle.std.proofs.lemmas.Bool.{cases_lt}
 use Rattle.std.specs.List.{range_with_len}
@@ -21,7 +21,7 @@ use Rattle.vbi_field.specs.CauseTexts.{cause_text_of}
 use Rattle.vbi_field.specs.ConfigView.{ConfigView}
 use Rattle.vbi_field.specs.Document.{value_of}
 use Rattle.vbi_field.specs.Stream.{fields_of, rest_of, row_of, row_reading, field_readings}
-use Rattle.vbi_meta.specs.DocumentValue.{object_of, whole_of, document_value, field_value, cut_value}
+use Rattle.vbi_meta.specs.DocumentValue.{document_value, field_value, cut_field_value, cut_value}
 use Rattle.vbi_meta.specs.ReadBack.{field_in, word_in, cut_in}
 use Rattle.vbi_meta.specs.ReadBack.{TellsLine, TellsCut, ShowsWord, Tells}
 use Rattle.vbi_field.specs.Kinds.{document}
@@ -54,7 +54,9 @@ abbrev number_of_field : Option Data → Option ℕ
 number_of_field field = option_and_then whole (member_of field (codes "seqNo"))
 
 abbrev word_of_field : ℕ → Option Data → Option ℕ
-word_of_field k field = option_and_then whole (option_and_then (at k) (member_of (member_of field (codes "vbi")) (codes "vbiData")))
+word_of_field k field =
+    let words = member_of (member_of field (codes "vbi")) (codes "vbiData") in
+    option_and_then whole (option_and_then (at k) words)
 
 abbrev cause_of_field : ℕ → Option Data → Option (List ℕ)
 cause_of_field k field = option_and_then as_str (option_and_then (at k) (member_of field (codes "vbiCause")))
@@ -103,12 +105,10 @@ abbrev number_of_cut : Data → List ℕ → Option ℕ
 number_of_cut cut name = option_and_then whole (member_of (Some cut) name)
 
 -- where some bytes are past the whole fields
-there_is_a_cut : (fields rest : ℕ) → 0 < rest
-    → cut_value fields rest ≡ object_of ((codes "seqNo", whole_of (fields + 1)) ∷ (codes "bytes", whole_of rest) ∷ [])
+there_is_a_cut : (fields rest : ℕ) → 0 < rest → cut_value fields rest ≡ cut_field_value (fields + 1) rest
 there_is_a_cut fields zero h = absurd (omega arith)
 there_is_a_cut fields (suc rest) h =
-    ap (λ b. cond b null (object_of ((codes "seqNo", whole_of (fields + 1)) ∷ (codes "bytes", whole_of (suc rest)) ∷ [])))
-    (eqb-suc-zero rest)
+    ap (λ b. cond b null (cut_field_value (fields + 1) (suc rest))) (eqb-suc-zero rest)
 
 cut_number : (fields rest : ℕ) → 0 < rest → number_of_cut (cut_value fields rest) (codes "seqNo") ≡ Some (fields + 1)
 cut_number fields rest h = ap (λ cut. number_of_cut cut (codes "seqNo")) (there_is_a_cut fields rest h)
@@ -118,7 +118,8 @@ cut_bytes fields rest h = ap (λ cut. number_of_cut cut (codes "bytes")) (there_
 
 -- ---- a number other than 0 is a word
 
-word_of_value : (system : System) (levels : List Bool) (outcome : Outcome) (pass word : ℕ) → Reads system levels outcome pass
+word_of_value : (system : System) (levels : List Bool) (outcome : Outcome) (pass word : ℕ)
+    → Reads system levels outcome pass
     → value_of outcome ≡ word → 0 < word → Reads system levels (Word word) pass
 word_of_value system levels (Word v) pass word reads e some =
     let P : ℕ → Type 0 = λ x. Reads system levels (Word x) pass in subst P e reads
@@ -152,9 +153,11 @@ module _ (c : ConfigView) (z text : List ℕ) (is : read text ≡ Some (document
   word_found : (i k : ℕ) → i < fields_of c z → k < 3 → word_in text i k ≡ Some (value_of (told c z i k).outcome)
   word_found i k inside line = ap (word_of_field k) (found i inside) ∙ word_there c z i k line
 
-  tells_line : (i k : ℕ) (reading : Reading) → i < fields_of c z → k < 3 → RowReads c z i (15 + k) reading → TellsLine text i k reading
+  tells_line : (i k : ℕ) (reading : Reading) → i < fields_of c z → k < 3 → RowReads c z i (15 + k) reading
+      → TellsLine text i k reading
   tells_line i k reading inside line reads =
-      let same : reading ≡ told c z i k = only_reading c.system (row_levels c.levels (row_of c.system z i (15 + k))) reading reads in
+      let same : reading ≡ told c z i k = only_reading c.system
+      (row_levels c.levels (row_of c.system z i (15 + k))) reading reads in
       let found_reading : TellsLine text i k (told c z i k) = record {
         word = word_found i k inside line;
         cause = ap (cause_of_field k) (found i inside) ∙ cause_there c z i k line;
@@ -169,7 +172,8 @@ module _ (c : ConfigView) (z text : List ℕ) (is : read text ≡ Some (document
       go (inr past) line =
           let none : 0 ≡ word = ap value_or (sym (ap (word_of_field k) (not_found i past)) ∙ e) in absurd (omega arith)
       go (inl inside) (inr past) =
-          let none : 0 ≡ word = ap value_or (sym (ap (word_of_field k) (found i inside) ∙ no_word_there c z i k past) ∙ e) in
+          let none : 0 ≡ word = ap value_or (sym (ap (word_of_field k) (found i inside) ∙ no_word_there c z i k past)
+          ∙ e) in
           absurd (omega arith)
       go (inl inside) (inl line) =
           let levels = row_levels c.levels (row_of c.system z i (15 + k)) in
@@ -179,14 +183,17 @@ module _ (c : ConfigView) (z text : List ℕ) (is : read text ≡ Some (document
             field = inside;
             line = line;
             pass = reading.pass;
-            reads = word_of_value c.system levels reading.outcome reading.pass word (is_reading c.system levels) same some;
+            reads = word_of_value c.system levels reading.outcome reading.pass word
+                (is_reading c.system levels) same some;
           }
 
   tells_cut : TellsCut text (fields_of c z) (rest_of c z)
   tells_cut = record {
     none = λ whole. cut_found ∙ ap (λ d. Some d) (cut_is_null (fields_of c z) (rest_of c z) whole);
-    number = λ some. ap (λ d. option_and_then whole (member_of d (codes "seqNo"))) cut_found ∙ cut_number (fields_of c z) (rest_of c z) some;
-    bytes = λ some. ap (λ d. option_and_then whole (member_of d (codes "bytes"))) cut_found ∙ cut_bytes (fields_of c z) (rest_of c z) some;
+    number = λ some. ap (λ d. option_and_then whole (member_of d (codes "seqNo"))) cut_found
+        ∙ cut_number (fields_of c z) (rest_of c z) some;
+    bytes = λ some. ap (λ d. option_and_then whole (member_of d (codes "bytes"))) cut_found
+        ∙ cut_bytes (fields_of c z) (rest_of c z) some;
   }
 
   pub tells : Tells c z text
@@ -202,14 +209,16 @@ module _ (c : ConfigView) (z text : List ℕ) (is : read text ≡ Some (document
 
 pub extracted : (c : ConfigView) (z text : List ℕ) → IsOfRun c z → text ≡ document_of document c z → ReadsBack c z text
 extracted c z text run e =
-    let is : IsReadAs text (document_value c z) = subst (λ t. IsReadAs t (document_value c z)) (sym e) (document_is_read c z run) in
+    let is : IsReadAs text (document_value c z) = subst (λ t. IsReadAs t (document_value c z)) (sym e)
+    (document_is_read c z run) in
     record {
       is_read = is;
       tells = tells c z text is.value_of_text;
       metadata = is_metadata text (document_value c z) is;
     }
 
-pub document_is_metadata : (c : ConfigView) (z text : List ℕ) → IsOfRun c z → text ≡ document_of document c z → length text ≤ most_bytes
+pub document_is_metadata : (c : ConfigView) (z text : List ℕ) → IsOfRun c z → text ≡ document_of document c z
+    → length text ≤ most_bytes
     → IsMetadata text (document_value c z)
 document_is_metadata c z text run e short = (extracted c z text run e).metadata short
 

@@ -1,5 +1,6 @@
 -- The text of a whole document as tokens, each with a gap before it.
-use Rattle.std.proofs.Common.{◌≡◌, ℕ, ◌+◌, ◌==◌, Bool, true, false, cond, List, [], ◌∷◌, ◌++◌, decimal, refl, sym, ap, ◌∙◌, subst}
+use Rattle.std.proofs.Common.{◌≡◌, ℕ, ◌+◌, ◌==◌, Bool, true, false, cond, List, [], ◌∷◌, ◌++◌, decimal, refl, sym, ap}
+use Rattle.std.proofs.Common.{◌∙◌, subst}
 use Rattle.std.proofs.Common.{append_assoc, append-nil, map, inr}
 use Rattle.std.specs.List.{join_by}
 use Rattle.std.specs.Prelude.{codes, flat_map}
@@ -97,13 +98,16 @@ module _ (readings : ℕ → FieldReadings) where
     later [] qs = refl
     later (i ∷ is) qs =
         one true i is qs ∙ ap (λ l. 44 ∷ 10 ∷ (entry i ++ l)) (later is qs)
-        ∙ ap (λ l. 44 ∷ 10 ∷ l) (sym (append_assoc (entry i) (flat_map (λ i. codes ",\n" ++ entry i) is) (print_spaced true qs)))
+        ∙ ap (λ l. 44 ∷ 10 ∷ l) (sym (append_assoc (entry i) (flat_map (λ i. codes ",\n" ++ entry i) is)
+        (print_spaced true qs)))
 
     entries_print : (i : ℕ) (is : List ℕ) (qs : Pieces)
-        → print_spaced false (entries (i ∷ is) ++ qs) ≡ 10 ∷ (join_by entry (codes ",\n") (i ∷ is) ++ print_spaced true qs)
+        → print_spaced false (entries (i ∷ is) ++ qs)
+        ≡ 10 ∷ (join_by entry (codes ",\n") (i ∷ is) ++ print_spaced true qs)
     entries_print i is qs =
         one false i is qs ∙ ap (λ l. 10 ∷ (entry i ++ l)) (later is qs)
-        ∙ ap (λ l. 10 ∷ l) (sym (append_assoc (entry i) (flat_map (λ i. codes ",\n" ++ entry i) is) (print_spaced true qs)))
+        ∙ ap (λ l. 10 ∷ l) (sym (append_assoc (entry i) (flat_map (λ i. codes ",\n" ++ entry i) is)
+        (print_spaced true qs)))
 
 -- ---- the head
 
@@ -133,7 +137,8 @@ eleven t0 n t1 w t2 h t3 b t4 x t5 r = simp append_assoc
 -- what stands behind the system's name, up to the records
 abbrev sizes_then : ConfigView → List ℕ → List ℕ
 sizes_then c r =
-    codes ",\"fieldWidth\":" ++ (decimal (width_of c.system) ++ (codes ",\"fieldHeight\":" ++ (decimal (height_of c.system)
+    codes ",\"fieldWidth\":" ++ (decimal (width_of c.system)
+    ++ (codes ",\"fieldHeight\":" ++ (decimal (height_of c.system)
     ++ (codes ",\"black16bIre\":" ++ (decimal c.levels.black ++ (codes ",\"white16bIre\":" ++ (decimal c.levels.white
     ++ (codes "},\"fields\":[" ++ r))))))))
 
@@ -145,7 +150,8 @@ head_prints c qs r e =
     let front = codes "{\"version\":2,\"videoParameters\":{\"system\":" in
     ap (λ l. front ++ l) (quoted_then (name_of c.system) (sizes_then c (print_spaced false qs)) (escape_name c.system))
     ∙ ap (λ l. front ++ (34 ∷ (name_of c.system ++ (34 ∷ sizes_then c l)))) e
-    ∙ sym (eleven (codes "{\"version\":2,\"videoParameters\":{\"system\":\"") (name_of c.system) (codes "\",\"fieldWidth\":")
+    ∙ sym (eleven (codes "{\"version\":2,\"videoParameters\":{\"system\":\"") (name_of c.system)
+    (codes "\",\"fieldWidth\":")
     (decimal (width_of c.system)) (codes ",\"fieldHeight\":") (decimal (height_of c.system)) (codes ",\"black16bIre\":")
     (decimal c.levels.black) (codes ",\"white16bIre\":") (decimal c.levels.white) (codes "},\"fields\":[\n") r)
 
@@ -169,9 +175,11 @@ five : (t0 n t1 b t2 e : List ℕ) → (t0 ++ (n ++ (t1 ++ (b ++ t2)))) ++ e ≡
 five t0 n t1 b t2 e = simp append_assoc
 
 cut_ends : (n bytes : ℕ)
-    → (codes "\n],\"cutField\":{\"seqNo\":" ++ (decimal n ++ (codes ",\"bytes\":" ++ (decimal bytes ++ codes "}}")))) ++ 10 ∷ []
+    → (codes "\n],\"cutField\":{\"seqNo\":" ++ (decimal n ++ (codes ",\"bytes\":" ++ (decimal bytes ++ codes "}}"))))
+    ++ 10 ∷ []
     ≡ tail_text false n bytes
-cut_ends n bytes = five (codes "\n],\"cutField\":{\"seqNo\":") (decimal n) (codes ",\"bytes\":") (decimal bytes) (codes "}}") (10 ∷ [])
+cut_ends n bytes = five (codes "\n],\"cutField\":{\"seqNo\":") (decimal n) (codes ",\"bytes\":") (decimal bytes)
+    (codes "}}") (10 ∷ [])
 
 tail_prints : (before whole : Bool) (n bytes : ℕ)
     → print_spaced before (gapped (10 ∷ []) (end_array ∷ members_tokens (cut_members whole n bytes))) ++ 10 ∷ []
@@ -184,7 +192,8 @@ tail_prints false false n bytes = cut_ends n bytes
 
 -- the same behind one more line feed
 one_more : (ts : List Token)
-    → print_spaced false (gapped (10 ∷ 10 ∷ []) (end_array ∷ ts)) ≡ 10 ∷ print_spaced false (gapped (10 ∷ []) (end_array ∷ ts))
+    → print_spaced false (gapped (10 ∷ 10 ∷ []) (end_array ∷ ts))
+    ≡ 10 ∷ print_spaced false (gapped (10 ∷ []) (end_array ∷ ts))
 unfolding print_spaced
 one_more ts = refl
 
@@ -226,7 +235,8 @@ module _ (c : ConfigView) (readings : ℕ → FieldReadings) (fields rest : ℕ)
       (entries_gaps readings is (last is) (last_is_gap is, gaps_plain (members_tokens cut)))
 
   pub pieces_print : ((i : ℕ) → AreShown (readings i)) → (is : List ℕ)
-      → print_spaced false (pieces is) ++ 10 ∷ [] ≡ (head_of c ++ join_by (entry readings) (codes ",\n") is) ++ tail_of fields rest
+      → print_spaced false (pieces is) ++ 10 ∷ [] ≡ (head_of c ++ join_by (entry readings) (codes ",\n") is)
+      ++ tail_of fields rest
   unfolding tail_of
   pieces_print shown [] =
       let short = print_spaced false (gapped (10 ∷ []) (end_array ∷ members_tokens cut)) in
@@ -238,7 +248,8 @@ module _ (c : ConfigView) (readings : ℕ → FieldReadings) (fields rest : ℕ)
       let body = join_by (entry readings) (codes ",\n") (i ∷ is) in
       let end = print_spaced true (last (i ∷ is)) in
       ap (λ l. l ++ 10 ∷ [])
-      (head_prints c (entries readings (i ∷ is) ++ last (i ∷ is)) (body ++ end) (entries_print readings shown i is (last (i ∷ is))))
+      (head_prints c (entries readings (i ∷ is) ++ last (i ∷ is)) (body ++ end)
+      (entries_print readings shown i is (last (i ∷ is))))
       ∙ append_assoc (head_of c) (body ++ end) (10 ∷ [])
       ∙ ap (λ l. head_of c ++ l)
       (append_assoc body end (10 ∷ []) ∙ ap (λ l. body ++ l) (tail_prints true (rest == 0) (fields + 1) rest))

@@ -1,18 +1,23 @@
 -- A line feed behind a text adds no token to it (JSON of RFC 8259, by the rules of the library `json`).
-use Rattle.std.proofs.Common.{◌≡◌, ℕ, ◌+◌, ◌-◌, ◌*◌, Bool, true, false, cond, ◌&&◌, ◌||◌, ◌==◌, not, nat_lt, nat_eq, List, [], ◌∷◌, ◌++◌}
-use Rattle.std.proofs.Common.{length, take, drop, Option, Some, None, option_map, option_and_then, refl, ap, ap₂, ◌∙◌, arith}
+use Rattle.std.proofs.Common.{◌≡◌, ℕ, ◌+◌, ◌-◌, Bool, true, false, cond, ◌&&◌, ◌||◌, ◌==◌, not, nat_lt, nat_eq}
+use Rattle.std.proofs.Common.{List, [], ◌∷◌, ◌++◌}
+use Rattle.std.proofs.Common.{length, take, drop, Option, Some, None, option_map, option_and_then, refl, ap, ap₂, ◌∙◌}
+use Rattle.std.proofs.Common.{arith}
 use Rattle.std.proofs.lemmas.Bool.{not-true, and_parts}
 use Rattle.std.proofs.lemmas.List.{drop-append-le, take-append-le, length-append}
 use Rattle.std.proofs.lemmas.List.Sums.{prefix_len-le-length}
-use Rattle.std.specs.Char.{is_ascii_digit, is_digit, digit_value, encode_utf8}
+use Rattle.std.specs.Char.{is_ascii_digit, is_digit, encode_utf8}
 use Rattle.std.specs.Cmp.Lexicographic.{pointwise}
 use Rattle.std.specs.List.{prefix_len}
-use Rattle.json.specs.Lex.{Class, quote, backslash, operator, space, other, class, Mode, between, in_word, in_string, in_escape}
+use Rattle.json.specs.Lex.{Class, quote, backslash, operator, space, other, class, Mode, between, in_word, in_string}
+use Rattle.json.specs.Lex.{in_escape}
 use Rattle.json.specs.Lex.{token, string_token, operator_lexeme, lex_byte, lex, fresh, punctuate, tokens}
-use Rattle.json.specs.Text.{Within, plain, after_backslash, after_u, after_high, code_unit, short_escape, content, prepend}
+use Rattle.json.specs.Text.{Within, plain, after_backslash, after_u, after_high, code_unit, short_escape, content}
+use Rattle.json.specs.Text.{prepend}
 use Rattle.json.specs.Text.{is_high_surrogate, is_low_surrogate, surrogate_pair}
 use Rattle.json.specs.Token.{Token, number, boolean, null, bad}
-use Rattle.json.specs.Word.{ends_word, after_digits, after_minus, after_sign, after_whole, after_fraction, after_exponent}
+use Rattle.json.specs.Word.{ends_word, after_digits, after_minus, after_sign, after_whole, after_fraction}
+use Rattle.json.specs.Word.{after_exponent}
 use Rattle.json.specs.Word.{after_number, number_before, literal, word}
 use Rattle.json.specs.Ascii.{true_text, false_text, null_text}
 
@@ -37,7 +42,8 @@ after_digits-fed t =
     go : (b : Bool) → cond b None (Some (drop (prefix_len is_ascii_digit t) (fed t)))
         ≡ option_map fed (cond b None (Some (drop (prefix_len is_ascii_digit t) t)))
     go true = refl
-    go false = ap Some (drop-append-le (prefix_len is_ascii_digit t) t (10 ∷ []) (prefix_len-le-length is_ascii_digit t))
+    go false = ap Some (drop-append-le (prefix_len is_ascii_digit t) t (10 ∷ [])
+        (prefix_len-le-length is_ascii_digit t))
 
 -- the text behind its first byte, or the whole
 past : (b : Bool) (x : ℕ) (t : List ℕ) → cond b (fed t) (fed (x ∷ t)) ≡ fed (cond b t (x ∷ t))
@@ -56,7 +62,8 @@ after_whole-fed : (t : List ℕ) → after_whole (fed t) ≡ option_map fed (aft
 after_whole-fed [] = refl
 after_whole-fed (x ∷ t) = go (x == 48)
   where
-    go : (b : Bool) → cond b (Some (fed t)) (after_digits (fed (x ∷ t))) ≡ option_map fed (cond b (Some t) (after_digits (x ∷ t)))
+    go : (b : Bool)
+        → cond b (Some (fed t)) (after_digits (fed (x ∷ t))) ≡ option_map fed (cond b (Some t) (after_digits (x ∷ t)))
     go true = refl
     go false = after_digits-fed (x ∷ t)
 
@@ -64,7 +71,8 @@ after_fraction-fed : (t : List ℕ) → after_fraction (fed t) ≡ option_map fe
 after_fraction-fed [] = refl
 after_fraction-fed (x ∷ t) = go (x == 46)
   where
-    go : (b : Bool) → cond b (after_digits (fed t)) (Some (fed (x ∷ t))) ≡ option_map fed (cond b (after_digits t) (Some (x ∷ t)))
+    go : (b : Bool)
+        → cond b (after_digits (fed t)) (Some (fed (x ∷ t))) ≡ option_map fed (cond b (after_digits t) (Some (x ∷ t)))
     go true = after_digits-fed t
     go false = refl
 
@@ -95,9 +103,9 @@ number_before-fed : (t : List ℕ) (o : Option (List ℕ)) → number_before (fe
 number_before-fed t None = refl
 number_before-fed t (Some rest) =
     let n : length (fed t) - length (fed rest) ≡ length t - length rest =
-        omega (arith, length-append t (10 ∷ []), length-append rest (10 ∷ [])) in
+    omega (arith, length-append t (10 ∷ []), length-append rest (10 ∷ [])) in
     let same : take (length (fed t) - length (fed rest)) (fed t) ≡ take (length t - length rest) t =
-        ap (λ k. take k (fed t)) n ∙ take-append-le (length t - length rest) t (10 ∷ []) (omega arith) in
+    ap (λ k. take k (fed t)) n ∙ take-append-le (length t - length rest) t (10 ∷ []) (omega arith) in
     ap₂ (λ (e : Bool) (s : List ℕ). cond e (number s) bad) (ends-fed rest) same
 
 -- ---- literals
@@ -121,7 +129,8 @@ named-fed (c ∷ cs) [] h =
     ap (λ b. (b && pointwise nat_eq cs (take (length cs) [])) && ends_word (drop (length (c ∷ cs)) (10 ∷ [])))
     (not-true (nat_eq c 10) (and_parts (not (nat_eq c 10)) (is_on_one_line cs) h).0)
 named-fed (c ∷ cs) (x ∷ t) h =
-    also-same (nat_eq c x) (pointwise nat_eq cs (take (length cs) (fed t))) _ (pointwise nat_eq cs (take (length cs) t)) _
+    also-same (nat_eq c x) (pointwise nat_eq cs (take (length cs) (fed t))) _
+    (pointwise nat_eq cs (take (length cs) t)) _
     (named-fed cs t (and_parts (not (nat_eq c 10)) (is_on_one_line cs) h).1)
 
 literal-fed : (name : List ℕ) (known : Token) (t : List ℕ) → is_on_one_line name ≡ true
@@ -134,19 +143,20 @@ word-fed x t =
     let is_true = literal-fed true_text (boolean true) (x ∷ t) refl in
     let is_false = literal-fed false_text (boolean false) (x ∷ t) refl in
     let is_null = literal-fed null_text null (x ∷ t) refl in
-    let is_number = ap (number_before (fed (x ∷ t))) (after_number-fed (x ∷ t)) ∙ number_before-fed (x ∷ t) (after_number (x ∷ t)) in
+    let is_number = ap (number_before (fed (x ∷ t))) (after_number-fed (x ∷ t))
+    ∙ number_before-fed (x ∷ t) (after_number (x ∷ t)) in
     ap₂ (λ (a b : Token). cond (x == 116) a b) is_true
     (ap₂ (λ (a b : Token). cond (x == 102) a b) is_false (ap₂ (λ (a b : Token). cond (x == 110) a b) is_null is_number))
 
 -- ---- strings
 
+no_digit : (known : Bool) (unit : ℕ) → cond (known && is_digit 10 16) (Some unit) None ≡ None
+no_digit true unit = refl
+no_digit false unit = refl
+
 no_unit : (a b c : ℕ) → code_unit a b c 10 ≡ None
 unfolding code_unit
-no_unit a b c = go ((is_digit a 16 && is_digit b 16) && is_digit c 16)
-  where
-    go : (known : Bool) → cond (known && is_digit 10 16) (Some (digit_value a * 4096 + digit_value b * 256 + digit_value c * 16 + digit_value 10)) None ≡ None
-    go true = refl
-    go false = refl
+no_unit a b c = no_digit ((is_digit a 16 && is_digit b 16) && is_digit c 16) _
 
 -- what stands behind a code unit, where there is one
 abbrev after_unit : List ℕ → Option ℕ → Option (List ℕ)
@@ -156,7 +166,8 @@ after_unit t unit =
 
 abbrev after_pair : ℕ → List ℕ → Option ℕ → Option (List ℕ)
 after_pair h t unit =
-    option_and_then (λ l. cond (is_low_surrogate l) (prepend (encode_utf8 (surrogate_pair h l)) (content plain t)) None) unit
+    option_and_then (λ l. cond (is_low_surrogate l)
+    (prepend (encode_utf8 (surrogate_pair h l)) (content plain t)) None) unit
 
 after_unit-fed : (t : List ℕ) → ((w : Within) → content w (fed t) ≡ content w t) → (unit : Option ℕ)
     → after_unit (fed t) unit ≡ after_unit t unit
@@ -179,7 +190,8 @@ content-fed : (w : Within) (t : List ℕ) → content w (fed t) ≡ content w t
 unfolding content short_escape
 content-fed plain [] = refl
 content-fed plain (x ∷ t) =
-    ap₂ (λ escaped rest. cond (x == 34) (Some []) (cond (x == 92) escaped (cond (nat_lt x 32) None (prepend (x ∷ []) rest))))
+    ap₂ (λ escaped rest. cond (x == 34) (Some [])
+    (cond (x == 92) escaped (cond (nat_lt x 32) None (prepend (x ∷ []) rest))))
     (content-fed after_backslash t) (content-fed plain t)
 content-fed after_backslash [] = refl
 content-fed after_backslash (x ∷ t) =

@@ -35,11 +35,13 @@ count_json n = json.number (decimal n)
 -- of each of a field's three lines, what it is said to have
 abbrev pub lines_json : (Reading → json.Json) → FieldReadings → json.Json
 lines_json said readings =
-    json.array (json.item (said readings.first) (json.item (said readings.second) (json.item (said readings.third) json.no_items)))
+    json.array (json.item (said readings.first)
+    (json.item (said readings.second) (json.item (said readings.third) json.no_items)))
 
 abbrev pub words_json : FieldReadings → json.Json
 words_json readings =
-    json.object (json.member (codes "vbiData") (lines_json (λ reading. count_json (value_of reading.outcome)) readings) json.no_members)
+    json.object (json.member (codes "vbiData")
+    (lines_json (λ reading. count_json (value_of reading.outcome)) readings) json.no_members)
 
 abbrev pub record_json : ℕ → FieldReadings → json.Json
 record_json n readings =
@@ -65,12 +67,14 @@ module _ (n : ℕ) (readings : FieldReadings) (r : List ℕ) where
   -- the words, the causes and the passes as they are printed, and the rest
   abbrev words_then : List ℕ
   words_then =
-      codes ",\"vbi\":{\"vbiData\":[" ++ (decimal (value_of readings.first.outcome) ++ (codes "," ++ (decimal (value_of readings.second.outcome)
+      codes ",\"vbi\":{\"vbiData\":[" ++ (decimal (value_of readings.first.outcome)
+      ++ (codes "," ++ (decimal (value_of readings.second.outcome)
       ++ (codes "," ++ (decimal (value_of readings.third.outcome) ++ (codes "]}" ++ r))))))
 
   abbrev causes_then : List ℕ
   causes_then =
-      codes ",\"vbiCause\":[" ++ (quoted (cause_text_of readings.first.outcome) ++ (codes "," ++ (quoted (cause_text_of readings.second.outcome)
+      codes ",\"vbiCause\":[" ++ (quoted (cause_text_of readings.first.outcome)
+      ++ (codes "," ++ (quoted (cause_text_of readings.second.outcome)
       ++ (codes "," ++ (quoted (cause_text_of readings.third.outcome) ++ (codes "]" ++ r))))))
 
   abbrev passes_then : List ℕ
@@ -82,12 +86,14 @@ module _ (n : ℕ) (readings : FieldReadings) (r : List ℕ) where
   unfolding data_of
   words_text =
       sym (seven (codes ",\"vbi\":{\"vbiData\":[") (decimal (value_of readings.first.outcome)) (codes ",")
-      (decimal (value_of readings.second.outcome)) (codes ",") (decimal (value_of readings.third.outcome)) (codes "]}") r)
+      (decimal (value_of readings.second.outcome)) (codes ",") (decimal (value_of readings.third.outcome))
+      (codes "]}") r)
 
   passes_text : passes_then ≡ passes_of readings ++ r
   unfolding passes_of
   passes_text =
-      sym (seven (codes ",\"vbiPass\":[") (decimal readings.first.pass) (codes ",") (decimal readings.second.pass) (codes ",")
+      sym (seven (codes ",\"vbiPass\":[") (decimal readings.first.pass) (codes ",") (decimal readings.second.pass)
+      (codes ",")
       (decimal readings.third.pass) (codes "]") r)
 
   causes_text : AreShown readings → causes_then ≡ causes_of readings ++ r
@@ -116,8 +122,10 @@ record_text n readings r shown =
     ap (λ l. codes "{\"seqNo\":" ++ (decimal n ++ l))
     (words_text n readings (causes_then n readings (passes_then n readings last))
     ∙ ap (λ l. data_of readings ++ l)
-    (causes_text n readings (passes_then n readings last) shown ∙ ap (λ l. causes_of readings ++ l) (passes_text n readings last)))
-    ∙ sym (six (codes "{\"seqNo\":") (decimal n) (data_of readings) (causes_of readings) (passes_of readings) (codes "}") r)
+    (causes_text n readings (passes_then n readings last) shown
+    ∙ ap (λ l. causes_of readings ++ l) (passes_text n readings last)))
+    ∙ sym (six (codes "{\"seqNo\":") (decimal n) (data_of readings) (causes_of readings) (passes_of readings)
+    (codes "}") r)
 
 -- behind a line feed, and a comma where another record is before it
 pub record_prints : (before : Bool) (n : ℕ) (readings : FieldReadings) (qs : Pieces) → AreShown readings

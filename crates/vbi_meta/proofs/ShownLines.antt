@@ -60,14 +60,16 @@ decimal_utf8 n h = IsUtf8-from_ascii (decimal n) (IsAscii-decimal n h)
 -- ---- a reading
 
 -- the causes with a column: a name, and the column behind it
-column_free : (name : List ℕ) (column : ℕ) → escape (name ++ decimal column) ≡ name ++ escape (decimal column) → column < 2 ^ 64
+column_free : (name : List ℕ) (column : ℕ) → escape (name ++ decimal column) ≡ name ++ escape (decimal column)
+    → column < 2 ^ 64
     → escape (name ++ decimal column) ≡ name ++ decimal column
 column_free name column named h = named ∙ ap (λ l. name ++ l) (escape_decimal column h)
 
 column_utf8 : (name : List ℕ) (column : ℕ) → are_ascii name ≡ true → column < 2 ^ 64 → IsUtf8 (name ++ decimal column)
 column_utf8 name column e h = IsUtf8-append name (decimal column) (IsUtf8-are_ascii name e) (decimal_utf8 column h)
 
-small_column : (system : System) (levels : List Bool) (column : ℕ) → length levels < 2 ^ 64 → FirstHopeless system levels column
+small_column : (system : System) (levels : List Bool) (column : ℕ) → length levels < 2 ^ 64
+    → FirstHopeless system levels column
     → column < 2 ^ 64
 small_column system levels column short is = omega (arith, is.inside)
 
@@ -114,7 +116,7 @@ short_levels : (c : ConfigView) (z : List ℕ) (i r : ℕ) → length (row_level
 short_levels c z i r =
     let row = row_of c.system z i r in
     let long : length row ≤ line_bytes c.system =
-        omega (arith, length-take (line_bytes c.system) (drop (i * field_bytes c.system + line_bytes c.system * r) z)) in
+    omega (arith, length-take (line_bytes c.system) (drop (i * field_bytes c.system + line_bytes c.system * r) z)) in
     omega (arith, length-map (samples_of row) (is_high_of c.levels), samples_below row, short_line c.system)
 
 row_shown : (c : ConfigView) (z : List ℕ) (i r : ℕ) → IsShown (row_reading c z i r)

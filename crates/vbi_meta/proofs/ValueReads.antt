@@ -1,6 +1,8 @@
 -- Trees of JSON and the values that they are read as, built together, and those of a document.
-use Rattle.std.proofs.Common.{◌≡◌, ◌≢◌, ℕ, suc, zero, ◌+◌, ◌<◌, ◌≤◌, ◌^◌, ◌==◌, ◌&&◌, not, Bool, true, false, cond, bytes_eq, get_or, length}
-use Rattle.std.proofs.Common.{List, [], ◌∷◌, ◌++◌, Some, option_map, option_and_then, decimal, IsUtf8, map, refl, sym, ap, ap₂, ◌∙◌, subst}
+use Rattle.std.proofs.Common.{◌≡◌, ◌≢◌, ℕ, suc, zero, ◌+◌, ◌<◌, ◌≤◌, ◌^◌, ◌==◌, ◌&&◌, not, Bool, true, false, cond}
+use Rattle.std.proofs.Common.{bytes_eq, get_or, length}
+use Rattle.std.proofs.Common.{List, [], ◌∷◌, ◌++◌, Some, option_map, option_and_then, decimal, IsUtf8, map, refl, sym}
+use Rattle.std.proofs.Common.{ap, ap₂, ◌∙◌, subst}
 use Rattle.std.proofs.Common.{arith, lit<, lit≤}
 use Rattle.std.proofs.lemmas.Bool.{true≢false, not-true, and_parts}
 use Rattle.std.proofs.lemmas.Slice.Eq.{bytes_eq-Decides}
@@ -9,13 +11,15 @@ use Rattle.std.specs.Fmt.{digits}
 use Rattle.std.specs.List.{range_with_len}
 use Rattle.std.specs.Prelude.{codes, fold, ⊤}
 use Rattle.json.proofs.Printed.Decimals.{IsNumber-decimal}
-use Rattle.json.proofs.Printed.Utf8.{are_ascii, IsUtf8-are_ascii, IsUtf8-quoted, IsUtf8-key, IsUtf8-separator, IsUtf8-IsGap}
+use Rattle.json.proofs.Printed.Utf8.{are_ascii, IsUtf8-are_ascii, IsUtf8-quoted, IsUtf8-key, IsUtf8-separator}
+use Rattle.json.proofs.Printed.Utf8.{IsUtf8-IsGap}
 use Rattle.json.specs.Json as json
 use Rattle.json.specs.Print.{token_text, ends}
 use Rattle.json.specs.Spaced.{AreGaps, print_spaced}
 use Rattle.json.specs.Strict.{keys, AreDistinct, HasUniqueKeys, ItemsHaveUniqueKeys, MembersHaveUniqueKeys}
 use Rattle.json.specs.Token.{Token}
-use Rattle.json.specs.Tree.{json_tokens, items_tokens, members_tokens, depth, items_depth, HasNumbers, ItemsHaveNumbers, MembersHaveNumbers}
+use Rattle.json.specs.Tree.{json_tokens, items_tokens, members_tokens, depth, items_depth, HasNumbers, ItemsHaveNumbers}
+use Rattle.json.specs.Tree.{MembersHaveNumbers}
 use Rattle.serde_json.proofs.Numbers.{number_of-decimal}
 use Rattle.serde_json.specs.Data.{Data, null, number, string, array, object, item, Members, put}
 use Rattle.serde_json.specs.Read.{of_json, of_items, of_members}
@@ -28,7 +32,8 @@ use Rattle.vbi_field.specs.CauseTexts.{cause_text_of}
 use Rattle.vbi_field.specs.ConfigView.{ConfigView}
 use Rattle.vbi_field.specs.Document.{value_of}
 use Rattle.vbi_field.specs.declared.readings.FieldReadings.{FieldReadings}
-use Rattle.vbi_meta.specs.DocumentValue.{object_of, array_of, whole_of, lines_of, words_value, field_value, parameters_value, cut_value}
+use Rattle.vbi_meta.specs.DocumentValue.{object_of, array_of, whole_of, lines_of, words_value, field_value}
+use Rattle.vbi_meta.specs.DocumentValue.{parameters_value, cut_field_value, cut_value}
 use Rattle.vbi_meta.proofs.DocumentTexts.{tokens_of, parameters_json, cut_json, entries_json, document_json}
 use Rattle.vbi_meta.proofs.RecordTexts.{Pieces, count_json, lines_json, words_json, record_json}
 use Rattle.vbi_meta.proofs.ShownLines.{AreShown, decimal_utf8}
@@ -43,10 +48,12 @@ abbrev distinct : List (List ℕ) → Bool
 distinct [] = true
 distinct (k ∷ ks) = differs k ks && distinct ks
 
-differs_at : (k : List ℕ) (ks : List (List ℕ)) → differs k ks ≡ true → (j : ℕ) (d : List ℕ) → j < length ks → k ≢ get_or ks j d
+differs_at : (k : List ℕ) (ks : List (List ℕ)) → differs k ks ≡ true → (j : ℕ) (d : List ℕ) → j < length ks
+    → k ≢ get_or ks j d
 differs_at k [] h j d within e = omega arith
 differs_at k (l ∷ ls) h zero d within e =
-    true≢false (sym ((bytes_eq-Decides k l).1 e) ∙ not-true (bytes_eq k l) (and_parts (not (bytes_eq k l)) (differs k ls) h).0)
+    true≢false (sym ((bytes_eq-Decides k l).1 e)
+    ∙ not-true (bytes_eq k l) (and_parts (not (bytes_eq k l)) (differs k ls) h).0)
 differs_at k (l ∷ ls) h (suc j) d within e =
     differs_at k ls (and_parts (not (bytes_eq k l)) (differs k ls) h).1 j d (omega arith) e
 
@@ -129,13 +136,17 @@ with_item {j} {d} {js} {ds} one rest = record {
 no_member : ReadsMembers json.no_members []
 no_member = record { is = λ before. refl; numbers = tt; unique = tt; utf8 = (IsUtf8-are_ascii _ refl, tt) }
 
-with_member : (k : List ℕ) → are_ascii k ≡ true → {j : json.Json} {d : Data} {ms : json.Members} {ds : List (List ℕ × Data)}
+with_member : (k : List ℕ) → are_ascii k ≡ true
+    → {j : json.Json} {d : Data} {ms : json.Members} {ds : List (List ℕ × Data)}
     → Reads j d → ReadsMembers ms ds → ReadsMembers (json.member k j ms) ((k, d) ∷ ds)
 with_member k plain {j} {d} {ms} {ds} one rest = record {
   is = λ before. ap (option_and_then (λ x. of_members ms (put k x before))) one.is ∙ rest.is (put k d before);
   numbers = (one.numbers, rest.numbers);
   unique = (one.unique, rest.unique);
-  utf8 = (IsUtf8-key k (IsUtf8-are_ascii k plain), AreUtf8-append (json_tokens j) (members_tokens ms) one.utf8 rest.utf8);
+  utf8 = (
+    IsUtf8-key k (IsUtf8-are_ascii k plain),
+    AreUtf8-append (json_tokens j) (members_tokens ms) one.utf8 rest.utf8,
+  );
 }
 
 object_reads : {ms : json.Members} {ds : List (List ℕ × Data)} → distinct (keys ms) ≡ true → ReadsMembers ms ds
@@ -170,7 +181,8 @@ words_read readings shown =
     (count_reads _ shown.first.value) (count_reads _ shown.second.value) (count_reads _ shown.third.value)) no_member)
 
 causes_read : (readings : FieldReadings) → AreShown readings
-    → Reads (lines_json (λ x. json.string (cause_text_of x.outcome)) readings) (lines_of (λ x. string (cause_text_of x.outcome)) readings)
+    → Reads (lines_json (λ x. json.string (cause_text_of x.outcome)) readings)
+    (lines_of (λ x. string (cause_text_of x.outcome)) readings)
 causes_read readings shown =
     lines_read (λ x. json.string (cause_text_of x.outcome)) (λ x. string (cause_text_of x.outcome)) readings
     (string_reads _ shown.first.utf8) (string_reads _ shown.second.utf8) (string_reads _ shown.third.utf8)
@@ -181,7 +193,8 @@ passes_read readings shown =
     lines_read (λ x. count_json x.pass) (λ x. whole_of x.pass) readings
     (count_reads _ shown.first.pass) (count_reads _ shown.second.pass) (count_reads _ shown.third.pass)
 
-field_reads : (n : ℕ) (readings : FieldReadings) → n < 2 ^ 64 → AreShown readings → Reads (record_json n readings) (field_value n readings)
+field_reads : (n : ℕ) (readings : FieldReadings) → n < 2 ^ 64 → AreShown readings
+    → Reads (record_json n readings) (field_value n readings)
 field_reads n readings small shown =
     object_reads refl
     (with_member (codes "seqNo") refl (count_reads n small)
@@ -214,11 +227,12 @@ parameters_read c black white =
     (with_member (codes "white16bIre") refl (count_reads c.levels.white white) no_member)))))
 
 cut_reads : (whole : Bool) (n bytes : ℕ) → n < 2 ^ 64 → bytes < 2 ^ 64
-    → Reads (cut_json whole n bytes) (cond whole null (object_of ((codes "seqNo", whole_of n) ∷ (codes "bytes", whole_of bytes) ∷ [])))
+    → Reads (cut_json whole n bytes) (cond whole null (cut_field_value n bytes))
 cut_reads true n bytes hn hb = null_reads
 cut_reads false n bytes hn hb =
     object_reads refl
-    (with_member (codes "seqNo") refl (count_reads n hn) (with_member (codes "bytes") refl (count_reads bytes hb) no_member))
+    (with_member (codes "seqNo") refl (count_reads n hn)
+    (with_member (codes "bytes") refl (count_reads bytes hb) no_member))
 
 two : decimal 2 ≡ codes "2"
 unfolding digits
@@ -229,7 +243,8 @@ two_reads = let P : List ℕ → Type 0 = λ s. Reads (json.number s) (whole_of 
 
 module _ (readings : ℕ → FieldReadings) where
   entries_read : ((i : ℕ) → AreShown (readings i)) → (i n : ℕ) → i + n < 2 ^ 64
-      → ReadsItems (entries_json readings (range_with_len i n)) (map (λ i. field_value (i + 1) (readings i)) (range_with_len i n))
+      → ReadsItems (entries_json readings (range_with_len i n))
+      (map (λ i. field_value (i + 1) (readings i)) (range_with_len i n))
   entries_read shown i zero h = no_item
   entries_read shown i (suc n) h =
       with_item (field_reads (i + 1) (readings i) (omega arith) (shown i)) (entries_read shown (i + 1) n (omega arith))
@@ -251,7 +266,8 @@ module _ (c : ConfigView) (readings : ℕ → FieldReadings) (fields rest : ℕ)
       ∷ (codes "cutField", cut_value fields rest)
       ∷ [])
 
-  pub stream_reads : c.levels.black < 2 ^ 64 → c.levels.white < 2 ^ 64 → ((i : ℕ) → AreShown (readings i)) → fields + 1 < 2 ^ 64
+  pub stream_reads : c.levels.black < 2 ^ 64 → c.levels.white < 2 ^ 64 → ((i : ℕ) → AreShown (readings i))
+      → fields + 1 < 2 ^ 64
       → rest < 2 ^ 64 → Reads (document_json c readings fields rest (range_with_len 0 fields)) stream_value
   stream_reads black white shown few small =
       object_reads refl

@@ -1,5 +1,6 @@
--- What the document of a stream says, as a value of JSON: its members by their names (those of ld-decode's ld-process-vbi, and
--- `version`, `vbiCause`, `vbiPass` and `cutField`, which are this project's own), whatever their order in the text.
+-- What the document of a stream says, as a value of JSON: its members by their names (those of ld-decode's
+-- ld-process-vbi, and `version`, `vbiCause`, `vbiPass` and `cutField`, which are this project's own), whatever their
+-- order in the text.
 use Rattle.std.specs.Prelude.{ℕ, ◌+◌, ◌^◌, ◌<◌, ◌≤◌, ◌==◌, if◌then◌else◌, List, [], ◌∷◌, length, map, fold, codes}
 use Rattle.std.specs.List.{range_with_len}
 use Rattle.serde_json.specs.Data.{Data, unsigned, null, number, string, array, object, no_members, put}
@@ -47,7 +48,8 @@ lines_of said readings = array_of (said readings.first ∷ said readings.second 
 
 -- the words of a field's lines, 0 where there is none
 abbrev pub words_value : FieldReadings → Data
-words_value readings = object_of ((codes "vbiData", lines_of (λ reading. whole_of (value_of reading.outcome)) readings) ∷ [])
+words_value readings =
+    object_of ((codes "vbiData", lines_of (λ reading. whole_of (value_of reading.outcome)) readings) ∷ [])
 
 -- a field, by its number from 1 and its readings
 abbrev pub field_value : ℕ → FieldReadings → Data
@@ -68,17 +70,23 @@ parameters_value c = object_of (
     ∷ (codes "white16bIre", whole_of c.levels.white)
     ∷ [])
 
+-- the whole fields of a stream, in order
+abbrev pub fields_value : ConfigView → List ℕ → Data
+fields_value c z = array_of (map (λ i. field_value (i + 1) (field_readings c z i)) (range_with_len 0 (fields_of c z)))
+
+-- a cut field, by its number from 1 and its bytes
+abbrev pub cut_field_value : ℕ → ℕ → Data
+cut_field_value n bytes = object_of ((codes "seqNo", whole_of n) ∷ (codes "bytes", whole_of bytes) ∷ [])
+
 -- a cut last field, by the number of whole fields and the bytes past them, or null
 abbrev pub cut_value : ℕ → ℕ → Data
-cut_value fields rest =
-    if rest == 0 then null
-    else object_of ((codes "seqNo", whole_of (fields + 1)) ∷ (codes "bytes", whole_of rest) ∷ [])
+cut_value fields rest = if rest == 0 then null else cut_field_value (fields + 1) rest
 
 -- the document of a stream
 abbrev pub document_value : ConfigView → List ℕ → Data
 document_value c z = object_of (
     (codes "version", whole_of 2)
     ∷ (codes "videoParameters", parameters_value c)
-    ∷ (codes "fields", array_of (map (λ i. field_value (i + 1) (field_readings c z i)) (range_with_len 0 (fields_of c z))))
+    ∷ (codes "fields", fields_value c z)
     ∷ (codes "cutField", cut_value (fields_of c z) (rest_of c z))
     ∷ [])

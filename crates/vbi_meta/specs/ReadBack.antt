@@ -16,8 +16,8 @@ use Rattle.vbi_meta.specs.DocumentValue.{document_value}
 use Rattle.vbi_meta.specs.Metadata.{most_bytes, IsMetadata}
 use Rattle.vbi_meta.specs.Settings.{whole, member_of}
 
--- the text is JSON in UTF-8, this is its value, and no object in it has a key twice: readers that keep the first of two members and
--- readers that keep the last agree
+-- the text is JSON in UTF-8, this is its value, and no object in it has a key twice: readers that keep the first of two
+-- members and readers that keep the last agree
 pub record IsReadAs (text : List ℕ) (value : Data) : Type 0 where
   pub utf8 : IsUtf8 text
   pub value_of_text : read text ≡ Some value
@@ -36,7 +36,8 @@ number_in text i = option_and_then whole (member_of (field_in text i) (codes "se
 -- the whole number at `.fields[i].vbi.vbiData[k]`
 abbrev pub word_in : List ℕ → ℕ → ℕ → Option ℕ
 word_in text i k =
-    option_and_then whole (option_and_then (at k) (member_of (member_of (field_in text i) (codes "vbi")) (codes "vbiData")))
+    let words = member_of (member_of (field_in text i) (codes "vbi")) (codes "vbiData") in
+    option_and_then whole (option_and_then (at k) words)
 
 -- the string at `.fields[i].vbiCause[k]`
 abbrev pub cause_in : List ℕ → ℕ → ℕ → Option (List ℕ)
@@ -75,19 +76,21 @@ pub record ShowsWord (c : ConfigView) (z : List ℕ) (i k word : ℕ) : Type 0 w
   pub pass : ℕ
   pub reads : RowReads c z i (15 + k) (record { outcome = Word word; pass = pass })
 
--- What is found in the text is what the lines of the stream show, by the relation between a row's levels and its reading. Fields are
--- counted from 0 here; line 16 + k is row 15 + k.
+-- What is found in the text is what the lines of the stream show, by the relation between a row's levels and its
+-- reading. Fields are counted from 0 here; line 16 + k is row 15 + k.
 pub record Tells (c : ConfigView) (z text : List ℕ) : Type 0 where
   -- each whole field has its number from 1, and nothing stands behind the last
   pub numbers : (i : ℕ) → i < fields_of c z → number_in text i ≡ Some (i + 1)
   pub nothing : (i : ℕ) → fields_of c z ≤ i → field_in text i ≡ None
   -- a line's reading is found
-  pub lines : (i k : ℕ) (reading : Reading) → i < fields_of c z → k < 3 → RowReads c z i (15 + k) reading → TellsLine text i k reading
+  pub lines : (i k : ℕ) (reading : Reading) → i < fields_of c z → k < 3 → RowReads c z i (15 + k) reading
+      → TellsLine text i k reading
   -- a number other than 0 among the words is a word that is shown
   pub words : (i k word : ℕ) → word_in text i k ≡ Some word → 0 < word → ShowsWord c z i k word
   pub cut : TellsCut text (fields_of c z) (rest_of c z)
 
--- the text is read as the stream's document, tells what its lines show, and is metadata of that value where it isn't too long
+-- the text is read as the stream's document, tells what its lines show, and is metadata of that value where it isn't
+-- too long
 pub record ReadsBack (c : ConfigView) (z text : List ℕ) : Type 0 where
   pub is_read : IsReadAs text (document_value c z)
   pub tells : Tells c z text
