@@ -1,7 +1,9 @@
 //! The settings of a run, from metadata and the options of the command line.
 
-ghost use Rattle.std.specs.Prelude.{◌≡◌, Option, Some, None, IfOk, IfErr, OnOk, option_map, option_and_then};
+ghost use Rattle.std.specs.Prelude.{◌≡◌, ◌<◌, ◌≤◌, ◌^◌, Option, Some, None, IfOk, IfErr, OnOk};
+ghost use Rattle.std.specs.Prelude.{option_map, option_and_then};
 ghost use Rattle.serde_json.specs.View.{view};
+ghost use Rattle.vbi_meta.specs.DocumentValue.{IsConfig};
 ghost use Rattle.vbi_meta.specs.Settings.{parameters_of, member_of, named_system, flagged_system};
 ghost use Rattle.vbi_meta.specs.Settings.{chosen_system, chosen_level, chosen_limit, first_refusal};
 ghost use Rattle.vbi_meta.specs.Settings.{document_refusals, system_refusals, level_refusals, order_refusals};
@@ -34,6 +36,9 @@ const DEFAULT_MAX_FIELDS: u32 = 1_000_000;
 pub fn settings(value: Option<&Value>, overrides: &Overrides) -> Result<Config, MetaFault>
     ensures ok { IfOk result (IsSettled (option_map (λ v. view v.now) value.entry) overrides.now) }
     ensures err { IfErr result (IsRefused (option_map (λ v. view v.now) value.entry) overrides.now) }
+
+    // What the laws of the document read back ask of a config.
+    ensures numbers { IfOk result IsConfig }
 {
     let parameters = parameters(value)?;
     let system = system(
@@ -192,6 +197,7 @@ fn level(
 fn ordered(black: u16, white: u16) -> Result<Levels, MetaFault>
     ensures ok { IfOk result (λ l. (first_refusal (order_refusals black white) ≡ None)
         × (l.black ≡ black) × (l.white ≡ white)) }
+    ensures range { IfOk result (λ l. (l.black < 2 ^ 16) × (l.white < 2 ^ 16)) }
     ensures err { IfErr result (λ e. first_refusal (order_refusals black white) ≡ Some e) }
 {
     match Levels::new(black, white) {
@@ -222,6 +228,7 @@ fn check_size(member: Option<&Value>, size: usize, differs: MetaFault) -> Result
 fn config(system: System, levels: Levels, limit: Option<u32>) -> Result<Config, MetaFault>
     ensures ok { IfOk result (λ c. (first_refusal (limit_refusals limit) ≡ None)
         × (c.system ≡ system) × (c.levels ≡ levels) × (c.max_fields ≡ chosen_limit limit)) }
+    ensures few { IfOk result (λ c. c.max_fields ≤ 1000000) }
     ensures err { IfErr result (λ e. first_refusal (limit_refusals limit) ≡ Some e) }
 {
     match Config::new(system, levels, limit.unwrap_or(DEFAULT_MAX_FIELDS)) {

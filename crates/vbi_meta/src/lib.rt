@@ -8,6 +8,7 @@
 
 mod choosing;
 mod fault;
+pub mod laws;
 mod reading;
 
 pub use choosing::{Overrides, settings};

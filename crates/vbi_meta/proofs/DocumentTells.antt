@@ -1,0 +1,231 @@
+-- What is found in the document of a stream is what its lines show.
+use Rattle.std.proofs.Common.{◌≡◌, ℕ, zero, suc, ◌+◌, ◌<◌, ◌≤◌, List, Bool, Option, Some, None, option_and_then}
+use Rattle.std.proofs.Common.{cond, refl, sym, ap, ◌∙◌, subst, inl, inr, ◌⊎◌, map, arith}
+use Rattle.std.proofs.Math.Dec.{eqb-suc-zero}
+use Rattle.std.proofs.lemmas.Bool.{cases_lt}
+use Rattle.std.specs.List.{range_with_len}
+use Rattle.std.specs.Prelude.{codes, length}
+use Rattle.serde_json.specs.Data.{Data, null}
+use Rattle.serde_json.specs.Find.{at, get_item, as_str}
+use Rattle.serde_json.specs.Read.{read}
+use Rattle.serde_json.specs.View.{items_of}
+use Rattle.vbi_words.specs.declared.outcome.Outcome.{Outcome}
+use Rattle.vbi_words.specs.declared.outcome.Outcome.TheVariants.{Word, Blank, Unfinished, Change, Hold}
+use Rattle.vbi_words.specs.declared.outcome.Reading.{Reading}
+use Rattle.vbi_words.specs.declared.system.System.{System}
+use Rattle.vbi_words.specs.Levels.{row_levels}
+use Rattle.vbi_words.specs.Readings.{Reads}
+use Rattle.vbi_line.proofs.OneReading.{is_reading, only_reading}
+use Rattle.vbi_field.specs.ByLines.{RowReads}
+use Rattle.vbi_field.specs.CauseTexts.{cause_text_of}
+use Rattle.vbi_field.specs.ConfigView.{ConfigView}
+use Rattle.vbi_field.specs.Document.{value_of}
+use Rattle.vbi_field.specs.Stream.{fields_of, rest_of, row_of, row_reading, field_readings}
+use Rattle.vbi_meta.specs.DocumentValue.{document_value, field_value, cut_field_value, cut_value}
+use Rattle.vbi_meta.specs.ReadBack.{field_in, word_in, cut_in}
+use Rattle.vbi_meta.specs.ReadBack.{TellsLine, TellsCut, ShowsWord, Tells}
+use Rattle.vbi_field.specs.Kinds.{document}
+use Rattle.vbi_field.specs.Texts.{document_of}
+use Rattle.vbi_meta.specs.DocumentValue.{IsOfRun}
+use Rattle.vbi_meta.specs.Metadata.{most_bytes, IsMetadata}
+use Rattle.vbi_meta.specs.ReadBack.{IsReadAs, ReadsBack}
+use Rattle.vbi_meta.proofs.DocumentReads.{document_is_read, is_metadata}
+use Rattle.vbi_meta.specs.Settings.{whole, member_of}
+
+-- ---- lists
+
+-- item i of a list that a function of the index makes
+item_at : (f : ℕ → Data) (a n i : ℕ) → i < n → get_item i (items_of (map f (range_with_len a n))) ≡ Some (f (a + i))
+item_at f a zero i h = absurd (omega arith)
+item_at f a (suc n) zero h = ap (λ k. Some (f k)) (omega arith)
+item_at f a (suc n) (suc i) h =
+    let e : a + 1 + i ≡ a + suc i = omega arith in item_at f (a + 1) n i (omega arith) ∙ ap (λ k. Some (f k)) e
+
+no_item_at : (f : ℕ → Data) (a n i : ℕ) → n ≤ i → get_item i (items_of (map f (range_with_len a n))) ≡ None
+no_item_at f a zero zero h = refl
+no_item_at f a zero (suc i) h = refl
+no_item_at f a (suc n) zero h = absurd (omega arith)
+no_item_at f a (suc n) (suc i) h = no_item_at f (a + 1) n i (omega arith)
+
+-- ---- a field
+
+-- what is found in a field, as `specs/ReadBack` finds it in a text
+abbrev number_of_field : Option Data → Option ℕ
+number_of_field field = option_and_then whole (member_of field (codes "seqNo"))
+
+abbrev word_of_field : ℕ → Option Data → Option ℕ
+word_of_field k field =
+    let words = member_of (member_of field (codes "vbi")) (codes "vbiData") in
+    option_and_then whole (option_and_then (at k) words)
+
+abbrev cause_of_field : ℕ → Option Data → Option (List ℕ)
+cause_of_field k field = option_and_then as_str (option_and_then (at k) (member_of field (codes "vbiCause")))
+
+abbrev pass_of_field : ℕ → Option Data → Option ℕ
+pass_of_field k field = option_and_then whole (option_and_then (at k) (member_of field (codes "vbiPass")))
+
+module _ (c : ConfigView) (z : List ℕ) where
+  -- field i as a value
+  abbrev field : ℕ → Data
+  field i = field_value (i + 1) (field_readings c z i)
+
+  abbrev told : ℕ → ℕ → Reading
+  told i k = row_reading c z i (15 + k)
+
+  word_there : (i k : ℕ) → k < 3 → word_of_field k (Some (field i)) ≡ Some (value_of (told i k).outcome)
+  word_there i zero h = refl
+  word_there i (suc zero) h = refl
+  word_there i (suc (suc zero)) h = refl
+  word_there i (suc (suc (suc k))) h = absurd (omega arith)
+
+  no_word_there : (i k : ℕ) → 3 ≤ k → word_of_field k (Some (field i)) ≡ None
+  no_word_there i zero h = absurd (omega arith)
+  no_word_there i (suc zero) h = absurd (omega arith)
+  no_word_there i (suc (suc zero)) h = absurd (omega arith)
+  no_word_there i (suc (suc (suc k))) h = refl
+
+  cause_there : (i k : ℕ) → k < 3 → cause_of_field k (Some (field i)) ≡ Some (cause_text_of (told i k).outcome)
+  cause_there i zero h = refl
+  cause_there i (suc zero) h = refl
+  cause_there i (suc (suc zero)) h = refl
+  cause_there i (suc (suc (suc k))) h = absurd (omega arith)
+
+  pass_there : (i k : ℕ) → k < 3 → pass_of_field k (Some (field i)) ≡ Some (told i k).pass
+  pass_there i zero h = refl
+  pass_there i (suc zero) h = refl
+  pass_there i (suc (suc zero)) h = refl
+  pass_there i (suc (suc (suc k))) h = absurd (omega arith)
+
+-- ---- the cut field
+
+cut_is_null : (fields rest : ℕ) → rest ≡ 0 → cut_value fields rest ≡ null
+cut_is_null fields rest e = ap (cut_value fields) e
+
+abbrev number_of_cut : Data → List ℕ → Option ℕ
+number_of_cut cut name = option_and_then whole (member_of (Some cut) name)
+
+-- where some bytes are past the whole fields
+there_is_a_cut : (fields rest : ℕ) → 0 < rest → cut_value fields rest ≡ cut_field_value (fields + 1) rest
+there_is_a_cut fields zero h = absurd (omega arith)
+there_is_a_cut fields (suc rest) h =
+    ap (λ b. cond b null (cut_field_value (fields + 1) (suc rest))) (eqb-suc-zero rest)
+
+cut_number : (fields rest : ℕ) → 0 < rest → number_of_cut (cut_value fields rest) (codes "seqNo") ≡ Some (fields + 1)
+cut_number fields rest h = ap (λ cut. number_of_cut cut (codes "seqNo")) (there_is_a_cut fields rest h)
+
+cut_bytes : (fields rest : ℕ) → 0 < rest → number_of_cut (cut_value fields rest) (codes "bytes") ≡ Some rest
+cut_bytes fields rest h = ap (λ cut. number_of_cut cut (codes "bytes")) (there_is_a_cut fields rest h)
+
+-- ---- a number other than 0 is a word
+
+word_of_value : (system : System) (levels : List Bool) (outcome : Outcome) (pass word : ℕ)
+    → Reads system levels outcome pass
+    → value_of outcome ≡ word → 0 < word → Reads system levels (Word word) pass
+word_of_value system levels (Word v) pass word reads e some =
+    let P : ℕ → Type 0 = λ x. Reads system levels (Word x) pass in subst P e reads
+word_of_value system levels Blank pass word reads e some = absurd (omega arith)
+word_of_value system levels Unfinished pass word reads e some = absurd (omega arith)
+word_of_value system levels (Change column) pass word reads e some = absurd (omega arith)
+word_of_value system levels (Hold column) pass word reads e some = absurd (omega arith)
+
+abbrev value_or : Option ℕ → ℕ
+value_or None = 0
+value_or (Some n) = n
+
+-- ---- a text that is read as the document's value
+
+module _ (c : ConfigView) (z text : List ℕ) (is : read text ≡ Some (document_value c z)) where
+  -- field i of the text is the value's item i
+  field_is : (i : ℕ) → field_in text i ≡ get_item i (items_of (map (field c z) (range_with_len 0 (fields_of c z))))
+  field_is i = ap (λ d. option_and_then (at i) (member_of d (codes "fields"))) is
+
+  found : (i : ℕ) → i < fields_of c z → field_in text i ≡ Some (field c z i)
+  found i inside =
+      let e : 0 + i ≡ i = omega arith in
+      field_is i ∙ item_at (field c z) 0 (fields_of c z) i inside ∙ ap (λ j. Some (field c z j)) e
+
+  not_found : (i : ℕ) → fields_of c z ≤ i → field_in text i ≡ None
+  not_found i past = field_is i ∙ no_item_at (field c z) 0 (fields_of c z) i past
+
+  cut_found : cut_in text ≡ Some (cut_value (fields_of c z) (rest_of c z))
+  cut_found = ap (λ d. member_of d (codes "cutField")) is
+
+  word_found : (i k : ℕ) → i < fields_of c z → k < 3 → word_in text i k ≡ Some (value_of (told c z i k).outcome)
+  word_found i k inside line = ap (word_of_field k) (found i inside) ∙ word_there c z i k line
+
+  tells_line : (i k : ℕ) (reading : Reading) → i < fields_of c z → k < 3 → RowReads c z i (15 + k) reading
+      → TellsLine text i k reading
+  tells_line i k reading inside line reads =
+      let same : reading ≡ told c z i k = only_reading c.system
+      (row_levels c.levels (row_of c.system z i (15 + k))) reading reads in
+      let found_reading : TellsLine text i k (told c z i k) = record {
+        word = word_found i k inside line;
+        cause = ap (cause_of_field k) (found i inside) ∙ cause_there c z i k line;
+        pass = ap (pass_of_field k) (found i inside) ∙ pass_there c z i k line;
+      } in
+      subst (TellsLine text i k) (sym same) found_reading
+
+  shows_word : (i k word : ℕ) → word_in text i k ≡ Some word → 0 < word → ShowsWord c z i k word
+  shows_word i k word e some = go (cases_lt i (fields_of c z)) (cases_lt k 3)
+    where
+      go : (i < fields_of c z) ⊎ (fields_of c z ≤ i) → (k < 3) ⊎ (3 ≤ k) → ShowsWord c z i k word
+      go (inr past) line =
+          let none : 0 ≡ word = ap value_or (sym (ap (word_of_field k) (not_found i past)) ∙ e) in absurd (omega arith)
+      go (inl inside) (inr past) =
+          let none : 0 ≡ word = ap value_or (sym (ap (word_of_field k) (found i inside) ∙ no_word_there c z i k past)
+          ∙ e) in
+          absurd (omega arith)
+      go (inl inside) (inl line) =
+          let levels = row_levels c.levels (row_of c.system z i (15 + k)) in
+          let reading = told c z i k in
+          let same : value_of reading.outcome ≡ word = ap value_or (sym (word_found i k inside line) ∙ e) in
+          record {
+            field = inside;
+            line = line;
+            pass = reading.pass;
+            reads = word_of_value c.system levels reading.outcome reading.pass word
+                (is_reading c.system levels) same some;
+          }
+
+  tells_cut : TellsCut text (fields_of c z) (rest_of c z)
+  tells_cut = record {
+    none = λ whole. cut_found ∙ ap (λ d. Some d) (cut_is_null (fields_of c z) (rest_of c z) whole);
+    number = λ some. ap (λ d. option_and_then whole (member_of d (codes "seqNo"))) cut_found
+        ∙ cut_number (fields_of c z) (rest_of c z) some;
+    bytes = λ some. ap (λ d. option_and_then whole (member_of d (codes "bytes"))) cut_found
+        ∙ cut_bytes (fields_of c z) (rest_of c z) some;
+  }
+
+  pub tells : Tells c z text
+  tells = record {
+    numbers = λ i inside. ap (λ d. number_of_field d) (found i inside);
+    nothing = not_found;
+    lines = tells_line;
+    words = shows_word;
+    cut = tells_cut;
+  }
+
+-- ---- a text that is the document of a stream
+
+pub extracted : (c : ConfigView) (z text : List ℕ) → IsOfRun c z → text ≡ document_of document c z → ReadsBack c z text
+extracted c z text run e =
+    let is : IsReadAs text (document_value c z) = subst (λ t. IsReadAs t (document_value c z)) (sym e)
+    (document_is_read c z run) in
+    record {
+      is_read = is;
+      tells = tells c z text is.value_of_text;
+      metadata = is_metadata text (document_value c z) is;
+    }
+
+pub document_is_metadata : (c : ConfigView) (z text : List ℕ) → IsOfRun c z → text ≡ document_of document c z
+    → length text ≤ most_bytes
+    → IsMetadata text (document_value c z)
+document_is_metadata c z text run e short = (extracted c z text run e).metadata short
+
+same_some : (a b : Data) → Some a ≡ Some b → a ≡ b
+same_some a b e = cc
+
+pub only_value : (c : ConfigView) (z text : List ℕ) (value : Data) → IsOfRun c z → text ≡ document_of document c z
+    → IsMetadata text value → value ≡ document_value c z
+only_value c z text value run e is =
+    same_some value (document_value c z) (sym is.reading ∙ (extracted c z text run e).is_read.value_of_text)

@@ -1,0 +1,127 @@
+-- What a line's reading gives to a document: numbers of 64 bits, and a cause in UTF-8 with nothing to escape.
+use Rattle.std.proofs.Common.{◌≡◌, ℕ, ◌+◌, ◌*◌, ◌<◌, ◌≤◌, ◌^◌, Bool, List, [], ◌∷◌, ◌++◌, length, drop, decimal, IsUtf8}
+use Rattle.std.proofs.Common.{◌∙◌, refl, ap, ap₂, inl, inr, arith, lit<, true}
+use Rattle.std.proofs.lemmas.List.{length-take, length-map}
+use Rattle.std.proofs.lemmas.Fmt.{decimal_is_IsNumeral, IsAscii-decimal}
+use Rattle.std.proofs.lemmas.Str.{IsUtf8-append, IsUtf8-from_ascii}
+use Rattle.std.specs.Char.{digit_value}
+use Rattle.std.specs.Prelude.{codes}
+use Rattle.std.specs.Str.Parse.{AllDigits}
+use Rattle.json.proofs.Printed.Strings.{escape_byte_plain}
+use Rattle.json.proofs.Printed.Utf8.{are_ascii, IsUtf8-are_ascii}
+use Rattle.json.specs.Print.{escape, escape_byte}
+use Rattle.vbi_words.specs.declared.outcome.Outcome.{Outcome}
+use Rattle.vbi_words.specs.declared.outcome.Outcome.TheVariants.{Word, Blank, Unfinished, Change, Hold}
+use Rattle.vbi_words.specs.declared.outcome.Reading.{Reading}
+use Rattle.vbi_words.specs.declared.system.System.{System}
+use Rattle.vbi_words.specs.declared.system.System.TheVariants.{Ntsc, Pal}
+use Rattle.vbi_words.specs.Geometry.{line_bytes, field_bytes}
+use Rattle.vbi_words.specs.Levels.{samples_of, is_high_of, row_levels}
+use Rattle.vbi_words.specs.Outcomes.{FirstHopeless}
+use Rattle.vbi_words.specs.Readings.{Reads}
+use Rattle.vbi_line.proofs.OneReading.{is_reading}
+use Rattle.vbi_field.specs.CauseTexts.{cause_text_of}
+use Rattle.vbi_field.specs.ConfigView.{ConfigView}
+use Rattle.vbi_field.specs.Document.{value_of}
+use Rattle.vbi_field.specs.Stream.{row_of, row_reading, field_readings}
+use Rattle.vbi_field.specs.declared.readings.FieldReadings.{FieldReadings}
+
+-- a reading that a line of a stream can have
+pub record IsShown (reading : Reading) : Type 0 where
+  pub value : value_of reading.outcome < 2 ^ 64
+  pub pass : reading.pass < 2 ^ 64
+  pub free : escape (cause_text_of reading.outcome) ≡ cause_text_of reading.outcome
+  pub utf8 : IsUtf8 (cause_text_of reading.outcome)
+
+-- all three of a field's
+pub record AreShown (readings : FieldReadings) : Type 0 where
+  pub first : IsShown readings.first
+  pub second : IsShown readings.second
+  pub third : IsShown readings.third
+
+-- ---- the text of a number
+
+digit_range : (d : ℕ) → digit_value d < 10 → (48 ≤ d) × (d ≤ 57)
+digit_range d h = grind arith
+
+escape_digits : (ds : List ℕ) → AllDigits 10 ds → escape ds ≡ ds
+escape_digits [] h = refl
+escape_digits (d ∷ ds) h =
+    let range = digit_range d h.0 in
+    ap₂ (λ (a b : List ℕ). a ++ b) (escape_byte_plain d (λ e. omega arith) (λ e. omega arith) (omega arith))
+    (escape_digits ds h.1)
+
+escape_decimal : (n : ℕ) → n < 2 ^ 64 → escape (decimal n) ≡ decimal n
+escape_decimal n h = escape_digits (decimal n) (decimal_is_IsNumeral n h).0.1
+
+pub decimal_utf8 : (n : ℕ) → n < 2 ^ 64 → IsUtf8 (decimal n)
+decimal_utf8 n h = IsUtf8-from_ascii (decimal n) (IsAscii-decimal n h)
+
+-- ---- a reading
+
+-- the causes with a column: a name, and the column behind it
+column_free : (name : List ℕ) (column : ℕ) → escape (name ++ decimal column) ≡ name ++ escape (decimal column)
+    → column < 2 ^ 64
+    → escape (name ++ decimal column) ≡ name ++ decimal column
+column_free name column named h = named ∙ ap (λ l. name ++ l) (escape_decimal column h)
+
+column_utf8 : (name : List ℕ) (column : ℕ) → are_ascii name ≡ true → column < 2 ^ 64 → IsUtf8 (name ++ decimal column)
+column_utf8 name column e h = IsUtf8-append name (decimal column) (IsUtf8-are_ascii name e) (decimal_utf8 column h)
+
+small_column : (system : System) (levels : List Bool) (column : ℕ) → length levels < 2 ^ 64
+    → FirstHopeless system levels column
+    → column < 2 ^ 64
+small_column system levels column short is = omega (arith, is.inside)
+
+is_shown : (system : System) (levels : List Bool) → length levels < 2 ^ 64 → (outcome : Outcome) (pass : ℕ)
+    → Reads system levels outcome pass → IsShown (record { outcome = outcome; pass = pass })
+unfolding escape_byte
+is_shown system levels short (Word w) pass (inl (p, shows)) =
+    record { value = omega (arith, shows.is_word.1); pass = omega arith; free = refl; utf8 = IsUtf8-are_ascii _ refl }
+is_shown system levels short (Word w) pass (inr (p, none, high, shows)) =
+    record { value = omega (arith, shows.is_word.1); pass = omega arith; free = refl; utf8 = IsUtf8-are_ascii _ refl }
+is_shown system levels short Blank pass (p, is) =
+    record { value = lit< tt; pass = omega arith; free = refl; utf8 = IsUtf8-are_ascii _ refl }
+is_shown system levels short Unfinished pass (p, is, none) =
+    record { value = lit< tt; pass = omega arith; free = refl; utf8 = IsUtf8-are_ascii _ refl }
+is_shown system levels short (Change c) pass (p, is, none) =
+    let small = small_column system levels c short is.2 in
+    record {
+      value = lit< tt;
+      pass = omega arith;
+      free = column_free (codes "change ") c refl small;
+      utf8 = column_utf8 (codes "change ") c refl small;
+    }
+is_shown system levels short (Hold c) pass (p, is, none) =
+    let small = small_column system levels c short is.2 in
+    record {
+      value = lit< tt;
+      pass = omega arith;
+      free = column_free (codes "hold ") c refl small;
+      utf8 = column_utf8 (codes "hold ") c refl small;
+    }
+
+-- ---- the rows of a stream
+
+samples_below : (bytes : List ℕ) → length (samples_of bytes) ≤ length bytes
+samples_below [] = omega arith
+samples_below (low ∷ []) = omega arith
+samples_below (low ∷ high ∷ bytes) = omega (arith, samples_below bytes)
+
+short_line : (system : System) → line_bytes system < 2 ^ 64
+short_line Ntsc = lit< tt
+short_line Pal = lit< tt
+
+short_levels : (c : ConfigView) (z : List ℕ) (i r : ℕ) → length (row_levels c.levels (row_of c.system z i r)) < 2 ^ 64
+short_levels c z i r =
+    let row = row_of c.system z i r in
+    let long : length row ≤ line_bytes c.system =
+    omega (arith, length-take (line_bytes c.system) (drop (i * field_bytes c.system + line_bytes c.system * r) z)) in
+    omega (arith, length-map (samples_of row) (is_high_of c.levels), samples_below row, short_line c.system)
+
+row_shown : (c : ConfigView) (z : List ℕ) (i r : ℕ) → IsShown (row_reading c z i r)
+row_shown c z i r =
+    is_shown c.system _ (short_levels c z i r) _ _ (is_reading c.system (row_levels c.levels (row_of c.system z i r)))
+
+pub field_shown : (c : ConfigView) (z : List ℕ) (i : ℕ) → AreShown (field_readings c z i)
+field_shown c z i = record { first = row_shown c z i 15; second = row_shown c z i 16; third = row_shown c z i 17 }

@@ -1,0 +1,6 @@
+use Rattle.vbi_meta.proofs.DocumentTells.{extracted}
+use Rattle.vbi_meta.proofs.laws.extracted_words.Goals as goal
+
+pub returns : goal.returns
+returns c = λ config input n z text summary numbers ran. extracted config z text
+    (record { config = numbers; within = ran.within }) ran.document
