@@ -35,6 +35,7 @@ END
 
 # found READER..: whether the last run ended with the status that is wanted and said nothing, and this reader finds what
 # is wanted in what it wrote
+# shellcheck disable=SC2317
 found() {
     [ "$status" = "$wanted_status" ] && [ ! -s err ] && "$@" out > found.txt 2> err && cmp -s found.txt found_wanted
 }

@@ -22,12 +22,14 @@ use Rattle.vbi_field.specs.ConfigView.{ConfigView}
 use Rattle.vbi_field.specs.Document.{value_of}
 use Rattle.vbi_field.specs.Stream.{fields_of, rest_of, row_of, row_reading, field_readings}
 use Rattle.vbi_meta.specs.DocumentValue.{document_value, field_value, cut_field_value, cut_value}
+use Rattle.vbi_meta.specs.declared.fault.MetaFault.{MetaFault}
+use Rattle.vbi_meta.specs.declared.fault.MetaFault.TheVariants.{TooLarge, NotJson, OutOfMemory}
 use Rattle.vbi_meta.specs.ReadBack.{field_in, word_in, cut_in}
 use Rattle.vbi_meta.specs.ReadBack.{TellsLine, TellsCut, ShowsWord, Tells}
 use Rattle.vbi_field.specs.Kinds.{document}
 use Rattle.vbi_field.specs.Texts.{document_of}
 use Rattle.vbi_meta.specs.DocumentValue.{IsOfRun}
-use Rattle.vbi_meta.specs.Metadata.{most_bytes, IsMetadata}
+use Rattle.vbi_meta.specs.Metadata.{most_bytes, IsMetadata, IsUnread}
 use Rattle.vbi_meta.specs.ReadBack.{IsReadAs, ReadsBack}
 use Rattle.vbi_meta.proofs.DocumentReads.{document_is_read, is_metadata}
 use Rattle.vbi_meta.specs.Settings.{whole, member_of}
@@ -153,17 +155,19 @@ module _ (c : ConfigView) (z text : List ℕ) (is : read text ≡ Some (document
   word_found : (i k : ℕ) → i < fields_of c z → k < 3 → word_in text i k ≡ Some (value_of (told c z i k).outcome)
   word_found i k inside line = ap (word_of_field k) (found i inside) ∙ word_there c z i k line
 
+  tells_told : (i k : ℕ) → i < fields_of c z → k < 3 → TellsLine text i k (told c z i k)
+  tells_told i k inside line = record {
+    word = word_found i k inside line;
+    cause = ap (cause_of_field k) (found i inside) ∙ cause_there c z i k line;
+    pass = ap (pass_of_field k) (found i inside) ∙ pass_there c z i k line;
+  }
+
   tells_line : (i k : ℕ) (reading : Reading) → i < fields_of c z → k < 3 → RowReads c z i (15 + k) reading
       → TellsLine text i k reading
   tells_line i k reading inside line reads =
       let same : reading ≡ told c z i k = only_reading c.system
       (row_levels c.levels (row_of c.system z i (15 + k))) reading reads in
-      let found_reading : TellsLine text i k (told c z i k) = record {
-        word = word_found i k inside line;
-        cause = ap (cause_of_field k) (found i inside) ∙ cause_there c z i k line;
-        pass = ap (pass_of_field k) (found i inside) ∙ pass_there c z i k line;
-      } in
-      subst (TellsLine text i k) (sym same) found_reading
+      subst (TellsLine text i k) (sym same) (tells_told i k inside line)
 
   shows_word : (i k word : ℕ) → word_in text i k ≡ Some word → 0 < word → ShowsWord c z i k word
   shows_word i k word e some = go (cases_lt i (fields_of c z)) (cases_lt k 3)
@@ -200,6 +204,7 @@ module _ (c : ConfigView) (z text : List ℕ) (is : read text ≡ Some (document
   tells = record {
     numbers = λ i inside. ap (λ d. number_of_field d) (found i inside);
     nothing = not_found;
+    each = λ i k inside line. (told c z i k, is_reading c.system _, tells_told i k inside line);
     lines = tells_line;
     words = shows_word;
     cut = tells_cut;
@@ -229,3 +234,12 @@ pub only_value : (c : ConfigView) (z text : List ℕ) (value : Data) → IsOfRun
     → IsMetadata text value → value ≡ document_value c z
 only_value c z text value run e is =
     same_some value (document_value c z) (sym is.reading ∙ (extracted c z text run e).is_read.value_of_text)
+
+-- the reasons for which a document that is short enough isn't read
+pub only_memory : (c : ConfigView) (z text : List ℕ) (fault : MetaFault) → IsOfRun c z → text ≡ document_of document c z
+    → length text ≤ most_bytes → IsUnread text fault → fault ≡ OutOfMemory
+only_memory c z text TooLarge run e short unread = absurd (omega arith)
+only_memory c z text NotJson run e short unread =
+    absurd (unread.1 (document_value c z) (document_is_metadata c z text run e short))
+only_memory c z text OutOfMemory run e short unread = refl
+only_memory c z text _ run e short unread = absurd unread

@@ -82,7 +82,9 @@ pub record Tells (c : ConfigView) (z text : List ℕ) : Type 0 where
   -- each whole field has its number from 1, and nothing stands behind the last
   pub numbers : (i : ℕ) → i < fields_of c z → number_in text i ≡ Some (i + 1)
   pub nothing : (i : ℕ) → fields_of c z ≤ i → field_in text i ≡ None
-  -- a line's reading is found
+  -- each line has a reading that is found, and what is a line's reading is found
+  pub each : (i k : ℕ) → i < fields_of c z → k < 3
+      → (reading : Reading) × RowReads c z i (15 + k) reading × TellsLine text i k reading
   pub lines : (i k : ℕ) (reading : Reading) → i < fields_of c z → k < 3 → RowReads c z i (15 + k) reading
       → TellsLine text i k reading
   -- a number other than 0 among the words is a word that is shown

@@ -9,8 +9,10 @@ ghost use Rattle.vbi_field.specs.Ran.{Counts};
 ghost use Rattle.vbi_field.specs.Texts.{document_of};
 ghost use Rattle.vbi_field.specs.declared.summary.Summary.{Summary};
 ghost use Rattle.vbi_meta.specs.DocumentValue.{IsConfig, IsOfRun, document_value};
-ghost use Rattle.vbi_meta.specs.Metadata.{most_bytes, IsMetadata};
+ghost use Rattle.vbi_meta.specs.Metadata.{most_bytes, IsMetadata, IsUnread};
 ghost use Rattle.vbi_meta.specs.ReadBack.{IsReadAs, Tells, ReadsBack};
+ghost use Rattle.vbi_meta.specs.declared.fault.MetaFault.{MetaFault};
+ghost use Rattle.vbi_meta.specs.declared.fault.MetaFault.TheVariants.{OutOfMemory};
 
 /// The document of a stream is JSON in UTF-8, its value is the one that `specs/DocumentValue` names member by member,
 /// and no object in it has a key twice.
@@ -32,10 +34,12 @@ pub fn extracted_words()
 {}
 
 /// Our own reader takes the document of a stream, where it is no longer than metadata may be, with the same value: by
-/// its clauses `read_meta` answers that value, or memory was refused.
+/// its clauses `read_meta` answers that value, or was refused memory.
 pub fn document_is_metadata()
     ensures value { (c : ConfigView) (z text : List ℕ) → IsOfRun c z → text ≡ document_of document c z
         → length text ≤ most_bytes → IsMetadata text (document_value c z) }
     ensures only { (c : ConfigView) (z text : List ℕ) (value : Data) → IsOfRun c z → text ≡ document_of document c z
         → IsMetadata text value → value ≡ document_value c z }
+    ensures fault { (c : ConfigView) (z text : List ℕ) (fault : MetaFault) → IsOfRun c z
+        → text ≡ document_of document c z → length text ≤ most_bytes → IsUnread text fault → fault ≡ OutOfMemory }
 {}
