@@ -1,4 +1,4 @@
--- The cause of a fault, in a call that began before.
+-- The cause of a fault, seen from an earlier moment of the same call.
 use Rattle.std.proofs.Common.{◌≡◌, ◌+◌, ◌≤◌, inl, inr, arith}
 use Rattle.std.specs.Prelude.{◌⊎◌}
 use Rattle.vbi_line.specs.Counted.{failures_of, errors_of, streak_of, HasCause}

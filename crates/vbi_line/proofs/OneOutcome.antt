@@ -1,4 +1,4 @@
--- The only outcome.
+-- A list of levels has one outcome.
 use Rattle.std.proofs.Common.{◌≡◌, List, Bool}
 use Rattle.vbi_words.specs.declared.system.System.{System}
 use Rattle.vbi_words.specs.declared.outcome.Outcome.{Outcome}

@@ -1,4 +1,4 @@
--- The only reading.
+-- A list of levels has one reading.
 use Rattle.std.proofs.Common.{◌≡◌, ℕ, List, Bool, inl, inr, refl, sym, ◌∙◌, ap, subst}
 use Rattle.vbi_words.specs.declared.system.System.{System}
 use Rattle.vbi_words.specs.declared.outcome.Outcome.{Outcome}
@@ -46,13 +46,15 @@ reads_plain (Change c) p free none = second_plain (Change c) p none
 reads_plain (Hold c) p free none = second_plain (Hold c) p none
 
 module _ (system : System) (levels : List Bool) where
-  -- the two outcomes, and the reading that they give
+  -- the outcome of the levels
   abbrev plain : Outcome
   plain = outcome_of system levels
 
+  -- the outcome of the smoothed levels
   abbrev smooth : Outcome
   smooth = outcome_of system (smooth_of levels)
 
+  -- the reading that they give
   abbrev from_both : Reading
   from_both = reading_from plain smooth
 

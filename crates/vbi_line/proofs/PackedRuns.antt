@@ -41,10 +41,11 @@ other_bit word i false small l e same =
     cc
 
 module _ (word place : ℕ) (level : Bool) (small : word < 2 ^ 64) (within : place < 64) where
-  -- the bits from the place on, set where the level is another, and how many are not set before the first that is
+  -- the bits from the place on, set where the level is another
   abbrev others : ℕ
   others = others_of word level / 2 ^ place
 
+  -- how many of them are not set, before the first that is
   abbrev zeros : ℕ
   zeros = trailing_zeros w64 others
 
@@ -114,9 +115,9 @@ module _ {words : List ℕ} {width column end : ℕ} {level : Bool} {equal : ℕ
   each_on i l = elim (cases_lt (column + i) end) [
     | inl before ↦ so_far.each i before
     | inr behind ↦
-      let j : ℕ = (column + i) - end in
-      let place : column + i ≡ end + j = omega arith in
-      ap (packed_level words) place ∙ at j (omega (arith, bits.inside)) ∙ bits.each j (omega arith)
+        let j : ℕ = (column + i) - end in
+        let place : column + i ≡ end + j = omega arith in
+        ap (packed_level words) place ∙ at j (omega (arith, bits.inside)) ∙ bits.each j (omega arith)
   ]
 
   -- the run ends in the word
@@ -128,8 +129,8 @@ module _ {words : List ℕ} {width column end : ℕ} {level : Bool} {equal : ℕ
     some = elim (cases_lt column (end + equal)) [
       | inl l ↦ l
       | inr l ↦
-        let e : end + equal ≡ column = omega arith in
-        absurd (other (ap (packed_level words) e ∙ sym so_far.here))
+          let e : end + equal ≡ column = omega arith in
+          absurd (other (ap (packed_level words) e ∙ sym so_far.here))
     ]
 
     -- the length of the run

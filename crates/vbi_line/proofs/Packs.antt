@@ -37,9 +37,9 @@ same_levels f g a b (suc n) same =
     let second : b + 0 ≡ b = omega arith in
     let head : f a ≡ g b = ap f first ∙ same 0 (omega arith) ∙ ap g second in
     let tail : levels_from f (a + 1) n ≡ levels_from g (b + 1) n = same_levels f g (a + 1) (b + 1) n (λ i l.
-        let left : (a + 1) + i ≡ a + (i + 1) = omega arith in
-        let right : b + (i + 1) ≡ (b + 1) + i = omega arith in
-        ap f left ∙ same (i + 1) (omega arith) ∙ ap g right) in
+    let left : (a + 1) + i ≡ a + (i + 1) = omega arith in
+    let right : b + (i + 1) ≡ (b + 1) + i = omega arith in
+    ap f left ∙ same (i + 1) (omega arith) ∙ ap g right) in
     ap (λ (x : Bool). x ∷ levels_from f (a + 1) n) head ∙ ap (λ (t : List Bool). g b ∷ t) tail
 
 -- a list of levels in two parts
@@ -124,17 +124,19 @@ pub record HasRoom (words : List ℕ) (width bits count : ℕ) : Type 0 where
   pub rest : (column : ℕ) → width ≤ column → column < 1152 → packed_level words column ≡ false
 
 module _ {words : List ℕ} {width bits count : ℕ} (has : HasRoom words width bits count) where
-  -- the last word, and the place in it
+  -- the last word
   abbrev word : ℕ
   word = slice_index words (width / 64)
 
+  -- the place behind its levels
   abbrev place : ℕ
   place = width % 64
 
-  -- the last word and the line with the levels added
+  -- the last word with the levels added
   abbrev new_word : ℕ
   new_word = joined word bits place
 
+  -- the words with the levels added
   abbrev pub pushed : List ℕ
   pushed = set words (width / 64) new_word
 
@@ -159,8 +161,8 @@ module _ {words : List ℕ} {width bits count : ℕ} (has : HasRoom words width 
   kept : (column : ℕ) → column < width → packed_level pushed column ≡ packed_level words column
   kept column l = elim (cases_eq (column / 64) (width / 64)) [
     | inl e ↦
-      same_word column e ∙ joined_below word bits place count has.within has.few (column % 64) (omega arith)
-      ∙ ap (λ (j : ℕ). level_of_bit (get_or words j 0) (column % 64)) (sym e)
+        same_word column e ∙ joined_below word bits place count has.within has.few (column % 64) (omega arith)
+        ∙ ap (λ (j : ℕ). level_of_bit (get_or words j 0) (column % 64)) (sym e)
     | inr ne ↦ other_word column ne
   ]
 
@@ -176,8 +178,8 @@ module _ {words : List ℕ} {width bits count : ℕ} (has : HasRoom words width 
   pub pushed_rest : (column : ℕ) → width + count ≤ column → column < 1152 → packed_level pushed column ≡ false
   pushed_rest column past inside = elim (cases_eq (column / 64) (width / 64)) [
     | inl e ↦
-      same_word column e ∙ joined_above word bits place count has.within has.few (column % 64) (omega arith)
-      (empty column (omega arith) inside e)
+        same_word column e ∙ joined_above word bits place count has.within has.few (column % 64) (omega arith)
+        (empty column (omega arith) inside e)
     | inr ne ↦ other_word column ne ∙ has.rest column (omega arith) inside
   ]
 

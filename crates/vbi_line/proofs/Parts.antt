@@ -15,7 +15,7 @@ drop-part xs h e n le =
     ∙ sym (drop-take n (e - (h + n)) (drop h xs))
     ∙ ap (λ k. drop n (take k (drop h xs))) same
 
--- what stands before a part stays where the part is written over
+-- the elements before a part stay as they are where the part is written over
 pub take-with_part : (xs : List ℕ) (from to : ℕ) (w : List ℕ) → from ≤ to → to ≤ length xs
     → take from (with_part xs from to w) ≡ take from xs
 take-with_part xs from to w le inside = take_at (take from xs) _ from (length-take-le from xs (omega arith))

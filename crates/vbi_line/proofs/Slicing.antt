@@ -1,5 +1,5 @@
 -- Slicing samples into levels.
-use Rattle.std.proofs.Common.{◌≡◌, ℕ, zero, suc, ◌+◌, ◌-◌, ◌*◌, ◌%◌, ◌^◌, ◌<◌, ◌≤◌, Bool}
+use Rattle.std.proofs.Common.{◌≡◌, ℕ, zero, suc, ◌+◌, ◌-◌, ◌*◌, ◌%◌, ◌^◌, ◌<◌, Bool}
 use Rattle.std.proofs.Common.{true, false, cond, ltb, nat_eq, nat_lt, List, [], ◌∷◌, ◌++◌}
 use Rattle.std.proofs.Common.{inl, inr, map, length, get_or, Some, None, refl, sym, ap, subst, ◌∙◌, arith, lit≤}
 use Rattle.std.specs.Prelude.{replicate}
@@ -95,11 +95,11 @@ pub sliced_more : (slicing : LevelsView) (held : List ℕ) (levels more : List B
 sliced_more slicing held levels more sliced new k l = elim (cases_lt k (length levels)) [
   | inl before ↦ get_or_append_left levels more false k before ∙ sliced k before
   | inr behind ↦
-    let j : ℕ = k - length levels in
-    let place : k ≡ length levels + j = omega arith in
-    ap (level_at (levels ++ more)) place ∙ get_or-append-add levels more j false
-    ∙ new j (omega (arith, length-append levels more))
-    ∙ ap (λ (i : ℕ). is_high_of slicing (sample_at held i)) (sym place)
+      let j : ℕ = k - length levels in
+      let place : k ≡ length levels + j = omega arith in
+      ap (level_at (levels ++ more)) place ∙ get_or-append-add levels more j false
+      ∙ new j (omega (arith, length-append levels more))
+      ∙ ap (λ (i : ℕ). is_high_of slicing (sample_at held i)) (sym place)
 ]
 
 pub sliced_all : (slicing : LevelsView) (held : List ℕ) (levels : List Bool) (width : ℕ) → length held ≡ 2 * width

@@ -156,6 +156,7 @@ run_dies system s front rest v n state e is lived within dies w shows =
 
 module _ {system : System} {levels : List Bool} {column : ℕ} {out : Bool} {state : State}
     (h : Halfway system levels column out state) {x : Bool} {count : ℕ} (run : IsRun levels column x count) where
+  -- the levels behind the run
   abbrev rest : List Bool
   rest = drop (column + count) levels
 

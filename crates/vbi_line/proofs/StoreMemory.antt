@@ -1,4 +1,5 @@
--- The array behind a line in memory is its bytes side by side, and back. The proof by hand of its loan stands on this.
+-- The array of a line's bytes in memory is the bytes side by side, and back. The proof by hand that lends a part of it
+-- uses this.
 use Rattle.std.proofs.Common.{◌≡◌, ℕ, ◌+◌, ◌-◌, ◌≤◌, List, [], ◌∷◌, ◌++◌, length, take, drop, refl, sym, ap, ◌∙◌, arith}
 use Rattle.std.proofs.lemmas.List.{length-take-le, take_at, take-append-drop, drop-drop, length-drop, length-append}
 use seplogic.Ra.Ura.{Ura}
@@ -33,7 +34,7 @@ use Rattle.vbi_line.specs.StoreLends.{with_part}
 abbrev pub part_of : List ℕ → ℕ → ℕ → List ℕ
 part_of xs from to = take (to - from) (drop from xs)
 
--- a list is what stands before a part, the part, and what stands behind it
+-- a list is the elements before a part, the part, and those behind it
 pub in_parts : (xs : List ℕ) (from to : ℕ) → from ≤ to → take from xs ++ (part_of xs from to ++ drop to xs) ≡ xs
 in_parts xs from to le =
     let ends : from + (to - from) ≡ to = omega arith in

@@ -1,5 +1,4 @@
--- What a contract sees of an intake: the reader, the line that is held, and the counts of bytes
--- and failures (this project's own).
+-- What a contract sees of an intake: the reader, the buffer of a line, and the counts of bytes and failures.
 use Rattle.std.specs.Prelude.{◌≡◌, ℕ, ◌+◌, ◌*◌, ◌<◌, ◌≤◌, List, [], ◌++◌, length, Option}
 use Rattle.std.specs.Io.KnownBytes.{Consumes, IsAtEnd}
 use Rattle.vbi_words.specs.Geometry.{line_bytes}
@@ -19,31 +18,31 @@ module _ {R : Type 0} where
   abbrev pub name_of : Intake R → ℕ
   name_of i = counted.name_of i.device
 
-  -- how many bytes the reader gave
+  -- how many bytes the reader has given
   abbrev pub fetched_of : Intake R → ℕ
   fetched_of i = i.fetched
 
-  -- how often the reader failed
+  -- how many calls of the reader failed
   abbrev pub failures_of : Intake R → ℕ
   failures_of i = counted.failures_of i.device
 
-  -- how often of these it wasn't interrupted
+  -- how many of these were no interruptions
   abbrev pub errors_of : Intake R → ℕ
   errors_of i = counted.errors_of i.device
 
-  -- how many interruptions have come since its last answer of another kind
+  -- how many interruptions there were since its last answer of another kind
   abbrev pub streak_of : Intake R → ℕ
   streak_of i = counted.streak_of i.device
 
-  -- the reader failed in a call, which is a fault's cause
+  -- why a fault is returned, between these two moments
   abbrev pub HasCause : Intake R → Intake R → Type 0
   HasCause old new = counted.HasCause old.device new.device
 
-  -- both speak of the same reader
+  -- both have the same reader
   abbrev pub IsSameDevice : Intake R → Intake R → Type 0
   IsSameDevice old new = counted.IsSameDevice old.device new.device
 
-  -- the line
+  -- the buffer of the line
   abbrev pub line_of : Intake R → Line
   line_of i = i.line
 
@@ -51,7 +50,7 @@ module _ {R : Type 0} where
   abbrev pub held_of : Intake R → List ℕ
   held_of i = i.line.held
 
-  -- an intake that hasn't asked its reader
+  -- an intake that hasn't called its reader
   pub record IsFresh (i : Intake R) (s : System) : Type 0 where
     pub system : i.line.system ≡ s
     pub held : i.line.held ≡ []
@@ -60,7 +59,7 @@ module _ {R : Type 0} where
     pub fetched : fetched_of i ≡ 0
     pub failures : failures_of i ≡ 0
 
-  -- the next bytes of the reader are newly held, and nothing else
+  -- the reader's next bytes are now held behind the others, and the passes are as they were
   pub record FetchesBytes (remaining : R → Option (List ℕ)) (old new : Intake R) (bytes : List ℕ) : Type 0 where
     pub held : held_of new ≡ held_of old ++ bytes
     pub consumed : Consumes (remaining (device_of old)) (remaining (device_of new)) bytes
@@ -69,17 +68,17 @@ module _ {R : Type 0} where
     pub most : failures_of new ≤ failures_of old + 17 * (length bytes + 1)
     pub kept : Keeps old.line new.line
 
-  -- some bytes of the reader are newly held
+  -- some next bytes of the reader, which may be none, are now held
   abbrev pub Fetches : (R → Option (List ℕ)) → Intake R → Intake R → Type 0
   Fetches remaining old new = (bytes : List ℕ) × FetchesBytes remaining old new bytes
 
-  -- a whole line is held, or the reader said its end before
+  -- a whole line is held, or the reader is at its end before that
   abbrev pub IsFilled : (R → Option (List ℕ)) → Filled → Intake R → Type 0
   IsFilled remaining Full i = length (held_of i) ≡ line_bytes i.line.system
   IsFilled remaining (Ended n) i =
       (n ≡ length (held_of i)) × (n < line_bytes i.line.system) × IsAtEnd (remaining (device_of i))
 
-  -- the same reader, of which no byte was taken
+  -- the reader was not called
   pub record KeepsReader (old new : Intake R) : Type 0 where
     pub same : IsSameDevice old new
     pub device : device_of new ≡ device_of old

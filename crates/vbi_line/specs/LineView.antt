@@ -1,10 +1,10 @@
--- How the fields of the buffer of a line are seen (this project's own).
+-- How a contract sees the fields of the buffer of a line.
 use Rattle.std.specs.Prelude.{◌≡◌, ◌+◌, ◌-◌, ◌^◌, ◌<◌, ◌≤◌, [], ◌∷◌, length, take, drop}
 use Rattle.vbi_words.specs.Geometry.{width_of, line_bytes}
 use Rattle.vbi_line.specs.Line.{Line}
 use Rattle.vbi_line.specs.declared.line.LineBuf.TheInside.{Inside}
 
--- the first bytes are held, and the rest of the line's are room
+-- the first bytes of the array are held, and the rest of a line's are room
 abbrev pub line_of : Inside → Line
 line_of b = record {
   system = b.system;
@@ -14,7 +14,7 @@ line_of b = record {
   looked = b.looked;
 }
 
--- the bytes fit, a pass needs a whole line, and the count of looks has room for the rest of a pass
+-- the bytes fit, a pass needs a whole line, and the count of samples has room for the rest of a pass
 pub record IsLine (b : Inside) : Type 0 where
   pub bytes : length b.store.bytes ≡ 2270
   pub held : b.held ≤ line_bytes b.system

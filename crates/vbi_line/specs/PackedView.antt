@@ -1,4 +1,4 @@
--- How the words of a packed line are seen.
+-- How a contract sees the words of a packed line.
 use Rattle.std.specs.Prelude.{ℕ, ◌≡◌, ◌<◌, ◌≤◌, Bool, false, List, length}
 use Rattle.vbi_line.specs.Packing.{packed_level, unpacked}
 use Rattle.vbi_line.specs.declared.packed.Packed.TheInside.{Inside}
@@ -7,7 +7,7 @@ use Rattle.vbi_line.specs.declared.packed.Packed.TheInside.{Inside}
 abbrev pub packed_levels : Inside → List Bool
 packed_levels p = unpacked p.words p.width
 
--- there is room for the widest line, and no bit past the width is set
+-- there is room for the longest line, and no bit past the width is set
 pub record IsPacked (p : Inside) : Type 0 where
   pub words : length p.words ≡ 18
   pub width : p.width ≤ 1152

@@ -1,4 +1,4 @@
--- Levels packed into words of 64 bits (this project's own): the level of column k is bit k mod 64 of word k div 64.
+-- Levels packed into words of 64 bits: the level of column k is bit k mod 64 of word k div 64.
 use Rattle.std.specs.Prelude.{ℕ, ◌≡◌, ◌≢◌, ◌<◌, ◌≤◌, ◌+◌, ◌/◌, ◌%◌, Bool, List, map, nat_eq, slice_index}
 use Rattle.std.specs.List.{range_with_len}
 use Rattle.std.specs.Int.{bit_at}
@@ -19,7 +19,7 @@ packed_level words column = level_of_bit (slice_index words (column / 64)) (colu
 abbrev pub unpacked : List ℕ → ℕ → List Bool
 unpacked words width = map (packed_level words) (range_with_len 0 width)
 
--- count bits of the word from a place on are this level, up to another one or up to the word's end
+-- count bits of the word from a place on have this level, and the next bit, if there is one, has the other
 pub record EqualBits (word place : ℕ) (level : Bool) (count : ℕ) : Type 0 where
   pub inside : place + count ≤ 64
   pub each : (i : ℕ) → i < count → level_of_bit word (place + i) ≡ level

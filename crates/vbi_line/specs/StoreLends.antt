@@ -1,5 +1,4 @@
--- What the array behind a line ends as, where a part of it is lent (this project's own). No public
--- clause cites this module.
+-- What the array of a line's bytes is after a part of it was lent. No public clause cites this file.
 use Rattle.std.specs.Prelude.{ℕ, List, take, drop, ◌++◌, ◌-◌}
 use Rattle.std.specs.List.{refill}
 use Rattle.std.specs.Borrow.{Lends, Fml, MutBor, Array, u8}
@@ -12,4 +11,5 @@ with_part xs from to ws = take from xs ++ (refill (to - from) (take (to - from) 
 
 -- once the borrow r ends, the part has what was written through r
 abbrev pub LendsPart : MutBor LineBytes → ℕ → ℕ → MutBor (List ℕ) → Fml
-LendsPart store from to r = Lends the_row (Array u8 0) store r (λ ws. record { bytes = with_part store.now.bytes from to ws })
+LendsPart store from to r =
+    Lends the_row (Array u8 0) store r (λ ws. record { bytes = with_part store.now.bytes from to ws })

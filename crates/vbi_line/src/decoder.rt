@@ -1,44 +1,44 @@
-//! What a reader knows after some levels of a line.
+//! Decoding the levels of a line to the word that they show.
 
 ghost use Rattle.std.specs.Prelude.{◌≡◌, ◌<◌, ◌^◌, ◌+◌, ◌≤◌, List, Bool, [], ◌∷◌};
 ghost use Rattle.std.specs.Prelude.{◌++◌, replicate, IfSome, IfNone, IfOk, IfErr};
 ghost use Rattle.vbi_words.specs.Words.{lowest_bits, IsWord};
 ghost use Rattle.vbi_words.specs.Outcomes.{IsOutcome};
-ghost use Rattle.vbi_words.proofs.Machine.{dead, level_of, length_of, grown, is_lead};
+ghost use Rattle.vbi_words.proofs.Machine.{second, dead, level_of, length_of, grown, is_lead};
 ghost use Rattle.vbi_words.proofs.SystemMachine.{stay_of, turn_of, next_of, after_of, limit_of, ending_of};
 ghost use Rattle.vbi_words.proofs.SystemMachine.{IsFit, state_after};
 ghost use Rattle.vbi_line.specs.Decoder.{state_of, IsSound, run_of, DiesAfter};
 
 use vbi_words::{Outcome, System, Word24};
 
-/// The cells of a word, one for each bit.
+/// The number of cells of a word, one for each bit.
 const CELLS: u32 = 24;
 
-/// The last run of equal levels: where it began, how many columns it has, and the bits of the cells so far. What it will have
-/// been, one half cell or two, shows only at the next change of level.
+/// What is known after some levels of a line: the last run of equal levels, and the bits of the cells so far, the first
+/// the most significant. Whether that run is one half cell or two is decided by its length when the level changes.
 #[derive(Clone, Copy, Debug)]
 pub(crate) enum Decoder {
-    /// Lows alone.
+    /// All levels were low, and there were this many.
     Lead(usize),
-    /// The run began at the start of a cell; `cells` counts those before it, and `bits` has their bits.
+    /// The run began at the start of a cell. `cells` is the number of cells before it, and `bits` has their bits.
     First {
         level: bool,
         run: usize,
         cells: u32,
         bits: u32,
     },
-    /// The run began in the middle of a cell, which is the last that `cells` counts.
+    /// The run began in the middle of a cell, which is counted in `cells` and has its bit in `bits`.
     Second {
         level: bool,
         run: usize,
         cells: u32,
         bits: u32,
     },
-    /// Lows behind the high half of the last cell, with the word's bits.
+    /// All cells are read, and only lows followed the last; these are the word's bits.
     Tail(u32),
 }
 
-/// The number of these bits and one more at the end.
+/// These bits with one more at the end.
 #[tactic(auto, using(crate::proofs::Steps::steps))]
 fn with_bit(cells: u32, bits: u32, bit: bool) -> u32
     requires cells { cells < 24 }
@@ -49,6 +49,22 @@ fn with_bit(cells: u32, bits: u32, bit: bool) -> u32
     if bit { 2 * bits + 1 } else { 2 * bits }
 }
 
+/// The decoder at the first column of a run that begins in the middle of a cell. A run's level there is the cell's bit.
+#[tactic(auto, using(crate::proofs::Steps::steps))]
+fn begin_second(level: bool, cells: u32, bits: u32) -> Decoder
+    requires cells { cells < 24 }
+    requires bits { bits < 2 ^ cells }
+    ensures state { state_of result ≡ second level 1 (lowest_bits cells bits ++ level ∷ []) }
+    ensures sound { IsSound result × (run_of result ≤ 1) }
+{
+    Decoder::Second {
+        level,
+        run: 1,
+        cells: cells + 1,
+        bits: with_bit(cells, bits, level),
+    }
+}
+
 /// The word of these bits.
 fn word_of(bits: u32) -> Word24
     requires { IsWord bits }
@@ -57,8 +73,8 @@ fn word_of(bits: u32) -> Word24
     Word24::new(bits).unwrap()
 }
 
-/// After a change of level behind a run from the middle of a cell: it was the cell's second half alone, or with it the first half
-/// of a next cell.
+/// The decoder after a change of level that ends a run from the middle of a cell, or `None` where no word can be shown
+/// any more. The run was the cell's second half, or both that and the first half of the next cell.
 #[tactic(auto, using(crate::proofs::Steps::steps))]
 fn turn_second(system: System, level: bool, run: usize, cells: u32, bits: u32) -> Option<Decoder>
     requires sound { IsSound (Decoder.Second level run cells bits) }
@@ -82,12 +98,7 @@ fn turn_second(system: System, level: bool, run: usize, cells: u32, bits: u32) -
             None
         }
     } else if run >= 2 * system.half_min() && cells < CELLS {
-        Some(Decoder::Second {
-            level: !level,
-            run: 1,
-            cells: cells + 1,
-            bits: with_bit(cells, bits, !level),
-        })
+        Some(begin_second(!level, cells, bits))
     } else {
         None
     }
@@ -104,7 +115,7 @@ impl Decoder {
         }
     }
 
-    /// After one more level like the last.
+    /// The decoder after one more column of the same level, or `None` where no word can be shown any more.
     #[tactic(auto, using(crate::proofs::Steps::steps))]
     fn stay(self, system: System) -> Option<Decoder>
         requires sound { IsSound self }
@@ -125,7 +136,7 @@ impl Decoder {
         }
     }
 
-    /// After a change of level.
+    /// The decoder after a change of level, or `None` where no word can be shown any more.
     #[tactic(auto, using(crate::proofs::Steps::steps))]
     fn turn(self, system: System) -> Option<Decoder>
         requires sound { IsSound self }
@@ -136,12 +147,7 @@ impl Decoder {
         match self {
             Decoder::Lead(run) => {
                 if run >= system.half_min() {
-                    Some(Decoder::Second {
-                        level: true,
-                        run: 1,
-                        cells: 1,
-                        bits: 1,
-                    })
+                    Some(begin_second(true, 0, 0))
                 } else {
                     None
                 }
@@ -153,12 +159,7 @@ impl Decoder {
                 bits,
             } => {
                 if run >= system.half_min() {
-                    Some(Decoder::Second {
-                        level: !level,
-                        run: 1,
-                        cells: cells + 1,
-                        bits: with_bit(cells, bits, !level),
-                    })
+                    Some(begin_second(!level, cells, bits))
                 } else {
                     None
                 }
@@ -173,7 +174,7 @@ impl Decoder {
         }
     }
 
-    /// After one more level, or `None` where nothing that begins so shows a word.
+    /// The decoder after one more column of this level, or `None` where no word can be shown any more.
     #[inline(always)]
     fn next(self, system: System, level: bool) -> Option<Decoder>
         requires sound { IsSound self }
@@ -189,7 +190,7 @@ impl Decoder {
         }
     }
 
-    /// The word that is shown if nothing more comes.
+    /// The word that the line shows if it ends here.
     #[tactic(auto, using(crate::proofs::Steps::steps))]
     pub(crate) fn word(self, system: System) -> Option<Word24>
         requires sound { IsSound self }
@@ -215,14 +216,14 @@ impl Decoder {
         }
     }
 
-    /// Whether no level was high.
+    /// Whether all levels were low.
     fn is_lead(self) -> bool
         ensures { result ≡ is_lead (state_of self) }
     {
         matches!(self, Decoder::Lead(_))
     }
 
-    /// The outcome of levels that lead here, if nothing more comes.
+    /// The outcome of a line that ends here.
     pub(crate) fn end(self, system: System) -> Outcome
         requires sound { IsSound self }
         requires fit { IsFit system (state_of self) }
@@ -240,7 +241,7 @@ impl Decoder {
         }
     }
 
-    /// The greatest length of the run, if it has one.
+    /// The greatest length that the last run may have, if there is one.
     #[tactic(auto, using(crate::proofs::Steps::steps))]
     fn limit(self, system: System) -> Option<usize>
         requires { IsSound self }
@@ -261,7 +262,7 @@ impl Decoder {
         }
     }
 
-    /// How long the last run is, as far as it matters.
+    /// How many columns the last run has; 0 where its length has no limit and is not kept.
     fn length(self) -> usize
         ensures { result ≡ length_of (state_of self) }
     {
@@ -271,7 +272,7 @@ impl Decoder {
         }
     }
 
-    /// With its run so much longer.
+    /// The decoder with its last run longer by `count` columns.
     fn grown(self, count: usize) -> Decoder
         requires sound { IsSound self }
         requires room { run_of self + count < 2 ^ 32 }
@@ -310,8 +311,9 @@ impl Decoder {
         }
     }
 
-    /// After a run of `count` equal levels; or how many of them can be read while a word is still to be hoped for.
-    // Inlined like `next`, so that what is known stays in registers from run to run.
+    /// The decoder after `count` columns of this level. `Err(n)`: after n of them a word could still be shown, and
+    /// after one more none can.
+    // Inlined like `next`, so that the decoder stays in registers from run to run.
     #[inline(always)]
     pub(crate) fn read_run(
         self,

@@ -1,4 +1,5 @@
-//! The intake of one line from a reader.
+//! Reading lines from a reader, one at a time.
+
 ghost use Rattle.std.specs.Prelude.{◌≡◌, ◌+◌, ◌*◌, ◌^◌, ◌<◌, ◌≤◌, [], ◌∷◌, length, IfOk, OnOk, OnErr};
 ghost use Rattle.vbi_words.specs.Geometry.{width_of, line_bytes};
 ghost use Rattle.vbi_words.specs.Levels.{row_levels};
@@ -12,6 +13,8 @@ use crate::counted::{Counted, Fail, RETRIES};
 use crate::line::LineBuf;
 use crate::outcome::read_line;
 use crate::reading::read_twice;
+use std::error::Error;
+use std::fmt;
 use std::io::Read;
 use vbi_words::{Levels, Outcome, Reading, System};
 
@@ -20,18 +23,28 @@ use vbi_words::{Levels, Outcome, Reading, System};
 pub enum Filled {
     /// A whole line is held.
     Full,
-    /// The reader said its end, with so many bytes held, fewer than a line's.
+    /// The reader is at its end, and this many bytes are held, fewer than a line's.
     Ended(usize),
 }
 
-/// Why a line wasn't filled.
+/// Why a line was not filled.
 #[derive(Clone, Copy, Debug, PartialEq, Eq)]
 pub enum IntakeFault {
     /// The reader was interrupted seventeen times in a row, or failed in another way.
     Read,
 }
 
-/// A reader beside the buffer of one line.
+impl fmt::Display for IntakeFault {
+    fn fmt<W: fmt::Write>(&self, f: &mut fmt::Formatter<W>) -> fmt::Result {
+        match self {
+            IntakeFault::Read => write!(f, "read failed"),
+        }
+    }
+}
+
+impl Error for IntakeFault {}
+
+/// A borrowed reader, and the buffer into which its lines are read, one at a time.
 #[derive(Drop)]
 pub struct Intake<'a, R> {
     device: Counted<'a, R>,
@@ -44,7 +57,7 @@ impl<'a, R: Read> Intake<'a, R> {
     ghost use Rattle.vbi_line.specs.Intake.{fetched_of, held_of, line_of, name_of};
     ghost use Rattle.vbi_line.specs.Intake.{IsFresh, Fetches, IsFilled, HasCause, IsSameDevice, KeepsReader};
 
-    /// An intake of lines of this system, which holds nothing and hasn't asked the reader.
+    /// An intake for lines of this system. It holds no byte and has not called the reader.
     pub fn new(reader: &'a mut R, system: System) -> Self
         ensures same { name_of result ≡ reader.entry.ghost_name }
         ensures reader { device_of result ≡ reader.old }
@@ -57,7 +70,7 @@ impl<'a, R: Read> Intake<'a, R> {
         }
     }
 
-    /// The reader again. A caller that lent it knows by this what the reader is now.
+    /// Gives the borrowed reader back, as the calls have left it.
     pub fn into_reader(self) -> &'a mut R
         ensures same { result.ghost_name ≡ name_of self.entry }
         ensures reader { result.now ≡ device_of self.entry }
@@ -70,9 +83,9 @@ impl<'a, R: Read> Intake<'a, R> {
         device.into_inner()
     }
 
-    /// Reads into the line until it is whole or the reader says its end. An interrupted read is
-    /// tried again at most sixteen times in a row. After `Read` the bytes stay, and a later call
-    /// goes on from there; after `Ended` a later call asks the reader again.
+    /// Reads into the line until it is whole or the reader is at its end. An interrupted read is tried again, up to
+    /// sixteen times in a row. After `Read` the bytes that were read stay held, and the next call goes on from there;
+    /// after `Ended` the next call asks the reader again.
     pub fn fill_line(&mut self) -> Result<Filled, IntakeFault>
         requires room { length (held_of self.old) < line_bytes (line_of self.old).system }
         requires fetched { fetched_of self.old ≤ 2 ^ 62 }
@@ -107,7 +120,7 @@ impl<'a, R: Read> Intake<'a, R> {
         }
     }
 
-    /// The outcome of the line that is held, by one pass over its samples; columns in it are counted from 0.
+    /// The outcome of the line that is held, by one pass over its samples. Columns in it are counted from 0.
     pub fn outcome(&mut self, slicing: Levels) -> Outcome
         requires full { IsFull (line_of self.old) }
         requires passes { (line_of self.old).cursors ≡ [] }
@@ -125,7 +138,8 @@ impl<'a, R: Read> Intake<'a, R> {
         read_line(&mut self.line, system, slicing)
     }
 
-    /// The reading of the line that is held: its outcome, or the word that its smoothed levels show.
+    /// The reading of the line that is held: its outcome or, where it shows no word, the word that its smoothed levels
+    /// show. Columns in it are counted from 0.
     pub fn reading(&mut self, slicing: Levels) -> Reading
         requires full { IsFull (line_of self.old) }
         requires passes { (line_of self.old).cursors ≡ [] }
@@ -143,7 +157,7 @@ impl<'a, R: Read> Intake<'a, R> {
         read_twice(&mut self.line, system, slicing)
     }
 
-    /// Holds nothing again.
+    /// Forgets the bytes held and the passes over them. The counts go on.
     pub fn clear_line(&mut self)
         ensures rest { KeepsReader self.old self.new }
         ensures line { IsCleared (line_of self.old) (line_of self.new) }
@@ -159,7 +173,7 @@ impl<'a, R: Read> Intake<'a, R> {
         self.line.held()
     }
 
-    /// How many passes over the line were started since it was cleared, no more than two.
+    /// How many passes over the line's samples were started since it was cleared, at most two.
     pub fn passes(&self) -> usize
         ensures value { result ≡ length (line_of self.now).cursors }
         ensures few { result ≤ 2 }
@@ -167,28 +181,28 @@ impl<'a, R: Read> Intake<'a, R> {
         self.line.passes()
     }
 
-    /// How many bytes the reader gave.
+    /// How many bytes the reader has given, over all lines.
     pub fn fetched(&self) -> u64
         ensures { result ≡ fetched_of self.now }
     {
         self.fetched
     }
 
-    /// How often the reader failed, interruptions among them.
+    /// How many calls of the reader failed, interruptions included.
     pub fn failures(&self) -> u64
         ensures { result ≡ failures_of self.now }
     {
         self.device.failures()
     }
 
-    /// How often the reader failed, interruptions not among them.
+    /// How many calls of the reader failed, interruptions not included.
     pub fn errors(&self) -> u64
         ensures { result ≡ errors_of self.now }
     {
         self.device.errors()
     }
 
-    /// How many samples were looked at.
+    /// How many samples the passes have looked at, over all lines.
     pub fn looked(&self) -> u64
         ensures { result ≡ (line_of self.now).looked }
     {

@@ -1,4 +1,4 @@
-//! LevelsView a line into levels, sixteen samples at a time.
+//! Slicing a line into levels, sixteen samples at a time.
 
 ghost use Rattle.std.specs.Prelude.{◌≡◌, ℕ, ◌+◌, ◌^◌, ◌<◌, ◌≤◌, ◌∷◌, length, map, nat_lt};
 ghost use Rattle.vbi_words.specs.Geometry.{width_of};
@@ -14,14 +14,15 @@ use vbi_words::Levels;
 /// The samples of a block.
 const LANES: usize = 16;
 
-/// The greatest sample that is low. Half of the sum, rounded down, fits in 16 bits, which twice a sample may not.
+/// The greatest sample that is low: the middle of black and white, rounded down.
+// It fits in 16 bits, as a lane does. Twice a sample may not.
 fn greatest_low(slicing: Levels) -> u16
     ensures { (sample : ℕ) → is_high_of slicing sample ≡ nat_lt result sample }
 {
     ((u32::from(slicing.black()) + u32::from(slicing.white())) / 2) as u16
 }
 
-/// A bit for each of sixteen samples, the first the lowest: whether the sample is above `low`.
+/// One bit for each of sixteen samples, the lowest for the first: set where the sample is above `low`.
 fn bits_above(samples: [u16; 16], low: u16) -> u64
     ensures levels { levels_in 16 result ≡ map (λ sample. nat_lt low sample) samples }
     ensures range { result < 2 ^ 16 }
@@ -31,7 +32,7 @@ fn bits_above(samples: [u16; 16], low: u16) -> u64
         .to_bitmask()
 }
 
-/// The levels of a line, by one pass: whole blocks of sixteen samples, and the rest one by one.
+/// The levels of a line that is held whole, by one pass over its samples: blocks of sixteen, and the rest one by one.
 pub fn slice_lanes(line: &mut LineBuf, slicing: Levels) -> Packed
     requires full { IsFull line.old }
     requires room { length line.old.cursors < 2 }

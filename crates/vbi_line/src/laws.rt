@@ -1,4 +1,5 @@
-//! Laws over the definitions: each function's contract is one, for every system and list of levels.
+//! Laws of the definitions in `specs/`. A function here does nothing: its contract is a law, which holds of every
+//! system and every list of levels.
 
 ghost use Rattle.std.specs.Prelude.{◌≡◌, List, Bool};
 ghost use Rattle.vbi_words.specs.declared.system.System.{System};
@@ -10,14 +11,14 @@ ghost use Rattle.vbi_words.specs.Smooth.{smooth_of};
 ghost use Rattle.vbi_line.specs.OneOutcome.{outcome_of};
 ghost use Rattle.vbi_line.specs.OneReading.{reading_of};
 
-/// A list of levels has one outcome, and only one.
+/// A list of levels has exactly one outcome.
 pub fn one_outcome()
     ensures is { (system : System) (levels : List Bool) → IsOutcome system levels (outcome_of system levels) }
     ensures only { (system : System) (levels : List Bool) (outcome : Outcome)
         → IsOutcome system levels outcome → outcome ≡ outcome_of system levels }
 {}
 
-/// A list of levels has one reading, and only one: that of its own outcome and the outcome of its smoothed levels.
+/// A list of levels has exactly one reading, which follows from its outcome and the outcome of its smoothed levels.
 pub fn one_reading()
     ensures is { (system : System) (levels : List Bool) → IsReading system levels (reading_of system levels) }
     ensures only { (system : System) (levels : List Bool) (reading : Reading)

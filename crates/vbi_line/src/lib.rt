@@ -1,8 +1,9 @@
-//! One line of a TBC stream: its bytes as they come from a reader, passes over its samples, its levels packed into bits, and
-//! what it shows. Stands on `vbi_words` and, for samples from bytes, on `byteorder`. A line's outcome and reading are exactly
-//! those of `vbi_words`' definitions, with the first column at which no continuation could show a word; `laws` has that each
-//! line has one. Bytes fetched, looks at samples and faults of a device are counted, a sample of a held line is looked at no
-//! more than twice, and nothing allocates.
+//! One line of an ld-decode TBC stream: its bytes, its levels, and the code word that it shows.
+//!
+//! An `Intake` reads a line from a reader, and `read_line` and `read_twice` find its outcome and its reading, exactly
+//! as the definitions of `vbi_words` say; where a line shows no word, the outcome names the first hopeless column. The
+//! module `laws` says that each line has exactly one outcome and one reading. Bytes fetched, samples looked at and
+//! failed calls of the reader are counted. No sample of a line is looked at more than twice, and nothing allocates.
 #![tactic(auto)]
 
 mod counted;

@@ -1,4 +1,5 @@
 //! The bytes of one line, and the passes over its samples.
+
 ghost use Rattle.std.specs.Prelude.{◌≡◌, ◌+◌, ◌*◌, ◌^◌, ◌<◌, ◌≤◌, ◌↔◌, [], ◌∷◌, ◌++◌, length, take, drop, sum, IsTrue};
 ghost use Rattle.std.specs.Borrow.{sem};
 ghost use Rattle.vbi_words.specs.Geometry.{width_of, line_bytes};
@@ -8,8 +9,8 @@ use byteorder::{ByteOrder, LittleEndian};
 use std::marker::Model;
 use vbi_words::{LONGEST_LINE, System};
 
-/// The bytes of one line as they come, the cursors of at most two passes over its samples, and
-/// counts of the samples that were looked at. A line has two bytes a sample, low byte first.
+/// The bytes of one line while it is read, and at most two passes over its samples. Each sample that a pass looks at is
+/// counted. A sample is two bytes, the low one first, as in ld-decode's TBC files.
 #[derive(Drop)]
 pub struct LineBuf {
     system: System,
@@ -37,7 +38,7 @@ impl LineBuf {
     ghost use Rattle.vbi_line.specs.LineLends.{LendsRoom};
     ghost use Rattle.vbi_line.specs.Line.{IsCleared, IsFull, IsNextBlock, IsNextSample, Keeps, KeepsBytes};
 
-    /// The buffer of a line of this system, which holds nothing and has all counts 0.
+    /// The buffer for a line of this system. It holds no byte, and its count is 0.
     pub fn new(system: System) -> Self
         ensures system { result.system ≡ system }
         ensures held { result.held ≡ [] }
@@ -47,7 +48,9 @@ impl LineBuf {
     {
         LineBuf {
             system,
-            store: LineBytes { bytes: [0; LONGEST_LINE] },
+            store: LineBytes {
+                bytes: [0; LONGEST_LINE],
+            },
             held: 0,
             passes: 0,
             cursor: 0,
@@ -56,8 +59,7 @@ impl LineBuf {
         }
     }
 
-    /// Lends the part that isn't filled, in bytes the line's less those held. What is written there
-    /// without a commit isn't held.
+    /// The part of the line that isn't filled, for writing. What is written there is held once it is committed.
     pub fn room(&mut self) -> &mut [u8]
         ensures* writes_back { sem 𝓛 (LendsRoom self.entry result) }
         ensures value { result.now ≡ self.old.room }
@@ -68,7 +70,7 @@ impl LineBuf {
         self.store.part_mut(held, end)
     }
 
-    /// Makes the first `n` bytes of the room held.
+    /// Holds the first `n` bytes of the room, behind those held before.
     pub fn commit(&mut self, n: usize)
         requires { n ≤ length self.old.room }
         ensures held { self.new.held ≡ self.old.held ++ take n self.old.room }
@@ -85,7 +87,7 @@ impl LineBuf {
         self.held == self.system.line_bytes()
     }
 
-    /// How many bytes are held.
+    /// How many bytes are held, no more than a line's.
     pub fn held(&self) -> usize
         ensures count { result ≡ length self.now.held }
         ensures fits { result + length self.now.room ≡ line_bytes self.now.system }
@@ -100,7 +102,7 @@ impl LineBuf {
         self.system
     }
 
-    /// Holds nothing again, and has no passes and no looks. `looked` stays.
+    /// Forgets the bytes held and the passes over them. The count `looked` goes on.
     pub fn clear(&mut self)
         ensures { IsCleared self.old self.new }
     {
@@ -108,8 +110,8 @@ impl LineBuf {
         self.passes = 0;
     }
 
-    /// Starts a pass over the samples, from column 0. A held line has at most two passes, so none of
-    /// its samples is looked at more than twice.
+    /// Starts a pass over the samples, from column 0. A line has at most two passes, so none of its samples is looked
+    /// at more than twice.
     pub fn start_pass(&mut self)
         requires full { IsFull self.old }
         requires room { length self.old.cursors < 2 }
@@ -123,7 +125,7 @@ impl LineBuf {
         self.passes += 1;
     }
 
-    /// The sample at the latest pass's cursor, which moves on, or `None` at the line's end.
+    /// The next sample of the latest pass, or `None` at the line's end.
     pub fn next_sample(&mut self) -> Option<u16>
         requires { 0 < length self.old.cursors }
         ensures gives { IsNextSample self.old result self.new }
@@ -139,8 +141,7 @@ impl LineBuf {
         Some(sample)
     }
 
-    /// The next sixteen samples of the latest pass, whose cursor moves past them, or `None` where fewer
-    /// are left, and then nothing moves.
+    /// The next sixteen samples of the latest pass, or `None` where fewer are left; the pass then stays where it is.
     pub fn next_block(&mut self) -> Option<[u16; 16]>
         requires { 0 < length self.old.cursors }
         ensures gives { IsNextBlock self.old result self.new }
@@ -157,7 +158,7 @@ impl LineBuf {
         Some(block)
     }
 
-    /// How many passes were started since the line was cleared.
+    /// How many passes were started since the line was cleared, at most two.
     pub fn passes(&self) -> usize
         ensures count { result ≡ length self.now.cursors }
         ensures most { result ≤ 2 }
@@ -165,7 +166,7 @@ impl LineBuf {
         self.passes
     }
 
-    /// How many samples were given since the line was cleared: the sum of the cursors.
+    /// How many samples the passes have looked at since the line was cleared.
     pub fn looks(&self) -> usize
         ensures sum { result ≡ sum self.now.cursors }
         ensures most { result ≤ 2 * width_of self.now.system }
@@ -177,7 +178,7 @@ impl LineBuf {
         }
     }
 
-    /// How many samples were given since the buffer was made.
+    /// How many samples the passes have looked at since the buffer was made.
     pub fn looked(&self) -> u64
         ensures { result ≡ self.now.looked }
     {

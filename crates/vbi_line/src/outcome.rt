@@ -1,4 +1,4 @@
-//! The outcome of a line, by its plain levels.
+//! The outcome of a line: its word, or why it shows none.
 
 ghost use Rattle.std.specs.Prelude.{◌≡◌, ◌+◌, ◌^◌, ◌<◌, ◌≤◌, [], ◌∷◌, length};
 ghost use Rattle.vbi_words.specs.Geometry.{width_of};
@@ -7,13 +7,14 @@ ghost use Rattle.vbi_words.specs.Outcomes.{IsOutcome};
 ghost use Rattle.vbi_line.specs.Line.{IsFull, KeepsBytes};
 ghost use Rattle.vbi_line.specs.OneOutcome.{outcome_of};
 
+use crate::decoder::Decoder;
 use crate::lanes::slice_lanes;
 use crate::line::LineBuf;
 use crate::packed::Packed;
-use crate::decoder::Decoder;
 use vbi_words::{Levels, Outcome, System};
 
-/// The outcome of a line made for the system, by one pass over its samples; columns in it are counted from 0.
+/// The outcome of a line of this system that is held whole, by one pass over its samples. Columns in it are counted
+/// from 0.
 pub fn read_line(line: &mut LineBuf, system: System, slicing: Levels) -> Outcome
     requires full { IsFull line.old }
     requires system { line.old.system ≡ system }
@@ -31,7 +32,7 @@ pub fn read_line(line: &mut LineBuf, system: System, slicing: Levels) -> Outcome
     read_packed(&packed, system)
 }
 
-/// The outcome of a line's levels; columns in it are counted from 0.
+/// The outcome of a line's levels. Columns in it are counted from 0.
 pub fn read_packed(packed: &Packed, system: System) -> Outcome
     requires { length packed.now ≡ width_of system }
     ensures outcome { IsOutcome system packed.now result }
@@ -40,7 +41,7 @@ pub fn read_packed(packed: &Packed, system: System) -> Outcome
     read_runs(packed, system)
 }
 
-/// The outcome, run by run: each run's level and its number of columns take the reader on by one step.
+/// The outcome, run by run: a run of equal levels is one step of the decoder, however long it is.
 fn read_runs(packed: &Packed, system: System) -> Outcome
     requires { length packed.now < 2 ^ 16 }
     ensures { IsOutcome system packed.now result }

@@ -7,7 +7,7 @@ ghost use Rattle.vbi_line.specs.Runs.{IsRun};
 
 use std::marker::Model;
 
-/// The levels of a line, a bit for each column, set where the sample is high.
+/// The levels of a line: one bit for each column, set where the sample is high.
 #[derive(Drop)]
 pub struct Packed {
     words: [u64; 18],
@@ -26,7 +26,7 @@ impl Model for Packed {
     ghost invariant = { IsPacked };
 }
 
-/// How many bits of the word, from a place on, are this level.
+/// How many bits of the word have this level, from a place on up to the first that has the other.
 fn equal_bits(word: u64, place: usize, level: bool) -> usize
     requires { place < 64 }
     ensures { EqualBits word place level result }
@@ -51,7 +51,7 @@ impl Packed {
         }
     }
 
-    /// Adds the levels in the lowest `count` bits, which fit what is left of the last word.
+    /// Adds the levels in the lowest `count` bits, the lowest first. They fit what is left of the last word.
     pub(crate) fn push(&mut self, bits: u64, count: usize)
         requires word { length self.old % 64 + count ≤ 64 }
         requires room { length self.old + count ≤ 1152 }
@@ -71,7 +71,7 @@ impl Packed {
         self.width
     }
 
-    /// The level of a column.
+    /// The level of a column, counted from 0: whether its sample is high.
     pub fn level(&self, column: usize) -> bool
         requires { column < length self.now }
         ensures { result ≡ level_at self.now column }
@@ -79,7 +79,7 @@ impl Packed {
         self.words[column / 64] >> (column % 64) & 1 == 1
     }
 
-    /// The level of a column, and the number of equal levels from there on, the column's own among them.
+    /// The level of a column, counted from 0, and how many columns have it from there on, that column included.
     pub fn next_run(&self, column: usize) -> (bool, u16)
         requires { column < length self.now }
         ensures { IsRun self.now column result.0 result.1 }

@@ -9,15 +9,16 @@ ghost use Rattle.vbi_words.specs.Smooth.{smooth_of};
 ghost use Rattle.vbi_line.specs.Line.{IsFull, KeepsBytes};
 ghost use Rattle.vbi_line.specs.OneReading.{reading_of};
 
+use crate::decoder::Decoder;
 use crate::lanes::slice_lanes;
 use crate::line::LineBuf;
-use crate::packed::Packed;
 use crate::outcome::read_packed;
-use crate::decoder::Decoder;
+use crate::packed::Packed;
 use vbi_words::{Levels, Outcome, Reading, System, Word24};
 
-/// The reading of a line made for the system. Two passes over its samples would be allowed; the levels of one are kept, and the
-/// smoothed levels are made of them.
+/// The reading of a line of this system that is held whole: its outcome or, where it shows no word, the word that its
+/// smoothed levels show. Columns in it are counted from 0. The samples are looked at only once: their levels are kept,
+/// and the smoothed levels are found from these.
 pub fn read_twice(line: &mut LineBuf, system: System, slicing: Levels) -> Reading
     requires full { IsFull line.old }
     requires system { line.old.system ≡ system }
@@ -35,7 +36,8 @@ pub fn read_twice(line: &mut LineBuf, system: System, slicing: Levels) -> Readin
     read_both(&packed, system)
 }
 
-/// The reading of a line's levels: the smoothed ones are read only where the plain ones show neither a word nor a blank line.
+/// The reading of a line's levels. The smoothed levels are read only where the levels show no word and one of them is
+/// high.
 fn read_both(packed: &Packed, system: System) -> Reading
     requires { length packed.now ≡ width_of system }
     ensures { IsReading system packed.now result }
@@ -73,8 +75,8 @@ fn read_both(packed: &Packed, system: System) -> Reading
     }
 }
 
-/// The word that the smoothed levels show. The first three columns of a run still have the smoothed level before it; a run of
-/// three or fewer columns has no other.
+/// The word that the smoothed levels show. The first three columns of a run keep the smoothed level of the columns
+/// before it, and a run of three columns or fewer changes nothing.
 fn smoothed_word(packed: &Packed, system: System) -> Option<Word24>
     requires { length packed.now < 2 ^ 16 }
     ensures some { IfSome result (λ w. Shows system (smooth_of packed.now) w) }

@@ -1,4 +1,6 @@
-//! The array behind a line, in a struct of its own, so that a contract can say what a loan of a part of it leaves.
+//! The array that holds a line's bytes. It is a struct of its own so that a contract can say what the array is after a
+//! part of it was lent.
+
 ghost use Rattle.std.specs.Prelude.{◌≡◌, ◌-◌, ◌≤◌, take, drop};
 ghost use Rattle.std.specs.Borrow.{sem};
 

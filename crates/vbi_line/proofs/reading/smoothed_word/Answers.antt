@@ -57,36 +57,36 @@ loop-column-preserved c =
     let far : Decoder → Type 0 = λ r. run_of r ≤ next in
     elim c.if-count-lt4.branch [
       | then-count-lt4+in-Ok w ↦
-        let on : at c.loop-column.settled w.in-Ok.next
-        = short_on halfway run (omega (arith, w.if-count-lt4.true)) (state_of w.in-Ok.next) w.in-Ok.ensures.ok in
-        let grown : far w.in-Ok.next = omega (arith, w.in-Ok.ensures.sound.1, c.loop-column.invariant.run) in
-        record {
-          inside = run.inside;
-          halfway = subst (λ (out : Bool). at out c.if-count-lt4.decoder) (sym w.settled-is)
-              (subst (at c.loop-column.settled) (sym w.decoder-is) on);
-          sound = subst (λ (r : Decoder). IsSound r) (sym w.decoder-is) w.in-Ok.ensures.sound.0;
-          run = subst far (sym w.decoder-is) grown;
-        }
+          let on : at c.loop-column.settled w.in-Ok.next
+          = short_on halfway run (omega (arith, w.if-count-lt4.true)) (state_of w.in-Ok.next) w.in-Ok.ensures.ok in
+          let grown : far w.in-Ok.next = omega (arith, w.in-Ok.ensures.sound.1, c.loop-column.invariant.run) in
+          record {
+            inside = run.inside;
+            halfway = subst (λ (out : Bool). at out c.if-count-lt4.decoder) (sym w.settled-is)
+                (subst (at c.loop-column.settled) (sym w.decoder-is) on);
+            sound = subst (λ (r : Decoder). IsSound r) (sym w.decoder-is) w.in-Ok.ensures.sound.0;
+            run = subst far (sym w.decoder-is) grown;
+          }
       | else-count-lt4+in-Ok-read_run+in-Ok-read_run-2 w ↦
-        let first = w.in-Ok-read_run in
-        let second = w.in-Ok-read_run-2 in
-        let on : at c.next_run-level.result.0 second.next
-        = long_on halfway run (omega (arith, w.if-count-lt4.false)) (state_of first.begun) first.ensures.ok
-        (state_of second.next) second.ensures.ok in
-        let grown : far second.next = omega (
-          arith,
-          first.ensures.sound.1,
-          second.ensures.sound.1,
-          c.loop-column.invariant.run,
-          w.if-count-lt4.false,
-        ) in
-        record {
-          inside = run.inside;
-          halfway = subst (λ (out : Bool). at out c.if-count-lt4.decoder) (sym w.settled-is)
-              (subst (at c.next_run-level.result.0) (sym w.decoder-is) on);
-          sound = subst (λ (r : Decoder). IsSound r) (sym w.decoder-is) second.ensures.sound.0;
-          run = subst far (sym w.decoder-is) grown;
-        }
+          let first = w.in-Ok-read_run in
+          let second = w.in-Ok-read_run-2 in
+          let on : at c.next_run-level.result.0 second.next
+          = long_on halfway run (omega (arith, w.if-count-lt4.false)) (state_of first.begun) first.ensures.ok
+          (state_of second.next) second.ensures.ok in
+          let grown : far second.next = omega (
+            arith,
+            first.ensures.sound.1,
+            second.ensures.sound.1,
+            c.loop-column.invariant.run,
+            w.if-count-lt4.false,
+          ) in
+          record {
+            inside = run.inside;
+            halfway = subst (λ (out : Bool). at out c.if-count-lt4.decoder) (sym w.settled-is)
+                (subst (at c.next_run-level.result.0) (sym w.decoder-is) on);
+            sound = subst (λ (r : Decoder). IsSound r) (sym w.decoder-is) second.ensures.sound.0;
+            run = subst far (sym w.decoder-is) grown;
+          }
     ]
 
 pub word-requires-clause-fit : goal.word-requires-clause-fit

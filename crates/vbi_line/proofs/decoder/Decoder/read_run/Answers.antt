@@ -17,7 +17,7 @@ returns-else-length-more-clause-err c =
     let limit = c.in-Some-limit in
     let state = state_of c.args.self in
     let P : ℕ → Type 0 = λ n. (1 + limit.limit - n < c.args.count)
-        × DiesAfter c.args.system state c.args.level (1 + limit.limit - n) in
+    × DiesAfter c.args.system state c.args.level (1 + limit.limit - n) in
     let fit = fits c.args.system state c.args.level begun.begun begun.ensures.some limit.limit c.requires.fit
     limit.ensures in
     subst P (sym c.length-else-length-more.ensures) (
