@@ -1,5 +1,5 @@
 #!/bin/sh
-# Reads what the built program writes back with other readers of JSON, Python's `json` and, where it is installed, `jq`:
+# Reads what the built program writes back with other readers of JSON, Python's `json` and `jq`:
 # they find the words that were drawn. Its own reader takes a document as metadata, and the settings are the document's.
 # usage: sh tests/read_back.sh PROGRAM
 # shellcheck disable=SC2086
@@ -44,9 +44,7 @@ found() {
 judge_found() {
     wanted_status=$2
     check "$1, read by python3" found python3 find.py
-    if command -v jq > jq_path; then
-        check "$1, read by jq" found jq -r -f find.jq
-    fi
+    check "$1, read by jq" found jq -r -f find.jq
 }
 
 # extracted OPTIONS: draws the rows of the file `words` and extracts what was drawn, both at once

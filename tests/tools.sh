@@ -1,0 +1,21 @@
+#!/bin/sh
+# The tools that the tests need besides the toolchain: a C compiler, python3 and jq. Names those that are missing and fails, or
+# installs them from Debian's packages, as root or by sudo.
+# usage: sh tests/tools.sh [install]
+set -eu
+
+missing=
+for pair in "${CC:-cc}:gcc libc6-dev" python3:python3 jq:jq; do
+    command -v "${pair%%:*}" > /dev/null || missing="$missing ${pair#*:}"
+done
+[ -n "$missing" ] || exit 0
+if [ "${1:-}" != install ]; then
+    echo "tests: missing on this machine, as Debian's packages:$missing (make setup installs them)" >&2
+    exit 1
+fi
+as_root=
+[ "$(id -u)" = 0 ] || as_root=sudo
+echo "installing:$missing"
+$as_root apt-get update
+# shellcheck disable=SC2086
+$as_root apt-get install -y $missing
