@@ -7,7 +7,8 @@ use Rattle.vbi_words.specs.declared.format.Format.{Format}
 use Rattle.vbi_words.specs.declared.format.Format.TheVariants.{Cav, Clv, Both, Neither}
 use Rattle.vbi_words.specs.Geometry.{name_of, width_of, height_of}
 use Rattle.vbi_words.specs.Levels.{LevelsView}
-use Rattle.vbi_words.specs.CodeTable.{code_of, format_of_lines}
+use Rattle.vbi_words.specs.CodeTable.{code_of}
+use Rattle.vbi_words.specs.Formats.{format_of_lines}
 use Rattle.vbi_field.specs.declared.readings.FieldReadings.{FieldReadings}
 use Rattle.vbi_field.specs.CodeTexts.{hex_text_of, code_text_of}
 use Rattle.vbi_field.specs.CauseTexts.{cause_text_of}
