@@ -1,5 +1,5 @@
 -- The document of a stream is read as its value.
-use Rattle.std.proofs.Common.{◌≡◌, ℕ, ◌*◌, ◌/◌, ◌%◌, ◌<◌, ◌≤◌, ◌^◌, List, [], ◌∷◌, ◌++◌, length, Some, map}
+use Rattle.std.proofs.Common.{◌≡◌, ℕ, ◌+◌, ◌*◌, ◌/◌, ◌%◌, ◌<◌, ◌≤◌, ◌^◌, List, [], ◌∷◌, ◌++◌, length, Some}
 use Rattle.std.proofs.Common.{false, refl, sym, ap, ◌∙◌, subst, arith, option_and_then, append-nil}
 use Rattle.std.proofs.lemmas.Str.{IsUtf8-append}
 use Rattle.std.specs.List.{range_with_len}
@@ -52,15 +52,14 @@ parsed_tokens text j e h =
 
 -- a text of pieces and a line feed, where their tokens are those of a tree
 module _ (ps : Pieces) (gaps : AreGaps ps) (j : json.Json) (d : Data) (same : tokens_of ps ≡ json_tokens j)
-    (reads : Reads j d)
-    (shallow : depth j ≤ max_depth) where
+    (reads : Reads j d) (shallow : depth j ≤ max_depth) where
   abbrev line : List ℕ
   line = print_spaced false ps ++ 10 ∷ []
 
   line_tokens : tokens line ≡ json_tokens j
   line_tokens =
-      let printable : ArePrintable (map (λ p. p.1) ps) = subst ArePrintable (sym same)
-      (ArePrintable-json_tokens j reads.numbers) in
+      let printable : ArePrintable (tokens_of ps) =
+      subst ArePrintable (sym same) (ArePrintable-json_tokens j reads.numbers) in
       tokens-line_feed (print_spaced false ps) ∙ tokens-print_spaced ps gaps printable ∙ same
 
   line_is_read : IsReadAs line d
@@ -92,17 +91,19 @@ pub document_is_read : (c : ConfigView) (z : List ℕ) → IsOfRun c z
 unfolding begun_of
 document_is_read c z run =
     let readings = field_readings c z in
-    let is = range_with_len 0 (fields_of c z) in
-    let reads = stream_reads c readings (fields_of c z) (rest_of c z) (omega (arith, run.config.black))
-    (omega (arith, run.config.white))
-    (field_shown c z) (omega (arith, few_fields c z run)) (small_rest c.system (length z)) in
+    let fields = fields_of c z in
+    let rest = rest_of c z in
+    let is = range_with_len 0 fields in
+    let black : c.levels.black < 2 ^ 64 = omega (arith, run.config.black) in
+    let white : c.levels.white < 2 ^ 64 = omega (arith, run.config.white) in
+    let few : fields + 1 < 2 ^ 64 = omega (arith, few_fields c z run) in
+    let small : rest < 2 ^ 64 = small_rest c.system (length z) in
+    let reads = stream_reads c readings fields rest black white (field_shown c z) few small in
     let P : List ℕ → Type 0 = λ text. IsReadAs text (document_value c z) in
-    subst P (pieces_print c readings (fields_of c z) (rest_of c z) (field_shown c z) is)
-    (line_is_read (pieces c readings (fields_of c z) (rest_of c z) is)
-    (pieces_gaps c readings (fields_of c z) (rest_of c z) is)
-    (document_json c readings (fields_of c z) (rest_of c z) is) (document_value c z)
-    (pieces_tokens c readings (fields_of c z) (rest_of c z) is) reads
-    (stream_depth c readings (fields_of c z) (rest_of c z) is))
+    subst P (pieces_print c readings fields rest (field_shown c z) is)
+    (line_is_read (pieces c readings fields rest is) (pieces_gaps c readings fields rest is)
+    (document_json c readings fields rest is) (document_value c z)
+    (pieces_tokens c readings fields rest is) reads (stream_depth c readings fields rest is))
 
 -- ---- as metadata
 

@@ -20,19 +20,17 @@ use Rattle.vbi_field.specs.ByLines.{RowReads}
 use Rattle.vbi_field.specs.CauseTexts.{cause_text_of}
 use Rattle.vbi_field.specs.ConfigView.{ConfigView}
 use Rattle.vbi_field.specs.Document.{value_of}
+use Rattle.vbi_field.specs.Kinds.{document}
 use Rattle.vbi_field.specs.Stream.{fields_of, rest_of, row_of, row_reading, field_readings}
-use Rattle.vbi_meta.specs.DocumentValue.{document_value, field_value, cut_field_value, cut_value}
+use Rattle.vbi_field.specs.Texts.{document_of}
+use Rattle.vbi_meta.specs.DocumentValue.{IsOfRun, document_value, field_value, cut_field_value, cut_value}
+use Rattle.vbi_meta.specs.Metadata.{most_bytes, IsMetadata, IsUnread}
+use Rattle.vbi_meta.specs.ReadBack.{IsReadAs, field_in, word_in, cut_in, TellsLine, TellsCut, ShowsWord, Tells}
+use Rattle.vbi_meta.specs.ReadBack.{ReadsBack}
+use Rattle.vbi_meta.specs.Settings.{whole, member_of}
 use Rattle.vbi_meta.specs.declared.fault.MetaFault.{MetaFault}
 use Rattle.vbi_meta.specs.declared.fault.MetaFault.TheVariants.{TooLarge, NotJson, OutOfMemory}
-use Rattle.vbi_meta.specs.ReadBack.{field_in, word_in, cut_in}
-use Rattle.vbi_meta.specs.ReadBack.{TellsLine, TellsCut, ShowsWord, Tells}
-use Rattle.vbi_field.specs.Kinds.{document}
-use Rattle.vbi_field.specs.Texts.{document_of}
-use Rattle.vbi_meta.specs.DocumentValue.{IsOfRun}
-use Rattle.vbi_meta.specs.Metadata.{most_bytes, IsMetadata, IsUnread}
-use Rattle.vbi_meta.specs.ReadBack.{IsReadAs, ReadsBack}
 use Rattle.vbi_meta.proofs.DocumentReads.{document_is_read, is_metadata}
-use Rattle.vbi_meta.specs.Settings.{whole, member_of}
 
 -- ---- lists
 
