@@ -146,3 +146,9 @@ fn metadata(rt: &(impl Files + AllocGlobal), path: &str) -> Result<Vec<u8>, Main
 mod command_line_tests;
 #[cfg(test)]
 mod job_tests;
+#[cfg(test)]
+mod tests_devices;
+#[cfg(test)]
+mod tests_runs;
+#[cfg(test)]
+mod tests_streams;
