@@ -149,6 +149,10 @@ mod job_tests;
 #[cfg(test)]
 mod tests_devices;
 #[cfg(test)]
+mod tests_drawing;
+#[cfg(test)]
+mod tests_line;
+#[cfg(test)]
 mod tests_runs;
 #[cfg(test)]
 mod tests_streams;

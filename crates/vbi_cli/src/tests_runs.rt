@@ -128,7 +128,7 @@ pub(crate) fn alike(alloc: Global, byte: u8, count: usize) -> Result<Vec<u8>, Al
 }
 
 /// Appends this sample at each column from one up to another.
-fn push_samples(
+pub(crate) fn push_samples(
     bytes: &mut Vec<u8>,
     sample: u16,
     from: usize,
