@@ -151,7 +151,15 @@ mod tests_devices;
 #[cfg(test)]
 mod tests_drawing;
 #[cfg(test)]
+mod tests_input;
+#[cfg(test)]
+mod tests_interruptions;
+#[cfg(test)]
 mod tests_line;
+#[cfg(test)]
+mod tests_metadata;
+#[cfg(test)]
+mod tests_run_line;
 #[cfg(test)]
 mod tests_runs;
 #[cfg(test)]

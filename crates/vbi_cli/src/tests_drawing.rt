@@ -4,7 +4,7 @@ use crate::command_line::Verb;
 use crate::fault::AppFault;
 use crate::job::{Ended, status};
 use crate::tests_devices::{Feed, Sink, feed_of, slow_sink, wide_sink};
-use crate::tests_runs::{Asked, NTSC, Ran, front, job, push_field, run_between};
+use crate::tests_runs::{Asked, NTSC, Ran, drawn_fields, front, job, run_between};
 use std::alloc::{AllocError, Global};
 use std::process::Abort;
 use std::test::Fail;
@@ -25,15 +25,6 @@ const ONE: [u32; 3] = [0x82_CFFF, 0, 0];
 const THREE: [u32; 3] = [0x82_CFFF, 0xF1_2345, 0xF1_2345];
 
 const BLACK: [u32; 3] = [0, 0, 0];
-
-/// The fields of these rows, drawn.
-fn drawn_fields(alloc: Global, fields: &[[u32; 3]]) -> Result<Vec<u8>, AllocError> {
-    let mut stream = Vec::new(alloc);
-    for words in fields {
-        push_field(&mut stream, *words)?;
-    }
-    Ok(stream)
-}
 
 /// Asserts that a run ends so, after so many reads, with these fields written and nothing else.
 fn drew(

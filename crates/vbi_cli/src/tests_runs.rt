@@ -140,13 +140,27 @@ pub(crate) fn push_samples(
     Ok(())
 }
 
-/// Some bytes of a stream of black samples, whose level is 16384.
-pub(crate) fn black_stream(alloc: Global, bytes: usize) -> Result<Vec<u8>, AllocError> {
-    let mut stream = Vec::new(alloc);
-    push_samples(&mut stream, 16384, 0, bytes / 2)?;
-    if bytes % 2 == 1 {
-        stream.push(0)?;
+/// An NTSC line of black samples, whose level is 16384.
+fn black_line(alloc: Global) -> Result<Vec<u8>, AllocError> {
+    let mut line = Vec::new(alloc);
+    push_samples(&mut line, 16384, 0, 910)?;
+    Ok(line)
+}
+
+/// Some bytes, so often.
+pub(crate) fn repeated(alloc: Global, part: &[u8], times: usize) -> Result<Vec<u8>, AllocError> {
+    let mut bytes = Vec::new(alloc);
+    for _ in 0..times {
+        bytes.extend_from_slice(part)?;
     }
+    Ok(bytes)
+}
+
+/// So many bytes of a stream of black NTSC lines.
+pub(crate) fn black_stream(alloc: Global, bytes: usize) -> Result<Vec<u8>, AllocError> {
+    let line = black_line(alloc)?;
+    let mut stream = repeated(alloc, line.as_slice(), bytes / 1820)?;
+    stream.extend_from_slice(front(line.as_slice(), bytes % 1820))?;
     Ok(stream)
 }
 
@@ -229,13 +243,18 @@ pub(crate) fn stored_line(alloc: Global) -> Result<Vec<u8>, AllocError> {
     drawn_line(alloc, System::Ntsc, 8224, 16448, 0x82_CFFF)
 }
 
-/// Appends an NTSC field with these words drawn on lines 16, 17 and 18, none for 0, and every other line black.
-pub(crate) fn push_field(bytes: &mut Vec<u8>, words: [u32; 3]) -> Result<(), AllocError> {
-    push_samples(bytes, 16384, 0, 15 * 910)?;
-    for word in words {
-        push_line(bytes, System::Ntsc, 16384, 51200, word)?;
+/// NTSC fields with these words drawn on lines 16, 17 and 18, none for 0, and every other line black.
+pub(crate) fn drawn_fields(alloc: Global, fields: &[[u32; 3]]) -> Result<Vec<u8>, AllocError> {
+    let black = black_stream(alloc, 245 * 1820)?;
+    let mut stream = Vec::new(alloc);
+    for words in fields {
+        stream.extend_from_slice(front(black.as_slice(), 15 * 1820))?;
+        for word in *words {
+            push_line(&mut stream, System::Ntsc, 16384, 51200, word)?;
+        }
+        stream.extend_from_slice(black.as_slice())?;
     }
-    push_samples(bytes, 16384, 18 * 910, 263 * 910)
+    Ok(stream)
 }
 
 /// What stands before the first record of the NTSC levels 16384 and 51200: 135 bytes.
@@ -267,3 +286,27 @@ pub(crate) const SECOND_REPORT_BLACK: &str =
 
 /// The last line after one field: 18 bytes.
 pub(crate) const REPORT_TAIL: &str = "fields 1 cut none\n";
+
+pub(crate) const VERBS: [Verb; 4] = [Verb::Line, Verb::Extract, Verb::Show, Verb::Draw];
+
+/// An input of each command with the NTSC levels 16384 and 51200, and what is to be written of it.
+pub(crate) fn known_run(alloc: Global, verb: Verb) -> Result<(Vec<u8>, Vec<u8>), AllocError> {
+    match verb {
+        Verb::Line => Ok((
+            drawn_line(alloc, System::Ntsc, 16384, 51200, 0x82_CFFF)?,
+            joined(alloc, &["82CFFF\n"])?,
+        )),
+        Verb::Extract => Ok((
+            black_stream(alloc, 478_660)?,
+            joined(alloc, &[HEAD, BLACK, TAIL])?,
+        )),
+        Verb::Show => Ok((
+            black_stream(alloc, 478_660)?,
+            joined(alloc, &[REPORT_HEAD, REPORT_BLACK, REPORT_TAIL])?,
+        )),
+        Verb::Draw => Ok((
+            joined(alloc, &["82CFFF F12345 F12345\n"])?,
+            drawn_fields(alloc, &[[0x82_CFFF, 0xF1_2345, 0xF1_2345]])?,
+        )),
+    }
+}
