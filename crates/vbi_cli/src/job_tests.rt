@@ -19,17 +19,25 @@ const SAME_LEVELS: Overrides = Overrides {
 };
 
 /// Metadata of an NTSC capture.
-const FULL: &[u8] =
-    b"{\"videoParameters\":{\"system\":\"NTSC\",\"fieldWidth\":910,\"fieldHeight\":263,\"black16bIre\":16384,\"white16bIre\":51200,\"sampleRate\":14318181.5},\"fields\":[]}";
+pub(crate) const FULL: &[u8] =
+    b"{\"videoParameters\":{\"system\":\"NTSC\",\"fieldWidth\":910,\"fieldHeight\":263,\
+        \"black16bIre\":16384,\"white16bIre\":51200,\"sampleRate\":14318181.5},\"fields\":[]}";
 
-const BLACK_FIELD: &str =
-    "{\"version\":2,\"videoParameters\":{\"system\":\"NTSC\",\"fieldWidth\":910,\"fieldHeight\":263,\"black16bIre\":16384,\"white16bIre\":51200},\"fields\":[\n{\"seqNo\":1,\"vbi\":{\"vbiData\":[0,0,0]},\"vbiCause\":[\"blank\",\"blank\",\"blank\"],\"vbiPass\":[0,0,0]}\n],\"cutField\":null}\n";
+pub(crate) const BLACK_FIELD: &str =
+    "{\"version\":2,\"videoParameters\":{\"system\":\"NTSC\",\"fieldWidth\":910,\"fieldHeight\":263,\
+        \"black16bIre\":16384,\"white16bIre\":51200},\"fields\":[\n\
+        {\"seqNo\":1,\"vbi\":{\"vbiData\":[0,0,0]},\"vbiCause\":[\"blank\",\"blank\",\"blank\"],\"vbiPass\":[0,0,0]}\n\
+        ],\"cutField\":null}\n";
 
 const DRAWN_FIELD: &str =
-    "{\"version\":2,\"videoParameters\":{\"system\":\"NTSC\",\"fieldWidth\":910,\"fieldHeight\":263,\"black16bIre\":16384,\"white16bIre\":51200},\"fields\":[\n{\"seqNo\":1,\"vbi\":{\"vbiData\":[8572927,15803205,15803205]},\"vbiCause\":[\"word\",\"word\",\"word\"],\"vbiPass\":[1,1,1]}\n],\"cutField\":null}\n";
+    "{\"version\":2,\"videoParameters\":{\"system\":\"NTSC\",\"fieldWidth\":910,\"fieldHeight\":263,\
+        \"black16bIre\":16384,\"white16bIre\":51200},\"fields\":[\n\
+        {\"seqNo\":1,\"vbi\":{\"vbiData\":[8572927,15803205,15803205]},\
+        \"vbiCause\":[\"word\",\"word\",\"word\"],\"vbiPass\":[1,1,1]}\n\
+        ],\"cutField\":null}\n";
 
-const REPORT: &str =
-    "system NTSC 910x263 black 16384 white 51200\nfield 1 cav\n16 82CFFF picture stop\n17 F12345 picture 12345\n18 F12345 picture 12345\nfields 1 cut none\n";
+const REPORT: &str = "system NTSC 910x263 black 16384 white 51200\nfield 1 cav\n\
+        16 82CFFF picture stop\n17 F12345 picture 12345\n18 F12345 picture 12345\nfields 1 cut none\n";
 
 #[test]
 fn answers_a_line(rt: HostRuntime) -> Result<(), Fail> {
@@ -79,8 +87,24 @@ fn names_the_faults_of_a_line(rt: HostRuntime) -> Result<(), Fail> {
     Ok(())
 }
 
+/// No field, and one more than is ever allowed.
+const NO_FIELD: Overrides = Overrides {
+    max_fields: Some(0),
+    ..STORED
+};
+
+const MILLION_AND_ONE: Overrides = Overrides {
+    max_fields: Some(1_000_001),
+    ..STORED
+};
+
 /// Options and metadata that settle nothing, and why.
-const UNSETTLED: [(Overrides, Option<&[u8]>, MetaFault); 4] = [
+const UNSETTLED: [(Overrides, Option<&[u8]>, MetaFault); 8] = [
+    (NO_FIELD, None, MetaFault::BadMaxFields),
+    (MILLION_AND_ONE, None, MetaFault::BadMaxFields),
+    (NO_FIELD, Some(FULL), MetaFault::BadMaxFields),
+    // The metadata's width is that of NTSC.
+    (PAL, Some(FULL), MetaFault::WidthDiffers),
     (SAME_LEVELS, None, MetaFault::LevelsOrder),
     (NONE, None, MetaFault::NoSystem),
     (STORED, Some(b"{\"a\":NaN}"), MetaFault::NotJson),
@@ -111,6 +135,27 @@ fn extracts_with_metadata(rt: HostRuntime) -> Result<(), Fail> {
     let field = black_stream(alloc, 478_659)?;
     let cut = run_over(alloc, &extract, Some(FULL), field.as_slice());
     assert_eq!(rt; cut.ended, Ok(Ended::CutField));
+    Ok(())
+}
+
+#[test]
+fn an_option_stands_before_metadata(rt: HostRuntime) -> Result<(), Fail> {
+    let alloc = rt.alloc();
+    let brighter = Overrides {
+        white: Some(60000),
+        ..NONE
+    };
+    let report = run_over(alloc, &job(Verb::Show, brighter), Some(FULL), b"");
+    assert_eq!(rt; report.ended, Ok(Ended::Whole));
+    let wanted = b"system NTSC 910x263 black 16384 white 60000\nfields 0 cut none\n";
+    assert_eq!(rt; report.written.as_slice(), wanted.as_slice());
+
+    // The metadata's levels aren't those of the line.
+    let line = stored_line(alloc)?;
+    let word = run_over(alloc, &job(Verb::Line, STORED), Some(FULL), line.as_slice());
+    assert_eq!(rt; word.written.as_slice(), b"82CFFF\n".as_slice());
+    let blank = run_over(alloc, &job(Verb::Line, NONE), Some(FULL), line.as_slice());
+    assert_eq!(rt; blank.written.as_slice(), b"blank\n".as_slice());
     Ok(())
 }
 
@@ -193,9 +238,46 @@ fn gives_the_statuses(rt: HostRuntime) {
     assert_eq!(rt; status(&Err(AppFault::TooManyFields)), 1);
 }
 
-const TEXTS: [(AppFault, &str); 9] = [
-    (AppFault::Meta(MetaFault::NoBlack), "no black level given"),
+const TEXTS: [(AppFault, &str); 22] = [
+    (AppFault::Meta(MetaFault::TooLarge), "metadata too large"),
+    (AppFault::Meta(MetaFault::NotJson), "metadata is not JSON"),
     (AppFault::Meta(MetaFault::OutOfMemory), "out of memory"),
+    (
+        AppFault::Meta(MetaFault::NoVideoParameters),
+        "metadata has no videoParameters",
+    ),
+    (AppFault::Meta(MetaFault::NoSystem), "no system given"),
+    (AppFault::Meta(MetaFault::UnknownSystem), "unknown system"),
+    (
+        AppFault::Meta(MetaFault::SystemsDisagree),
+        "system and isSourcePal disagree",
+    ),
+    (AppFault::Meta(MetaFault::NoBlack), "no black level given"),
+    (
+        AppFault::Meta(MetaFault::BadBlack),
+        "black level is not a whole number from 0 to 65535",
+    ),
+    (AppFault::Meta(MetaFault::NoWhite), "no white level given"),
+    (
+        AppFault::Meta(MetaFault::BadWhite),
+        "white level is not a whole number from 0 to 65535",
+    ),
+    (
+        AppFault::Meta(MetaFault::LevelsOrder),
+        "black level is not below white level",
+    ),
+    (
+        AppFault::Meta(MetaFault::WidthDiffers),
+        "field width differs",
+    ),
+    (
+        AppFault::Meta(MetaFault::HeightDiffers),
+        "field height differs",
+    ),
+    (
+        AppFault::Meta(MetaFault::BadMaxFields),
+        "max fields is not from 1 to 1000000",
+    ),
     (
         AppFault::ReadField {
             field: 2,

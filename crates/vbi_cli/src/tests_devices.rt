@@ -3,8 +3,8 @@
 use std::alloc::Global;
 use std::io::{self, Error, ErrorKind, Read, Write};
 
-/// Gives its bytes in reads of at most `piece`, after so many interruptions. Where `behind` is there, it fails once after the
-/// bytes, and would then go on with those.
+/// Gives its bytes in reads of at most `piece`, after so many interruptions. Where `behind` is there, it fails once
+/// after the bytes, and would then go on with those.
 #[derive(Drop)]
 pub(crate) struct Feed<'a> {
     pub(crate) bytes: &'a [u8],
@@ -37,7 +37,8 @@ impl Read for Feed<'_> {
     }
 }
 
-/// Takes at most `piece` bytes in a write, after so many interruptions. After `room` bytes it fails once, and would then take all.
+/// Takes at most `piece` bytes in a write, after so many interruptions. After `room` bytes it fails once, and would
+/// then take all.
 #[derive(Drop)]
 pub(crate) struct Sink {
     pub(crate) taken: Vec<u8>,

@@ -45,7 +45,8 @@ fn drew(
     Ok(())
 }
 
-/// The limit and the text of words, the fields that it stands for, and the reads: one for each byte and one for the end.
+/// The limit and the text of words, the fields that it stands for, and the reads: one for each byte and one for the
+/// end.
 const DRAWN: [(Option<u32>, &[u8], &[[u32; 3]], u32); 9] = [
     (None, b"", &[], 1),
     (None, b"82CFFF - -", &[ONE], 11),
@@ -75,8 +76,8 @@ fn draws_each_row_and_asks_for_the_end_once(rt: HostRuntime) -> Result<(), Fail>
     Ok(())
 }
 
-/// The limit and the text before the reader fails once, the row of the fault and what the program says, the fields of the rows
-/// before, and the reads: one for each byte and one for the fault.
+/// The limit and the text before the reader fails once, the row of the fault and what the program says, the fields of
+/// the rows before, and the reads: one for each byte and one for the fault.
 const READ_FAULTS: [(Option<u32>, &[u8], u32, &str, &[[u32; 3]], u32); 6] = [
     (None, b"", 1, "read failed in row 1", &[], 1),
     // Without its newline or the end a row isn't whole.
@@ -119,8 +120,8 @@ fn ends_at_a_read_fault_and_asks_no_more(rt: HostRuntime) -> Result<(), Fail> {
     Ok(())
 }
 
-/// A text of words, the number of its malformed row, the fields of the rows before, and the reads: one for each byte up to the
-/// row's newline, its 21st byte, or the end, which is one read more.
+/// A text of words, the number of its malformed row, the fields of the rows before, and the reads: one for each byte
+/// up to the row's newline, its 21st byte, or the end, which is one read more.
 const MALFORMED: [(&[u8], u32, &[[u32; 3]], u32); 16] = [
     (b"82CFFF F12345 F12345\n82CFFF F12345", 2, &[THREE], 35),
     (b"7FFFFF - -\n", 1, &[], 11),
@@ -154,7 +155,8 @@ fn ends_at_a_malformed_row_and_reads_no_more(rt: HostRuntime) -> Result<(), Fail
     Ok(())
 }
 
-/// The limit and the text of words, the fields that are written, and the reads: one for each byte of the allowed rows, and one.
+/// The limit and the text of words, the fields that are written, and the reads: one for each byte of the allowed
+/// rows, and one.
 const TOO_MANY: [(u32, &[u8], &[[u32; 3]], u32); 3] = [
     (1, b"- - -\n\n", &[BLACK], 7),
     (1, b"82CFFF - -\n- - -\n", &[ONE], 12),
@@ -172,8 +174,8 @@ fn names_a_byte_past_the_limit_and_draws_the_rows_before(rt: HostRuntime) -> Res
     Ok(())
 }
 
-/// A text of words, the bytes that the writer takes one by one before it fails once, the fields of which these are the first,
-/// and the reads: one for each byte of the rows up to the one that isn't written whole.
+/// A text of words, the bytes that the writer takes one by one before it fails once, the fields of which these are
+/// the first, and the reads: one for each byte of the rows up to the one that isn't written whole.
 const WRITE_FAULTS: [(&[u8], u32, &[[u32; 3]], u32); 5] = [
     (b"82CFFF - -\n", 0, &[ONE], 11),
     (b"82CFFF - -\n- - -\n", 1000, &[ONE], 11),

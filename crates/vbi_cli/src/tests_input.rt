@@ -9,8 +9,8 @@ use crate::tests_runs::{NTSC, VERBS, job, known_run};
 use std::io::{ErrorKind, Read};
 use std::test::Fail;
 
-/// What a reader of `abcdef` answers that gives two bytes in a read, is interrupted once before the first, fails once behind the
-/// last and then has `gh`: the bytes, or the error.
+/// What a reader of `abcdef` answers that gives two bytes in a read, is interrupted once before the first, fails once
+/// behind the last and then has `gh`: the bytes, or the error.
 const ANSWERS: [Result<&[u8], ErrorKind>; 8] = [
     Err(ErrorKind::Interrupted),
     Ok(b"ab"),

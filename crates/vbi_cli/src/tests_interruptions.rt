@@ -8,8 +8,8 @@ use crate::tests_runs::{Asked, NTSC, Ran, front, job, known_run, run_between};
 use std::alloc::{AllocError, Global};
 use std::test::Fail;
 
-/// Does the known run of a command with so many interruptions before the first read and before the first write, which takes one
-/// byte as each other does. It answers with the run and what was to be written.
+/// Does the known run of a command with so many interruptions before the first read and before the first write, which
+/// takes one byte as each other does. It answers with the run and what was to be written.
 fn interrupted(
     alloc: Global,
     verb: Verb,
@@ -31,8 +31,8 @@ fn interrupted(
     ))
 }
 
-/// The reads and the writes of each command where nothing is interrupted: a line has one read, a field 263 and one for the end,
-/// a row of 21 bytes one for each and one for the end.
+/// The reads and the writes of each command where nothing is interrupted: a line has one read, a field 263 and one
+/// for the end, a row of 21 bytes one for each and one for the end.
 const ASKED: [(Verb, u32, u32); 4] = [
     (Verb::Line, 1, 7),
     (Verb::Extract, 264, 247),
@@ -58,7 +58,8 @@ fn sixteen_interruptions_in_a_row_change_nothing(rt: HostRuntime) -> Result<(), 
     Ok(())
 }
 
-/// The fault of each command at the seventeenth interruption of its first read, and the bytes that stand before that read.
+/// The fault of each command at the seventeenth interruption of its first read, and the bytes that stand before that
+/// read.
 const READ_FAULTS: [(Verb, AppFault, u32); 4] = [
     (Verb::Line, AppFault::ReadLine { offset: 0 }, 0),
     (

@@ -140,7 +140,8 @@ fn prints_blank_for_just_a_line_of_spaces(rt: HostRuntime) -> Result<(), Fail> {
     Ok(())
 }
 
-/// The bytes of a line of spaces that come before the end, the reads, one for the bytes and one for the end, and the text.
+/// The bytes of a line of spaces that come before the end, the reads, one for the bytes and one for the end, and the
+/// text.
 const SHORT: [(u16, u32, &str); 4] = [
     (0, 1, "short line: 0 of 1820 bytes"),
     (1, 2, "short line: 1 of 1820 bytes"),
@@ -191,7 +192,8 @@ fn says_how_short_a_pal_line_is(rt: HostRuntime) -> Result<(), Fail> {
     Ok(())
 }
 
-/// The bytes of the stored line that come before the reader fails once, and the reads: one for the bytes, one for the fault.
+/// The bytes of the stored line that come before the reader fails once, and the reads: one for the bytes, one for the
+/// fault.
 const READ_FAULTS: [(u16, u32, &str); 3] = [
     (0, 1, "read failed at byte 0"),
     (7, 2, "read failed at byte 7"),

@@ -51,8 +51,8 @@ const LETTERS: &str = "0123456789abcdef0123456789ABCDEF0123456789abcdef012345678
 /// An entry of a list of fields, with the comma before it: 64 bytes.
 const FIELD: &str = ",{\"seqNo\":1,\"isFirstField\":true,\"syncConf\":100,\"fileLoc\":123456}";
 
-/// How large bytes that are no JSON begin, what stands 31,250 times, and how they end: no value at all, a text without an end, a
-/// list without an end, and a list with something at its very end that JSON doesn't have.
+/// How large bytes that are no JSON begin, what stands 31,250 times, and how they end: no value at all, a text
+/// without an end, a list without an end, and a list with something at its very end that JSON doesn't have.
 const NOT_JSON: [(&str, &str, &str); 4] = [
     ("", BLANKS, ""),
     ("{\"a\":\"", LETTERS, ""),

@@ -46,9 +46,10 @@ fn stored_config() -> Result<Config, Fail> {
 
 const READ: LineFault = LineFault::Read { offset: 7 };
 
-/// The bytes of the stored line that come, whether the reader fails once behind them, the interruptions before the first read,
-/// the bytes that the writer takes before it fails once, the interruptions before the first write, and then the fault, how many
-/// bytes were fetched, how often the reader failed, how many bytes were written, and how often the writer failed.
+/// The bytes of the stored line that come, whether the reader fails once behind them, the interruptions before the
+/// first read, the bytes that the writer takes before it fails once, the interruptions before the first write, and
+/// then the fault, how many bytes were fetched, how often the reader failed, how many bytes were written, and how
+/// often the writer failed.
 const FAULTS: [(usize, bool, u32, usize, u32, LineFault, [u64; 4]); 8] = [
     (
         0,
@@ -140,8 +141,8 @@ fn names_its_fault_and_counts_what_came_and_went(rt: HostRuntime) -> Result<(), 
     Ok(())
 }
 
-/// The interruptions before the first read and before the first write, the bytes of each read, and how often the reader failed
-/// and the writer.
+/// The interruptions before the first read and before the first write, the bytes of each read, and how often the
+/// reader failed and the writer.
 const WHOLE: [(u32, u32, usize); 4] = [(0, 0, 5000), (16, 0, 1), (0, 16, 3), (16, 16, 1000)];
 
 #[test]

@@ -164,7 +164,8 @@ pub(crate) fn black_stream(alloc: Global, bytes: usize) -> Result<Vec<u8>, Alloc
     Ok(stream)
 }
 
-/// Where each half cell of a drawn word ends, in columns from the word's start: the whole part of its number, from 1, by 315/22.
+/// Where each half cell of a drawn word ends, in columns from the word's start: the whole part of its number, from 1,
+/// by 315/22.
 const NTSC_ENDS: [usize; 48] = [
     14, 28, 42, 57, 71, 85, 100, 114, 128, 143, 157, 171, 186, 200, 214, 229, 243, 257, 272, 286,
     300, 315, 329, 343, 357, 372, 386, 400, 415, 429, 443, 458, 472, 486, 501, 515, 529, 544, 558,
@@ -178,7 +179,8 @@ const PAL_ENDS: [usize; 48] = [
     709, 727, 744, 762, 780, 798, 815, 833, 851,
 ];
 
-/// The samples of a word's 48 half cells: a one is a low half and then a high one, a zero a high half and then a low one.
+/// The samples of a word's 48 half cells: a one is a low half and then a high one, a zero a high half and then a low
+/// one.
 fn push_word(
     bytes: &mut Vec<u8>,
     ends: &[usize],

@@ -1,4 +1,5 @@
-//! `extract` and `show` over black streams: how a run ends, what it wrote by then, and how often it asked its devices.
+//! `extract` and `show` over black streams: how a run ends, what it wrote by then, and how often it asked its
+//! devices.
 
 use crate::command_line::Verb;
 use crate::fault::AppFault;
@@ -36,8 +37,8 @@ fn wanted(alloc: Global, verb: Verb, fields: u32, tail: &str) -> Result<Vec<u8>,
     }
 }
 
-/// The limit and the bytes of the stream, how the run ends, the whole fields, how the document and the report end, and the
-/// reads: one for each whole line of 1,820 bytes, one for a part of a line, and one for the end.
+/// The limit and the bytes of the stream, how the run ends, the whole fields, how the document and the report end,
+/// and the reads: one for each whole line of 1,820 bytes, one for a part of a line, and one for the end.
 const ENDS: [(Option<u32>, usize, Ended, u32, &str, &str, u32); 8] = [
     (None, 0, Ended::Whole, 0, TAIL, "fields 0 cut none\n", 1),
     (
@@ -112,8 +113,8 @@ fn writes_a_stream_whole_and_asks_for_its_end_once(rt: HostRuntime) -> Result<()
     Ok(())
 }
 
-/// The limit and the bytes that come before the reader fails once, the field and the offset of the fault, and the reads: one
-/// for each whole line, one for a part of a line, and one for the fault.
+/// The limit and the bytes that come before the reader fails once, the field and the offset of the fault, and the
+/// reads: one for each whole line, one for a part of a line, and one for the fault.
 const READ_FAULTS: [(Option<u32>, usize, u32, u32, u32, &str); 8] = [
     (None, 0, 1, 0, 1, "read failed in field 1 at byte 0"),
     (None, 1, 1, 1, 2, "read failed in field 1 at byte 1"),
@@ -224,8 +225,8 @@ fn names_a_byte_past_the_limit_and_writes_the_fields_before(rt: HostRuntime) -> 
     Ok(())
 }
 
-/// The command, the bytes that the writer takes one by one before it fails once, and the reads by then: none before the head is
-/// whole, a black field's 263 lines before its record is, and then the one for the end.
+/// The command, the bytes that the writer takes one by one before it fails once, and the reads by then: none before
+/// the head is whole, a black field's 263 lines before its record is, and then the one for the end.
 const WRITE_FAULTS: [(Verb, u32, u32); 13] = [
     (Verb::Extract, 0, 0),
     (Verb::Extract, 134, 0),
@@ -280,8 +281,8 @@ const AT_THE_END: Result<Ended, AppFault> = Err(AppFault::ReadField {
     offset: 0,
 });
 
-/// The limit and the bytes of the stream, whether the reader fails once behind them, how the run ends, and the bytes of the
-/// document and of the report.
+/// The limit and the bytes of the stream, whether the reader fails once behind them, how the run ends, and the bytes
+/// of the document and of the report.
 const SLOW: [(Option<u32>, u32, bool, Result<Ended, AppFault>, u32, u32); 4] = [
     (None, 478_660, false, Ok(Ended::Whole), 247, 120),
     (Some(1), 478_660, false, Ok(Ended::Whole), 247, 120),
