@@ -1,1 +1,1 @@
-mod Streams
+mod Jobs

@@ -1,16 +1,16 @@
--- What a job does (this project's own): what metadata and options settle, what each command does with it, and when each fault
--- comes. A reader is seen by the bytes that it has yet to give, and a writer by those that it has taken, where they tell them,
--- as those over memory do.
-use Rattle.std.specs.Prelude.{◌≡◌, ◌⊎◌, ℕ, ◌<◌, ◌≤◌, List, [], length, take, Option, Some, None, Result, Ok, Err, ⊤}
-use Rattle.std.specs.Io.KnownBytes.{Consumes, Appends, IsAtEnd}
+-- What a job does: what metadata and options settle, what each command does with it, and the job's answer. The input is seen by the
+-- bytes that it has yet to give, and the output by those that it has taken, where they tell them, as those over memory do.
+use Rattle.std.specs.Prelude.{◌≡◌, ◌⊎◌, ℕ, List, Option, Some, None, Result, Ok, Err, ⊤}
 use Rattle.vbi_words.specs.Geometry.{line_bytes}
+use Rattle.vbi_words.specs.declared.outcome.Outcome.{Outcome}
+use Rattle.vbi_words.specs.declared.system.System.{System}
+use Rattle.vbi_field.specs.Draws.{Draws}
 use Rattle.vbi_field.specs.Extracts.{Extracts}
 use Rattle.vbi_field.specs.Kinds.{document, report}
 use Rattle.vbi_field.specs.Ran.{Counts, Ran}
 use Rattle.vbi_field.specs.ConfigView.{ConfigView}
-use Rattle.vbi_field.specs.Texts.{Texts}
-use Rattle.vbi_field.specs.declared.drawing_fields.DrawFault.{DrawFault}
-use Rattle.vbi_field.specs.declared.drawing_fields.DrawFault.TheVariants as draw
+use Rattle.vbi_field.specs.declared.drawing.DrawFault.{DrawFault}
+use Rattle.vbi_field.specs.declared.drawing.DrawFault.TheVariants as draw
 use Rattle.vbi_field.specs.declared.summary.Summary.{Summary}
 use Rattle.vbi_field.specs.declared.summary.RunFault.{RunFault}
 use Rattle.vbi_field.specs.declared.summary.RunFault.TheVariants as run
@@ -19,10 +19,11 @@ use Rattle.vbi_meta.specs.Metadata.{IsMetadata, IsUnread}
 use Rattle.vbi_meta.specs.Settings.{IsSettled, IsRefused}
 use Rattle.vbi_meta.specs.declared.choosing.Overrides.{Overrides}
 use Rattle.vbi_meta.specs.declared.fault.MetaFault.{MetaFault}
-use Rattle.vbi_cli.specs.Drew.{DrewAll, MetMalformed, MetTooMany, StoppedInRow, StoppedDrawing}
-use Rattle.vbi_cli.specs.OneLine.{outcome_read, line_text}
+use Rattle.vbi_cli.specs.OneLine.{Answers}
 use Rattle.vbi_cli.specs.declared.fault.AppFault.{AppFault}
 use Rattle.vbi_cli.specs.declared.fault.AppFault.TheVariants.{Meta, ReadField, ReadLine, ReadRow, Write, TooManyFields, Row, Short}
+use Rattle.vbi_cli.specs.declared.one_line.LineFault.{LineFault}
+use Rattle.vbi_cli.specs.declared.one_line.LineFault.TheVariants as line
 use Rattle.vbi_cli.specs.declared.job.Ended.{Ended}
 use Rattle.vbi_cli.specs.declared.job.Ended.TheVariants.{Whole, CutField}
 use Rattle.vbi_cli.specs.declared.command_line.Verb.{Verb}
@@ -53,60 +54,47 @@ abbrev pub ended_of : Option ℕ → Ended
 ended_of None = Whole
 ended_of (Some bytes) = CutField
 
--- how a run over a stream ended, for the program; a run doesn't answer `Failed`
+-- the job's answer to a run over a stream; a run doesn't answer `Failed`
 abbrev pub IsEndedBy : Result Summary RunFault → Result Ended AppFault → Type 0
-IsEndedBy (Ok summary) ended = ended ≡ Ok (ended_of summary.cut)
-IsEndedBy (Err (run.Read field offset)) ended = ended ≡ Err (ReadField field offset)
-IsEndedBy (Err (run.Write written)) ended = ended ≡ Err (Write written)
-IsEndedBy (Err run.TooManyFields) ended = ended ≡ Err TooManyFields
-IsEndedBy (Err run.Failed) ended = ⊥
+IsEndedBy (Ok summary) answer = answer ≡ Ok (ended_of summary.cut)
+IsEndedBy (Err (run.Read field offset)) answer = answer ≡ Err (ReadField field offset)
+IsEndedBy (Err (run.Write written)) answer = answer ≡ Err (Write written)
+IsEndedBy (Err run.TooManyFields) answer = answer ≡ Err TooManyFields
+IsEndedBy (Err run.Failed) answer = ⊥
+
+-- the job's answer to a run over one line of a system
+abbrev pub IsAnsweredBy : System → Result Outcome LineFault → Result Ended AppFault → Type 0
+IsAnsweredBy system (Ok outcome) answer = answer ≡ Ok Whole
+IsAnsweredBy system (Err (line.Short bytes)) answer = answer ≡ Err (Short bytes (line_bytes system))
+IsAnsweredBy system (Err (line.Read offset)) answer = answer ≡ Err (ReadLine offset)
+IsAnsweredBy system (Err (line.Write written)) answer = answer ≡ Err (Write written)
+
+-- the job's answer to a run of drawing
+abbrev pub IsDrawnBy : Result ℕ DrawFault → Result Ended AppFault → Type 0
+IsDrawnBy (Ok fields) answer = answer ≡ Ok Whole
+IsDrawnBy (Err (draw.Row number)) answer = answer ≡ Err (Row number)
+IsDrawnBy (Err (draw.Read number)) answer = answer ≡ Err (ReadRow number)
+IsDrawnBy (Err (draw.Write written)) answer = answer ≡ Err (Write written)
+IsDrawnBy (Err draw.TooManyFields) answer = answer ≡ Err TooManyFields
+
+-- a command ran over the input and the output and gave some result, what it fetched and wrote is what it says of that result, and the
+-- job's answer is the one that belongs to it
+pub record DidRun {A : Type 0} (input0 input output0 output : Option (List ℕ)) (Says : Counts → A → List ℕ → List ℕ → Type 0)
+    (IsFor : A → Result Ended AppFault → Type 0) (answer : Result Ended AppFault) : Type 0 where
+  pub counts : Counts
+  pub result : A
+  pub ran : Ran input0 input output0 output counts (Says counts result)
+  pub answered : IsFor result answer
 
 module _ (c : ConfigView) (input0 input output0 output : Option (List ℕ)) where
-  -- one line's bytes were read and no more, and the answer to it was written
-  abbrev pub DidLine : Ended → Type 0
-  DidLine ended = (z : List ℕ) × (Consumes input0 input z × (length z ≡ line_bytes c.system)
-      × Appends output0 output (line_text (outcome_read c z)) × (ended ≡ Whole))
-
-  -- what was read and written is what `extract` or `show` says with some answer, and the job's answer is that answer's
-  pub record DidStream (t : Texts) (answer : Result Ended AppFault) : Type 0 where
-    pub counts : Counts
-    pub result : Result Summary RunFault
-    pub ran : Ran input0 input output0 output counts (Extracts t c input counts result)
-    pub ended : IsEndedBy result answer
-
-  -- the input ended after these bytes, fewer than a line's, and nothing was written
-  abbrev pub WasShort : ℕ → ℕ → Type 0
-  WasShort bytes wanted = (z : List ℕ) × (Consumes input0 input z × (bytes ≡ length z) × (wanted ≡ line_bytes c.system)
-      × (bytes < wanted) × IsAtEnd input × Appends output0 output [])
-
-  -- the input failed after these bytes, fewer than a line's, and nothing was written
-  abbrev pub StoppedInLine : ℕ → Type 0
-  StoppedInLine offset = (z : List ℕ) × (Consumes input0 input z × (offset ≡ length z) × (offset < line_bytes c.system)
-      × Appends output0 output [])
-
-  -- one line's bytes were read and no more, and the output failed after so many bytes, which are the first of the answer
-  abbrev pub StoppedInAnswer : ℕ → Type 0
-  StoppedInAnswer written = (z : List ℕ) × (Consumes input0 input z × (length z ≡ line_bytes c.system)
-      × (written ≤ length (line_text (outcome_read c z)))
-      × Appends output0 output (take written (line_text (outcome_read c z))))
-
-  -- what a command did, by its answer; it has no other fault
+  -- what a command did
   abbrev pub Did : Verb → Result Ended AppFault → Type 0
-  Did Line (Ok ended) = DidLine ended
-  Did Line (Err (Short bytes wanted)) = WasShort bytes wanted
-  Did Line (Err (ReadLine offset)) = StoppedInLine offset
-  Did Line (Err (Write written)) = StoppedInAnswer written
-  Did Line (Err _) = ⊥
-  Did Extract answer = DidStream document answer
-  Did Show answer = DidStream report answer
-  Did Draw (Ok ended) = DrewAll c input0 input output0 output × (ended ≡ Whole)
-  Did Draw (Err (Row number)) = MetMalformed c input0 input output0 output number
-  Did Draw (Err (ReadRow number)) = StoppedInRow c input0 input output0 output number
-  Did Draw (Err TooManyFields) = MetTooMany c input0 input output0 output
-  Did Draw (Err (Write written)) = StoppedDrawing c input0 input output0 output written
-  Did Draw (Err _) = ⊥
+  Did Line answer = DidRun input0 input output0 output (Answers c input) (IsAnsweredBy c.system) answer
+  Did Extract answer = DidRun input0 input output0 output (Extracts document c input) IsEndedBy answer
+  Did Show answer = DidRun input0 input output0 output (Extracts report c input) IsEndedBy answer
+  Did Draw answer = DidRun input0 input output0 output (Draws c input) IsDrawnBy answer
 
--- ---- the faults
+-- ---- the job
 
 -- P of a fault of metadata or settings
 abbrev pub IfMeta : Result Ended AppFault → (MetaFault → Type 0) → Type 0
@@ -119,11 +107,3 @@ abbrev pub UnlessMeta : Result Ended AppFault → Type 0 → Type 0
 UnlessMeta (Ok ended) P = P
 UnlessMeta (Err (Meta fault)) P = ⊤
 UnlessMeta (Err _) P = P
-
--- how drawing ended, for the program
-abbrev pub IsDrawnBy : Result ℕ DrawFault → Result Ended AppFault → Type 0
-IsDrawnBy (Ok fields) ended = ended ≡ Ok Whole
-IsDrawnBy (Err (draw.Row number)) ended = ended ≡ Err (Row number)
-IsDrawnBy (Err (draw.Read number)) ended = ended ≡ Err (ReadRow number)
-IsDrawnBy (Err (draw.Write written)) ended = ended ≡ Err (Write written)
-IsDrawnBy (Err draw.TooManyFields) ended = ended ≡ Err TooManyFields

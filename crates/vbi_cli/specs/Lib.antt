@@ -1,4 +1,3 @@
-pub mod Drew
 pub mod Inputs
 pub mod Jobs
 pub mod OneLine

@@ -1,7 +1,7 @@
--- What the command `line` does (this project's own).
-use Rattle.std.specs.Prelude.{◌≡◌, ℕ, ◌<◌, List, [], ◌∷◌, ◌++◌, length, take, Option, Result, Ok, Err}
-use Rattle.std.specs.Io.KnownBytes.{Consumes, Appends, IsAtEnd}
-use Rattle.vbi_words.specs.Geometry.{line_bytes}
+-- What the command `line` does, by its answer: z are the bytes fetched, text is what was written, and n what was counted.
+use Rattle.std.specs.Prelude.{◌≡◌, ℕ, ◌<◌, List, [], ◌∷◌, ◌++◌, length, Option, Result, Ok, Err}
+use Rattle.std.specs.Io.KnownBytes.{IsAtEnd}
+use Rattle.vbi_words.specs.Geometry.{width_of, line_bytes}
 use Rattle.vbi_words.specs.Levels.{row_levels}
 use Rattle.vbi_words.specs.declared.outcome.Outcome.{Outcome}
 use Rattle.vbi_words.specs.declared.outcome.Outcome.TheVariants.{Word, Blank, Unfinished, Change, Hold}
@@ -10,8 +10,10 @@ use Rattle.vbi_line.specs.OneReading.{reading_of}
 use Rattle.vbi_line.specs.declared.intake.Intake.{Intake}
 use Rattle.vbi_field.specs.CauseTexts.{cause_text_of}
 use Rattle.vbi_field.specs.CodeTexts.{hex_text_of}
-use Rattle.vbi_field.specs.Outlet as outlets
 use Rattle.vbi_field.specs.ConfigView.{ConfigView}
+use Rattle.vbi_field.specs.Extracts.{counts_of}
+use Rattle.vbi_field.specs.Outlet as outlets
+use Rattle.vbi_field.specs.Ran.{Counts, HasFailed, IsCalm, IsFirstOf, Ran}
 use Rattle.vbi_field.specs.declared.outlet.Outlet.{Outlet}
 use Rattle.vbi_cli.specs.declared.one_line.LineFault.{LineFault}
 use Rattle.vbi_cli.specs.declared.one_line.LineFault.TheVariants.{Short, Read, Write}
@@ -32,26 +34,53 @@ answer_of (Hold column) = cause_text_of (Hold column)
 abbrev pub line_text : Outcome → List ℕ
 line_text outcome = answer_of outcome ++ 10 ∷ []
 
-module _ {R W : Type 0} (remaining : R → Option (List ℕ)) (contents : W → Option (List ℕ)) (c : ConfigView)
-    (i0 i : Intake R) (o0 o : Outlet W) where
-  -- what stands, for a run that fetched z and wrote text
-  abbrev pub IsLineRun : List ℕ → List ℕ → Result Outcome LineFault → Type 0
-  IsLineRun z text (Ok outcome) =
-      (length z ≡ line_bytes c.system) × (outcome ≡ outcome_read c z) × (text ≡ line_text outcome)
-  IsLineRun z text (Err (Short bytes)) =
-      (text ≡ []) × (bytes ≡ length z) × (bytes < line_bytes c.system) × IsAtEnd (remaining (intakes.device_of i))
-  IsLineRun z text (Err (Read offset)) =
-      (text ≡ []) × (offset ≡ length z) × (offset < line_bytes c.system) × (intakes.failures_of i0 < intakes.failures_of i)
-  IsLineRun z text (Err (Write written)) =
-      (length z ≡ line_bytes c.system) × (text ≡ take written (line_text (outcome_read c z))) × (written ≡ length text)
-      × (outlets.failures_of o0 < outlets.failures_of o)
+module _ (c : ConfigView) (input : Option (List ℕ)) (n : Counts) (z text : List ℕ) where
+  -- Ok: one line's bytes were fetched and no more, each sample was looked at once, and the line's answer was written
+  pub record AnswersLine (outcome : Outcome) : Type 0 where
+    pub whole : length z ≡ line_bytes c.system
+    pub outcome_of : outcome ≡ outcome_read c z
+    pub answer : text ≡ line_text outcome
+    pub looks : n.looked ≡ width_of c.system
+    pub calm : IsCalm n
 
-  -- the run fetched some bytes and wrote some text, and what stands is as its result says
-  pub record RunsLine (result : Result Outcome LineFault) : Type 0 where
-    pub z : List ℕ
-    pub text : List ℕ
-    pub consumed : Consumes (remaining (intakes.device_of i0)) (remaining (intakes.device_of i)) z
-    pub fetched : intakes.fetched_of i ≡ length z
-    pub appended : Appends (contents (outlets.device_of o0)) (contents (outlets.device_of o)) text
-    pub written : outlets.written_of o ≡ length text
-    pub run : IsLineRun z text result
+  -- `Short`: the reader ended behind this many bytes, fewer than a line's, and nothing was written
+  pub record WasShort (bytes : ℕ) : Type 0 where
+    pub count : bytes ≡ length z
+    pub short : bytes < line_bytes c.system
+    pub ended : IsAtEnd input
+    pub none : text ≡ []
+    pub looks : n.looked ≡ 0
+    pub calm : IsCalm n
+
+  -- `Read`: the reader failed behind this many bytes, fewer than a line's, and nothing was written
+  pub record StopsAtRead (offset : ℕ) : Type 0 where
+    pub failed : HasFailed n.reader
+    pub calm : n.writer.errors ≡ 0
+    pub count : offset ≡ length z
+    pub short : offset < line_bytes c.system
+    pub none : text ≡ []
+    pub looks : n.looked ≡ 0
+
+  -- `Write`: one line's bytes were fetched and no more, and the writer failed after this many bytes, which are the first of the answer
+  -- and not all of it
+  pub record StopsAtWrite (written : ℕ) : Type 0 where
+    pub failed : HasFailed n.writer
+    pub calm : n.reader.errors ≡ 0
+    pub whole : length z ≡ line_bytes c.system
+    pub count : written ≡ length text
+    pub first : IsFirstOf text (line_text (outcome_read c z))
+    pub looks : n.looked ≡ width_of c.system
+
+-- what was done, by the answer
+abbrev pub Answers : ConfigView → Option (List ℕ) → Counts → Result Outcome LineFault → List ℕ → List ℕ → Type 0
+Answers c input n (Ok outcome) z text = AnswersLine c input n z text outcome
+Answers c input n (Err (Short bytes)) z text = WasShort c input n z text bytes
+Answers c input n (Err (Read offset)) z text = StopsAtRead c input n z text offset
+Answers c input n (Err (Write written)) z text = StopsAtWrite c input n z text written
+
+-- the run of a fresh intake and a fresh outlet that gave this answer
+abbrev pub RunsLine : {R W : Type 0} → (R → Option (List ℕ)) → (W → Option (List ℕ)) → ConfigView
+    → Intake R → Intake R → Outlet W → Outlet W → Result Outcome LineFault → Type 0
+RunsLine remaining contents c i0 i o0 o result =
+    Ran (remaining (intakes.device_of i0)) (remaining (intakes.device_of i)) (contents (outlets.device_of o0)) (contents (outlets.device_of o))
+    (counts_of i o) (Answers c (remaining (intakes.device_of i)) (counts_of i o) result)

@@ -1,8 +1,7 @@
 //! A job: settings from metadata and options, and then the command.
 
 ghost use Rattle.std.specs.Prelude.{◌≡◌, ◌≢◌, IfOk, IfErr, Err, option_map};
-ghost use Rattle.vbi_field.specs.Kinds.{document, report};
-ghost use Rattle.vbi_cli.specs.Jobs.{Settles, Refuses, Under, Did, DidStream, IfMeta, UnlessMeta, IsEndedBy, IsDrawnBy};
+ghost use Rattle.vbi_cli.specs.Jobs.{Settles, Refuses, Under, Did, IfMeta, UnlessMeta, IsEndedBy, IsAnsweredBy, IsDrawnBy};
 ghost use Rattle.vbi_cli.specs.Statuses.{app_status};
 
 use crate::fault::AppFault;
@@ -13,6 +12,7 @@ use std::io::{Read, Write};
 use vbi_field::{Config, DrawFault, Outlet, RowIntake, RunFault, Summary, draw, extract, show};
 use vbi_line::Intake;
 use vbi_meta::{MetaFault, read_meta, settings};
+use vbi_words::{Outcome, System};
 
 /// How a job ended that is done.
 #[derive(Clone, Copy, Debug, PartialEq, Eq)]
@@ -51,10 +51,7 @@ pub fn run_job<R: Read, W: Write>(
     ensures did { UnlessMeta result (Under (option_map (λ b. b.now) meta.entry) job.now.overrides (λ c.
         Did c (R.remaining input.old) (R.remaining input.new) (W.contents output.old) (W.contents output.new) job.now.verb result)) }
 {
-    let config = match config_of(alloc, job, meta) {
-        Ok(config) => config,
-        Err(fault) => return Err(AppFault::Meta(fault)),
-    };
+    let config = config_of(alloc, job, meta).map_err(AppFault::Meta)?;
     match job.verb {
         Verb::Line => line_job(&config, input, output),
         Verb::Extract => extract_job(&config, input, output),
@@ -70,10 +67,10 @@ fn config_of(alloc: Global, job: &Job, meta: Option<&[u8]>) -> Result<Config, Me
 {
     match meta {
         None => settings(None, &job.overrides),
-        Some(bytes) => match read_meta(alloc, bytes) {
-            Ok(value) => settings(Some(&value), &job.overrides),
-            Err(fault) => Err(fault),
-        },
+        Some(bytes) => {
+            let value = read_meta(alloc, bytes)?;
+            settings(Some(&value), &job.overrides)
+        }
     }
 }
 
@@ -93,11 +90,18 @@ fn line_job<R: Read, W: Write>(
     // Handed back, so that it is known what the two devices are now.
     let _ = intake.into_reader();
     let _ = outlet.into_writer();
+    line_end(system, outcome)
+}
+
+/// The job's answer to a run over one line.
+fn line_end(system: System, outcome: Result<Outcome, LineFault>) -> Result<Ended, AppFault>
+    ensures { IsAnsweredBy system outcome result }
+{
     match outcome {
         Ok(_) => Ok(Ended::Whole),
         Err(LineFault::Short { bytes }) => Err(AppFault::Short {
             bytes,
-            wanted: 2 * system.width() as u16,
+            wanted: system.line_bytes() as u16,
         }),
         Err(LineFault::Read { offset }) => Err(AppFault::ReadLine { offset }),
         Err(LineFault::Write { written }) => Err(AppFault::Write { written }),
@@ -110,8 +114,8 @@ fn extract_job<R: Read, W: Write>(
     input: &mut R,
     output: &mut W,
 ) -> Result<Ended, AppFault>
-    ensures { DidStream config.now (R.remaining input.old) (R.remaining input.new)
-        (W.contents output.old) (W.contents output.new) document result }
+    ensures { Did config.now (R.remaining input.old) (R.remaining input.new)
+        (W.contents output.old) (W.contents output.new) Verb.Extract result }
 {
     let mut intake = Intake::new(input, config.system());
     let mut outlet = Outlet::new(output);
@@ -128,8 +132,8 @@ fn show_job<R: Read, W: Write>(
     input: &mut R,
     output: &mut W,
 ) -> Result<Ended, AppFault>
-    ensures { DidStream config.now (R.remaining input.old) (R.remaining input.new)
-        (W.contents output.old) (W.contents output.new) report result }
+    ensures { Did config.now (R.remaining input.old) (R.remaining input.new)
+        (W.contents output.old) (W.contents output.new) Verb.Show result }
 {
     let mut intake = Intake::new(input, config.system());
     let mut outlet = Outlet::new(output);
@@ -140,7 +144,7 @@ fn show_job<R: Read, W: Write>(
     end_of(summary)
 }
 
-/// How a run over a stream ended, for the program.
+/// The job's answer to a run over a stream.
 fn end_of(summary: Result<Summary, RunFault>) -> Result<Ended, AppFault>
     requires { summary ≢ Err RunFault.Failed }
     ensures { IsEndedBy summary result }
@@ -173,7 +177,7 @@ fn draw_job<R: Read, W: Write>(
     drawing_end(fields)
 }
 
-/// How drawing ended, for the program.
+/// The job's answer to a run of drawing.
 fn drawing_end(fields: Result<u32, DrawFault>) -> Result<Ended, AppFault>
     ensures { IsDrawnBy fields result }
 {

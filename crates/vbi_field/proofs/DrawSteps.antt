@@ -1,29 +1,29 @@
 -- What a run of drawing keeps from row to row, and how it ends.
 use Rattle.std.proofs.Common.{◌≡◌, ℕ, ◌+◌, ◌*◌, ◌≤◌, ◌<◌, ◌⊎◌, inl, inr, List, [], ◌∷◌, ◌++◌}
-use Rattle.std.proofs.Common.{length, take, refl, sym, ap, subst, ◌∙◌, arith, append_assoc}
-use Rattle.std.specs.Prelude.{Option, Some, None, Err}
+use Rattle.std.proofs.Common.{length, refl, sym, ap, subst, ◌∙◌, arith, append_assoc}
+use Rattle.std.specs.Prelude.{Option, Some, None, Result, Ok, Err, IsErrAnd}
 use Rattle.std.specs.List.{flat_map}
-use Rattle.std.specs.Io.KnownBytes.{Appends, IsAtEnd}
-use Rattle.std.proofs.KnownBytes.{Appends-trans, Appends-nil}
-use Rattle.std.proofs.lemmas.List.{append-nil, take_all, length-append}
+use Rattle.std.specs.Io.KnownBytes.{IsAtEnd}
+use Rattle.std.proofs.lemmas.List.{append-nil, length-append}
 use Rattle.std.proofs.lemmas.Grind.{flat_map-append}
-use Rattle.std.proofs.Math.Seq.{take-append-add}
 use Rattle.vbi_field.specs.ConfigView.{ConfigView}
 use Rattle.vbi_field.specs.Outlet as outlets
 use Rattle.vbi_field.specs.RowIntake as intakes
 use Rattle.vbi_field.specs.RowIntake.{IsFresh, HasNoNewline, Fetches, TakesRow, TakesByte}
 use Rattle.vbi_field.specs.WordRows.{AreRows, rows_of, row_words, word_row_of}
 use Rattle.vbi_field.specs.Drawing.{draw_out, drawn_field_of, drawn_line_of}
-use Rattle.vbi_field.specs.DrawRun.{EndsRow, PutsField, DrawsAll, StopsAtRow, StopsAtRead, StopsAtLimit, StopsAtWrite, Draws}
+use Rattle.vbi_field.specs.Draws.{EndsRow, Draws, RunsDrawing, counts_of}
 use Rattle.vbi_field.specs.declared.outlet.Outlet.{Outlet}
 use Rattle.vbi_field.specs.declared.row_intake.RowIntake.{RowIntake}
-use Rattle.vbi_field.specs.declared.row_intake.RowCame.TheVariants.{Row, LastRow, Malformed, Ended, Failed}
-use Rattle.vbi_field.specs.declared.row_intake.ByteCame.TheVariants as bytes
+use Rattle.vbi_field.specs.declared.row_intake.NextRow.TheVariants.{Row, LastRow, Malformed, Ended, Failed}
+use Rattle.vbi_field.specs.declared.row_intake.NextByte.TheVariants as bytes
 use Rattle.vbi_field.specs.declared.word_row.WordRow.{WordRow}
-use Rattle.vbi_field.specs.declared.drawing_fields.DrawFault.{DrawFault}
-use Rattle.vbi_field.specs.declared.drawing_fields.DrawFault.TheVariants.{Write}
+use Rattle.vbi_field.specs.declared.drawing.DrawFault.{DrawFault}
+use Rattle.vbi_field.specs.declared.drawing.DrawFault.TheVariants as faults
 use Rattle.vbi_field.proofs.DrawnLemmas.{length-drawn_field_of, small_field}
+use Rattle.vbi_field.proofs.Pulling.{has_failed, inside_of}
 use Rattle.vbi_field.proofs.RowSteps.{Fetches-none, Fetches-more}
+use Rattle.vbi_field.proofs.Settling.{wrote_none, wrote_twice}
 use Rattle.vbi_field.proofs.WordRowLemmas.{rows_of-append, rows_of-line, rows_of-part, row_words-line, row_words-part, AreRows-more}
 
 -- a field more
@@ -39,33 +39,36 @@ draw_out-none c = refl
 
 module _ {R W : Type 0} (remaining : R → Option (List ℕ)) (contents : W → Option (List ℕ)) (c : ConfigView)
     (i0 : RowIntake R) (o0 : Outlet W) where
-  -- so many rows were fetched and their fields written, and the line holds a drawn row of no word
-  pub record Going (done : ℕ) (i : RowIntake R) (o : Outlet W) (line : List ℕ) : Type 0 where
-    pub text : List ℕ
+  -- this number of rows were fetched and their fields written, and the line holds a drawn row of no word
+  pub record Drawn (done : ℕ) (i : RowIntake R) (o : Outlet W) (line : List ℕ) : Type 0 where
+    pub z : List ℕ
     pub rows : List WordRow
-    pub fetches : Fetches remaining i0 i text
-    pub fetched : i.fetched ≡ length text
-    pub ends : EndsRow text
-    pub well_formed : AreRows text rows
+    pub fetches : Fetches remaining i0 i z
+    pub fetched : i.fetched ≡ length z
+    pub ends : EndsRow z
+    pub well_formed : AreRows z rows
     pub count : length rows ≡ done
-    pub long : length text ≤ 21 * done
+    pub long : length z ≤ 21 * done
     pub reads : intakes.failures_of i ≤ 357 * done
-    pub appended : Appends (contents (outlets.device_of o0)) (contents (outlets.device_of o)) (draw_out c rows)
+    pub wrote : outlets.Wrote contents o0 o (draw_out c rows)
     pub written : o.written ≡ length (draw_out c rows)
     pub small : o.written ≤ 710510 * done
-    pub least_writes : outlets.failures_of o0 ≤ outlets.failures_of o
     pub writes : outlets.failures_of o ≤ 17 * (o.written + 313 * done)
+    pub calm_reads : intakes.errors_of i ≡ 0
+    pub calm_writes : outlets.errors_of o ≡ 0
     pub same_writer : outlets.IsSameDevice o0 o
     pub black : line ≡ drawn_line_of c None
 
-  pub start : (line : List ℕ) → IsFresh i0 → outlets.IsFresh o0 → line ≡ drawn_line_of c None → Going 0 i0 o0 line
-  start line fresh outlet black =
+  pub start : (line : List ℕ) → IsFresh i0 → outlets.IsFresh o0 → line ≡ drawn_line_of c None → Drawn 0 i0 o0 line
+  start line fresh clean black =
       let f = fresh.fetched in
       let n = fresh.failures in
-      let w = outlet.written in
-      let m = outlet.failures in
+      let w = clean.written in
+      let m = clean.failures in
+      let reader = i0.device in
+      let writer = o0.device in
       record {
-        text = [];
+        z = [];
         rows = [];
         fetches = Fetches-none remaining i0;
         fetched = f;
@@ -74,197 +77,226 @@ module _ {R W : Type 0} (remaining : R → Option (List ℕ)) (contents : W → 
         count = refl;
         long = omega arith;
         reads = omega arith;
-        appended = rw (draw_out-none c) (Appends-nil _);
-        written = rw (draw_out-none c) outlet.written;
+        wrote = rw (draw_out-none c) (wrote_none contents o0);
+        written = rw (draw_out-none c) w;
         small = omega arith;
-        least_writes = omega arith;
         writes = omega arith;
+        calm_reads = omega (arith, reader.failed);
+        calm_writes = omega (arith, writer.failed);
         same_writer = refl;
         black = black;
       }
 
-  module _ (done : ℕ) (i : RowIntake R) (o : Outlet W) (line : List ℕ) (g : Going done i o line) where
-    -- the text with the bytes that came
+  module _ (done : ℕ) (i : RowIntake R) (o : Outlet W) (line : List ℕ) (g : Drawn done i o line) where
     module _ (j : RowIntake R) (b : List ℕ) (f : Fetches remaining i j b) where
-      fetched_more : j.fetched ≡ length (g.text ++ b)
-      fetched_more = omega (arith, f.fetched, g.fetched, length-append g.text b)
+      fetches_more : Fetches remaining i0 j (g.z ++ b)
+      fetches_more = Fetches-more remaining i0 i j g.z b g.fetches f
 
-      fetches_more : Fetches remaining i0 j (g.text ++ b)
-      fetches_more = Fetches-more remaining i0 i j g.text b g.fetches f
+      fetched_more : j.fetched ≡ length (g.z ++ b)
+      fetched_more = omega (arith, f.fetched, g.fetched, length-append g.z b)
+
+      -- the run ends with these bytes, and nothing more is written
+      ends_here : (result : Result ℕ DrawFault) → Draws c (remaining (intakes.device_of j)) (counts_of j o) result (g.z ++ b) (draw_out c g.rows)
+          → RunsDrawing remaining contents c i0 j o0 o result
+      ends_here result says =
+          let all = fetches_more in
+          let wrote = g.wrote in
+          record {
+            z = g.z ++ b;
+            text = draw_out c g.rows;
+            consumed = all.consumed;
+            appended = wrote.appended;
+            fetched = fetched_more;
+            written = g.written;
+            says = says;
+          }
 
     -- the rows with one more
     rows_count : (words : WordRow) → length (g.rows ++ words ∷ []) ≡ done + 1
     rows_count words = omega (arith, length-append g.rows (words ∷ []), g.count)
 
     -- the reader ended after whole rows
-    pub ended : (j : RowIntake R) → Fetches remaining i j [] → IsAtEnd (remaining (intakes.device_of j)) → done ≤ c.max_fields
-        → DrawsAll remaining contents c i0 j o0 o done
-    ended j f end few = record {
-      text = g.text ++ [];
+    ended : (j : RowIntake R) → Fetches remaining i j [] → intakes.errors_of j ≡ intakes.errors_of i
+        → IsAtEnd (remaining (intakes.device_of j)) → done ≤ c.max_fields → RunsDrawing remaining contents c i0 j o0 o (Ok done)
+    ended j f calm end few = ends_here j [] f (Ok done) (record {
       rows = g.rows;
-      fetched = record { consumed = (fetches_more j [] f).consumed; fetched = fetched_more j [] f };
       well_formed = rw append-nil g.well_formed;
       number = sym g.count;
       few = few;
       ended = end;
-      drew = record { appended = g.appended; written = g.written };
-    }
+      drawn = refl;
+      calm = (calm ∙ g.calm_reads, g.calm_writes);
+    })
 
     -- the reader failed
-    pub read_failed : (j : RowIntake R) (b : List ℕ) → Fetches remaining i j b → HasNoNewline b → intakes.failures_of i < intakes.failures_of j
-        → StopsAtRead remaining contents c i0 j o0 o (done + 1)
-    read_failed j b f plain rose = record {
-      before = g.text;
+    read_failed : (j : RowIntake R) (b : List ℕ) → Fetches remaining i j b → HasNoNewline b → intakes.HasCause i j
+        → (done + 1 ≤ c.max_fields) ⊎ ((done + 1 ≡ c.max_fields + 1) × (b ≡ []))
+        → RunsDrawing remaining contents c i0 j o0 o (Err (faults.Read (done + 1)))
+    read_failed j b f plain cause few = ends_here j b f (Err (faults.Read (done + 1))) (record {
+      before = g.z;
       part = b;
       rows = g.rows;
-      fetched = record { consumed = (fetches_more j b f).consumed; fetched = fetched_more j b f };
+      both = refl;
       whole = g.ends;
       unfinished = plain;
       well_formed = g.well_formed;
-      number = omega (arith, g.count);
-      rose = omega (arith, g.fetches.least);
-      drew = record { appended = g.appended; written = g.written };
-    }
+      number_of = omega (arith, g.count);
+      few = few;
+      drawn = refl;
+      failed = has_failed i.device j.device g.calm_reads cause;
+      calm = g.calm_writes;
+    })
 
     -- a byte followed the last row that is allowed
     pub too_many : (j : RowIntake R) (byte : ℕ) → TakesByte remaining i j (bytes.Byte byte) → done ≡ c.max_fields
-        → StopsAtLimit remaining contents c i0 j o0 o
-    too_many j byte t last = record {
-      before = g.text;
+        → RunsDrawing remaining contents c i0 j o0 o (Err faults.TooManyFields)
+    too_many j byte t last = ends_here j (byte ∷ []) t.fetches (Err faults.TooManyFields) (record {
+      before = g.z;
       byte = byte;
       rows = g.rows;
-      fetched = record { consumed = (fetches_more j (byte ∷ []) t.fetches).consumed; fetched = fetched_more j (byte ∷ []) t.fetches };
+      both = refl;
       whole = g.ends;
       well_formed = g.well_formed;
-      number = g.count ∙ last;
-      drew = record { appended = g.appended; written = g.written };
-    }
+      number_of = g.count ∙ last;
+      drawn = refl;
+      calm = (t.caused ∙ g.calm_reads, g.calm_writes);
+    })
 
-    -- a malformed row
-    bad : (j : RowIntake R) (b : List ℕ) → Fetches remaining i j b → rows_of b ≡ b ∷ [] → row_words b ≡ None
-        → ((front : List ℕ) × (b ≡ front ++ 10 ∷ [])) ⊎ (IsAtEnd (remaining (intakes.device_of j)) ⊎ (length b ≡ 21))
-        → StopsAtRow remaining contents c i0 j o0 o (done + 1)
-    bad j b f one malformed read_to = record {
-      before = g.text;
-      row = b;
-      rows = g.rows;
-      fetched = record { consumed = (fetches_more j b f).consumed; fetched = fetched_more j b f };
-      cut = rows_of-append g.text b g.ends ∙ ap (λ (l : List (List ℕ)). rows_of g.text ++ l) one;
-      well_formed = g.well_formed;
-      number = omega (arith, g.count);
-      malformed = malformed;
-      read_to = read_to;
-      drew = record { appended = g.appended; written = g.written };
-    }
+    -- ---- a malformed row
 
-    bad_as : (j : RowIntake R) (b row : List ℕ) → Fetches remaining i j b → HasNoNewline row → word_row_of row ≡ None
-        → (b ≡ row ++ 10 ∷ []) ⊎ (((b ≡ row) × (0 < length row) × IsAtEnd (remaining (intakes.device_of j))) ⊎ ((b ≡ row) × (length row ≡ 21)))
-        → StopsAtRow remaining contents c i0 j o0 o (done + 1)
-    bad_as j b row f plain none (inl e) =
-        bad j b f (rw e (rows_of-line row plain)) (rw e (row_words-line row plain ∙ none)) (inl (row, e))
-    bad_as j b row f plain none (inr (inl e)) =
-        bad j b f (let e0 = e.0 in rw e0 (rows_of-part row plain e.1)) (ap row_words e.0 ∙ row_words-part row plain ∙ none) (inr (inl e.2))
-    bad_as j b row f plain none (inr (inr e)) =
-        bad j b f (let e0 = e.0 in rw e0 (rows_of-part row plain (omega (arith, e.1)))) (ap row_words e.0 ∙ row_words-part row plain ∙ none)
-        (inr (inr (ap length e.0 ∙ e.1)))
+    module _ (j : RowIntake R) (b : List ℕ) (f : Fetches remaining i j b) (calm : intakes.errors_of j ≡ intakes.errors_of i)
+        (few : done < c.max_fields) where
+      bad : rows_of b ≡ b ∷ [] → row_words b ≡ None
+          → ((front : List ℕ) × (b ≡ front ++ 10 ∷ [])) ⊎ (IsAtEnd (remaining (intakes.device_of j)) ⊎ (length b ≡ 21))
+          → RunsDrawing remaining contents c i0 j o0 o (Err (faults.Row (done + 1)))
+      bad one malformed read_to = ends_here j b f (Err (faults.Row (done + 1))) (record {
+        before = g.z;
+        row = b;
+        rows = g.rows;
+        both = refl;
+        cut = rows_of-append g.z b g.ends ∙ ap (λ (l : List (List ℕ)). rows_of g.z ++ l) one;
+        well_formed = g.well_formed;
+        number_of = omega (arith, g.count);
+        few = omega arith;
+        malformed = malformed;
+        read_to = read_to;
+        drawn = refl;
+        calm = (calm ∙ g.calm_reads, g.calm_writes);
+      })
 
-    pub bad_row : (j : RowIntake R) (t : TakesRow remaining i j Malformed) → StopsAtRow remaining contents c i0 j o0 o (done + 1)
-    bad_row j t = bad_as j t.bytes t.told.row t.fetches t.told.plain t.told.malformed t.told.read_to
+      bad_as : (row : List ℕ) → HasNoNewline row → word_row_of row ≡ None
+          → (b ≡ row ++ 10 ∷ []) ⊎ (((b ≡ row) × (0 < length row) × IsAtEnd (remaining (intakes.device_of j))) ⊎ ((b ≡ row) × (length row ≡ 21)))
+          → RunsDrawing remaining contents c i0 j o0 o (Err (faults.Row (done + 1)))
+      bad_as row plain none (inl e) = bad (rw e (rows_of-line row plain)) (rw e (row_words-line row plain ∙ none)) (inl (row, e))
+      bad_as row plain none (inr (inl e)) =
+          bad (let e0 = e.0 in rw e0 (rows_of-part row plain e.1)) (ap row_words e.0 ∙ row_words-part row plain ∙ none) (inr (inl e.2))
+      bad_as row plain none (inr (inr e)) =
+          bad (let e0 = e.0 in rw e0 (rows_of-part row plain (omega (arith, e.1)))) (ap row_words e.0 ∙ row_words-part row plain ∙ none)
+          (inr (inr (ap length e.0 ∙ e.1)))
+
+    pub bad_row : (j : RowIntake R) (t : TakesRow remaining i j Malformed) → done < c.max_fields
+        → RunsDrawing remaining contents c i0 j o0 o (Err (faults.Row (done + 1)))
+    bad_row j t few = bad_as j t.bytes t.fetches t.caused few t.got.row t.got.plain t.got.malformed t.got.read_to
 
     -- ---- a good row came, and its field is written, whole or in part
 
-    module _ (j : RowIntake R) (b : List ℕ) (words : WordRow) (f : Fetches remaining i j b)
-        (one : rows_of b ≡ b ∷ []) (is : row_words b ≡ Some words) where
-      well_formed_more : AreRows (g.text ++ b) (g.rows ++ words ∷ [])
-      well_formed_more = AreRows-more g.text b g.rows words g.well_formed g.ends one is
+    module _ (j : RowIntake R) (b : List ℕ) (words : WordRow) (f : Fetches remaining i j b) (calm : intakes.errors_of j ≡ intakes.errors_of i)
+        (one : rows_of b ≡ b ∷ []) (is : row_words b ≡ Some words) (few : done < c.max_fields) where
+      well_formed_more : AreRows (g.z ++ b) (g.rows ++ words ∷ [])
+      well_formed_more = AreRows-more g.z b g.rows words g.well_formed g.ends one is
 
       longer : length (draw_out c (g.rows ++ words ∷ [])) ≡ length (draw_out c g.rows) + length (drawn_field_of c words)
       longer = ap length (draw_out-more c g.rows words) ∙ length-append (draw_out c g.rows) (drawn_field_of c words)
 
-      stopped : (p : Outlet W) → PutsField contents o p (drawn_field_of c words)
-          → outlets.failures_of o < outlets.failures_of p → done < c.max_fields
-          → StopsAtWrite remaining contents c i0 j o0 p p.written
-      stopped p puts rose few =
+      -- the writer failed
+      write_failed : (p : Outlet W) (r : Result ℕ DrawFault) → outlets.WrotePart contents o p (drawn_field_of c words)
+          → outlets.HasCause o p → IsErrAnd r (λ e. e ≡ faults.Write p.written) → RunsDrawing remaining contents c i0 j o0 p r
+      write_failed p (Ok n) part cause e = absurd e
+      write_failed p (Err fault) part cause e =
           let base = draw_out c g.rows in
-          let at : p.written ≡ length base + puts.count = omega (arith, puts.written, g.written) in
-          let cut : take p.written (draw_out c (g.rows ++ words ∷ [])) ≡ base ++ take puts.count (drawn_field_of c words) =
-          ap (take p.written) (draw_out-more c g.rows words)
-          ∙ ap (λ (n : ℕ). take n (base ++ drawn_field_of c words)) at
-          ∙ take-append-add base (drawn_field_of c words) puts.count in
+          let all = fetches_more j b f in
+          let wrote = part.wrote in
+          let both = wrote_twice contents o0 o p base part.part g.wrote wrote in
+          let w = wrote.written in
+          let count : p.written ≡ length (base ++ part.part) = omega (arith, g.written, length-append base part.part) in
           record {
-            text = g.text ++ b;
-            rows = g.rows ++ words ∷ [];
-            fetched = record { consumed = (fetches_more j b f).consumed; fetched = fetched_more j b f };
-            well_formed = well_formed_more;
-            few = omega (arith, rows_count words);
-            within = omega (arith, longer, puts.within);
-            appended = rw cut (Appends-trans _ _ _ base (take puts.count (drawn_field_of c words)) g.appended puts.appended);
-            written = refl;
-            rose = omega (arith, g.least_writes);
+            z = g.z ++ b;
+            text = base ++ part.part;
+            consumed = all.consumed;
+            appended = both.appended;
+            fetched = fetched_more j b f;
+            written = count;
+            says = rw e (record {
+              rows = g.rows;
+              last = words;
+              well_formed = well_formed_more;
+              few = omega (arith, g.count);
+              count = count;
+              inside = inside_of contents o p base (drawn_field_of c words) (draw_out c (g.rows ++ words ∷ [])) part
+                  (sym (draw_out-more c g.rows words));
+              failed = has_failed o.device p.device g.calm_writes cause;
+              calm = calm ∙ g.calm_reads;
+            });
           }
 
-      -- the writer failed
-      pub write_failed : (p : Outlet W) (fault : DrawFault) → PutsField contents o p (drawn_field_of c words)
-          → outlets.failures_of o < outlets.failures_of p → fault ≡ Write p.written → done < c.max_fields
-          → Draws remaining contents c i0 j o0 p (Err fault)
-      write_failed p fault puts rose e few =
-          let P : DrawFault → Type 0 = λ x. Draws remaining contents c i0 j o0 p (Err x) in
-          subst P (sym e) (stopped p puts rose few)
-
-      module _ (p : Outlet W) (puts : PutsField contents o p (drawn_field_of c words))
-          (ok : p.written ≡ o.written + length (drawn_field_of c words)) where
-        appended_more : Appends (contents (outlets.device_of o0)) (contents (outlets.device_of p)) (draw_out c (g.rows ++ words ∷ []))
-        appended_more =
-            let field = drawn_field_of c words in
-            let whole : take puts.count field ≡ field = take_all puts.count field (omega (arith, puts.written)) in
-            rw (draw_out-more c g.rows words) (Appends-trans _ _ _ (draw_out c g.rows) field g.appended (rw whole at puts.appended))
+      module _ (p : Outlet W) (wrote : outlets.Wrote contents o p (drawn_field_of c words))
+          (no_error : outlets.errors_of p ≡ outlets.errors_of o) where
+        wrote_more : outlets.Wrote contents o0 p (draw_out c (g.rows ++ words ∷ []))
+        wrote_more = rw (draw_out-more c g.rows words) (wrote_twice contents o0 o p (draw_out c g.rows) (drawn_field_of c words) g.wrote wrote)
 
         written_more : p.written ≡ length (draw_out c (g.rows ++ words ∷ []))
-        written_more = omega (arith, longer, g.written)
+        written_more = omega (arith, longer, g.written, wrote.written)
 
         -- the field is written, and the row was the last
-        pub last_row : IsAtEnd (remaining (intakes.device_of j)) → done < c.max_fields → DrawsAll remaining contents c i0 j o0 p (done + 1)
-        last_row end few = record {
-          text = g.text ++ b;
-          rows = g.rows ++ words ∷ [];
-          fetched = record { consumed = (fetches_more j b f).consumed; fetched = fetched_more j b f };
-          well_formed = well_formed_more;
-          number = sym (rows_count words);
-          few = omega arith;
-          ended = end;
-          drew = record { appended = appended_more; written = written_more };
-        }
+        last_row : IsAtEnd (remaining (intakes.device_of j)) → RunsDrawing remaining contents c i0 j o0 p (Ok (done + 1))
+        last_row end =
+            let all = fetches_more j b f in
+            let drew = wrote_more in
+            record {
+              z = g.z ++ b;
+              text = draw_out c (g.rows ++ words ∷ []);
+              consumed = all.consumed;
+              appended = drew.appended;
+              fetched = fetched_more j b f;
+              written = written_more;
+              says = record {
+                rows = g.rows ++ words ∷ [];
+                well_formed = well_formed_more;
+                number = sym (rows_count words);
+                few = omega arith;
+                ended = end;
+                drawn = refl;
+                calm = (calm ∙ g.calm_reads, no_error ∙ g.calm_writes);
+              };
+            }
 
         -- the field is written, and rows may follow
-        pub next_row : (line : List ℕ) → outlets.IsSameDevice o p → line ≡ drawn_line_of c None → EndsRow (g.text ++ b) → length b ≤ 21
-            → intakes.failures_of j ≤ intakes.failures_of i + 357 → Going (done + 1) j p line
-        next_row line same black ends short most =
+        next_row : (line : List ℕ) → outlets.IsSameDevice o p → line ≡ drawn_line_of c None → EndsRow (g.z ++ b) → length b ≤ 21
+            → intakes.failures_of j ≤ intakes.failures_of i + 357
+            → outlets.failures_of p ≤ outlets.failures_of o + 17 * (length (drawn_field_of c words) + 313) → Drawn (done + 1) j p line
+        next_row line same black ends short reads writes =
             let size = length-drawn_field_of c words in
             let small = small_field c.system in
-            let l = length-append g.text b in
-            let long = g.long in
-            let reads = g.reads in
+            let l = length-append g.z b in
+            let w = wrote.written in
             let before = g.small in
-            let writes = g.writes in
-            let least = g.least_writes in
-            let most2 = puts.most in
-            let least2 = puts.least in
-            let w = puts.written in
+            let was = g.writes in
             record {
-              text = g.text ++ b;
+              z = g.z ++ b;
               rows = g.rows ++ words ∷ [];
               fetches = fetches_more j b f;
               fetched = fetched_more j b f;
               ends = ends;
               well_formed = well_formed_more;
               count = rows_count words;
-              long = omega arith;
-              reads = omega arith;
-              appended = appended_more;
+              long = omega (arith, g.long);
+              reads = omega (arith, g.reads);
+              wrote = wrote_more;
               written = written_more;
               small = omega arith;
-              least_writes = omega arith;
               writes = omega arith;
+              calm_reads = calm ∙ g.calm_reads;
+              calm_writes = no_error ∙ g.calm_writes;
               same_writer = same ∙ g.same_writer;
               black = black;
             }
@@ -277,57 +309,56 @@ module _ {R W : Type 0} (remaining : R → Option (List ℕ)) (contents : W → 
     line_is : (b row : List ℕ) (words : WordRow) → HasNoNewline row → b ≡ row ++ 10 ∷ [] → word_row_of row ≡ Some words → row_words b ≡ Some words
     line_is b row words plain e w = rw e (row_words-line row plain ∙ w)
 
-    line_ends : (b row : List ℕ) → b ≡ row ++ 10 ∷ [] → EndsRow (g.text ++ b)
-    line_ends b row e = inr (g.text ++ row, ap (λ (l : List ℕ). g.text ++ l) e ∙ sym (append_assoc g.text row (10 ∷ [])))
+    line_ends : (b row : List ℕ) → b ≡ row ++ 10 ∷ [] → EndsRow (g.z ++ b)
+    line_ends b row e = inr (g.z ++ row, ap (λ (l : List ℕ). g.z ++ l) e ∙ sym (append_assoc g.z row (10 ∷ [])))
 
-    module _ (j : RowIntake R) (words : WordRow) (t : TakesRow remaining i j (Row words)) (few : done < c.max_fields) (p : Outlet W)
-        (puts : PutsField contents o p (drawn_field_of c words)) where
-      pub row_failed : (fault : DrawFault) → outlets.failures_of o < outlets.failures_of p → fault ≡ Write p.written
-          → Draws remaining contents c i0 j o0 p (Err fault)
-      row_failed fault rose e =
-          write_failed j t.bytes words t.fetches (line_one t.bytes t.told.0 t.told.1 t.told.2)
-          (line_is t.bytes t.told.0 words t.told.1 t.told.2 t.told.3)
-          p fault puts rose e few
+    module _ (j : RowIntake R) (words : WordRow) (t : TakesRow remaining i j (Row words)) (few : done < c.max_fields) (p : Outlet W) where
+      pub row_failed : (r : Result ℕ DrawFault) → outlets.WrotePart contents o p (drawn_field_of c words) → outlets.HasCause o p
+          → IsErrAnd r (λ e. e ≡ faults.Write p.written) → RunsDrawing remaining contents c i0 j o0 p r
+      row_failed =
+          write_failed j t.bytes words t.fetches t.caused (line_one t.bytes t.got.0 t.got.1 t.got.2)
+          (line_is t.bytes t.got.0 words t.got.1 t.got.2 t.got.3) few p
 
-      pub row_drawn : (line : List ℕ) → p.written ≡ o.written + length (drawn_field_of c words) → outlets.IsSameDevice o p
-          → line ≡ drawn_line_of c None → Going (done + 1) j p line
-      row_drawn line ok same black =
-          next_row j t.bytes words t.fetches (line_one t.bytes t.told.0 t.told.1 t.told.2) (line_is t.bytes t.told.0 words t.told.1 t.told.2 t.told.3)
-          p puts ok line same black (line_ends t.bytes t.told.0 t.told.2) t.short t.most
+      pub row_drawn : (line : List ℕ) → outlets.Wrote contents o p (drawn_field_of c words) → outlets.errors_of p ≡ outlets.errors_of o
+          → outlets.IsSameDevice o p → outlets.failures_of p ≤ outlets.failures_of o + 17 * (length (drawn_field_of c words) + 313)
+          → line ≡ drawn_line_of c None → Drawn (done + 1) j p line
+      row_drawn line wrote no_error same writes black =
+          next_row j t.bytes words t.fetches t.caused (line_one t.bytes t.got.0 t.got.1 t.got.2) (line_is t.bytes t.got.0 words t.got.1 t.got.2 t.got.3)
+          few p wrote no_error line same black (line_ends t.bytes t.got.0 t.got.2) t.short t.most writes
 
-    module _ (j : RowIntake R) (words : WordRow) (t : TakesRow remaining i j (LastRow words)) (few : done < c.max_fields) (p : Outlet W)
-        (puts : PutsField contents o p (drawn_field_of c words)) where
-      pub last_row_failed : (fault : DrawFault) → outlets.failures_of o < outlets.failures_of p → fault ≡ Write p.written
-          → Draws remaining contents c i0 j o0 p (Err fault)
-      last_row_failed fault rose e =
-          write_failed j t.bytes words t.fetches (rows_of-part t.bytes t.told.0 t.told.1) (row_words-part t.bytes t.told.0 ∙ t.told.2)
-          p fault puts rose e few
+    module _ (j : RowIntake R) (words : WordRow) (t : TakesRow remaining i j (LastRow words)) (few : done < c.max_fields) (p : Outlet W) where
+      pub last_row_failed : (r : Result ℕ DrawFault) → outlets.WrotePart contents o p (drawn_field_of c words) → outlets.HasCause o p
+          → IsErrAnd r (λ e. e ≡ faults.Write p.written) → RunsDrawing remaining contents c i0 j o0 p r
+      last_row_failed =
+          write_failed j t.bytes words t.fetches t.caused (rows_of-part t.bytes t.got.0 t.got.1) (row_words-part t.bytes t.got.0 ∙ t.got.2) few p
 
-      pub last_row_drawn : p.written ≡ o.written + length (drawn_field_of c words) → DrawsAll remaining contents c i0 j o0 p (done + 1)
-      last_row_drawn ok =
-          last_row j t.bytes words t.fetches (rows_of-part t.bytes t.told.0 t.told.1) (row_words-part t.bytes t.told.0 ∙ t.told.2)
-          p puts ok t.told.3 few
+      pub last_row_drawn : outlets.Wrote contents o p (drawn_field_of c words) → outlets.errors_of p ≡ outlets.errors_of o
+          → RunsDrawing remaining contents c i0 j o0 p (Ok (done + 1))
+      last_row_drawn wrote no_error =
+          last_row j t.bytes words t.fetches t.caused (rows_of-part t.bytes t.got.0 t.got.1) (row_words-part t.bytes t.got.0 ∙ t.got.2)
+          few p wrote no_error t.got.3
 
     -- the reader ended after whole rows, or failed in the next
-    pub row_ended : (j : RowIntake R) (t : TakesRow remaining i j Ended) → done ≤ c.max_fields → DrawsAll remaining contents c i0 j o0 o done
+    pub row_ended : (j : RowIntake R) (t : TakesRow remaining i j Ended) → done ≤ c.max_fields → RunsDrawing remaining contents c i0 j o0 o (Ok done)
     row_ended j t few =
         let P : List ℕ → Type 0 = Fetches remaining i j in
-        ended j (subst P t.told.0 t.fetches) t.told.1 few
+        ended j (subst P t.got.0 t.fetches) t.caused t.got.1 few
 
-    pub row_read_failed : (j : RowIntake R) (t : TakesRow remaining i j Failed) → StopsAtRead remaining contents c i0 j o0 o (done + 1)
-    row_read_failed j t = read_failed j t.bytes t.fetches t.told.0 t.told.1
+    pub row_read_failed : (j : RowIntake R) (t : TakesRow remaining i j Failed) → done < c.max_fields
+        → RunsDrawing remaining contents c i0 j o0 o (Err (faults.Read (done + 1)))
+    row_read_failed j t few = read_failed j t.bytes t.fetches t.got t.caused (inl (omega arith))
 
     pub byte_ended : (j : RowIntake R) → TakesByte remaining i j bytes.Ended → (n : ℕ) → n ≡ c.max_fields → done ≡ n
-        → DrawsAll remaining contents c i0 j o0 o n
+        → RunsDrawing remaining contents c i0 j o0 o (Ok n)
     byte_ended j t n max last =
-        let P : ℕ → Type 0 = DrawsAll remaining contents c i0 j o0 o in
-        subst P last (ended j t.fetches t.told (omega arith))
+        let P : ℕ → Type 0 = λ k. RunsDrawing remaining contents c i0 j o0 o (Ok k) in
+        subst P last (ended j t.fetches t.caused t.got (omega arith))
 
-    pub byte_read_failed : (j : RowIntake R) → TakesByte remaining i j bytes.Failed → (n : ℕ) → done ≡ n
-        → StopsAtRead remaining contents c i0 j o0 o (n + 1)
-    byte_read_failed j t n last =
-        let P : ℕ → Type 0 = λ k. StopsAtRead remaining contents c i0 j o0 o (k + 1) in
-        subst P last (read_failed j [] t.fetches no_newline t.told)
+    pub byte_read_failed : (j : RowIntake R) → TakesByte remaining i j bytes.Failed → (n : ℕ) → n ≡ c.max_fields → done ≡ n
+        → RunsDrawing remaining contents c i0 j o0 o (Err (faults.Read (n + 1)))
+    byte_read_failed j t n max last =
+        let P : ℕ → Type 0 = λ k. RunsDrawing remaining contents c i0 j o0 o (Err (faults.Read (k + 1))) in
+        subst P last (read_failed j [] t.fetches no_newline t.caused (inr (omega arith, refl)))
       where
         no_newline : HasNoNewline []
         no_newline = λ k d inside. absurd (omega arith)

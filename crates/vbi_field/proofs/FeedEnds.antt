@@ -1,12 +1,12 @@
 -- How a stream that is pushed begins and ends.
-use Rattle.std.proofs.Common.{◌≡◌, ℕ, ◌+◌, ◌*◌, List, length, take, drop, sym, ap, ◌∙◌}
-use Rattle.std.specs.Prelude.{Option, Result, Ok, Err, OnOk, IfOk, IfErr}
+use Rattle.std.proofs.Common.{◌≡◌, ℕ, ◌+◌, ◌*◌, ◌<◌, List, length, sym, ap, subst, ◌∙◌}
+use Rattle.std.specs.Prelude.{Option, Result, Ok, Err, OnOk, OnErr, IfOk, IfErr}
 use Rattle.std.proofs.lemmas.List.{take-append-drop}
 use Rattle.vbi_words.specs.Geometry.{width_of, line_bytes}
 use Rattle.vbi_line.specs.Line.{Line}
 use Rattle.vbi_field.specs.Kinds.{document}
-use Rattle.vbi_field.specs.Feed.{AppendsInPart, IsAt, IsFinished}
-use Rattle.vbi_field.specs.Outlet.{written_of, Puts}
+use Rattle.vbi_field.specs.Feed.{IsAt, IsFinished}
+use Rattle.vbi_field.specs.Outlet.{written_of, Puts, WrotePart}
 use Rattle.vbi_field.specs.ConfigView.{ConfigView}
 use Rattle.vbi_field.specs.Stand.{IsStand, place_of}
 use Rattle.vbi_field.specs.Stream.{fields_of, rest_of, cut_of, selected, selected_rows, looks_of}
@@ -16,13 +16,14 @@ use Rattle.vbi_field.specs.declared.summary.RunFault.{RunFault}
 use Rattle.vbi_field.specs.declared.summary.RunFault.TheVariants.{Write}
 use Rattle.vbi_field.specs.declared.summary.Summary.{Summary}
 use Rattle.vbi_field.proofs.FeedPlaces.{Split, split_of, split_fields, split_rest, split_rows}
-use Rattle.vbi_field.proofs.Going.{put_whole}
+use Rattle.vbi_field.proofs.Settling.{wrote_whole, put_in_part}
 
 -- what was put is the first of it
 pub in_part : {W : Type 0} (contents : W → Option (List ℕ)) (o o' : Outlet W) (bytes whole : List ℕ) → bytes ≡ whole
-    → Puts contents o o' bytes → AppendsInPart contents o o' whole
-in_part contents o o' bytes whole is puts =
-    (take puts.count bytes, drop puts.count bytes, take-append-drop puts.count bytes ∙ is, puts.appended)
+    → Puts contents o o' bytes → written_of o' < written_of o + length bytes → WrotePart contents o o' whole
+in_part contents o o' bytes whole is puts less =
+    let P : List ℕ → Type 0 = WrotePart contents o o' in
+    subst P is (put_in_part contents o o' bytes puts less)
 
 module _ {W : Type 0} (contents : W → Option (List ℕ)) (c : ConfigView) (l : Line) (p : Progress) (st : IsStand c l p) (o o' : Outlet W)
     (z : List ℕ) (at : IsAt c z (place_of c l p)) (held rest : ℕ) (hs : held ≡ length l.held)
@@ -49,13 +50,14 @@ module _ {W : Type 0} (contents : W → Option (List ℕ)) (c : ConfigView) (l :
   pub finished : (looked : ℕ) (r : Result Summary RunFault) → looked ≡ l.looked → Puts contents o o' (document.tail p.fields rest)
       → OnOk r (written_of o' ≡ written_of o + length (document.tail p.fields rest))
       → IfOk r (λ s. s ≡ record { fields = p.fields; cut = cut_of rest; looked = looked })
+      → OnErr r (written_of o' < written_of o + length (document.tail p.fields rest))
       → IfErr r (λ e. e ≡ Write (written_of o')) → IsFinished contents c o o' z r
-  finished looked (Ok s) ls puts whole says fails =
+  finished looked (Ok s) ls puts whole says less fails =
       let same : s.looked ≡ l.looked = ap (λ s. s.looked) says ∙ ls in (
-        rw (← tail) (put_whole contents o o' (document.tail p.fields rest) puts whole),
+        rw (← tail) (wrote_whole contents o o' (document.tail p.fields rest) puts whole),
         ap (λ s. s.fields) says ∙ fields,
         ap (λ s. s.cut) says ∙ ap cut_of past,
         same ∙ looks,
       )
-  finished looked (Err e) ls puts whole says fails =
-      rw fails (in_part contents o o' (document.tail p.fields rest) (document.tail (fields_of c z) (rest_of c z)) tail puts)
+  finished looked (Err e) ls puts whole says less fails =
+      rw fails (in_part contents o o' (document.tail p.fields rest) (document.tail (fields_of c z) (rest_of c z)) tail puts less)

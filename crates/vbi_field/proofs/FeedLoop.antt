@@ -6,22 +6,23 @@ use Rattle.std.proofs.lemmas.List.{length-drop, take_all, take-append-drop}
 use Rattle.std.proofs.Math.Nat.{le_refl, le_of_eq}
 use Rattle.std.proofs.Math.Seq.{take-add}
 use Rattle.vbi_field.specs.Kinds.{document}
-use Rattle.vbi_field.specs.Feed.{IsAt, IsFed, Rises, StandsAt}
+use Rattle.vbi_field.specs.Feed.{IsAt, IsFed, IsFeedFault, StandsAt}
 use Rattle.vbi_field.specs.FeedView.{feeding_of}
 use Rattle.vbi_field.specs.Feeding.{Feeding}
-use Rattle.vbi_field.specs.Outlet.{IsSameDevice}
+use Rattle.vbi_field.specs.Outlet.{errors_of, IsSameDevice, Rises}
 use Rattle.vbi_field.specs.Position.{Position}
 use Rattle.vbi_field.specs.ConfigView.{ConfigView, allowed_bytes}
 use Rattle.vbi_field.specs.Stand.{IsStand, IsStep, place_of}
 use Rattle.vbi_field.specs.Texts.{begun_of}
 use Rattle.vbi_field.specs.declared.feeder.Feeder.TheInside.{Inside}
+use Rattle.vbi_line.proofs.Causes.{cause_later}
 use Rattle.vbi_line.specs.Line.{Line}
 use Rattle.vbi_field.specs.declared.progress.Progress.{Progress}
 use Rattle.vbi_field.specs.declared.outlet.Outlet.{Outlet}
 use Rattle.vbi_field.specs.declared.summary.RunFault.{RunFault}
 use Rattle.vbi_field.specs.declared.summary.RunFault.TheVariants.{Read, Write, TooManyFields, Failed}
 use Rattle.vbi_field.proofs.FeedTexts.{completes_twice}
-use Rattle.vbi_field.proofs.Known.{Appends-none, Appends-twice}
+use Rattle.vbi_field.proofs.Settling.{wrote_none, wrote_twice, later_part}
 
 module _ {W : Type 0} (contents : W → Option (List ℕ)) (c : ConfigView) where
   -- nothing came
@@ -30,7 +31,7 @@ module _ {W : Type 0} (contents : W → Option (List ℕ)) (c : ConfigView) wher
       let P : List ℕ → Type 0 = λ l. IsFed contents c o o z [] now (Ok tt) in
       let Q : List ℕ → Type 0 = λ l. IsAt c l now in (
         subst Q (sym (append-nil z)) at,
-        ([], append-nil (begun_of document c z) ∙ ap (begun_of document c) (sym (append-nil z)), Appends-none _),
+        ([], append-nil (begun_of document c z) ∙ ap (begun_of document c) (sym (append-nil z)), wrote_none contents o),
       )
 
   module _ (o0 o o' : Outlet W) (z first bytes : List ℕ) (was now : Position) (before : IsFed contents c o0 o z first was (Ok tt)) where
@@ -42,8 +43,8 @@ module _ {W : Type 0} (contents : W → Option (List ℕ)) (c : ConfigView) wher
           subst P all after.0,
           (
             before.1.0 ++ after.1.0,
-            completes_twice c z (z ++ first) ((z ++ first) ++ bytes) before.1.0 after.1.0 before.1.1 after.1.1 ∙ ap (begun_of document c) all,
-            Appends-twice _ _ _ before.1.0 after.1.0 before.1.2 after.1.2,
+            completes_twice document c z (z ++ first) ((z ++ first) ++ bytes) before.1.0 after.1.0 before.1.1 after.1.1 ∙ ap (begun_of document c) all,
+            wrote_twice contents o0 o o' before.1.0 after.1.0 before.1.2 after.1.2,
           ),
         )
 
@@ -58,19 +59,17 @@ module _ {W : Type 0} (contents : W → Option (List ℕ)) (c : ConfigView) wher
           omega (arith, after.0),
           (
             before.1.0 ++ after.1.0,
-            completes_twice c z (z ++ first) (take (allowed_bytes c) ((z ++ first) ++ bytes)) before.1.0 after.1.0 before.1.1 after.1.1
+            completes_twice document c z (z ++ first) (take (allowed_bytes c) ((z ++ first) ++ bytes)) before.1.0 after.1.0 before.1.1 after.1.1
                 ∙ ap (λ l. begun_of document c (take (allowed_bytes c) l)) all,
-            Appends-twice _ _ _ before.1.0 after.1.0 before.1.2 after.1.2,
+            wrote_twice contents o0 o o' before.1.0 after.1.0 before.1.2 after.1.2,
           ),
         )
     fed_fault (Write written) after =
         let all = append_assoc z first bytes in (
           before.1.0 ++ after.0,
-          after.1,
-          ap (λ l. begun_of document c z ++ l) (append_assoc before.1.0 after.0 after.1)
-              ∙ completes_twice c z (z ++ first) (take (allowed_bytes c) ((z ++ first) ++ bytes)) before.1.0 (after.0 ++ after.1) before.1.1 after.2
+          completes_twice document c z (z ++ first) (take (allowed_bytes c) ((z ++ first) ++ bytes)) before.1.0 after.0 before.1.1 after.1
               ∙ ap (λ l. begun_of document c (take (allowed_bytes c) l)) all,
-          Appends-twice _ _ _ before.1.0 after.0 before.1.2 after.3,
+          later_part contents o0 o o' before.1.0 after.0 before.1.2 after.2,
         )
 
 -- so much of a piece was taken
@@ -82,6 +81,7 @@ pub record Taken {W : Type 0} (contents : W → Option (List ℕ)) (old : Feedin
   pub stand : IsStand now.config now.line now.progress
   pub within : at ≤ length piece
   pub same : IsSameDevice o0 o
+  pub errors : errors_of o ≡ errors_of o0
   pub rises : Rises o0 o old.position.fields now.progress.fields
   pub fed : (z : List ℕ) → StandsAt old z
       → IsFed contents old.config o0 o z (take at piece) (place_of now.config now.line now.progress) (Ok tt)
@@ -100,6 +100,7 @@ taken_none contents old now o piece is calm stand =
       stand = stand;
       within = omega arith;
       same = refl;
+      errors = refl;
       rises = record {
         texts = le_of_eq same;
         few = stand.most;
@@ -112,6 +113,15 @@ taken_none contents old now o piece is calm stand =
           let P : Position → Type 0 = λ q. IsAt old.config z q in
           fed_none contents old.config o z piece _ (subst P place at);
     }
+
+-- a fault in the next row has the same cause
+pub fault_since : {W : Type 0} (contents : W → Option (List ℕ)) (old : Feeding) (was : Inside) (o0 o o' : Outlet W) (piece : List ℕ)
+    (at : ℕ) → Taken contents old was o0 o piece at → (fault : RunFault) → IsFeedFault o o' fault → IsFeedFault o0 o' fault
+fault_since contents old was o0 o o' piece at t (Write written) f =
+    let least = t.rises.least in (f.0, cause_later o0.device o.device o'.device t.errors least f.1)
+fault_since contents old was o0 o o' piece at t TooManyFields f = f ∙ t.errors
+fault_since contents old was o0 o o' piece at t Failed f = tt
+fault_since contents old was o0 o o' piece at t (Read field offset) f = f
 
 -- what a slice from a place on is
 rest_of_piece : (piece : List ℕ) (at : ℕ) → take (length piece - at) (drop at piece) ≡ drop at piece
@@ -131,9 +141,9 @@ module _ {W : Type 0} (contents : W → Option (List ℕ)) (old : Feeding) (was 
 
   -- the bytes of one row more
   pub taken_more : (n : ℕ) → result ≡ Ok n → at ≤ length piece → n ≤ length bytes → IsSameDevice o o' → IsStand was.config l p
-      → Rises o o' was.progress.fields p.fields
+      → Rises o o' was.progress.fields p.fields → errors_of o' ≡ errors_of o
       → Taken contents old (record { config = was.config; line = l; progress = p; has_failed = was.has_failed }) o0 o' piece (at + n)
-  taken_more n took le few same stand rises =
+  taken_more n took le few same stand rises no_error =
       let long = ap length (is ∙ rest_of_piece piece at) in
       let dropped = length-drop at piece in
       let all : take at piece ++ take n bytes ≡ take (at + n) piece =
@@ -145,6 +155,7 @@ module _ {W : Type 0} (contents : W → Option (List ℕ)) (old : Feeding) (was 
         stand = stand;
         within = omega arith;
         same = same ∙ t.same;
+        errors = no_error ∙ t.errors;
         rises =
             let before = t.rises in
             record {

@@ -1,10 +1,9 @@
 -- What the bytes up to the end of a row do, where a feeder stands.
-use Rattle.std.proofs.Common.{◌≡◌, ℕ, ◌+◌, ◌*◌, ◌≤◌, ◌<◌, Bool, false, List, [], ◌++◌, length}
+use Rattle.std.proofs.Common.{◌≡◌, ℕ, ◌+◌, ◌*◌, ◌≤◌, ◌<◌, inl, inr, Bool, false, cond, List, [], ◌++◌, length}
 use Rattle.std.proofs.Common.{take, drop, refl, sym, ap, ◌∙◌, arith, append_assoc, append-nil}
-use Rattle.std.specs.Prelude.{Option, Err, Ok, IsTrue, ◌↔◌}
-use Rattle.std.specs.Io.KnownBytes.{Appends}
+use Rattle.std.specs.Prelude.{Option, Result, Err, Ok, IsErrAnd, IsTrue, ◌↔◌}
 use Rattle.std.proofs.lemmas.List.{length-append, take-append-drop, take_at}
-use Rattle.vbi_words.specs.Geometry.{height_of, line_bytes, field_bytes}
+use Rattle.vbi_words.specs.Geometry.{width_of, height_of, line_bytes, field_bytes}
 use Rattle.vbi_words.specs.Levels.{row_levels}
 use Rattle.vbi_words.specs.declared.system.System.{System}
 use Rattle.vbi_words.specs.declared.system.System.TheVariants.{Ntsc, Pal}
@@ -12,22 +11,21 @@ use Rattle.vbi_words.specs.declared.outcome.Reading.{Reading}
 use Rattle.vbi_line.specs.Line.{Line}
 use Rattle.vbi_line.specs.OneReading.{reading_of}
 use Rattle.vbi_field.specs.Kinds.{document}
-use Rattle.vbi_field.specs.Feed.{Completes, IsAt, IsFed}
-use Rattle.vbi_field.specs.Outlet.{device_of, Puts}
-use Rattle.vbi_field.specs.Progress.{IsPosition, IsRowOf}
+use Rattle.vbi_field.specs.Feed.{IsAt, IsFed}
+use Rattle.vbi_field.specs.Position.{Position}
+use Rattle.vbi_field.specs.Progress.{IsPosition, IsRowOf, IsNextRow, SettlesWhole, SettlesInPart}
 use Rattle.vbi_field.specs.ConfigView.{ConfigView, allowed_bytes}
-use Rattle.vbi_field.specs.Stand.{IsStand, place_of}
-use Rattle.vbi_field.specs.Stream.{fields_of, field_readings}
-use Rattle.vbi_field.specs.Texts.{begun_of, joined_entry_of}
+use Rattle.vbi_field.specs.Stand.{IsStand, IsStep, place_of}
+use Rattle.vbi_field.specs.Stream.{fields_of}
+use Rattle.vbi_field.specs.Texts.{Completes, begun_of}
 use Rattle.vbi_field.specs.declared.outlet.Outlet.{Outlet}
 use Rattle.vbi_field.specs.declared.progress.Progress.{Progress}
-use Rattle.vbi_field.specs.declared.readings.FieldReadings.{FieldReadings}
 use Rattle.vbi_field.specs.declared.summary.RunFault.{RunFault}
 use Rattle.vbi_field.specs.declared.summary.RunFault.TheVariants.{Write, TooManyFields}
-use Rattle.vbi_field.proofs.Counts.{some_bytes}
+use Rattle.vbi_field.proofs.Counts.{some_bytes, looks_next}
 use Rattle.vbi_field.proofs.FeedPlaces.{Split, split_of, split_fields, split_long, at_of}
-use Rattle.vbi_field.proofs.FeedTexts.{begun_same, begun_next, begun_grows, completes_twice, cut_longer}
-use Rattle.vbi_field.proofs.Known.{Appends-none}
+use Rattle.vbi_field.proofs.FeedTexts.{begun_same, begun_grows, completes_twice, cut_longer}
+use Rattle.vbi_field.proofs.Settling.{fields_at, further, wrote_none, longer_part}
 
 -- a row more is allowed before the last field
 room_for_row : (s : System) (n f r h m : ℕ) → n ≡ (f * height_of s + r) * line_bytes s + h → r < height_of s → h ≤ line_bytes s
@@ -54,6 +52,27 @@ row_held c s sel b row o sels ss whole shows =
       shows = λ x y. shows (sels.1 (x, y));
     }
 
+-- where the line is held no longer, and its row is settled
+pub stand_next : (c : ConfigView) (l l' : Line) (p p' : Progress) (sel : Bool) → (IsTrue sel ↔ ((15 ≤ p.row) × (p.row ≤ 17)))
+    → IsStand c l p → l'.system ≡ c.system → l'.cursors ≡ [] → l'.held ≡ [] → p'.row < height_of c.system → IsNextRow c p p'
+    → p.fields < c.max_fields → c.max_fields ≤ 1000000 → l'.looked ≡ l.looked + cond sel (width_of c.system) 0 → IsStand c l' p'
+stand_next c l l' p p' sel sels st system cursors held inside next left most looked =
+    let on = further c p p' l'.looked (looks_next c.system p.fields p.row l.looked l'.looked sel sels st.looked looked) next in
+    let few = more p p' next in
+    record {
+      system = system;
+      cursors = cursors;
+      short = rw held (some_bytes c.system);
+      inside = inside;
+      few = omega arith;
+      most = omega arith;
+      looked = on.looks;
+    }
+  where
+    more : (p p' : Progress) → IsNextRow c p p' → p'.fields ≤ p.fields + 1
+    more p p' (inl (fields, row)) = omega arith
+    more p p' (inr (fields, row, last)) = omega arith
+
 module _ {W : Type 0} (contents : W → Option (List ℕ)) (c : ConfigView) (l : Line) (p : Progress) (st : IsStand c l p) (z : List ℕ)
     (at : IsAt c z (place_of c l p)) where
   pub before : Split c z l.held p
@@ -70,7 +89,7 @@ module _ {W : Type 0} (contents : W → Option (List ℕ)) (c : ConfigView) (l :
       ∙ ap (λ n. n * field_bytes c.system) last in
       let long = length-append z bytes in (
         omega arith,
-        ([], append-nil (begun_of document c z) ∙ ap (begun_of document c) (sym (take_at z bytes m exact)), Appends-none _),
+        ([], append-nil (begun_of document c z) ∙ ap (begun_of document c) (sym (take_at z bytes m exact)), wrote_none contents o),
       )
 
   module _ (more b : List ℕ) (bs : b ≡ l.held ++ more) (le : length b ≤ line_bytes c.system) (left : p.fields < c.max_fields) where
@@ -92,7 +111,7 @@ module _ {W : Type 0} (contents : W → Option (List ℕ)) (c : ConfigView) (l :
         [],
         append-nil (begun_of document c z)
             ∙ begun_same document c z more (split_fields c (z ++ more) l'.held p' after ∙ same ∙ sym (split_fields c z l.held p before)),
-        Appends-none _,
+        wrote_none contents o,
       ),
     )
 
@@ -120,49 +139,45 @@ module _ {W : Type 0} (contents : W → Option (List ℕ)) (c : ConfigView) (l :
           short = omega arith;
         }
 
-    -- and the field isn't
-    pub fed_row : (l' : Line) (p' : Progress) (o : Outlet W) → l'.held ≡ [] → IsPosition c (before.rows ++ b) p' → p'.fields ≡ p.fields
-        → IsFed contents c o o z more (place_of c l' p') (Ok tt)
-    fed_row l' p' o e whole same = still l' p' (after_row l' p' e whole) same o
+    -- the text that is due with the row is that by which the text of the longer stream is longer
+    due_more : (text : List ℕ) → Completes document c before.rows (before.rows ++ b) text → Completes document c z (z ++ more) text
+    due_more text due =
+        let same : fields_of c (before.rows ++ l.held) ≡ fields_of c before.rows =
+        ap (fields_of c) (sym before.split) ∙ split_fields c z l.held p before ∙ sym (fields_at c before.rows p before.position) in
+        let begun : begun_of document c z ≡ begun_of document c before.rows =
+        ap (begun_of document c) before.split ∙ sym (begun_same document c before.rows l.held same) in
+        ap (λ x. x ++ text) begun ∙ due ∙ ap (begun_of document c) (sym cut)
 
-    module _ (l' : Line) (p' : Progress) (e : l'.held ≡ []) (whole : IsPosition c (before.rows ++ b) p') (one : p'.fields ≡ p.fields + 1)
-        (readings : FieldReadings) (reads : readings ≡ field_readings c (before.rows ++ b) p.fields) (text : List ℕ) (count : ℕ)
-        (counts : count ≡ p.fields) (is : text ≡ joined_entry_of document count readings) where
-      -- the record of a field that is whole now
-      completed : Completes c z (z ++ more) text
-      completed =
-          let first = split_fields c z l.held p before in
-          let next : fields_of c (z ++ more) ≡ fields_of c z + 1 =
-          split_fields c (z ++ more) l'.held p' (after_row l' p' e whole) ∙ one ∙ ap (λ n. n + 1) (sym first) in
-          let same : text ≡ joined_entry_of document (fields_of c z) (field_readings c (z ++ more) (fields_of c z)) =
-          is ∙ ap (joined_entry_of document count) (reads ∙ ap (λ x. field_readings c x p.fields) (sym cut))
-          ∙ ap (λ n. joined_entry_of document n (field_readings c (z ++ more) p.fields)) (counts ∙ sym first)
-          ∙ ap (λ n. joined_entry_of document (fields_of c z) (field_readings c (z ++ more) n)) (sym first) in
-          ap (λ x. begun_of document c z ++ x) same ∙ begun_next document c z more next
+    -- and was written
+    pub fed_row : (l' : Line) (p' : Progress) (o o' : Outlet W) → l'.held ≡ [] → SettlesWhole document contents c o o' before.rows b p'
+        → IsFed contents c o o' z more (place_of c l' p') (Ok tt)
+    fed_row l' p' o o' e settled = (
+      at_of c (z ++ more) l'.held p' (after_row l' p' e settled.position) l' refl fits,
+      (settled.text, due_more settled.text settled.due, settled.wrote),
+    )
 
-      -- was put whole
-      pub fed_field : (o o' : Outlet W) → Appends (contents (device_of o)) (contents (device_of o')) text
-          → IsFed contents c o o' z more (place_of c l' p') (Ok tt)
-      fed_field o o' put = (at_of c (z ++ more) l'.held p' (after_row l' p' e whole) l' refl fits, (text, completed, put))
+    -- or in part
+    pub fed_in_part : (p' now : Progress) (l' : Line) (o o' : Outlet W) → SettlesInPart document contents c o o' before.rows b p'
+        → (bytes : List ℕ) (n : ℕ) (fault : RunFault) (written : ℕ) → more ≡ take n bytes
+        → fault ≡ Write written → IsFed contents c o o' z bytes (place_of c l' now) (Err fault)
+    fed_in_part p' now l' o o' settled bytes n fault written front fails =
+        let text : List ℕ = settled.text in
+        let w = settled.wrote in
+        let all : (z ++ more) ++ drop n bytes ≡ z ++ bytes =
+        append_assoc z more (drop n bytes) ∙ ap (λ x. z ++ (x ++ drop n bytes)) front ∙ ap (λ x. z ++ x) (take-append-drop n bytes) in
+        let further = cut_longer (z ++ more) (drop n bytes) (allowed_bytes c) fits in
+        let grown = begun_grows document c (z ++ more) further.0 in
+        let longer : begun_of document c ((z ++ more) ++ further.0) ≡ begun_of document c (take (allowed_bytes c) (z ++ bytes)) =
+        ap (begun_of document c) (further.1 ∙ ap (take (allowed_bytes c)) all) in
+        rw fails (
+          text ++ grown.0,
+          completes_twice document c z (z ++ more) ((z ++ more) ++ further.0) text grown.0 (due_more text settled.due) grown.1 ∙ longer,
+          longer_part contents o o' text grown.0 w,
+        )
 
-      -- or in part
-      pub fed_in_part : (o o' : Outlet W) (bytes : List ℕ) (n : ℕ) (fault : RunFault) (written : ℕ) → more ≡ take n bytes
-          → Puts contents o o' text → fault ≡ Write written → IsFed contents c o o' z bytes (place_of c l p) (Err fault)
-      fed_in_part o o' bytes n fault written front puts fails =
-          let front_text : List ℕ = take puts.count text in
-          let back : List ℕ = drop puts.count text in
-          let all : (z ++ more) ++ drop n bytes ≡ z ++ bytes =
-          append_assoc z more (drop n bytes) ∙ ap (λ x. z ++ (x ++ drop n bytes)) front ∙ ap (λ x. z ++ x) (take-append-drop n bytes) in
-          let further = cut_longer (z ++ more) (drop n bytes) (allowed_bytes c) fits in
-          let grown = begun_grows document c (z ++ more) further.0 in
-          let longer : begun_of document c ((z ++ more) ++ further.0) ≡ begun_of document c (take (allowed_bytes c) (z ++ bytes)) =
-          ap (begun_of document c) (further.1 ∙ ap (take (allowed_bytes c)) all) in
-          let parts : front_text ++ (back ++ grown.0) ≡ text ++ grown.0 =
-          sym (append_assoc front_text back grown.0) ∙ ap (λ x. x ++ grown.0) (take-append-drop puts.count text) in
-          rw fails (
-            front_text,
-            back ++ grown.0,
-            ap (λ x. begun_of document c z ++ x) parts
-                ∙ completes_twice c z (z ++ more) ((z ++ more) ++ further.0) text grown.0 completed grown.1 ∙ longer,
-            puts.appended,
-          )
+-- a fault that was passed on
+pub step_fault : {W : Type 0} (contents : W → Option (List ℕ)) (c : ConfigView) (o o' : Outlet W) (z bytes : List ℕ) (now : Position)
+    (written : ℕ) (r : Result ℕ RunFault) → IsErrAnd r (λ e. e ≡ Write written)
+    → ((fault : RunFault) → fault ≡ Write written → IsFed contents c o o' z bytes now (Err fault)) → IsStep contents c o o' z bytes now r
+step_fault contents c o o' z bytes now written (Ok n) is says = absurd is
+step_fault contents c o o' z bytes now written (Err fault) is says = says fault is

@@ -7,11 +7,9 @@ use Rattle.std.proofs.Math.Nat.{le_refl}
 use Rattle.vbi_words.specs.Geometry.{height_of, line_bytes, field_bytes}
 use Rattle.vbi_words.specs.declared.system.System.{System}
 use Rattle.vbi_words.specs.declared.system.System.TheVariants.{Ntsc, Pal}
-use Rattle.vbi_field.specs.Kinds.{document}
-use Rattle.vbi_field.specs.Feed.{Completes}
 use Rattle.vbi_field.specs.ConfigView.{ConfigView}
 use Rattle.vbi_field.specs.Stream.{fields_of, field_readings}
-use Rattle.vbi_field.specs.Texts.{Texts, begun_of, joined_entry_of}
+use Rattle.vbi_field.specs.Texts.{Texts, Completes, begun_of, joined_entry_of}
 use Rattle.vbi_field.proofs.Entries.{stood, stood-more, stood-stays, begun_of-stood}
 
 -- the rows of the whole fields of a stream are in it
@@ -73,9 +71,10 @@ begun_grows t c z b =
     )
 
 -- one text after the other
-pub completes_twice : (c : ConfigView) (x y z s t : List ℕ) → Completes c x y s → Completes c y z t → Completes c x z (s ++ t)
-completes_twice c x y z s t h k =
-    sym (append_assoc (begun_of document c x) s t) ∙ ap (λ l. l ++ t) h ∙ k
+pub completes_twice : (t : Texts) (c : ConfigView) (x y z first second : List ℕ) → Completes t c x y first → Completes t c y z second
+    → Completes t c x z (first ++ second)
+completes_twice t c x y z first second h k =
+    sym (append_assoc (begun_of t c x) first second) ∙ ap (λ l. l ++ second) h ∙ k
 
 -- the stream up to a limit that it hasn't reached yet
 pub cut_longer : (z bytes : List ℕ) (m : ℕ) → length z ≤ m → (more : List ℕ) × (z ++ more ≡ take m (z ++ bytes))

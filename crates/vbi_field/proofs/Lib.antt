@@ -8,14 +8,13 @@ pub mod FeedLoop
 pub mod FeedPlaces
 pub mod FeedSteps
 pub mod FeedTexts
-pub mod Going
 pub mod Growing
-pub mod Known
 pub mod OneDocument
+pub mod Pulling
 pub mod PutFieldSteps
 pub mod PutSteps
 pub mod RowSteps
 pub mod RunLaws
-pub mod RunSteps
+pub mod Settling
 pub mod WordRowLaw
 pub mod WordRowLemmas

@@ -1,20 +1,19 @@
 -- What the writing of a field keeps from row to row.
-use Rattle.std.proofs.Common.{◌≡◌, ℕ, ◌+◌, ◌-◌, ◌*◌, ◌≤◌, ◌<◌, List, ◌++◌, length, take, refl, sym, ap, ◌∙◌, arith, append_assoc, lit≤}
+use Rattle.std.proofs.Common.{◌≡◌, ℕ, ◌+◌, ◌-◌, ◌*◌, ◌≤◌, ◌<◌, List, ◌++◌, length, refl, sym, ap, subst, ◌∙◌, arith, lit≤}
 use Rattle.std.specs.Prelude.{Option, None}
 use Rattle.std.specs.Io.KnownBytes.{Appends}
 use Rattle.std.proofs.KnownBytes.{Appends-trans, Appends-nil}
-use Rattle.std.proofs.lemmas.List.{take_all, take-append-le, length-append}
-use Rattle.std.proofs.Math.Seq.{take-append-add}
+use Rattle.std.proofs.lemmas.List.{length-append}
 use Rattle.vbi_words.specs.declared.system.System.{System}
 use Rattle.vbi_words.specs.declared.system.System.TheVariants.{Ntsc, Pal}
 use Rattle.vbi_words.specs.Geometry.{height_of, line_bytes}
 use Rattle.vbi_field.specs.ConfigView.{ConfigView}
-use Rattle.vbi_field.specs.Outlet.{device_of, failures_of, IsSameDevice, Puts}
+use Rattle.vbi_field.specs.Outlet.{device_of, failures_of, errors_of, IsSameDevice, Puts, Wrote, WrotePart}
 use Rattle.vbi_field.specs.Drawing.{drawn_line_of, drawn_field_of, word_at}
-use Rattle.vbi_field.specs.DrawRun.{PutsField}
 use Rattle.vbi_field.specs.declared.outlet.Outlet.{Outlet}
 use Rattle.vbi_field.specs.declared.word_row.WordRow.{WordRow}
 use Rattle.vbi_field.proofs.DrawnLemmas.{narrow, length-drawn_line_of, lines_of, lines_of-more}
+use Rattle.vbi_field.proofs.Settling.{wrote_whole, put_in_part, longer_part, later_part}
 use Rattle.vbi_field.proofs.DrawnLemmas.{lines_of-none, lines_of-all, lines_of-split, last_word}
 
 few_rows : (s : System) → height_of s ≤ 313
@@ -29,6 +28,7 @@ module _ {W : Type 0} (contents : W → Option (List ℕ)) (c : ConfigView) (wor
     pub small : now.written ≤ old.written + 2270 * row
     pub least : failures_of old ≤ failures_of now
     pub most : failures_of now ≤ failures_of old + 17 * (length (lines_of c words row) + row)
+    pub errors : errors_of now ≡ errors_of old
     pub same : IsSameDevice old now
     pub drawn : line ≡ drawn_line_of c (word_at words (row - 1))
 
@@ -39,6 +39,7 @@ module _ {W : Type 0} (contents : W → Option (List ℕ)) (c : ConfigView) (wor
     small = omega arith;
     least = omega arith;
     most = omega arith;
+    errors = refl;
     same = refl;
     drawn = e;
   }
@@ -47,17 +48,11 @@ module _ {W : Type 0} (contents : W → Option (List ℕ)) (c : ConfigView) (wor
   long_line : (line : List ℕ) (word : Option ℕ) → line ≡ drawn_line_of c word → length line ≡ line_bytes c.system
   long_line line word e = ap length e ∙ length-drawn_line_of c word
 
-  -- all of a line was put
-  all_put : (now new : Outlet W) (line : List ℕ) → Puts contents now new line → new.written ≡ now.written + length line
-      → Appends (contents (device_of now)) (contents (device_of new)) line
-  all_put now new line puts ok =
-      let whole = take_all puts.count line (omega (arith, puts.written)) in
-      rw whole at puts.appended
-
   -- one row more
   pub Putting-more : (now new : Outlet W) (before line : List ℕ) (row : ℕ) → Putting now before row → line ≡ drawn_line_of c (word_at words row)
-      → Puts contents now new line → new.written ≡ now.written + length line → IsSameDevice now new → Putting new line (row + 1)
-  Putting-more now new before line row p e puts ok same =
+      → Puts contents now new line → new.written ≡ now.written + length line → errors_of new ≡ errors_of now
+      → IsSameDevice now new → Putting new line (row + 1)
+  Putting-more now new before line row p e puts ok no_error same =
       let few = narrow c.system in
       let long = long_line line (word_at words row) e in
       let joined : lines_of c words (row + 1) ≡ lines_of c words row ++ line
@@ -72,67 +67,51 @@ module _ {W : Type 0} (contents : W → Option (List ℕ)) (c : ConfigView) (wor
       let most2 = puts.most in
       let back : row + 1 - 1 ≡ row = omega arith in
       record {
-        appended = rw joined (Appends-trans _ _ _ (lines_of c words row) line p.appended (all_put now new line puts ok));
+        appended = rw joined (Appends-trans _ _ _ (lines_of c words row) line p.appended (let wrote = wrote_whole contents now new line puts ok in wrote.appended));
         written = omega arith;
         small = omega arith;
         least = omega arith;
         most = omega arith;
+        errors = no_error ∙ p.errors;
         same = same ∙ p.same;
         drawn = e ∙ ap (λ (r : ℕ). drawn_line_of c (word_at words r)) (sym back);
       }
 
   -- the field is written
   pub put_whole : (now : Outlet W) (line : List ℕ) (row : ℕ) → Putting now line row → row ≡ height_of c.system
-      → PutsField contents old now (drawn_field_of c words) × (now.written ≡ old.written + length (drawn_field_of c words))
-      × (line ≡ drawn_line_of c None)
+      → Wrote contents old now (drawn_field_of c words) × (line ≡ drawn_line_of c None)
+      × (failures_of now ≤ failures_of old + 17 * (length (drawn_field_of c words) + 313))
   put_whole now line row p e =
       let whole : lines_of c words row ≡ drawn_field_of c words = ap (lines_of c words) e ∙ lines_of-all c words in
-      let all = take_all (length (drawn_field_of c words)) (drawn_field_of c words) (omega arith) in
       let long = ap length whole in
       let w = p.written in
       let most = p.most in
-      let least = p.least in
       let many = few_rows c.system in (
-        record {
-          count = length (drawn_field_of c words);
-          within = omega arith;
-          appended = rw (all, ← whole) p.appended;
-          written = omega arith;
-          least = omega arith;
-          most = omega arith;
-        },
-        omega arith,
+        record { appended = rw (← whole) p.appended; written = omega arith },
         p.drawn ∙ ap (λ (r : ℕ). drawn_line_of c (word_at words (r - 1))) e ∙ ap (drawn_line_of c) (last_word c words),
+        omega arith,
       )
 
   -- the writer failed in this row
   pub put_part : (now new : Outlet W) (before line : List ℕ) (row : ℕ) → Putting now before row → row < height_of c.system
-      → line ≡ drawn_line_of c (word_at words row) → Puts contents now new line → PutsField contents old new (drawn_field_of c words)
-  put_part now new before line row p inside e puts =
+      → line ≡ drawn_line_of c (word_at words row) → (puts : Puts contents now new line) → new.written < now.written + length line
+      → WrotePart contents old new (drawn_field_of c words)
+      × (failures_of new ≤ failures_of old + 17 * (length (drawn_field_of c words) + 313))
+  put_part now new before line row p inside e puts less =
       let base = lines_of c words row in
       let split = lines_of-split c words (row + 1) (omega arith) in
       let joined : lines_of c words (row + 1) ≡ base ++ line = lines_of-more c words row ∙ ap (λ (l : List ℕ). base ++ l) (sym e) in
-      let field : drawn_field_of c words ≡ base ++ (line ++ split.0) =
-      split.1 ∙ ap (λ (l : List ℕ). l ++ split.0) joined ∙ append_assoc base line split.0 in
-      let long = ap length field ∙ length-append base (line ++ split.0) in
-      let longer = length-append line split.0 in
-      let cut : take (length base + puts.count) (drawn_field_of c words) ≡ base ++ take puts.count line =
-      ap (take (length base + puts.count)) field
-      ∙ take-append-add base (line ++ split.0) puts.count
-      ∙ ap (λ (l : List ℕ). base ++ l) (take-append-le puts.count line split.0 puts.within) in
-      let w = p.written in
+      let field : (base ++ line) ++ split.0 ≡ drawn_field_of c words = sym (split.1 ∙ ap (λ (l : List ℕ). l ++ split.0) joined) in
+      let long = ap length field in
+      let longer = length-append (base ++ line) split.0 in
+      let long2 = length-append base line in
       let most = p.most in
-      let least = p.least in
-      let w2 = puts.written in
       let most2 = puts.most in
-      let least2 = puts.least in
       let within = puts.within in
       let many = few_rows c.system in
-      record {
-        count = length base + puts.count;
-        within = omega arith;
-        appended = rw cut (Appends-trans _ _ _ base (take puts.count line) p.appended puts.appended);
-        written = omega arith;
-        least = omega arith;
-        most = omega arith;
-      }
+      let first : Wrote contents old now base = record { appended = p.appended; written = p.written } in
+      let P : List ℕ → Type 0 = WrotePart contents old new in (
+        subst P field
+        (longer_part contents old new (base ++ line) split.0 (later_part contents old now new base line first (put_in_part contents now new line puts less))),
+        omega arith,
+      )

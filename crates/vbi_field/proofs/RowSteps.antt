@@ -5,12 +5,13 @@ use Rattle.std.specs.Prelude.{Option, Some, None}
 use Rattle.std.proofs.KnownBytes.{Consumes-trans, Consumes-nil}
 use Rattle.std.proofs.lemmas.List.{append-nil, take_more_set, length-append, length-set, length-take-le}
 use Rattle.std.proofs.lemmas.List.Elements.{All-append}
+use Rattle.vbi_line.proofs.Causes.{cause_later}
 use Rattle.vbi_field.specs.WordRows.{word_row_of}
-use Rattle.vbi_field.specs.RowIntake.{failures_of, HasNoNewline, Fetches, TakesByte, TakesRow}
+use Rattle.vbi_field.specs.RowIntake.{failures_of, errors_of, streak_of, HasNoNewline, Fetches, TakesByte, TakesRow}
 use Rattle.vbi_field.specs.declared.word_row.WordRow.{WordRow}
 use Rattle.vbi_field.specs.declared.row_intake.RowIntake.{RowIntake}
-use Rattle.vbi_field.specs.declared.row_intake.ByteCame.TheVariants as bytes
-use Rattle.vbi_field.specs.declared.row_intake.RowCame.TheVariants.{Row, LastRow, Malformed, Failed}
+use Rattle.vbi_field.specs.declared.row_intake.NextByte.TheVariants as bytes
+use Rattle.vbi_field.specs.declared.row_intake.NextRow.TheVariants.{Row, LastRow, Malformed, Failed}
 use Rattle.vbi_field.proofs.WordRowLemmas.{long_row}
 
 all_one : (byte : ℕ) → byte ≢ 10 → HasNoNewline (byte ∷ [])
@@ -22,11 +23,14 @@ module _ {R : Type 0} (remaining : R → Option (List ℕ)) where
   pub record Tried (old now : RowIntake R) (tries : ℕ) : Type 0 where
     pub fetches : Fetches remaining old now []
     pub count : failures_of now ≡ failures_of old + tries
+    pub errors : errors_of now ≡ errors_of old
+    pub streak : streak_of now ≡ streak_of old + tries
 
   -- so many bytes of a row are held, none of them a newline
   pub record Held (old now : RowIntake R) (row : List ℕ) (held : ℕ) : Type 0 where
     pub fetches : Fetches remaining old now (take held row)
     pub most : failures_of now ≤ failures_of old + 17 * held
+    pub errors : errors_of now ≡ errors_of old
     pub plain : HasNoNewline (take held row)
     pub long : length row ≡ 21
 
@@ -59,6 +63,7 @@ module _ {R : Type 0} (remaining : R → Option (List ℕ)) where
         record {
           fetches = rw joined (Fetches-more old now new (take held row) (byte ∷ []) h.fetches t.fetches);
           most = omega arith;
+          errors = t.caused ∙ h.errors;
           plain = rw joined (All-append (λ c. c ≢ 10) (take held row) (byte ∷ []) h.plain (all_one byte other));
           long = length-set row held byte ∙ long;
         }
@@ -81,7 +86,8 @@ module _ {R : Type 0} (remaining : R → Option (List ℕ)) where
         fetches = with_newline;
         short = few;
         most = omega (arith, h.most, t.most);
-        told = (take held row, h.plain, refl, sym w);
+        got = (take held row, h.plain, refl, sym w);
+        caused = t.caused ∙ h.errors;
       }
 
       pub bad_newline_came : None ≡ word_row_of (take held row) → TakesRow remaining old new Malformed
@@ -90,7 +96,8 @@ module _ {R : Type 0} (remaining : R → Option (List ℕ)) where
         fetches = with_newline;
         short = few;
         most = omega (arith, h.most, t.most);
-        told = record { row = take held row; plain = h.plain; malformed = sym w; read_to = inl refl };
+        got = record { row = take held row; plain = h.plain; malformed = sym w; read_to = inl refl };
+        caused = t.caused ∙ h.errors;
       }
 
     -- no byte came
@@ -104,7 +111,8 @@ module _ {R : Type 0} (remaining : R → Option (List ℕ)) where
         fetches = as_held t.fetches;
         short = omega (arith, short);
         most = omega (arith, h.most, t.most);
-        told = (h.plain, omega (arith, short), sym w, t.told);
+        got = (h.plain, omega (arith, short), sym w, t.got);
+        caused = t.caused ∙ h.errors;
       }
 
       pub bad_end_came : held ≢ 0 → None ≡ word_row_of (take held row) → TakesRow remaining old new Malformed
@@ -113,12 +121,13 @@ module _ {R : Type 0} (remaining : R → Option (List ℕ)) where
         fetches = as_held t.fetches;
         short = omega (arith, short);
         most = omega (arith, h.most, t.most);
-        told = record {
+        got = record {
           row = take held row;
           plain = h.plain;
           malformed = sym w;
-          read_to = inr (inl (refl, omega (arith, short), t.told));
+          read_to = inr (inl (refl, omega (arith, short), t.got));
         };
+        caused = t.caused ∙ h.errors;
       }
 
     pub fault_came : TakesByte remaining now new bytes.Failed → TakesRow remaining old new Failed
@@ -127,7 +136,8 @@ module _ {R : Type 0} (remaining : R → Option (List ℕ)) where
       fetches = as_held t.fetches;
       short = omega (arith, short);
       most = omega (arith, h.most, t.most);
-      told = (h.plain, omega (arith, t.told, h.fetches.least));
+      got = h.plain;
+      caused = cause_later old.device now.device new.device h.errors h.fetches.least t.caused;
     }
 
   -- a row of 21 bytes
@@ -139,10 +149,11 @@ module _ {R : Type 0} (remaining : R → Option (List ℕ)) where
         fetches = h.fetches;
         short = omega arith;
         most = omega (arith, h.most);
-        told = record {
+        got = record {
           row = take 21 row;
           plain = h.plain;
           malformed = long_row (take 21 row) (omega arith);
           read_to = inr (inr (refl, long));
         };
+        caused = h.errors;
       }

@@ -5,7 +5,8 @@ use Rattle.std.proofs.lemmas.List.{length-append, take_at}
 use Rattle.vbi_words.specs.Geometry.{width_of, line_bytes, field_bytes}
 use Rattle.vbi_words.specs.declared.system.System.{System}
 use Rattle.vbi_words.specs.declared.system.System.TheVariants.{Ntsc, Pal}
-use Rattle.vbi_field.specs.Extracts.{EndsInside, EndsWithin, IsFirstOf}
+use Rattle.vbi_field.specs.Extracts.{EndsWithin}
+use Rattle.vbi_field.specs.Ran.{EndsInside, IsFirstOf}
 use Rattle.vbi_field.specs.ConfigView.{ConfigView}
 use Rattle.vbi_field.specs.Stream.{fields_of, rest_of, selected, looks_of}
 use Rattle.vbi_field.specs.Texts.{Texts, begun_of, document_of}

@@ -12,7 +12,7 @@ use Rattle.std.proofs.lemmas.Bool.Decides.{nat_tests}
 use Rattle.vbi_field.specs.declared.word_row.WordRow.{WordRow}
 use Rattle.vbi_field.specs.WordRows.{parts_of, item_of, row_of_items, row_of_parts, word_row_of, rows_of, row_words, AreRows}
 use Rattle.vbi_field.specs.RowIntake.{HasNoNewline}
-use Rattle.vbi_field.specs.DrawRun.{EndsRow}
+use Rattle.vbi_field.specs.Draws.{EndsRow}
 
 -- ---- the parts of a row
 

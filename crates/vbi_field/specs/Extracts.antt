@@ -1,13 +1,13 @@
--- What `extract` and `show` do, by their answer, for a kind t of text (this project's own): z are the bytes that came, text is what
--- was written, and n what was counted.
+-- What `extract` and `show` do, by their answer, for a kind t of text: z are the bytes fetched, text is what was written, and n what
+-- was counted.
 use Rattle.std.specs.Prelude.{◌≡◌, ℕ, ◌+◌, ◌<◌, ◌≤◌, ◌⊎◌, List, [], ◌++◌, length, take, Option, Result, Ok, Err}
 use Rattle.std.specs.Io.KnownBytes.{IsAtEnd}
 use Rattle.vbi_words.specs.Geometry.{line_bytes, field_bytes}
 use Rattle.vbi_line.specs.Intake as intakes
 use Rattle.vbi_line.specs.declared.intake.Intake.{Intake}
-use Rattle.vbi_field.specs.Outlet as outlets
-use Rattle.vbi_field.specs.Ran.{Counts, Ran}
 use Rattle.vbi_field.specs.ConfigView.{ConfigView, allowed_bytes}
+use Rattle.vbi_field.specs.Outlet as outlets
+use Rattle.vbi_field.specs.Ran.{Counts, HasFailed, IsCalm, Ran, EndsInside}
 use Rattle.vbi_field.specs.Stream.{fields_of, rest_of, cut_of, looks_of}
 use Rattle.vbi_field.specs.Texts.{Texts, begun_of, document_of}
 use Rattle.vbi_field.specs.declared.outlet.Outlet.{Outlet}
@@ -15,25 +15,13 @@ use Rattle.vbi_field.specs.declared.summary.Summary.{Summary}
 use Rattle.vbi_field.specs.declared.summary.RunFault.{RunFault}
 use Rattle.vbi_field.specs.declared.summary.RunFault.TheVariants.{Read, Write, TooManyFields, Failed}
 
--- the text has all that was due before its last piece, and not all of what is due with it
-pub record EndsInside (before due text : List ℕ) : Type 0 where
-  pub part : List ℕ
-  pub rest : List ℕ
-  pub begun : before ++ part ≡ text
-  pub more : text ++ rest ≡ due
-  pub short : 0 < length rest
-
--- the text is the first of the other, and not all of it
-abbrev pub IsFirstOf : List ℕ → List ℕ → Type 0
-IsFirstOf text due = (text ≡ take (length text) due) × (length text < length due)
-
 module _ (t : Texts) (c : ConfigView) (input : Option (List ℕ)) (z text : List ℕ) where
   -- the head is due before the first read
   pub record EndsInHead : Type 0 where
     pub none : z ≡ []
     pub ends : EndsInside [] (begun_of t c []) text
 
-  -- the entry of a field is due as soon as the field's last byte came
+  -- the entry of a field is due as soon as the field's last byte was fetched
   pub record EndsInEntry : Type 0 where
     pub before : List ℕ
     pub last : List ℕ
@@ -42,7 +30,7 @@ module _ (t : Texts) (c : ConfigView) (input : Option (List ℕ)) (z text : List
     pub field : length last ≡ field_bytes c.system
     pub ends : EndsInside (begun_of t c before) (begun_of t c z) text
 
-  -- the tail is due as soon as the reader said its end
+  -- the tail is due as soon as the reader has ended
   pub record EndsInTail : Type 0 where
     pub ended : IsAtEnd input
     pub ends : EndsInside (begun_of t c z) (document_of t c z) text
@@ -52,7 +40,7 @@ module _ (t : Texts) (c : ConfigView) (input : Option (List ℕ)) (z text : List
   EndsWithin = EndsInHead ⊎ (EndsInEntry ⊎ EndsInTail)
 
 module _ (t : Texts) (c : ConfigView) (input : Option (List ℕ)) (n : Counts) (z text : List ℕ) where
-  -- Ok: the reader ended within the limit, the whole text was written, and the summary tells the fields, the cut and the looks
+  -- Ok: the reader ended within the limit, the whole text was written, and the summary has the fields, the cut and the looks
   pub record ExtractsAll (s : Summary) : Type 0 where
     pub document : text ≡ document_of t c z
     pub ended : IsAtEnd input
@@ -61,28 +49,32 @@ module _ (t : Texts) (c : ConfigView) (input : Option (List ℕ)) (n : Counts) (
     pub cut : s.cut ≡ cut_of (rest_of c z)
     pub looked : s.looked ≡ n.looked
     pub looks : n.looked ≡ looks_of c z
+    pub calm : IsCalm n
 
-  -- `Read`: the reader failed, the next byte would have been this one of this field, less than a line past the limit at most, and the
-  -- text of the whole fields was written, without the tail
+  -- `Read`: the reader failed where the next byte would have been this one of this field, less than a line past the limit at most, and
+  -- the text of the whole fields was written, without the tail
   pub record StopsAtRead (field offset : ℕ) : Type 0 where
-    pub rose : 0 < n.read_failures
+    pub failed : HasFailed n.reader
+    pub calm : n.writer.errors ≡ 0
     pub field_of : field ≡ fields_of c z + 1
     pub offset_of : offset ≡ rest_of c z
     pub within : length z < allowed_bytes c + line_bytes c.system
     pub begun : text ≡ begun_of t c z
     pub looks : n.looked ≡ looks_of c z
 
-  -- `Write`: the writer failed after so many bytes, inside the head, inside the entry of the last field, or inside the tail
+  -- `Write`: the writer failed after this many bytes, inside the head, inside the entry of the last field, or inside the tail
   pub record StopsAtWrite (written : ℕ) : Type 0 where
-    pub rose : 0 < n.write_failures
+    pub failed : HasFailed n.writer
+    pub calm : n.reader.errors ≡ 0
     pub count : written ≡ length text
     pub within : length z ≤ allowed_bytes c
     pub inside : EndsWithin t c input z text
     pub looks : n.looked ≡ looks_of c z
 
-  -- `TooManyFields`: more bytes came than the fields that are allowed have, by a line at most, and the text of these fields was
-  -- written, without the tail
+  -- `TooManyFields`: the reader gave more bytes than the fields that are allowed have, by a line at most, and the text of these fields
+  -- was written, without the tail
   pub record StopsAtLimit : Type 0 where
+    pub calm : IsCalm n
     pub more : allowed_bytes c < length z
     pub within : length z ≤ allowed_bytes c + line_bytes c.system
     pub begun : text ≡ begun_of t c (take (allowed_bytes c) z)
@@ -102,8 +94,8 @@ counts_of i o = record {
   fetched = intakes.fetched_of i;
   written = outlets.written_of o;
   looked = (intakes.line_of i).looked;
-  read_failures = intakes.failures_of i;
-  write_failures = outlets.failures_of o;
+  reader = record { all = intakes.failures_of i; errors = intakes.errors_of i; streak = intakes.streak_of i };
+  writer = record { all = outlets.failures_of o; errors = outlets.errors_of o; streak = outlets.streak_of o };
 }
 
 -- the run of a fresh intake and a fresh outlet that gave this answer

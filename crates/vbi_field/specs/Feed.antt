@@ -1,11 +1,11 @@
--- What a feeder does with a stream that comes in pieces (this project's own). The pieces before make the stream z so far.
+-- What a feeder does with a stream that comes in pieces. The pieces before make the stream z so far.
 use Rattle.std.specs.Prelude.{◌≡◌, ℕ, ◌+◌, ◌*◌, ◌<◌, ◌≤◌, false, List, ◌++◌, length, take, Option, Result, Ok, Err}
 use Rattle.vbi_field.specs.Kinds.{document}
-use Rattle.vbi_field.specs.Outlet.{failures_of, written_of, Wrote}
+use Rattle.vbi_field.specs.Outlet.{errors_of, written_of, HasCause, Wrote, WrotePart}
 use Rattle.vbi_field.specs.Position.{Position, position_of}
 use Rattle.vbi_field.specs.ConfigView.{ConfigView, allowed_bytes}
 use Rattle.vbi_field.specs.Stream.{fields_of, rest_of, cut_of, looks_of}
-use Rattle.vbi_field.specs.Texts.{begun_of}
+use Rattle.vbi_field.specs.Texts.{Completes}
 use Rattle.vbi_field.specs.Feeding.{Feeding}
 use Rattle.vbi_field.specs.declared.outlet.Outlet.{Outlet}
 use Rattle.vbi_field.specs.declared.summary.Summary.{Summary}
@@ -22,25 +22,14 @@ pub record StandsAt (f : Feeding) (z : List ℕ) : Type 0 where
   pub calm : f.has_failed ≡ false
   pub at : IsAt f.config z f.position
 
--- the text of the longer stream is longer by these bytes
-abbrev pub Completes : ConfigView → List ℕ → List ℕ → List ℕ → Type 0
-Completes c z longer text = begun_of document c z ++ text ≡ begun_of document c longer
-
--- the first of these bytes were written, and the rest wasn't
-abbrev pub AppendsInPart : {W : Type 0} → (W → Option (List ℕ)) → Outlet W → Outlet W → List ℕ → Type 0
-AppendsInPart contents o o' whole =
-    (text : List ℕ) × (rest : List ℕ) × (text ++ rest ≡ whole) × Wrote contents o o' text
-
 module _ {W : Type 0} (contents : W → Option (List ℕ)) (c : ConfigView) (o o' : Outlet W) (z : List ℕ) where
   -- the bytes by which the text of the longer stream is longer were written
   abbrev pub Extends : List ℕ → Type 0
-  Extends longer = (text : List ℕ) × Completes c z longer text × Wrote contents o o' text
+  Extends longer = (text : List ℕ) × Completes document c z longer text × Wrote contents o o' text
 
-  -- the first of these bytes were written, and the rest wasn't
+  -- the first of these bytes were written, and not all of them
   abbrev pub ExtendsInPart : List ℕ → Type 0
-  ExtendsInPart longer =
-      (text : List ℕ) × (rest : List ℕ) × Completes c z longer (text ++ rest)
-      × Wrote contents o o' text
+  ExtendsInPart longer = (text : List ℕ) × Completes document c z longer text × WrotePart contents o o' text
 
   -- what a piece did, where the feeder stood at z, and the place at which it stands now
   abbrev pub IsFed : List ℕ → Position → Result (Unit {0}) RunFault → Type 0
@@ -55,31 +44,22 @@ module _ {W : Type 0} (contents : W → Option (List ℕ)) (c : ConfigView) (o o
   IsFinished (Ok s) =
       Wrote contents o o' (document.tail (fields_of c z) (rest_of c z))
       × (s.fields ≡ fields_of c z) × (s.cut ≡ cut_of (rest_of c z)) × (s.looked ≡ looks_of c z)
-  IsFinished (Err (Write written)) = AppendsInPart contents o o' (document.tail (fields_of c z) (rest_of c z))
+  IsFinished (Err (Write written)) = WrotePart contents o o' (document.tail (fields_of c z) (rest_of c z))
   IsFinished (Err (Read field offset)) = ⊥
   IsFinished (Err TooManyFields) = ⊥
   IsFinished (Err Failed) = ⊥
 
--- as many texts were written as the second number is greater than the first, each of at most 192 bytes and with at most 17
--- failures for each of its bytes and 17 more
-pub record Rises {W : Type 0} (o o' : Outlet W) (before after : ℕ) : Type 0 where
-  pub texts : before ≤ after
-  pub few : after ≤ 1000000
-  pub written : written_of o' + 192 * before ≤ written_of o + 192 * after
-  pub failures : failures_of o' + 3281 * before ≤ failures_of o + 3281 * after
-  pub least : failures_of o ≤ failures_of o'
-
 module _ {W : Type 0} (o o' : Outlet W) where
   -- a piece answers `Write` where the writer failed, and never `Read`
   abbrev pub IsFeedFault : RunFault → Type 0
-  IsFeedFault (Write written) = (written ≡ written_of o') × (failures_of o < failures_of o')
-  IsFeedFault TooManyFields = Unit {0}
+  IsFeedFault (Write written) = (written ≡ written_of o') × HasCause o o'
+  IsFeedFault TooManyFields = errors_of o' ≡ errors_of o
   IsFeedFault Failed = Unit {0}
   IsFeedFault (Read field offset) = ⊥
 
   -- the end answers `Write` where the writer failed, and neither `Read` nor `TooManyFields`
   abbrev pub IsEndFault : RunFault → Type 0
-  IsEndFault (Write written) = (written ≡ written_of o') × (failures_of o < failures_of o')
+  IsEndFault (Write written) = (written ≡ written_of o') × HasCause o o'
   IsEndFault Failed = Unit {0}
   IsEndFault TooManyFields = ⊥
   IsEndFault (Read field offset) = ⊥

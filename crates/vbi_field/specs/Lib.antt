@@ -3,14 +3,15 @@ pub mod CauseTexts
 pub mod CodeTexts
 pub mod ConfigView
 pub mod Document
-pub mod DrawRun
 pub mod Drawing
 pub mod DrawnReadings
+pub mod Draws
 pub mod Extracts
 pub mod Feed
 pub mod FeedView
 pub mod Feeding
 pub mod Kinds
+pub mod NextLine
 pub mod Outlet
 pub mod Position
 pub mod Progress
@@ -19,6 +20,5 @@ pub mod Report
 pub mod RowIntake
 pub mod Stand
 pub mod Stream
-pub mod Takes
 pub mod Texts
 pub mod WordRows

@@ -1,5 +1,5 @@
--- How far a stream has come in whole rows, as the code keeps it (this project's own).
-use Rattle.std.specs.Prelude.{◌≡◌, ℕ, ◌+◌, ◌*◌, ◌<◌, ◌≤◌, List, ◌++◌, length, Option, Some, None}
+-- How far a stream has come in whole rows, as the code keeps it.
+use Rattle.std.specs.Prelude.{◌≡◌, ℕ, ◌+◌, ◌*◌, ◌<◌, ◌≤◌, ◌⊎◌, List, ◌++◌, length, Option, Some, None, Result, Ok, Err}
 use Rattle.vbi_words.specs.Geometry.{height_of, line_bytes}
 use Rattle.vbi_words.specs.Levels.{row_levels}
 use Rattle.vbi_words.specs.declared.outcome.Reading.{Reading}
@@ -7,7 +7,11 @@ use Rattle.vbi_line.specs.OneReading.{reading_of}
 use Rattle.vbi_field.specs.declared.readings.FieldReadings.{FieldReadings}
 use Rattle.vbi_field.specs.declared.progress.Progress.{Progress}
 use Rattle.vbi_field.specs.ConfigView.{ConfigView}
+use Rattle.vbi_field.specs.Outlet.{Wrote, WrotePart}
 use Rattle.vbi_field.specs.Stream.{row_reading, field_readings}
+use Rattle.vbi_field.specs.Texts.{Texts, Completes}
+use Rattle.vbi_field.specs.declared.outlet.Outlet.{Outlet}
+use Rattle.vbi_field.specs.declared.summary.RunFault.{RunFault}
 
 -- the rows of z are whole, and these are the number of its whole fields, the rows past them and those of their readings that are due
 pub record IsPosition (c : ConfigView) (z : List ℕ) (p : Progress) : Type 0 where
@@ -37,3 +41,32 @@ pub record Keeps (row : ℕ) (reading : Reading) (was now : FieldReadings) : Typ
   pub first : Kept 15 row reading was.first now.first
   pub second : Kept 16 row reading was.second now.second
   pub third : Kept 17 row reading was.third now.third
+
+-- one row further: inside the field, or at its end
+abbrev pub IsNextRow : ConfigView → Progress → Progress → Type 0
+IsNextRow c old new =
+    ((new.fields ≡ old.fields) × (new.row ≡ old.row + 1))
+    ⊎ ((new.fields ≡ old.fields + 1) × (new.row ≡ 0) × (old.row + 1 ≡ height_of c.system))
+
+-- ---- a whole row b behind z, for a kind t of text
+
+module _ (t : Texts) {W : Type 0} (contents : W → Option (List ℕ)) (c : ConfigView) (o o' : Outlet W) (z b : List ℕ)
+    (now : Progress) where
+  -- the text that is due with the row was written
+  pub record SettlesWhole : Type 0 where
+    pub position : IsPosition c (z ++ b) now
+    pub text : List ℕ
+    pub due : Completes t c z (z ++ b) text
+    pub wrote : Wrote contents o o' text
+
+  -- only the first of it was
+  pub record SettlesInPart : Type 0 where
+    pub position : IsPosition c (z ++ b) now
+    pub text : List ℕ
+    pub due : Completes t c z (z ++ b) text
+    pub wrote : WrotePart contents o o' text
+
+  -- what the row leads to, by the answer
+  abbrev pub Settles : Result (Unit {0}) RunFault → Type 0
+  Settles (Ok u) = SettlesWhole
+  Settles (Err fault) = SettlesInPart

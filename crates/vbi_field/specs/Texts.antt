@@ -1,5 +1,5 @@
 -- The text that is written for a TBC stream, for any kind of text: its head, an entry for each whole field, and its tail.
-use Rattle.std.specs.Prelude.{ℕ, ◌+◌, ◌==◌, if◌then◌else◌, List, [], ◌++◌}
+use Rattle.std.specs.Prelude.{◌≡◌, ℕ, ◌+◌, ◌==◌, if◌then◌else◌, List, [], ◌++◌}
 use Rattle.std.specs.List.{join_by, range_with_len}
 use Rattle.vbi_field.specs.ConfigView.{ConfigView}
 use Rattle.vbi_field.specs.Stream.{fields_of, rest_of, field_readings}
@@ -24,6 +24,10 @@ begun_of t c z = t.head c ++ join_by (entry_of t c z) t.joint (range_with_len 0 
 -- the whole text of a stream that ended
 abbrev pub document_of : Texts → ConfigView → List ℕ → List ℕ
 document_of t c z = begun_of t c z ++ t.tail (fields_of c z) (rest_of c z)
+
+-- the text of a longer stream is longer by these bytes
+abbrev pub Completes : Texts → ConfigView → List ℕ → List ℕ → List ℕ → Type 0
+Completes t c z longer text = begun_of t c z ++ text ≡ begun_of t c longer
 
 -- what is written for a field when it is whole, where so many fields came before it: the joint, if there is an entry before, and the entry
 abbrev pub joined_entry_of : Texts → ℕ → FieldReadings → List ℕ

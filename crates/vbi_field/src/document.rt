@@ -6,9 +6,9 @@ ghost use Rattle.vbi_field.specs.Texts.{joined_entry_of};
 
 use crate::cause_texts::cause_text;
 use crate::config::Config;
-use crate::form::{Form, TEXT_SIZE};
 use crate::numbers::push_number;
 use crate::readings::FieldReadings;
+use crate::texts::{Form, TEXT_SIZE};
 use arrayvec::ArrayString;
 use vbi_words::Outcome;
 

@@ -4,7 +4,8 @@ ghost use Rattle.std.specs.Prelude.{◌≡◌, ◌↔◌, ℕ, ◌+◌, ◌*◌,
 ghost use Rattle.std.specs.Io.KnownBytes.{Consumes, IsAtEnd};
 ghost use Rattle.vbi_words.specs.Geometry.{width_of};
 ghost use Rattle.vbi_field.specs.ByLines.{FieldReads, IsDocument};
-ghost use Rattle.vbi_field.specs.Extracts.{EndsWithin, IsFirstOf};
+ghost use Rattle.vbi_field.specs.Extracts.{EndsWithin};
+ghost use Rattle.vbi_field.specs.Ran.{IsFirstOf};
 ghost use Rattle.vbi_field.specs.ConfigView.{ConfigView};
 ghost use Rattle.vbi_field.specs.Stream.{fields_of, rest_of, looks_of};
 ghost use Rattle.vbi_field.specs.Texts.{Texts, begun_of, document_of};

@@ -1,10 +1,15 @@
-//! How far a stream has come, in whole rows.
-ghost use Rattle.std.specs.Prelude.{◌≡◌, ◌+◌, ◌*◌, ◌^◌, ◌↔◌, IsTrue, ◌<◌, ◌≤◌, List, ℕ, length, MatchOption};
+//! How far a stream has come in whole rows. A stream that is pulled and one that is pushed both advance by this.
+ghost use Rattle.std.specs.Prelude.{◌≡◌, ◌+◌, ◌*◌, ◌^◌, ◌↔◌, IsTrue, ◌<◌, ◌≤◌, List, ℕ, length, MatchOption, OnOk, OnErr, IfErr};
 ghost use Rattle.vbi_words.specs.Geometry.{height_of, line_bytes};
+ghost use Rattle.vbi_field.specs.Outlet.{failures_of, errors_of, written_of, HasCause, IsSameDevice, Rises};
 ghost use Rattle.vbi_field.specs.Progress.{Keeps};
 
 use crate::config::Config;
+use crate::outlet::Outlet;
 use crate::readings::FieldReadings;
+use crate::summary::RunFault;
+use crate::texts::{Form, put};
+use std::io::Write;
 use vbi_words::{Outcome, Reading};
 
 /// The number of whole fields, the row of the unfinished one, counted from 0, and its finished readings. No samples.
@@ -36,7 +41,7 @@ fn keep_reading(readings: &mut FieldReadings, row: usize, reading: Reading)
 }
 
 impl Progress {
-    ghost use Rattle.vbi_field.specs.Progress.{IsPosition, IsRowOf, AdvancesOver};
+    ghost use Rattle.vbi_field.specs.Progress.{IsPosition, IsRowOf, IsNextRow, AdvancesOver, Settles};
 
     /// Before the first row.
     pub(crate) fn new() -> Self
@@ -71,7 +76,7 @@ impl Progress {
     }
 
     /// Takes the reading of the next row, and gives the readings of a field that is whole now.
-    pub(crate) fn advance(&mut self, config: &Config, reading: Reading) -> Option<FieldReadings>
+    fn advance(&mut self, config: &Config, reading: Reading) -> Option<FieldReadings>
         requires inside { self.old.row < height_of config.now.system }
         requires few { self.old.fields ≤ 1000000 }
         ensures inside { self.new.row < height_of config.now.system }
@@ -90,5 +95,34 @@ impl Progress {
         self.row = 0;
         self.fields += 1;
         Some(self.readings)
+    }
+
+    /// Takes the reading of the next row, and writes the entry of a field that is whole now.
+    pub(crate) fn settle<F: Form, W: Write>(
+        &mut self,
+        config: &Config,
+        reading: Reading,
+        outlet: &mut Outlet<W>,
+    ) -> Result<(), RunFault>
+        requires inside { self.old.row < height_of config.now.system }
+        requires few { self.old.fields < 1000000 }
+        requires written { written_of outlet.old ≤ 2 ^ 62 }
+        requires failures { failures_of outlet.old ≤ 2 ^ 62 }
+        ensures same { IsSameDevice outlet.old outlet.new }
+        ensures inside { self.new.row < height_of config.now.system }
+        ensures next { IsNextRow config.now self.old self.new }
+        ensures rises { Rises outlet.old outlet.new self.old.fields self.new.fields }
+        ensures no_error { OnOk result (errors_of outlet.new ≡ errors_of outlet.old) }
+        ensures failed { OnErr result (HasCause outlet.old outlet.new) }
+        ensures field { OnErr result (self.new.row ≡ 0) }
+        ensures fault { IfErr result (λ e. e ≡ RunFault.Write (written_of outlet.new)) }
+        ensures settles { (z b : List ℕ) → IsPosition config.now z self.old
+            → IsRowOf config.now b self.old.row reading
+            → Settles F.texts W.contents config.now outlet.old outlet.new z b self.new result }
+    {
+        if let Some(readings) = self.advance(config, reading) {
+            put(outlet, F::entry(self.fields - 1, &readings).as_str())?;
+        }
+        Ok(())
     }
 }

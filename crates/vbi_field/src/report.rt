@@ -8,9 +8,9 @@ ghost use Rattle.vbi_field.specs.Report.{report_head_of, report_entry_of, report
 use crate::cause_texts::cause_text;
 use crate::code_texts::{code_text, hex_text};
 use crate::config::Config;
-use crate::form::{Form, TEXT_SIZE};
 use crate::numbers::push_number;
 use crate::readings::FieldReadings;
+use crate::texts::{Form, TEXT_SIZE};
 use arrayvec::ArrayString;
 use vbi_words::{Format, Levels, Outcome, System, Word24, classify, format_of};
 

@@ -8,9 +8,9 @@ use vbi_line::{Counted, Fail, RETRIES};
 /// The bytes of a row at which it is malformed, whatever follows: a good one has at most 20 before its newline.
 const ROW_LIMIT: usize = 21;
 
-/// What came in place of a byte.
+/// What the reader gives when a byte is asked for.
 #[derive(Clone, Copy, Debug, PartialEq, Eq)]
-pub(crate) enum ByteCame {
+pub(crate) enum NextByte {
     /// A byte.
     Byte(u8),
     /// The reader's end.
@@ -19,9 +19,9 @@ pub(crate) enum ByteCame {
     Failed,
 }
 
-/// What came in place of a row.
+/// What the reader gives when a row is asked for.
 #[derive(Clone, Copy, Debug, PartialEq, Eq)]
-pub(crate) enum RowCame {
+pub(crate) enum NextRow {
     /// A row with its newline, and the words that it stands for.
     Row(WordRow),
     /// A row that the reader's end closed, and the words that it stands for.
@@ -42,7 +42,8 @@ pub struct RowIntake<'a, R> {
 }
 
 impl<'a, R: Read> RowIntake<'a, R> {
-    ghost use Rattle.vbi_field.specs.RowIntake.{device_of, name_of, failures_of, fetched_of, IsFresh, IsSameDevice, TakesByte, TakesRow};
+    ghost use Rattle.vbi_field.specs.RowIntake.{device_of, name_of, failures_of, errors_of, fetched_of};
+    ghost use Rattle.vbi_field.specs.RowIntake.{IsFresh, IsSameDevice, TakesByte, TakesRow};
 
     /// An intake that has fetched nothing.
     pub fn new(reader: &'a mut R) -> Self
@@ -79,8 +80,15 @@ impl<'a, R: Read> RowIntake<'a, R> {
         self.device.failures()
     }
 
+    /// How often the reader failed, interruptions not among these.
+    pub fn errors(&self) -> u64
+        ensures { result ≡ errors_of self.now }
+    {
+        self.device.errors()
+    }
+
     /// Takes the next byte. An interrupted read is tried again at most 16 times in a row.
-    pub(crate) fn next_byte(&mut self) -> ByteCame
+    pub(crate) fn next_byte(&mut self) -> NextByte
         requires fetched { fetched_of self.old ≤ 2 ^ 62 }
         requires failures { failures_of self.old ≤ 2 ^ 62 }
         ensures { TakesByte R.remaining self.old self.new result }
@@ -88,20 +96,20 @@ impl<'a, R: Read> RowIntake<'a, R> {
         let mut byte = [0u8; 1];
         for _ in 0..=RETRIES {
             match self.device.read_once(&mut byte) {
-                Ok(0) => return ByteCame::Ended,
+                Ok(0) => return NextByte::Ended,
                 Ok(_) => {
                     self.fetched += 1;
-                    return ByteCame::Byte(byte[0]);
+                    return NextByte::Byte(byte[0]);
                 }
                 Err(Fail::Interrupted) => {}
-                Err(Fail::Other) => return ByteCame::Failed,
+                Err(Fail::Other) => return NextByte::Failed,
             }
         }
-        ByteCame::Failed
+        NextByte::Failed
     }
 
     /// Takes the next row: the bytes up to its newline, the reader's end or the 21st byte that isn't a newline.
-    pub(crate) fn next_row(&mut self) -> RowCame
+    pub(crate) fn next_row(&mut self) -> NextRow
         requires fetched { fetched_of self.old ≤ 2 ^ 61 }
         requires failures { failures_of self.old ≤ 2 ^ 61 }
         ensures { TakesRow R.remaining self.old self.new result }
@@ -109,27 +117,27 @@ impl<'a, R: Read> RowIntake<'a, R> {
         let mut row = [0u8; ROW_LIMIT];
         for held in 0..ROW_LIMIT {
             match self.next_byte() {
-                ByteCame::Byte(byte) => {
+                NextByte::Byte(byte) => {
                     if byte == b'\n' {
                         return match read_word_row(&row[..held]) {
-                            Some(words) => RowCame::Row(words),
-                            None => RowCame::Malformed,
+                            Some(words) => NextRow::Row(words),
+                            None => NextRow::Malformed,
                         };
                     }
                     row[held] = byte;
                 }
-                ByteCame::Ended => {
+                NextByte::Ended => {
                     if held == 0 {
-                        return RowCame::Ended;
+                        return NextRow::Ended;
                     }
                     return match read_word_row(&row[..held]) {
-                        Some(words) => RowCame::LastRow(words),
-                        None => RowCame::Malformed,
+                        Some(words) => NextRow::LastRow(words),
+                        None => NextRow::Malformed,
                     };
                 }
-                ByteCame::Failed => return RowCame::Failed,
+                NextByte::Failed => return NextRow::Failed,
             }
         }
-        RowCame::Malformed
+        NextRow::Malformed
     }
 }

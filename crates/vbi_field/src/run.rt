@@ -1,70 +1,75 @@
-//! The run over a whole stream, for any kind of text.
-ghost use Rattle.std.specs.Prelude.{◌≡◌, ◌+◌, ◌-◌, ◌*◌, ◌^◌, ◌<◌, ◌≤◌, length, OnOk, OnErr, IfOk, IfErr};
-ghost use Rattle.vbi_line.specs.Intake.{IsFresh, IsSameDevice};
-ghost use Rattle.vbi_field.specs.Outlet.{failures_of, written_of, IsFresh as IsFreshOutlet, IsSameDevice as IsSameOutlet, Puts};
+//! The document and the report of a whole stream, pulled from a reader.
+ghost use Rattle.std.specs.Prelude.{◌≡◌, ◌+◌, ◌*◌, ◌^◌, ◌<◌, ◌≤◌, [], length};
+ghost use Rattle.vbi_words.specs.Geometry.{height_of, line_bytes};
+ghost use Rattle.vbi_line.specs.Intake.{failures_of, fetched_of, held_of, line_of, IsFresh, IsSameDevice};
 ghost use Rattle.vbi_field.specs.Extracts.{Runs};
-ghost use Rattle.vbi_field.specs.Stream.{cut_of};
+ghost use Rattle.vbi_field.specs.Kinds.{document, report};
+ghost use Rattle.vbi_field.specs.NextLine.{TakesLine};
+ghost use Rattle.vbi_field.specs.Outlet.{IsFresh as IsFreshOutlet, IsSameDevice as IsSameOutlet};
 
 use crate::config::Config;
-use crate::form::Form;
+use crate::document::Document;
 use crate::outlet::Outlet;
-use crate::progress::Progress;
-use crate::rows::{Row, take_row};
+use crate::progress::{Progress, unread};
+use crate::report::Report;
 use crate::summary::{RunFault, Summary};
+use crate::texts::{Form, end, put};
 use std::io::{Read, Write};
-use vbi_line::Intake;
+use vbi_line::{Filled, Intake};
+use vbi_words::{Levels, Reading};
 
-/// Writes a text.
-pub(crate) fn put<W: Write>(outlet: &mut Outlet<W>, text: &str) -> Result<(), RunFault>
-    requires written { written_of outlet.old ≤ 2 ^ 62 }
-    requires failures { failures_of outlet.old ≤ 2 ^ 62 }
-    requires few { length text.now ≤ 2 ^ 56 }
-    ensures same { IsSameOutlet outlet.old outlet.new }
-    ensures puts { Puts W.contents outlet.old outlet.new text.now }
-    ensures ok { OnOk result (written_of outlet.new ≡ written_of outlet.old + length text.now) }
-    ensures failed { OnErr result (failures_of outlet.old < failures_of outlet.new) }
-    ensures short { OnErr result (written_of outlet.new < written_of outlet.old + length text.now) }
-    ensures fault { IfErr result (λ e. e ≡ RunFault.Write (written_of outlet.new)) }
+/// What the reader gives when a line is asked for.
+#[derive(Clone, Copy, Debug)]
+pub(crate) enum NextLine {
+    /// A whole line, with its reading where that was asked for.
+    Whole(Reading),
+    /// The end, behind this number of bytes of a line.
+    Ended(usize),
+    /// A fault.
+    Failed,
+}
+
+/// Takes the next line, and reads it if it is selected.
+fn take_line<R: Read>(intake: &mut Intake<R>, levels: Levels, is_selected: bool) -> NextLine
+    requires empty { held_of intake.old ≡ [] }
+    requires fresh { (line_of intake.old).cursors ≡ [] }
+    requires looked { (line_of intake.old).looked ≤ 2 ^ 61 }
+    requires fetched { fetched_of intake.old ≤ 2 ^ 62 }
+    requires failures { failures_of intake.old ≤ 2 ^ 62 }
+    ensures same { IsSameDevice intake.old intake.new }
+    ensures takes { TakesLine R.remaining levels is_selected intake.old intake.new result }
 {
-    match outlet.put_all(text.as_bytes()) {
-        Ok(()) => Ok(()),
-        Err(_) => Err(RunFault::Write {
-            written: outlet.written(),
-        }),
+    match intake.fill_line() {
+        Ok(Filled::Full) => {
+            let reading = if is_selected {
+                intake.reading(levels)
+            } else {
+                unread()
+            };
+            intake.clear_line();
+            NextLine::Whole(reading)
+        }
+        Ok(Filled::Ended(count)) => NextLine::Ended(count),
+        Err(_) => NextLine::Failed,
     }
 }
 
-/// Writes the tail, and says what was done.
-pub(crate) fn end<F: Form, W: Write>(
-    outlet: &mut Outlet<W>,
-    fields: u32,
-    rest: u32,
-    looked: u64,
-) -> Result<Summary, RunFault>
-    requires written { written_of outlet.old ≤ 2 ^ 62 }
-    requires failures { failures_of outlet.old ≤ 2 ^ 62 }
-    requires fields { fields ≤ 1000000 }
-    ensures same { IsSameOutlet outlet.old outlet.new }
-    ensures puts { Puts W.contents outlet.old outlet.new (F.texts.tail fields rest) }
-    ensures written { OnOk result (written_of outlet.new ≡ written_of outlet.old + length (F.texts.tail fields rest)) }
-    ensures ok { IfOk result (λ s. s ≡ record { fields = fields; cut = cut_of rest; looked = looked }) }
-    ensures failed { OnErr result (failures_of outlet.old < failures_of outlet.new) }
-    ensures short { OnErr result (written_of outlet.new < written_of outlet.old + length (F.texts.tail fields rest)) }
-    ensures fault { IfErr result (λ e. e ≡ RunFault.Write (written_of outlet.new)) }
+/// The fault of a reader that failed at this place.
+fn read_fault<R: Read>(config: &Config, progress: &Progress, intake: &Intake<R>) -> RunFault
+    requires fields { progress.now.fields ≤ 1000000 }
+    requires inside { progress.now.row < height_of config.now.system }
+    requires held { length (held_of intake.now) ≤ line_bytes config.now.system }
+    ensures { result ≡ RunFault.Read (progress.now.fields + 1)
+        (progress.now.row * line_bytes config.now.system + length (held_of intake.now)) }
 {
-    if let Err(fault) = put(outlet, F::tail(fields, rest).as_str()) {
-        return Err(fault);
+    RunFault::Read {
+        field: progress.fields + 1,
+        offset: progress.rest(config, intake.held()),
     }
-    let cut = if rest == 0 { None } else { Some(rest) };
-    Ok(Summary {
-        fields,
-        cut,
-        looked,
-    })
 }
 
 /// Writes the text of a stream.
-pub(crate) fn run<F: Form, R: Read, W: Write>(
+fn run<F: Form, R: Read, W: Write>(
     config: &Config,
     intake: &mut Intake<R>,
     outlet: &mut Outlet<W>,
@@ -75,43 +80,55 @@ pub(crate) fn run<F: Form, R: Read, W: Write>(
     ensures same_writer { IsSameOutlet outlet.old outlet.new }
     ensures run { Runs F.texts R.remaining W.contents config.now intake.old intake.new outlet.old outlet.new result }
 {
-    if let Err(fault) = put(outlet, F::head(config).as_str()) {
-        return Err(fault);
-    }
+    put(outlet, F::head(config).as_str())?;
     let mut progress = Progress::new();
     for row in 0..config.row_limit() {
-        match take_row(intake, config.levels(), progress.is_selected()) {
-            Row::Whole(reading) => {
-                if let Some(readings) = progress.advance(config, reading) {
-                    let text = F::entry(progress.fields - 1, &readings);
-                    if let Err(fault) = put(outlet, text.as_str()) {
-                        return Err(fault);
-                    }
-                }
-            }
-            Row::Ended(bytes) => {
+        match take_line(intake, config.levels(), progress.is_selected()) {
+            NextLine::Whole(reading) => progress.settle::<F, W>(config, reading, outlet)?,
+            NextLine::Ended(bytes) => {
                 let rest = progress.rest(config, bytes);
                 return end::<F, W>(outlet, progress.fields, rest, intake.looked());
             }
-            Row::Failed => {
-                return Err(RunFault::Read {
-                    field: progress.fields + 1,
-                    offset: progress.rest(config, intake.held()),
-                });
-            }
+            NextLine::Failed => return Err(read_fault(config, &progress, intake)),
         }
     }
-    match take_row(intake, config.levels(), false) {
-        Row::Ended(bytes) => {
-            if bytes != 0 {
-                return Err(RunFault::TooManyFields);
-            }
-            end::<F, W>(outlet, progress.fields, 0, intake.looked())
-        }
-        Row::Whole(_) => Err(RunFault::TooManyFields),
-        Row::Failed => Err(RunFault::Read {
-            field: progress.fields + 1,
-            offset: progress.rest(config, intake.held()),
-        }),
+    match take_line(intake, config.levels(), false) {
+        NextLine::Ended(0) => end::<F, W>(outlet, progress.fields, 0, intake.looked()),
+        NextLine::Ended(_) => Err(RunFault::TooManyFields),
+        NextLine::Whole(_) => Err(RunFault::TooManyFields),
+        NextLine::Failed => Err(read_fault(config, &progress, intake)),
     }
+}
+
+/// Writes the document of the stream that the intake reads: the head before the first read, the record of each field as soon as
+/// it is whole, and the tail at the end. The bytes fetched, the text and the answer belong together as `Extracts` says; where
+/// the reader tells its bytes, those fetched are the first of them, and after Ok all of them. It doesn't flush.
+pub fn extract<R: Read, W: Write>(
+    config: &Config,
+    intake: &mut Intake<R>,
+    outlet: &mut Outlet<W>,
+) -> Result<Summary, RunFault>
+    requires intake { IsFresh intake.old config.now.system }
+    requires outlet { IsFreshOutlet outlet.old }
+    ensures same_reader { IsSameDevice intake.old intake.new }
+    ensures same_writer { IsSameOutlet outlet.old outlet.new }
+    ensures run { Runs document R.remaining W.contents config.now intake.old intake.new outlet.old outlet.new result }
+{
+    run::<Document, R, W>(config, intake, outlet)
+}
+
+/// Writes the report of the stream that the intake reads: the first line before the first read, the four lines of each field as
+/// soon as it is whole, and the last line at the end. The clauses are those of `extract` with the report's texts.
+pub fn show<R: Read, W: Write>(
+    config: &Config,
+    intake: &mut Intake<R>,
+    outlet: &mut Outlet<W>,
+) -> Result<Summary, RunFault>
+    requires intake { IsFresh intake.old config.now.system }
+    requires outlet { IsFreshOutlet outlet.old }
+    ensures same_reader { IsSameDevice intake.old intake.new }
+    ensures same_writer { IsSameOutlet outlet.old outlet.new }
+    ensures run { Runs report R.remaining W.contents config.now intake.old intake.new outlet.old outlet.new result }
+{
+    run::<Report, R, W>(config, intake, outlet)
 }

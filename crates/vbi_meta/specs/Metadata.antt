@@ -17,10 +17,10 @@ pub record IsMetadata (bytes : List ℕ) (document : Data) : Type 0 where
   pub reading : read bytes ≡ Some document
   pub nested : depth document ≤ 127
 
--- these bytes give no document for this reason: there are too many, or they are none, or memory was refused, as it can be where
--- there is a byte at all
+-- these bytes give no document for this reason: they are over the limit; or they are within it and are none; or they are within it,
+-- and memory was refused, as it can be where there is a byte at all
 abbrev pub IsUnread : List ℕ → MetaFault → Type 0
 IsUnread bytes TooLarge = most_bytes < length bytes
-IsUnread bytes NotJson = (document : Data) → ¬ IsMetadata bytes document
-IsUnread bytes OutOfMemory = 0 < length bytes
+IsUnread bytes NotJson = (length bytes ≤ most_bytes) × ((document : Data) → ¬ IsMetadata bytes document)
+IsUnread bytes OutOfMemory = (length bytes ≤ most_bytes) × (0 < length bytes)
 IsUnread bytes _ = ⊥

@@ -1,6 +1,10 @@
 use Rattle.std.proofs.Common.{rules}
+use Rattle.vbi_line.specs.Intake as intakes
+use Rattle.vbi_field.specs.Extracts.{Extracts, counts_of}
 use Rattle.vbi_field.specs.Kinds.{report}
-use Rattle.vbi_cli.proofs.Streams.{never_failed, stream_did}
+use Rattle.vbi_field.specs.Outlet as outlets
+use Rattle.vbi_cli.specs.Jobs.{IsEndedBy}
+use Rattle.vbi_cli.proofs.Jobs.{never_failed, did_run}
 use Rattle.vbi_cli.proofs.job.show_job.Goals as goal
 
 pub end_of-requires : goal.end_of-requires
@@ -9,7 +13,9 @@ end_of-requires g c = let ran = c.show-summary.ensures.run in never_failed _ _ _
 pub returns : goal.returns
 returns g c = search (
   rules,
-  stream_did report g.R.Read.remaining g.W.Write.contents c.args.config.now
-      c.new-intake.result c.show-summary.new.intake c.new-outlet.result c.show-summary.new.outlet
-      c.args.input.now c.into_reader.result.now c.args.output.now c.into_writer.result.now c.show-summary.result c.end_of.result,
+  did_run g.R.Read.remaining g.W.Write.contents (Extracts report c.args.config.now) IsEndedBy
+      (counts_of c.show-summary.new.intake c.show-summary.new.outlet)
+      c.args.input.now c.into_reader.result.now (intakes.device_of c.new-intake.result) (intakes.device_of c.show-summary.new.intake)
+      c.args.output.now c.into_writer.result.now (outlets.device_of c.new-outlet.result) (outlets.device_of c.show-summary.new.outlet)
+      c.show-summary.result c.end_of.result,
 )

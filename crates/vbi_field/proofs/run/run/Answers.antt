@@ -1,114 +1,105 @@
-use Rattle.std.proofs.Common.{◌≡◌, ◌<◌, ◌≤◌, ◌+◌, ◌-◌, ◌*◌, refl, ◌∙◌, arith, rules}
+use Rattle.std.proofs.Common.{◌≡◌, ◌<◌, ◌≤◌, ◌+◌, ◌-◌, ◌*◌, refl, sym, ap, ◌∙◌, arith, rules, length}
 use Rattle.std.proofs.Math.Nat.{zero-mul, le_of_eq}
 use Rattle.vbi_words.specs.Geometry.{height_of, line_bytes}
+use Rattle.vbi_line.specs.Intake.{errors_of}
+use Rattle.vbi_field.specs.Outlet.{errors_of as writer_errors}
 use Rattle.vbi_field.proofs.Counts.{all_fields, some_bytes, within_rows, within_all}
-use Rattle.vbi_field.proofs.Going.{start, head_fault}
-use Rattle.vbi_field.proofs.RunSteps.{row_came, step_inside, step_field, field_fault, ended, read_fault, too_many}
+use Rattle.vbi_field.proofs.Pulling.{start, head_fault, row_came, step, entry_fault, ended, read_fault, too_many, runs_fault}
 use Rattle.vbi_field.proofs.run.run.Goals as goal
-use Rattle.vbi_field.proofs.run.run.Goals.{in-Some+in_default-put, in_default-advance}
 
 pub loop-row-init : goal.loop-row-init
 loop-row-init g c =
     start _ _ _ _ _ _ c.put.new.outlet c.new-progress.result c.as_str.result.now c.requires.intake c.requires.outlet
-    (c.as_str.ensures.value ∙ c.head.ensures) c.as_str.ensures.fits c.in_default.ensures.puts
-    c.in_default.ensures.ok c.in_default.ensures.same c.new-progress.ensures.fields c.new-progress.ensures.row
+    (c.as_str.ensures.value ∙ c.head.ensures) c.as_str.ensures.fits c.in_ok-put.ensures.puts
+    c.in_ok-put.ensures.ok c.in_ok-put.ensures.no_error c.in_ok-put.ensures.same c.new-progress.ensures.fields c.new-progress.ensures.row
 
-pub returns-in-Err-clause-run : goal.returns-in-Err-clause-run
-returns-in-Err-clause-run g c =
-    head_fault _ g.R.Read.remaining _ _ _ _ _ c.as_str.result.now c.in-Err.fault c.requires.intake c.requires.outlet
-    (c.as_str.ensures.value ∙ c.head.ensures) c.in-Err.ensures.puts c.in-Err.ensures.failed c.in-Err.ensures.short c.in-Err.ensures.fault
-
-pub returns-in-Err-put-clause-run : goal.returns-in-Err-put-clause-run
-returns-in-Err-put-clause-run g c =
-    let v = c.loop-row.invariant in
-    let t = c.in-Whole.ensures.takes in
-    let came = row_came _ _ _ _ _ _ _ _ _ _ _ v _ (search rules) c.in-Whole.reading c.levels.result c.levels.ensures t in
-    let over = c.in-Some.ensures.over v.z t.bytes v.at came in
-    let last : c.loop-row.row + 1 ≤ c.args.config.now.max_fields * height_of c.args.config.now.system =
-    omega (arith, c.row_limit-row-end.ensures.value) in
-    field_fault _ _ _ _ _ _ _ _ _ _ _ v _ (search rules) c.in-Whole.reading c.levels.result c.levels.ensures t
-    c.advance.new.self c.in-Some.readings over.0 c.in-Some.ensures.counts.0 over.2 c.put-in-Some.new.outlet c.as_str-in-Some.result.now
-    (c.advance.new.self.fields - 1) c.in-Err-put.fault (omega (arith, c.in-Some.ensures.counts.0)) c.in-Some.ensures.counts.1
-    over.1 last (c.as_str-in-Some.ensures.value ∙ c.entry-text.ensures) c.in-Err-put.ensures.puts c.in-Err-put.ensures.failed
-    c.in-Err-put.ensures.short c.in-Err-put.ensures.fault
-
-pub returns-in-Ended-clause-run : goal.returns-in-Ended-clause-run
-returns-in-Ended-clause-run g c =
-    let t = c.in-Ended.ensures.takes in
-    let v = c.loop-row.invariant in
-    let short = t.got.2 in
-    let before : c.loop-row.row < c.args.config.now.max_fields * height_of c.args.config.now.system =
-    omega (arith, c.row_limit-row-end.ensures.value) in
-    let within = within_rows c.args.config.now.system c.loop-row.row c.args.config.now.max_fields c.in-Ended.bytes before (rw (← v.system) short) in
-    ended _ _ _ _ _ _ _ _ _ _ _ _ v _ c.levels.result c.in-Ended.bytes t _ _ _
-    refl c.rest-rest.ensures within c.looked.ensures c.end.ensures.puts _ c.end.ensures.written c.end.ensures.ok c.end.ensures.failed
-    c.end.ensures.short c.end.ensures.fault
-
-pub returns-in-Failed-clause-run : goal.returns-in-Failed-clause-run
-returns-in-Failed-clause-run g c =
-    let last : c.loop-row.row ≤ c.args.config.now.max_fields * height_of c.args.config.now.system =
-    omega (arith, c.row_limit-row-end.ensures.value) in
-    read_fault _ _ _ _ _ _ _ _ _ _ _ c.loop-row.invariant _ c.levels.result c.in-Failed.ensures.takes _ c.held.result _
-    last refl c.held.ensures c.rest.ensures
+pub returns-in_err-put-clause-run : goal.returns-in_err-put-clause-run
+returns-in_err-put-clause-run g c =
+    runs_fault g.F.Form.texts g.R.Read.remaining g.W.Write.contents c.args.config.now c.args.intake.now c.args.outlet.now
+    c.args.intake.now c.put.new.outlet _ c.from_residual.result (search rules) (λ fault fails.
+    head_fault _ g.R.Read.remaining _ _ _ _ _ c.as_str.result.now fault c.requires.intake c.requires.outlet
+    (c.as_str.ensures.value ∙ c.head.ensures) c.in_err-put.ensures.puts c.in_err-put.ensures.failed c.in_err-put.ensures.short fails)
 
 pub loop-row-preserved : goal.loop-row-preserved
 loop-row-preserved g c =
     let v = c.loop-row.invariant in
     let t = c.in-Whole.ensures.takes in
-    let came = row_came _ _ _ _ _ _ _ _ _ _ _ v _ (search rules) c.in-Whole.reading c.levels.result c.levels.ensures t in
+    let came = row_came _ _ _ _ _ _ _ _ _ _ _ v _ (search rules) _ c.levels.result c.levels.ensures t in
     let last : c.loop-row.row + 1 ≤ c.args.config.now.max_fields * height_of c.args.config.now.system =
     omega (arith, c.row_limit-row-end.ensures.value) in
-    elim c.match-advance.branch [
-      | in-Some+in_default-put w ↦
-          let over = w.in-Some.ensures.over v.z t.bytes v.at came in
-          rw w.outlet-is (
-          step_field _ _ _ _ _ _ _ _ _ _ _ v _ (search rules) c.in-Whole.reading c.levels.result c.levels.ensures t
-          c.advance.new.self w.in-Some.readings over.0 w.in-Some.ensures.counts.0 over.2 w.put-in-Some.new.outlet w.as_str-in-Some.result.now
-          (c.advance.new.self.fields - 1) (omega (arith, w.in-Some.ensures.counts.0)) c.in-Whole.ensures.same w.in-Some.ensures.counts.1
-          over.1 last (w.as_str-in-Some.ensures.value ∙ w.entry-text.ensures) w.as_str-in-Some.ensures.fits
-          w.in_default-put.ensures.puts w.in_default-put.ensures.ok w.in_default-put.ensures.same
-          )
-      | in_default-advance w ↦
-          rw w.outlet-is (
-          step_inside _ _ _ _ _ _ _ _ _ _ _ v _ (search rules) c.in-Whole.reading c.levels.result c.levels.ensures t
-          c.advance.new.self c.in-Whole.ensures.same (w.in_default-advance.ensures.over v.z t.bytes v.at came)
-          w.in_default-advance.ensures.counts.0 w.in_default-advance.ensures.counts.1
-          )
-    ]
+    step _ _ _ _ _ _ _ _ _ _ _ v _ (search rules) _ c.levels.result c.levels.ensures t
+    c.settle.new.outlet c.settle.new.self c.in-Whole.ensures.same c.in_ok-settle-in-Whole.ensures.next c.in_ok-settle-in-Whole.ensures.rises
+    (c.in_ok-settle-in-Whole.ensures.settles v.z t.bytes v.at came) c.in_ok-settle-in-Whole.ensures.no_error
+    c.in_ok-settle-in-Whole.ensures.same last
 
-pub returns-then-bytes-ne0-clause-run : goal.returns-then-bytes-ne0-clause-run
-returns-then-bytes-ne0-clause-run g c =
-    let t = c.in-Ended-take_row.ensures.takes in
-    let last : c.loop-row.row ≡ c.args.config.now.max_fields * height_of c.args.config.now.system =
+pub returns-in_err-settle-in-Whole-clause-run : goal.returns-in_err-settle-in-Whole-clause-run
+returns-in_err-settle-in-Whole-clause-run g c =
+    let v = c.loop-row.invariant in
+    let t = c.in-Whole.ensures.takes in
+    let came = row_came _ _ _ _ _ _ _ _ _ _ _ v _ (search rules) _ c.levels.result c.levels.ensures t in
+    let last : c.loop-row.row + 1 ≤ c.args.config.now.max_fields * height_of c.args.config.now.system =
     omega (arith, c.row_limit-row-end.ensures.value) in
-    too_many _ _ _ _ _ _ _ _ _ _ _ c.loop-row.invariant _ _ _ t last (omega (arith, t.got.0)) (omega (arith, t.got.0, t.got.2)) t.got.4
+    let e = c.in_err-settle-in-Whole.ensures in
+    runs_fault g.F.Form.texts g.R.Read.remaining g.W.Write.contents c.args.config.now c.args.intake.now c.args.outlet.now
+    c.take_line.new.intake c.settle.new.outlet _ c.from_residual-in_err-settle-in-Whole.result (search rules) (λ fault fails.
+    entry_fault _ _ _ _ _ _ _ _ _ _ _ v _ (search rules) _ c.levels.result c.levels.ensures t
+    c.settle.new.outlet c.settle.new.self fault e.next e.field (e.settles v.z t.bytes v.at came) e.failed fails last)
 
-pub returns-else-bytes-ne0-clause-run : goal.returns-else-bytes-ne0-clause-run
-returns-else-bytes-ne0-clause-run g c =
+pub returns-in-Ended-clause-run : goal.returns-in-Ended-clause-run
+returns-in-Ended-clause-run g c =
+    let t = c.in-Ended.ensures.takes in
+    let got = t.got in
+    let v = c.loop-row.invariant in
+    let before : c.loop-row.row < c.args.config.now.max_fields * height_of c.args.config.now.system =
+    omega (arith, c.row_limit-row-end.ensures.value) in
+    let within = within_rows c.args.config.now.system c.loop-row.row c.args.config.now.max_fields c.in-Ended.bytes before
+    (rw (got.count_of, ← v.system) got.short) in
+    let e = c.end.ensures in
+    ended _ _ _ _ _ _ _ _ _ _ _ _ v _ c.levels.result c.in-Ended.bytes t _ _ _ refl c.rest-rest.ensures within c.looked.ensures e.puts _
+    e.written e.no_error e.ok e.failed e.short e.fault
+
+pub returns-in-Failed-clause-run : goal.returns-in-Failed-clause-run
+returns-in-Failed-clause-run g c =
+    let last : c.loop-row.row ≤ c.args.config.now.max_fields * height_of c.args.config.now.system =
+    omega (arith, c.row_limit-row-end.ensures.value) in
+    read_fault _ _ _ _ _ _ _ _ _ _ _ c.loop-row.invariant _ c.levels.result c.in-Failed.ensures.takes _ last c.read_fault.ensures
+
+pub returns-in-Ended-eq0-clause-run : goal.returns-in-Ended-eq0-clause-run
+returns-in-Ended-eq0-clause-run g c =
     let v = c.loop-row.invariant in
     let at = v.at in
     let last : c.loop-row.row ≡ c.args.config.now.max_fields * height_of c.args.config.now.system =
     omega (arith, c.row_limit-row-end.ensures.value) in
     let none = (all_fields c.args.config.now.system c.loop-row.progress.fields c.loop-row.progress.row c.args.config.now.max_fields at.inside
     (v.place ∙ last)).1 in
-    let within = within_all c.args.config.now.system c.loop-row.row c.args.config.now.max_fields c.in-Ended-take_row.bytes last (omega arith) in
-    ended _ _ _ _ _ _ _ _ _ _ _ _ v _ c.levels-2.result c.in-Ended-take_row.bytes c.in-Ended-take_row.ensures.takes _ _ _
-    refl (rw none (omega (arith, zero-mul (line_bytes c.args.config.now.system)))) within c.looked-in-Ended-take_row.ensures
-    c.end-in-Ended-take_row.ensures.puts _ c.end-in-Ended-take_row.ensures.written c.end-in-Ended-take_row.ensures.ok
-    c.end-in-Ended-take_row.ensures.failed c.end-in-Ended-take_row.ensures.short c.end-in-Ended-take_row.ensures.fault
+    let within = within_all c.args.config.now.system c.loop-row.row c.args.config.now.max_fields c.in-Ended-eq0.field-0 last
+    c.in-Ended-eq0.field-0-test in
+    let e = c.end-in-Ended-eq0.ensures in
+    ended _ _ _ _ _ _ _ _ _ _ _ _ v _ c.levels-2.result c.in-Ended-eq0.field-0 c.in-Ended-eq0.ensures.takes _ _ _
+    refl (rw none (omega (arith, zero-mul (line_bytes c.args.config.now.system), c.in-Ended-eq0.field-0-test))) within c.looked-in-Ended-eq0.ensures e.puts _
+    e.written e.no_error e.ok e.failed e.short e.fault
 
-pub returns-in-Whole-take_row-clause-run : goal.returns-in-Whole-take_row-clause-run
-returns-in-Whole-take_row-clause-run g c =
-    let t = c.in-Whole-take_row.ensures.takes in
+pub returns-in-Failed-take_line-clause-run : goal.returns-in-Failed-take_line-clause-run
+returns-in-Failed-take_line-clause-run g c =
+    let last : c.loop-row.row ≡ c.args.config.now.max_fields * height_of c.args.config.now.system =
+    omega (arith, c.row_limit-row-end.ensures.value) in
+    read_fault _ _ _ _ _ _ _ _ _ _ _ c.loop-row.invariant _ c.levels-2.result c.in-Failed-take_line.ensures.takes _
+    (le_of_eq last) c.read_fault-in-Failed-take_line.ensures
+
+pub returns-in-Ended-take_line-clause-run : goal.returns-in-Ended-take_line-clause-run
+returns-in-Ended-take_line-clause-run g c =
+    let t = c.in-Ended-take_line.ensures.takes in
+    let got = t.got in
+    let last : c.loop-row.row ≡ c.args.config.now.max_fields * height_of c.args.config.now.system =
+    omega (arith, c.row_limit-row-end.ensures.value) in
+    too_many _ _ _ _ _ _ _ _ _ _ _ c.loop-row.invariant _ _ _ t last (omega (arith, got.count_of)) (omega (arith, got.short)) got.looked got.no_error
+
+pub returns-in-Whole-take_line-clause-run : goal.returns-in-Whole-take_line-clause-run
+returns-in-Whole-take_line-clause-run g c =
+    let t = c.in-Whole-take_line.ensures.takes in
+    let got = t.got in
     let some = some_bytes c.loop-row.intake.line.system in
     let last : c.loop-row.row ≡ c.args.config.now.max_fields * height_of c.args.config.now.system =
     omega (arith, c.row_limit-row-end.ensures.value) in
-    too_many _ _ _ _ _ _ _ _ _ _ _ c.loop-row.invariant _ _ _ t last (omega (arith, t.got.0)) (le_of_eq t.got.0) (omega (arith, t.got.4))
-
-pub returns-in-Failed-take_row-clause-run : goal.returns-in-Failed-take_row-clause-run
-returns-in-Failed-take_row-clause-run g c =
-    let last : c.loop-row.row ≡ c.args.config.now.max_fields * height_of c.args.config.now.system =
-    omega (arith, c.row_limit-row-end.ensures.value) in
-    read_fault _ _ _ _ _ _ _ _ _ _ _ c.loop-row.invariant _ c.levels-2.result c.in-Failed-take_row.ensures.takes _
-    c.held-in-Failed-take_row.result _
-    (le_of_eq last) refl c.held-in-Failed-take_row.ensures c.rest-in-Failed-take_row.ensures
+    too_many _ _ _ _ _ _ _ _ _ _ _ c.loop-row.invariant _ _ _ t last (omega (arith, got.whole)) (le_of_eq got.whole)
+    (omega (arith, got.looked)) got.no_error

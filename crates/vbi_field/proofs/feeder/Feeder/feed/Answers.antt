@@ -1,6 +1,6 @@
 use Rattle.std.proofs.Common.{◌≡◌, ◌≤◌, length, refl, ap, arith}
 use Rattle.std.specs.Prelude.{Err}
-use Rattle.vbi_field.proofs.FeedLoop.{taken_none, taken_more, taken_fault, taken_whole}
+use Rattle.vbi_field.proofs.FeedLoop.{taken_none, taken_more, taken_fault, taken_whole, fault_since}
 use Rattle.vbi_field.specs.declared.summary.RunFault.TheVariants.{Failed}
 use Rattle.vbi_field.proofs.feeder.Feeder.feed.Goals as goal
 
@@ -12,7 +12,7 @@ loop-at-preserved g c =
     let e = c.in-Ok.ensures in
     let le : c.loop-at.at ≤ length c.args.piece.now = omega (arith, c.loop-at-test.true) in
     taken_more _ _ c.loop-at.self-inside _ _ _ _ _ _ c.loop-at.invariant refl _ _ _ c.take_bytes.ensures.step c.in-Ok.count
-    c.in-Ok.is le e.some.1 e.same e.stand e.rises
+    c.in-Ok.is le e.some.1 e.same e.stand e.rises e.no_error
 
 pub returns-in-Err-clause-refused : goal.returns-in-Err-clause-refused
 returns-in-Err-clause-refused g c =
@@ -20,6 +20,11 @@ returns-in-Err-clause-refused g c =
       λ failed. absurd (cc),
       λ e. let is : c.in-Err.fault ≡ Failed = cc in absurd (c.in-Err.ensures.calm (ap Err is)),
     )
+
+pub returns-in-Err-clause-fault : goal.returns-in-Err-clause-fault
+returns-in-Err-clause-fault g c =
+    fault_since _ _ c.loop-at.self-inside _ c.loop-at.outlet c.take_bytes.new.outlet c.args.piece.now c.loop-at.at c.loop-at.invariant
+    c.in-Err.fault c.in-Err.ensures.fault
 
 pub returns-in-Err-clause-fed : goal.returns-in-Err-clause-fed
 returns-in-Err-clause-fed g c = λ z s.

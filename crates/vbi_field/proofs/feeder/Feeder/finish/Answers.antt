@@ -12,4 +12,4 @@ returns-clause-finished g c =
     subst P c.self.view_is (λ z s.
     finished g.W.Write.contents f.config f.line f.progress c.self.invariant _ _ z s.at c.held.result c.rest-rest.result
     c.held.ensures.count c.rest-rest.ensures c.looked.result c.end.result c.looked.ensures c.end.ensures.puts
-    c.end.ensures.written c.end.ensures.ok c.end.ensures.fault)
+    c.end.ensures.written c.end.ensures.ok c.end.ensures.short c.end.ensures.fault)

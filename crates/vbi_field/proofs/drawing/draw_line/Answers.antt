@@ -1,7 +1,7 @@
 use Rattle.std.proofs.Common.{ap, arith}
 use Rattle.vbi_words.specs.Geometry.{width_of}
 use Rattle.vbi_field.proofs.DrawnLemmas.{drawn_sample_as, Drawn-none, Drawn-more, Drawn-all}
-use Rattle.vbi_field.proofs.drawing_fields.draw_line.Goals as goal
+use Rattle.vbi_field.proofs.drawing.draw_line.Goals as goal
 
 pub loop-column-init : goal.loop-column-init
 loop-column-init c = Drawn-none c.args.config.now c.args.word.now c.args.line.now c.requires

@@ -1,15 +1,15 @@
 //! Fields drawn from rows of words.
 ghost use Rattle.std.specs.Prelude.{◌≡◌, ℕ, ◌+◌, ◌-◌, ◌*◌, ◌^◌, ◌<◌, ◌≤◌, None, length, IfOk, OnOk, OnErr, IfErr};
 ghost use Rattle.vbi_words.specs.Geometry.{line_bytes, height_of};
-ghost use Rattle.vbi_field.specs.Outlet.{failures_of as outlet_failures, written_of, IsFresh as IsFreshOutlet, IsSameDevice as IsSameOutlet};
+ghost use Rattle.vbi_field.specs.Outlet.{failures_of as outlet_failures, errors_of, written_of, HasCause, Wrote, WrotePart};
+ghost use Rattle.vbi_field.specs.Outlet.{IsFresh as IsFreshOutlet, IsSameDevice as IsSameOutlet};
 ghost use Rattle.vbi_field.specs.RowIntake.{IsFresh, IsSameDevice};
 ghost use Rattle.vbi_field.specs.Drawing.{drawn_line_of, drawn_field_of, word_at};
-ghost use Rattle.vbi_field.specs.DrawRun.{PutsField, Draws, DrawsAll, StopsAtRow, StopsAtRead};
-ghost use Rattle.vbi_field.specs.DrawRun.{StopsAtWrite, StopsAtLimit, IfRow, IfRead, IfWrite, IfTooMany};
+ghost use Rattle.vbi_field.specs.Draws.{RunsDrawing};
 
 use crate::config::Config;
 use crate::outlet::Outlet;
-use crate::row_intake::{ByteCame, RowCame, RowIntake};
+use crate::row_intake::{NextByte, NextRow, RowIntake};
 use crate::word_row::WordRow;
 use std::io::{Read, Write};
 use vbi_words::{LONGEST_LINE, Word24, drawn_sample};
@@ -84,9 +84,13 @@ fn put_field<W: Write>(
     requires failures { outlet_failures outlet.old ≤ 2 ^ 61 }
     ensures black { OnOk result (line.new ≡ drawn_line_of config.now None) }
     ensures same { IsSameOutlet outlet.old outlet.new }
-    ensures puts { PutsField W.contents outlet.old outlet.new (drawn_field_of config.now words.now) }
-    ensures ok { OnOk result (written_of outlet.new ≡ written_of outlet.old + length (drawn_field_of config.now words.now)) }
-    ensures failed { OnErr result (outlet_failures outlet.old < outlet_failures outlet.new) }
+    ensures ok { OnOk result (Wrote W.contents outlet.old outlet.new (drawn_field_of config.now words.now)) }
+    ensures part { OnErr result (WrotePart W.contents outlet.old outlet.new (drawn_field_of config.now words.now)) }
+    ensures least { outlet_failures outlet.old ≤ outlet_failures outlet.new }
+    ensures most { outlet_failures outlet.new ≤ outlet_failures outlet.old
+        + 17 * (length (drawn_field_of config.now words.now) + 313) }
+    ensures no_error { OnOk result (errors_of outlet.new ≡ errors_of outlet.old) }
+    ensures failed { OnErr result (HasCause outlet.old outlet.new) }
     ensures fault { IfErr result (λ e. e ≡ DrawFault.Write (written_of outlet.new)) }
 {
     for row in 0..config.system().height() {
@@ -103,49 +107,8 @@ fn put_field<W: Write>(
     Ok(())
 }
 
-/// Draws a field for each row of words until the reader's end, a fault or the last field that is allowed.
-fn run<R: Read, W: Write>(
-    config: &Config,
-    rows: &mut RowIntake<R>,
-    outlet: &mut Outlet<W>,
-) -> Result<u32, DrawFault>
-    requires rows { IsFresh rows.old }
-    requires outlet { IsFreshOutlet outlet.old }
-    ensures same_reader { IsSameDevice rows.old rows.new }
-    ensures same_writer { IsSameOutlet outlet.old outlet.new }
-    ensures run { Draws R.remaining W.contents config.now rows.old rows.new outlet.old outlet.new result }
-{
-    let mut cells = [0u8; LONGEST_LINE];
-    let line = &mut cells[..config.line_bytes()];
-    draw_line(config, &None, line);
-    for done in 0..config.max_fields() {
-        match rows.next_row() {
-            RowCame::Row(words) => {
-                if let Err(fault) = put_field(config, &words, line, outlet) {
-                    return Err(fault);
-                }
-            }
-            RowCame::LastRow(words) => {
-                if let Err(fault) = put_field(config, &words, line, outlet) {
-                    return Err(fault);
-                }
-                return Ok(done + 1);
-            }
-            RowCame::Malformed => return Err(DrawFault::Row { number: done + 1 }),
-            RowCame::Ended => return Ok(done),
-            RowCame::Failed => return Err(DrawFault::Read { number: done + 1 }),
-        }
-    }
-    match rows.next_byte() {
-        ByteCame::Ended => Ok(config.max_fields()),
-        ByteCame::Byte(_) => Err(DrawFault::TooManyFields),
-        ByteCame::Failed => Err(DrawFault::Read {
-            number: config.max_fields() + 1,
-        }),
-    }
-}
-
-/// Writes the TBC stream of a text of words: a field for each row. It answers the number of fields.
+/// Writes the TBC stream of a text of words: a field for each row, as soon as the row was fetched. It answers the number of
+/// fields. The bytes fetched, those written and the answer belong together as `Draws` says. It doesn't flush.
 pub fn draw<R: Read, W: Write>(
     config: &Config,
     rows: &mut RowIntake<R>,
@@ -155,20 +118,28 @@ pub fn draw<R: Read, W: Write>(
     requires outlet { IsFreshOutlet outlet.old }
     ensures same_reader { IsSameDevice rows.old rows.new }
     ensures same_writer { IsSameOutlet outlet.old outlet.new }
-
-    // What Ok says: of the text that was fetched, the number of its rows, the reader, and the fields that were written.
-    ensures fields { IfOk result
-        (DrawsAll R.remaining W.contents config.now rows.old rows.new outlet.old outlet.new) }
-
-    // When each fault comes, and what stands then.
-    ensures row_fault { IfErr result (λ e. IfRow e
-        (StopsAtRow R.remaining W.contents config.now rows.old rows.new outlet.old outlet.new)) }
-    ensures read_fault { IfErr result (λ e. IfRead e
-        (StopsAtRead R.remaining W.contents config.now rows.old rows.new outlet.old outlet.new)) }
-    ensures write_fault { IfErr result (λ e. IfWrite e
-        (StopsAtWrite R.remaining W.contents config.now rows.old rows.new outlet.old outlet.new)) }
-    ensures too_many { IfErr result (λ e. IfTooMany e
-        (StopsAtLimit R.remaining W.contents config.now rows.old rows.new outlet.old outlet.new)) }
+    ensures run { RunsDrawing R.remaining W.contents config.now rows.old rows.new outlet.old outlet.new result }
 {
-    run(config, rows, outlet)
+    let mut cells = [0u8; LONGEST_LINE];
+    let line = &mut cells[..config.line_bytes()];
+    draw_line(config, &None, line);
+    for done in 0..config.max_fields() {
+        match rows.next_row() {
+            NextRow::Row(words) => put_field(config, &words, line, outlet)?,
+            NextRow::LastRow(words) => {
+                put_field(config, &words, line, outlet)?;
+                return Ok(done + 1);
+            }
+            NextRow::Malformed => return Err(DrawFault::Row { number: done + 1 }),
+            NextRow::Ended => return Ok(done),
+            NextRow::Failed => return Err(DrawFault::Read { number: done + 1 }),
+        }
+    }
+    match rows.next_byte() {
+        NextByte::Ended => Ok(config.max_fields()),
+        NextByte::Byte(_) => Err(DrawFault::TooManyFields),
+        NextByte::Failed => Err(DrawFault::Read {
+            number: config.max_fields() + 1,
+        }),
+    }
 }

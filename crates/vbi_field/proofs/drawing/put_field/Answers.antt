@@ -1,0 +1,52 @@
+use Rattle.std.proofs.Common.{ap, ◌∙◌, arith, length}
+use Rattle.vbi_words.specs.Geometry.{height_of}
+use Rattle.vbi_field.specs.Drawing.{word_at}
+use Rattle.vbi_line.proofs.Causes.{cause_later}
+use Rattle.vbi_field.proofs.DrawnLemmas.{length-drawn_line_of, narrow}
+use Rattle.vbi_field.proofs.PutFieldSteps.{Putting-none, Putting-more, put_whole, put_part}
+use Rattle.vbi_field.proofs.drawing.put_field.Goals as goal
+
+pub loop-row-init : goal.loop-row-init
+loop-row-init g c = Putting-none _ _ _ _ _ c.requires.black
+
+pub put_all-requires-clause-few : goal.put_all-requires-clause-few
+put_all-requires-clause-few g c =
+    let long = ap length c.next_line.ensures ∙ length-drawn_line_of c.args.config.now (word_at c.args.words.now c.loop-row.row) in
+    let few = narrow c.args.config.now.system in
+    omega arith
+
+pub returns-in-Err-clause-part : goal.returns-in-Err-clause-part
+returns-in-Err-clause-part g c =
+    (put_part _ _ _ _ _ _ _ _ c.loop-row.row c.loop-row.invariant (omega (arith, ap height_of c.system.ensures))
+    c.next_line.ensures c.put_all.ensures.puts c.in-Err.ensures.short).0
+
+pub returns-in-Err-clause-most : goal.returns-in-Err-clause-most
+returns-in-Err-clause-most g c =
+    (put_part _ _ _ _ _ _ _ _ c.loop-row.row c.loop-row.invariant (omega (arith, ap height_of c.system.ensures))
+    c.next_line.ensures c.put_all.ensures.puts c.in-Err.ensures.short).1
+
+pub returns-in-Err-clause-failed : goal.returns-in-Err-clause-failed
+returns-in-Err-clause-failed g c =
+    let v = c.loop-row.invariant in
+    cause_later c.args.outlet.now.device c.loop-row.outlet.device c.put_all.new.self.device v.errors v.least c.in-Err.ensures.failed
+
+pub loop-row-preserved : goal.loop-row-preserved
+loop-row-preserved g c =
+    Putting-more _ _ _ _ _ _ _ _ c.loop-row.row c.loop-row.invariant c.next_line.ensures c.put_all.ensures.puts c.in-Ok.ensures.ok
+    c.in-Ok.ensures.no_error c.put_all.ensures.same
+
+pub returns : goal.returns
+returns g c =
+    let whole = put_whole _ _ _ _ _ _ c.loop-row.row c.loop-row.invariant (omega (arith, ap height_of c.system.ensures)) in
+    let v = c.loop-row.invariant in
+    record {
+      black = whole.1;
+      same = v.same;
+      ok = whole.0;
+      part = tt;
+      least = v.least;
+      most = whole.2;
+      no_error = v.errors;
+      failed = tt;
+      fault = tt;
+    }

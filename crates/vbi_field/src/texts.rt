@@ -1,0 +1,84 @@
+//! The texts of a stream, of either kind, and how they are written.
+ghost use Rattle.std.specs.Prelude.{◌≡◌, ◌+◌, ◌-◌, ◌^◌, ◌<◌, ◌≤◌, length, OnOk, OnErr, IfOk, IfErr};
+ghost use Rattle.vbi_field.specs.Outlet.{failures_of, errors_of, written_of, HasCause, IsSameDevice, Puts};
+ghost use Rattle.vbi_field.specs.Stream.{cut_of};
+ghost use Rattle.vbi_field.specs.Texts.{Texts, joined_entry_of};
+
+use crate::config::Config;
+use crate::outlet::Outlet;
+use crate::readings::FieldReadings;
+use crate::summary::{RunFault, Summary};
+use arrayvec::ArrayString;
+use std::io::Write;
+
+/// The most bytes that one text may have: those of the head, of an entry, or of the tail.
+pub(crate) const TEXT_SIZE: usize = 192;
+
+/// A kind of text.
+pub(crate) trait Form {
+    /// Its texts.
+    ghost texts: { Texts };
+
+    /// The head, which is written before the first read.
+    fn head(config: &Config) -> ArrayString<TEXT_SIZE>
+        ensures { result.bytes ≡ texts.head config.now };
+
+    /// The entry of a field behind `before` others, after the joint where there are any.
+    fn entry(before: u32, readings: &FieldReadings) -> ArrayString<TEXT_SIZE>
+        requires { before < 2 ^ 32 - 1 }
+        ensures { result.bytes ≡ joined_entry_of texts before readings.now };
+
+    /// The tail, behind this number of whole fields and this number of bytes past them.
+    fn tail(fields: u32, rest: u32) -> ArrayString<TEXT_SIZE>
+        requires { fields < 2 ^ 32 - 1 }
+        ensures { result.bytes ≡ texts.tail fields rest };
+}
+
+/// Writes a text.
+pub(crate) fn put<W: Write>(outlet: &mut Outlet<W>, text: &str) -> Result<(), RunFault>
+    requires written { written_of outlet.old ≤ 2 ^ 62 }
+    requires failures { failures_of outlet.old ≤ 2 ^ 62 }
+    requires few { length text.now ≤ 2 ^ 56 }
+    ensures same { IsSameDevice outlet.old outlet.new }
+    ensures puts { Puts W.contents outlet.old outlet.new text.now }
+    ensures ok { OnOk result (written_of outlet.new ≡ written_of outlet.old + length text.now) }
+    ensures no_error { OnOk result (errors_of outlet.new ≡ errors_of outlet.old) }
+    ensures failed { OnErr result (HasCause outlet.old outlet.new) }
+    ensures short { OnErr result (written_of outlet.new < written_of outlet.old + length text.now) }
+    ensures fault { IfErr result (λ e. e ≡ RunFault.Write (written_of outlet.new)) }
+{
+    match outlet.put_all(text.as_bytes()) {
+        Ok(()) => Ok(()),
+        Err(_) => Err(RunFault::Write {
+            written: outlet.written(),
+        }),
+    }
+}
+
+/// Writes the tail, and answers what the run did.
+pub(crate) fn end<F: Form, W: Write>(
+    outlet: &mut Outlet<W>,
+    fields: u32,
+    rest: u32,
+    looked: u64,
+) -> Result<Summary, RunFault>
+    requires written { written_of outlet.old ≤ 2 ^ 62 }
+    requires failures { failures_of outlet.old ≤ 2 ^ 62 }
+    requires fields { fields ≤ 1000000 }
+    ensures same { IsSameDevice outlet.old outlet.new }
+    ensures puts { Puts W.contents outlet.old outlet.new (F.texts.tail fields rest) }
+    ensures written { OnOk result (written_of outlet.new ≡ written_of outlet.old + length (F.texts.tail fields rest)) }
+    ensures no_error { OnOk result (errors_of outlet.new ≡ errors_of outlet.old) }
+    ensures ok { IfOk result (λ s. s ≡ record { fields = fields; cut = cut_of rest; looked = looked }) }
+    ensures failed { OnErr result (HasCause outlet.old outlet.new) }
+    ensures short { OnErr result (written_of outlet.new < written_of outlet.old + length (F.texts.tail fields rest)) }
+    ensures fault { IfErr result (λ e. e ≡ RunFault.Write (written_of outlet.new)) }
+{
+    put(outlet, F::tail(fields, rest).as_str())?;
+    let cut = if rest == 0 { None } else { Some(rest) };
+    Ok(Summary {
+        fields,
+        cut,
+        looked,
+    })
+}
