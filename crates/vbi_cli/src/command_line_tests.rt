@@ -118,11 +118,12 @@ fn told(alloc: Global, words: &[&str]) -> Result<String, WordsFault> {
 
 #[test]
 fn says_why(rt: HostRuntime) -> Result<(), Fail> {
-    let no_command =
-        "error: 'ldvbi' requires a subcommand but one was not provided\n  [subcommands: line, extract, show, draw, help]\n\nUsage: ldvbi <COMMAND>\n\nFor more information, try '--help'.\n";
+    let no_command = "error: 'ldvbi' requires a subcommand but one was not provided\n\
+        \x20 [subcommands: line, extract, show, draw, help]\n\n\
+        Usage: ldvbi <COMMAND>\n\nFor more information, try '--help'.\n";
     assert_eq!(rt; told(rt.alloc(), &["ldvbi"])?.as_str(), no_command);
-    let too_large =
-        "error: invalid value '65536' for '--black <N>': 65536 is not in 0..=65535\n\nFor more information, try '--help'.\n";
+    let too_large = "error: invalid value '65536' for '--black <N>': 65536 is not in 0..=65535\n\n\
+        For more information, try '--help'.\n";
     assert_eq!(rt;
         told(rt.alloc(), &["ldvbi", "line", "--black", "65536"])?.as_str(),
         too_large

@@ -1,29 +1,24 @@
 //! Jobs over memory: what is written, how they end, and the texts of their faults.
 
+<<<<<<< HEAD
 use crate::command_line::{Job, Verb};
 use crate::fault::AppFault;
 use crate::job::{Ended, run_job, status};
 use std::alloc::{AllocError, Global};
 use std::io;
 use std::io::{Read, Write};
+=======
+use crate::command_line::Verb;
+use crate::fault::AppFault;
+use crate::job::{Ended, status};
+use crate::tests_runs::{
+    NONE, PAL, STORED, alike, black_stream, drawn_line, job, run_broken, run_full, run_over,
+    stored_line,
+};
+>>>>>>> tests-cli
 use std::test::Fail;
 use vbi_meta::{MetaFault, Overrides};
-use vbi_words::{Levels, System, Word24, drawn_sample};
-
-const NONE: Overrides = Overrides {
-    system: None,
-    black: None,
-    white: None,
-    max_fields: None,
-};
-
-/// The levels of the stored run, whose samples are two spaces or two `@`.
-const STORED: Overrides = Overrides {
-    system: Some(System::Ntsc),
-    black: Some(8224),
-    white: Some(16448),
-    max_fields: None,
-};
+use vbi_words::System;
 
 const SAME_LEVELS: Overrides = Overrides {
     system: Some(System::Ntsc),
@@ -32,151 +27,26 @@ const SAME_LEVELS: Overrides = Overrides {
     max_fields: None,
 };
 
-const PAL: Overrides = Overrides {
-    system: Some(System::Pal),
-    black: Some(16384),
-    white: Some(54016),
-    max_fields: None,
-};
-
 /// Metadata of an NTSC capture.
-const FULL: &[u8] =
-    b"{\"videoParameters\":{\"system\":\"NTSC\",\"fieldWidth\":910,\"fieldHeight\":263,\"black16bIre\":16384,\"white16bIre\":51200,\"sampleRate\":14318181.5},\"fields\":[]}";
+pub(crate) const FULL: &[u8] =
+    b"{\"videoParameters\":{\"system\":\"NTSC\",\"fieldWidth\":910,\"fieldHeight\":263,\
+        \"black16bIre\":16384,\"white16bIre\":51200,\"sampleRate\":14318181.5},\"fields\":[]}";
 
-const BLACK_FIELD: &str =
-    "{\"version\":2,\"videoParameters\":{\"system\":\"NTSC\",\"fieldWidth\":910,\"fieldHeight\":263,\"black16bIre\":16384,\"white16bIre\":51200},\"fields\":[\n{\"seqNo\":1,\"vbi\":{\"vbiData\":[0,0,0]},\"vbiCause\":[\"blank\",\"blank\",\"blank\"],\"vbiPass\":[0,0,0]}\n],\"cutField\":null}\n";
+pub(crate) const BLACK_FIELD: &str =
+    "{\"version\":2,\"videoParameters\":{\"system\":\"NTSC\",\"fieldWidth\":910,\"fieldHeight\":263,\
+        \"black16bIre\":16384,\"white16bIre\":51200},\"fields\":[\n\
+        {\"seqNo\":1,\"vbi\":{\"vbiData\":[0,0,0]},\"vbiCause\":[\"blank\",\"blank\",\"blank\"],\"vbiPass\":[0,0,0]}\n\
+        ],\"cutField\":null}\n";
 
 const DRAWN_FIELD: &str =
-    "{\"version\":2,\"videoParameters\":{\"system\":\"NTSC\",\"fieldWidth\":910,\"fieldHeight\":263,\"black16bIre\":16384,\"white16bIre\":51200},\"fields\":[\n{\"seqNo\":1,\"vbi\":{\"vbiData\":[8572927,15803205,15803205]},\"vbiCause\":[\"word\",\"word\",\"word\"],\"vbiPass\":[1,1,1]}\n],\"cutField\":null}\n";
+    "{\"version\":2,\"videoParameters\":{\"system\":\"NTSC\",\"fieldWidth\":910,\"fieldHeight\":263,\
+        \"black16bIre\":16384,\"white16bIre\":51200},\"fields\":[\n\
+        {\"seqNo\":1,\"vbi\":{\"vbiData\":[8572927,15803205,15803205]},\
+        \"vbiCause\":[\"word\",\"word\",\"word\"],\"vbiPass\":[1,1,1]}\n\
+        ],\"cutField\":null}\n";
 
-const REPORT: &str =
-    "system NTSC 910x263 black 16384 white 51200\nfield 1 cav\n16 82CFFF picture stop\n17 F12345 picture 12345\n18 F12345 picture 12345\nfields 1 cut none\n";
-
-fn job(verb: Verb, overrides: Overrides) -> Job {
-    Job {
-        verb,
-        overrides,
-        meta: None,
-        input: None,
-    }
-}
-
-/// The bytes of a line on which a word is drawn.
-fn drawn(
-    alloc: Global,
-    system: System,
-    levels: Levels,
-    word: Word24,
-) -> Result<Vec<u8>, AllocError> {
-    let mut bytes = Vec::new(alloc);
-    for column in 0..system.width() {
-        let sample = drawn_sample(system, levels, Some(word), column);
-        bytes.push((sample % 256) as u8)?;
-        bytes.push((sample / 256) as u8)?;
-    }
-    Ok(bytes)
-}
-
-/// The input of the stored run.
-fn stored_line(alloc: Global) -> Result<Vec<u8>, Fail> {
-    let levels = Levels::new(8224, 16448)?;
-    Ok(drawn(alloc, System::Ntsc, levels, Word24::new(0x82_CFFF)?)?)
-}
-
-/// A reader of some bytes that fails after them.
-#[derive(Drop)]
-struct Breaks<'a> {
-    rest: &'a [u8],
-}
-
-impl Read for Breaks<'_> {
-    fn read(&mut self, buf: &mut [u8]) -> io::Result<usize> {
-        if self.rest.is_empty() {
-            return Err(io::Error::from(io::ErrorKind::Other));
-        }
-        let mut rest = self.rest;
-        let count = rest.read(buf)?;
-        self.rest = rest;
-        Ok(count)
-    }
-}
-
-/// A writer that takes so many bytes more, and then fails.
-#[derive(Drop)]
-struct Fills {
-    taken: Vec<u8>,
-    room: usize,
-}
-
-impl Write for Fills {
-    fn write(&mut self, buf: &[u8]) -> io::Result<usize> {
-        if self.room == 0 {
-            return Err(io::Error::from(io::ErrorKind::Other));
-        }
-        let count = buf.len().min(self.room);
-        self.taken.extend_from_slice(&buf[..count])?;
-        self.room -= count;
-        Ok(count)
-    }
-
-    fn flush(&mut self) -> io::Result<()> {
-        Ok(())
-    }
-}
-
-/// What a job did over memory.
-#[derive(Drop)]
-struct Ran {
-    ended: Result<Ended, AppFault>,
-    /// How many bytes of the input weren't read.
-    left: usize,
-    written: Vec<u8>,
-}
-
-/// Does a job over memory.
-fn run_over(alloc: Global, job: &Job, meta: Option<&[u8]>, input: &[u8]) -> Ran {
-    let mut rest = input;
-    let mut written = Vec::new(alloc);
-    let ended = run_job(alloc, job, meta, &mut rest, &mut written);
-    Ran {
-        ended,
-        left: rest.len(),
-        written,
-    }
-}
-
-/// Does a job over a reader that fails after these bytes.
-fn run_broken(alloc: Global, job: &Job, input: &[u8]) -> Ran {
-    let mut reader = Breaks { rest: input };
-    let mut written = Vec::new(alloc);
-    let ended = run_job(alloc, job, None, &mut reader, &mut written);
-    Ran {
-        ended,
-        left: reader.rest.len(),
-        written,
-    }
-}
-
-/// Does a job over a writer that takes so many bytes and then fails.
-fn run_full(alloc: Global, job: &Job, input: &[u8], room: usize) -> Ran {
-    let mut rest = input;
-    let mut writer = Fills {
-        taken: Vec::new(alloc),
-        room,
-    };
-    let ended = run_job(alloc, job, None, &mut rest, &mut writer);
-    let Fills { taken, room: _ } = writer;
-    Ran {
-        ended,
-        left: rest.len(),
-        written: taken,
-    }
-}
-
-/// So many bytes, all alike.
-fn alike(alloc: Global, byte: u8, count: usize) -> Result<Vec<u8>, AllocError> {
-    vec![in alloc; byte; count]
-}
+const REPORT: &str = "system NTSC 910x263 black 16384 white 51200\nfield 1 cav\n\
+        16 82CFFF picture stop\n17 F12345 picture 12345\n18 F12345 picture 12345\nfields 1 cut none\n";
 
 #[test]
 fn answers_a_line(rt: HostRuntime) -> Result<(), Fail> {
@@ -195,8 +65,7 @@ fn answers_a_line(rt: HostRuntime) -> Result<(), Fail> {
     assert_eq!(rt; ran_line.written.as_slice(), b"blank\n".as_slice());
     assert_eq!(rt; ran_line.left, 1);
 
-    let levels = Levels::new(16384, 54016)?;
-    let line = drawn(alloc, System::Pal, levels, Word24::new(0x8A_E012)?)?;
+    let line = drawn_line(alloc, System::Pal, 16384, 54016, 0x8A_E012)?;
     let ran_line = run_over(alloc, &job(Verb::Line, PAL), None, line.as_slice());
     assert_eq!(rt; ran_line.ended, Ok(Ended::Whole));
     assert_eq!(rt; ran_line.written.as_slice(), b"8AE012\n".as_slice());
@@ -227,8 +96,24 @@ fn names_the_faults_of_a_line(rt: HostRuntime) -> Result<(), Fail> {
     Ok(())
 }
 
+/// No field, and one more than is ever allowed.
+const NO_FIELD: Overrides = Overrides {
+    max_fields: Some(0),
+    ..STORED
+};
+
+const MILLION_AND_ONE: Overrides = Overrides {
+    max_fields: Some(1_000_001),
+    ..STORED
+};
+
 /// Options and metadata that settle nothing, and why.
-const UNSETTLED: [(Overrides, Option<&[u8]>, MetaFault); 4] = [
+const UNSETTLED: [(Overrides, Option<&[u8]>, MetaFault); 8] = [
+    (NO_FIELD, None, MetaFault::BadMaxFields),
+    (MILLION_AND_ONE, None, MetaFault::BadMaxFields),
+    (NO_FIELD, Some(FULL), MetaFault::BadMaxFields),
+    // The metadata's width is that of NTSC.
+    (PAL, Some(FULL), MetaFault::WidthDiffers),
     (SAME_LEVELS, None, MetaFault::LevelsOrder),
     (NONE, None, MetaFault::NoSystem),
     (STORED, Some(b"{\"a\":NaN}"), MetaFault::NotJson),
@@ -247,27 +132,39 @@ fn settles_before_it_reads(rt: HostRuntime) {
     }
 }
 
-/// Some of a field of black samples.
-fn black_field(alloc: Global, bytes: usize) -> Result<Vec<u8>, AllocError> {
-    let mut field = Vec::new(alloc);
-    for i in 0..bytes {
-        field.push(if i % 2 == 0 { 0 } else { 64 })?;
-    }
-    Ok(field)
-}
-
 #[test]
 fn extracts_with_metadata(rt: HostRuntime) -> Result<(), Fail> {
     let alloc = rt.alloc();
     let extract = job(Verb::Extract, NONE);
-    let field = black_field(alloc, 478_660)?;
+    let field = black_stream(alloc, 478_660)?;
     let whole = run_over(alloc, &extract, Some(FULL), field.as_slice());
     assert_eq!(rt; whole.ended, Ok(Ended::Whole));
     assert_eq!(rt; whole.written.as_slice(), BLACK_FIELD.as_bytes());
 
-    let field = black_field(alloc, 478_659)?;
+    let field = black_stream(alloc, 478_659)?;
     let cut = run_over(alloc, &extract, Some(FULL), field.as_slice());
     assert_eq!(rt; cut.ended, Ok(Ended::CutField));
+    Ok(())
+}
+
+#[test]
+fn an_option_stands_before_metadata(rt: HostRuntime) -> Result<(), Fail> {
+    let alloc = rt.alloc();
+    let brighter = Overrides {
+        white: Some(60000),
+        ..NONE
+    };
+    let report = run_over(alloc, &job(Verb::Show, brighter), Some(FULL), b"");
+    assert_eq!(rt; report.ended, Ok(Ended::Whole));
+    let wanted = b"system NTSC 910x263 black 16384 white 60000\nfields 0 cut none\n";
+    assert_eq!(rt; report.written.as_slice(), wanted.as_slice());
+
+    // The metadata's levels aren't those of the line.
+    let line = stored_line(alloc)?;
+    let word = run_over(alloc, &job(Verb::Line, STORED), Some(FULL), line.as_slice());
+    assert_eq!(rt; word.written.as_slice(), b"82CFFF\n".as_slice());
+    let blank = run_over(alloc, &job(Verb::Line, NONE), Some(FULL), line.as_slice());
+    assert_eq!(rt; blank.written.as_slice(), b"blank\n".as_slice());
     Ok(())
 }
 
@@ -281,12 +178,12 @@ fn names_the_faults_of_a_stream(rt: HostRuntime) -> Result<(), Fail> {
         max_fields: Some(1),
     };
     let extract = job(Verb::Extract, few);
-    let field = black_field(alloc, 478_661)?;
+    let field = black_stream(alloc, 478_661)?;
     let too_many = run_over(alloc, &extract, None, field.as_slice());
     assert_eq!(rt; too_many.ended, Err(AppFault::TooManyFields));
     assert_eq!(rt; too_many.written.len(), 227);
 
-    let field = black_field(alloc, 1819)?;
+    let field = black_stream(alloc, 1819)?;
     let broken = run_broken(alloc, &extract, field.as_slice());
     let read = AppFault::ReadField {
         field: 1,
@@ -295,7 +192,7 @@ fn names_the_faults_of_a_stream(rt: HostRuntime) -> Result<(), Fail> {
     assert_eq!(rt; broken.ended, Err(read));
     assert_eq!(rt; broken.written.len(), 135);
 
-    let field = black_field(alloc, 478_660)?;
+    let field = black_stream(alloc, 478_660)?;
     let full = run_full(alloc, &extract, field.as_slice(), 150);
     assert_eq!(rt; full.ended, Err(AppFault::Write { written: 150 }));
     assert_eq!(rt; full.written.len(), 150);
@@ -350,9 +247,46 @@ fn gives_the_statuses(rt: HostRuntime) {
     assert_eq!(rt; status(&Err(AppFault::TooManyFields)), 1);
 }
 
-const TEXTS: [(AppFault, &str); 9] = [
-    (AppFault::Meta(MetaFault::NoBlack), "no black level given"),
+const TEXTS: [(AppFault, &str); 22] = [
+    (AppFault::Meta(MetaFault::TooLarge), "metadata too large"),
+    (AppFault::Meta(MetaFault::NotJson), "metadata is not JSON"),
     (AppFault::Meta(MetaFault::OutOfMemory), "out of memory"),
+    (
+        AppFault::Meta(MetaFault::NoVideoParameters),
+        "metadata has no videoParameters",
+    ),
+    (AppFault::Meta(MetaFault::NoSystem), "no system given"),
+    (AppFault::Meta(MetaFault::UnknownSystem), "unknown system"),
+    (
+        AppFault::Meta(MetaFault::SystemsDisagree),
+        "system and isSourcePal disagree",
+    ),
+    (AppFault::Meta(MetaFault::NoBlack), "no black level given"),
+    (
+        AppFault::Meta(MetaFault::BadBlack),
+        "black level is not a whole number from 0 to 65535",
+    ),
+    (AppFault::Meta(MetaFault::NoWhite), "no white level given"),
+    (
+        AppFault::Meta(MetaFault::BadWhite),
+        "white level is not a whole number from 0 to 65535",
+    ),
+    (
+        AppFault::Meta(MetaFault::LevelsOrder),
+        "black level is not below white level",
+    ),
+    (
+        AppFault::Meta(MetaFault::WidthDiffers),
+        "field width differs",
+    ),
+    (
+        AppFault::Meta(MetaFault::HeightDiffers),
+        "field height differs",
+    ),
+    (
+        AppFault::Meta(MetaFault::BadMaxFields),
+        "max fields is not from 1 to 1000000",
+    ),
     (
         AppFault::ReadField {
             field: 2,

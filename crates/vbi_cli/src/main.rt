@@ -146,3 +146,29 @@ fn metadata(rt: &(impl Files + AllocGlobal), path: &str) -> Result<Vec<u8>, Main
 mod command_line_tests;
 #[cfg(test)]
 mod job_tests;
+#[cfg(test)]
+mod tests_devices;
+#[cfg(test)]
+mod tests_drawing;
+#[cfg(test)]
+mod tests_help;
+#[cfg(test)]
+mod tests_input;
+#[cfg(test)]
+mod tests_interruptions;
+#[cfg(test)]
+mod tests_line;
+#[cfg(test)]
+mod tests_memory;
+#[cfg(test)]
+mod tests_metadata;
+#[cfg(test)]
+mod tests_refusals;
+#[cfg(test)]
+mod tests_run_line;
+#[cfg(test)]
+mod tests_runs;
+#[cfg(test)]
+mod tests_streams;
+#[cfg(test)]
+mod tests_words;

@@ -1,0 +1,233 @@
+//! What the words of the command line put into a job.
+
+use crate::command_line::{Job, Verb, WordsFault, read_words};
+use crate::tests_runs::NONE;
+use std::alloc::{AllocError, Global};
+use std::process::Abort;
+use std::test::Fail;
+use vbi_meta::Overrides;
+use vbi_words::System;
+
+/// What the program makes of these words.
+pub(crate) fn read(alloc: Global, texts: &[&str]) -> Result<Job, WordsFault> {
+    let mut words = Vec::new(alloc);
+    for text in texts {
+        words.push(String::from_str(alloc, text)?)?;
+    }
+    read_words(alloc, words.as_slice())
+}
+
+/// The same of the program's name, a command, and the words behind it.
+pub(crate) fn read_behind<'a>(
+    alloc: Global,
+    command: &'a str,
+    behind: &[&'a str],
+) -> Result<Job, WordsFault> {
+    let mut words = Vec::new(alloc);
+    words.push("ldvbi")?;
+    words.push(command)?;
+    words.extend_from_slice(behind)?;
+    read(alloc, words.as_slice())
+}
+
+pub(crate) const COMMANDS: [(&str, Verb); 4] = [
+    ("line", Verb::Line),
+    ("extract", Verb::Extract),
+    ("show", Verb::Show),
+    ("draw", Verb::Draw),
+];
+
+/// All that a job holds.
+#[derive(Clone, Copy, Debug, PartialEq, Eq)]
+struct Held<'a> {
+    verb: Verb,
+    overrides: Overrides,
+    meta: Option<&'a str>,
+    input: Option<&'a str>,
+}
+
+fn contents_of(job: &Job) -> Held<'_> {
+    Held {
+        verb: job.verb,
+        overrides: job.overrides,
+        meta: job.meta.as_ref().map(String::as_str),
+        input: job.input.as_ref().map(String::as_str),
+    }
+}
+
+/// The words of each option, with its value apart, and joined to it.
+const OPTIONS: [(&[&str], &[&str]); 5] = [
+    (&["--meta", "disc.tbc.json"], &["--meta=disc.tbc.json"]),
+    (&["--system", "PAL"], &["--system=PAL"]),
+    (&["--black", "16384"], &["--black=16384"]),
+    (&["--white", "54016"], &["--white=54016"]),
+    (&["--max-fields", "12"], &["--max-fields=12"]),
+];
+
+/// The words for the options that are given, in their order, and the input: before the options where these have their
+/// values joined, else behind them.
+fn said(
+    alloc: Global,
+    given: [bool; 5],
+    is_joined: bool,
+    input: Option<&'static str>,
+) -> Result<Vec<&'static str>, AllocError> {
+    let mut words = Vec::new(alloc);
+    if let (true, Some(path)) = (is_joined, input) {
+        words.push(path)?;
+    }
+    for ((apart, joined), is_given) in OPTIONS.iter().zip(given.iter()) {
+        if *is_given {
+            words.extend_from_slice(if is_joined { joined } else { apart })?;
+        }
+    }
+    if let (false, Some(path)) = (is_joined, input) {
+        words.push(path)?;
+    }
+    Ok(words)
+}
+
+/// What these words put into a job.
+fn wanted(verb: Verb, given: [bool; 5], input: Option<&'static str>) -> Held<'static> {
+    let [meta, system, black, white, max_fields] = given;
+    Held {
+        verb,
+        overrides: Overrides {
+            system: if system { Some(System::Pal) } else { None },
+            black: if black { Some(16384) } else { None },
+            white: if white { Some(54016) } else { None },
+            max_fields: if max_fields { Some(12) } else { None },
+        },
+        meta: if meta { Some("disc.tbc.json") } else { None },
+        input: if input == Some("-") { None } else { input },
+    }
+}
+
+#[test]
+fn each_command_takes_each_set_of_options(rt: HostRuntime) -> Result<(), Fail> {
+    for (command, verb) in COMMANDS {
+        for set in 0..32u32 {
+            let given = [
+                set & 1 != 0,
+                set & 2 != 0,
+                set & 4 != 0,
+                set & 8 != 0,
+                set & 16 != 0,
+            ];
+            for is_joined in [false, true] {
+                for input in [None, Some("disc.tbc"), Some("-")] {
+                    let words = said(rt.alloc(), given, is_joined, input)?;
+                    let job = read_behind(rt.alloc(), command, words.as_slice())?;
+                    let wanted = wanted(verb, given, input);
+                    assert_eq!(rt; contents_of(&job), wanted, "{command} {words:?}");
+                }
+            }
+        }
+    }
+    Ok(())
+}
+
+/// The words behind the command, the path of the metadata and that of the input.
+const PATHS: [(&[&str], Option<&str>, Option<&str>); 17] = [
+    (&[], None, None),
+    (&["disc.tbc"], None, Some("disc.tbc")),
+    (&["two words"], None, Some("two words")),
+    (&["show"], None, Some("show")),
+    // Standard input.
+    (&["-"], None, None),
+    (&["./-"], None, Some("./-")),
+    // The empty text is a path.
+    (&[""], None, Some("")),
+    // Behind `--` stands no option.
+    (&["--"], None, None),
+    (&["--", "-"], None, None),
+    (&["--", "-disc.tbc"], None, Some("-disc.tbc")),
+    (&["--", "--black"], None, Some("--black")),
+    (&["--", "--help"], None, Some("--help")),
+    (&["--", "--"], None, Some("--")),
+    // For metadata `-` is a path.
+    (&["--meta", "-"], Some("-"), None),
+    (&["--meta", "-", "disc.tbc"], Some("-"), Some("disc.tbc")),
+    (&["--meta", "a.json", "-"], Some("a.json"), None),
+    (
+        &["--meta", "a.json", "--", "-b"],
+        Some("a.json"),
+        Some("-b"),
+    ),
+];
+
+#[test]
+fn paths_are_kept_as_they_are(rt: HostRuntime) -> Result<(), Fail> {
+    for (command, verb) in COMMANDS {
+        for &(words, meta, input) in &PATHS {
+            let job = read_behind(rt.alloc(), command, words)?;
+            let wanted = Held {
+                verb,
+                overrides: NONE,
+                meta,
+                input,
+            };
+            assert_eq!(rt; contents_of(&job), wanted, "{command} {words:?}");
+        }
+    }
+    Ok(())
+}
+
+/// Asserts that an option with this value is taken and is all that the job holds.
+fn takes(
+    rt: &(impl Abort + AllocGlobal),
+    option: &str,
+    value: &str,
+    overrides: Overrides,
+) -> Result<(), WordsFault> {
+    for (command, verb) in COMMANDS {
+        let job = read_behind(rt.alloc(), command, &[option, value])?;
+        let wanted = Held {
+            verb,
+            overrides,
+            meta: None,
+            input: None,
+        };
+        assert_eq!(rt; contents_of(&job), wanted, "{command} {option} {value}");
+    }
+    Ok(())
+}
+
+/// Levels from the least to the greatest, and limits. The settings may still refuse them.
+const LEVELS: [(&str, u16); 3] = [("0", 0), ("8224", 8224), ("65535", 65535)];
+
+const LIMITS: [(&str, u32); 5] = [
+    ("0", 0),
+    ("1", 1),
+    ("1000000", 1_000_000),
+    ("1000001", 1_000_001),
+    ("4294967295", 4_294_967_295),
+];
+
+#[test]
+fn each_command_takes_values_up_to_their_bounds(rt: HostRuntime) -> Result<(), Fail> {
+    for (value, system) in [("NTSC", System::Ntsc), ("PAL", System::Pal)] {
+        let system = Some(system);
+        takes(&rt, "--system", value, Overrides { system, ..NONE })?;
+    }
+    for (value, level) in LEVELS {
+        let black = Some(level);
+        takes(&rt, "--black", value, Overrides { black, ..NONE })?;
+        let white = Some(level);
+        takes(&rt, "--white", value, Overrides { white, ..NONE })?;
+    }
+    for (value, limit) in LIMITS {
+        let max_fields = Some(limit);
+        takes(&rt, "--max-fields", value, Overrides { max_fields, ..NONE })?;
+    }
+    Ok(())
+}
+
+#[test]
+fn the_program_may_be_called_by_any_name(rt: HostRuntime) -> Result<(), Fail> {
+    for name in ["ldvbi", "/usr/local/bin/ldvbi", "./a b", "show", "--help"] {
+        let job = read(rt.alloc(), &[name, "line"])?;
+        assert_eq!(rt; job.verb, Verb::Line, "{name}");
+    }
+    Ok(())
+}
