@@ -1,13 +1,5 @@
 //! Jobs over memory: what is written, how they end, and the texts of their faults.
 
-<<<<<<< HEAD
-use crate::command_line::{Job, Verb};
-use crate::fault::AppFault;
-use crate::job::{Ended, run_job, status};
-use std::alloc::{AllocError, Global};
-use std::io;
-use std::io::{Read, Write};
-=======
 use crate::command_line::Verb;
 use crate::fault::AppFault;
 use crate::job::{Ended, status};
@@ -15,7 +7,6 @@ use crate::tests_runs::{
     NONE, PAL, STORED, alike, black_stream, drawn_line, job, run_broken, run_full, run_over,
     stored_line,
 };
->>>>>>> tests-cli
 use std::test::Fail;
 use vbi_meta::{MetaFault, Overrides};
 use vbi_words::System;
