@@ -20,11 +20,11 @@ impl Read for BlackTape {
     fn read(&mut self, buf: &mut [u8]) -> io::Result<usize> {
         self.asks = self.asks.saturating_add(1);
         let count = buf.len().min(self.left);
+        self.left -= count;
         for byte in buf[..count].iter_mut() {
             *byte = if self.is_high_byte { 64 } else { 0 };
             self.is_high_byte = !self.is_high_byte;
         }
-        self.left -= count;
         Ok(count)
     }
 }

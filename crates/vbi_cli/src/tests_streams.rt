@@ -39,7 +39,7 @@ fn wanted(alloc: Global, verb: Verb, fields: u32, tail: &str) -> Result<Vec<u8>,
 
 /// The limit and the bytes of the stream, how the run ends, the whole fields, how the document and the report end,
 /// and the reads: one for each whole line of 1,820 bytes, one for a part of a line, and one for the end.
-const ENDS: [(Option<u32>, usize, Ended, u32, &str, &str, u32); 8] = [
+const ENDS: [(Option<u32>, usize, Ended, u32, &str, &str, u32); 9] = [
     (None, 0, Ended::Whole, 0, TAIL, "fields 0 cut none\n", 1),
     (
         None,
@@ -79,6 +79,15 @@ const ENDS: [(Option<u32>, usize, Ended, u32, &str, &str, u32); 8] = [
         527,
     ),
     // At the limit the end is asked for once, as anywhere.
+    (
+        Some(1),
+        478_659,
+        Ended::CutField,
+        0,
+        "\n],\"cutField\":{\"seqNo\":1,\"bytes\":478659}}\n",
+        "fields 0 cut field 1 bytes 478659\n",
+        264,
+    ),
     (Some(1), 478_660, Ended::Whole, 1, TAIL, REPORT_TAIL, 264),
     (
         Some(2),
@@ -104,6 +113,11 @@ fn writes_a_stream_whole_and_asks_for_its_end_once(rt: HostRuntime) -> Result<()
             let feed = feed_of(front(stream.as_slice(), bytes));
             let ran = run_stream(alloc, verb, limit, feed, wide_sink(alloc));
             assert_eq!(rt; ran.ended, Ok(ended), "{verb:?} of {bytes} bytes");
+            let code = match ended {
+                Ended::Whole => 0,
+                Ended::CutField => 3,
+            };
+            assert_eq!(rt; status(&ran.ended), code);
             assert_eq!(rt; ran.asked.reads, reads, "{verb:?} of {bytes} bytes");
             assert_eq!(rt; ran.asked.flushes, 0);
             let wanted = wanted(alloc, verb, fields, tail)?;

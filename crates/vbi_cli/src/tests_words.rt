@@ -18,10 +18,10 @@ pub(crate) fn read(alloc: Global, texts: &[&str]) -> Result<Job, WordsFault> {
 }
 
 /// The same of the program's name, a command, and the words behind it.
-pub(crate) fn read_behind(
+pub(crate) fn read_behind<'a>(
     alloc: Global,
-    command: &str,
-    behind: &[&str],
+    command: &'a str,
+    behind: &[&'a str],
 ) -> Result<Job, WordsFault> {
     let mut words = Vec::new(alloc);
     words.push("ldvbi")?;
