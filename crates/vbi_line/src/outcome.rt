@@ -41,6 +41,20 @@ pub fn read_packed(packed: &Packed, system: System) -> Outcome
     read_runs(packed, system)
 }
 
+/// The cause at the first hopeless column, which lies so many columns behind the first column of its run.
+fn cause(begin: usize, behind: usize) -> Outcome
+    requires { begin + behind < 2 ^ 16 }
+    ensures change { behind ≡ 0 → result ≡ Outcome.Change (begin + behind) }
+    ensures hold { 0 < behind → result ≡ Outcome.Hold (begin + behind) }
+{
+    let at = (begin + behind) as u16;
+    if behind == 0 {
+        Outcome::Change(at)
+    } else {
+        Outcome::Hold(at)
+    }
+}
+
 /// The outcome, run by run: a run of equal levels is one step of the decoder, however long it is.
 fn read_runs(packed: &Packed, system: System) -> Outcome
     requires { length packed.now < 2 ^ 16 }
@@ -56,14 +70,7 @@ fn read_runs(packed: &Packed, system: System) -> Outcome
                 decoder = next;
                 column += count;
             }
-            Err(lived) => {
-                let at = (column + lived) as u16;
-                return if lived == 0 {
-                    Outcome::Change(at)
-                } else {
-                    Outcome::Hold(at)
-                };
-            }
+            Err(lived) => return cause(column, lived),
         }
     }
     decoder.end(system)

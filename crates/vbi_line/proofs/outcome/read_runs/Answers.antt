@@ -1,4 +1,7 @@
-use Rattle.std.proofs.Common.{◌≤◌, arith, length, sym, take, subst}
+use Rattle.std.proofs.Common.{◌≤◌, ◌<◌, arith, inl, inr, length, sym, take, subst}
+use Rattle.std.proofs.lemmas.Bool.{cases_eq}
+use Rattle.vbi_words.specs.declared.outcome.Outcome.{Outcome}
+use Rattle.vbi_words.specs.Outcomes.{IsOutcome}
 use Rattle.vbi_words.proofs.SystemMachine.{IsFit, fit_after}
 use Rattle.vbi_line.specs.Decoder.{state_of}
 use Rattle.vbi_line.proofs.Ending.{fits, whole}
@@ -22,18 +25,22 @@ loop-column-preserved c =
           turned run c.args.system c.loop-column.decoder now.state c.in-Ok.next c.in-Ok.ensures.ok inside;
     }
 
-pub returns-then-lived-eq0 : goal.returns-then-lived-eq0
-returns-then-lived-eq0 c =
+pub returns-in-Err : goal.returns-in-Err
+returns-in-Err c =
     let run = counted c.from-count.ensures c.next_run-level.ensures in
     let now = c.loop-column.invariant in
-    changes run c.args.system c.loop-column.decoder now.state now.turns c.in-Err.lived c.if-lived-eq0.true
-    c.in-Err.ensures.err.1
-
-pub returns-else-lived-eq0 : goal.returns-else-lived-eq0
-returns-else-lived-eq0 c =
-    let run = counted c.from-count.ensures c.next_run-level.ensures in
+    let lived = c.in-Err.lived in
     let err = c.in-Err.ensures.err in
-    holds run c.args.system c.loop-column.decoder c.loop-column.invariant.state c.in-Err.lived (omega arith) err.0 err.1
+    let P : Outcome → Type 0 = λ o. IsOutcome c.args.system c.args.packed.now o in
+    elim (cases_eq lived 0) [
+      | inl none ↦
+        subst P (sym (c.cause.ensures.change none))
+        (changes run c.args.system c.loop-column.decoder now.state now.turns lived none err.1)
+      | inr some ↦
+        let behind : 0 < lived = omega arith in
+        subst P (sym (c.cause.ensures.hold behind))
+        (holds run c.args.system c.loop-column.decoder now.state lived behind err.0 err.1)
+    ]
 
 pub end-requires-clause-fit : goal.end-requires-clause-fit
 end-requires-clause-fit c =
