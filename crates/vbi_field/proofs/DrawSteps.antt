@@ -20,7 +20,8 @@ use Rattle.vbi_field.specs.declared.row_intake.NextByte.TheVariants as bytes
 use Rattle.vbi_field.specs.declared.word_row.WordRow.{WordRow}
 use Rattle.vbi_field.specs.declared.drawing.DrawFault.{DrawFault}
 use Rattle.vbi_field.specs.declared.drawing.DrawFault.TheVariants as faults
-use Rattle.vbi_field.proofs.DrawnLemmas.{length-drawn_field_of, small_field}
+use Rattle.vbi_field.proofs.Counts.{sizes_of}
+use Rattle.vbi_field.proofs.DrawnLemmas.{length-drawn_field_of}
 use Rattle.vbi_field.proofs.Pulling.{has_failed, inside_of}
 use Rattle.vbi_field.proofs.RowSteps.{Fetches-none, Fetches-more}
 use Rattle.vbi_field.proofs.Settling.{wrote_none, wrote_twice}
@@ -276,7 +277,7 @@ module _ {R W : Type 0} (remaining : R → Option (List ℕ)) (contents : W → 
             → outlets.failures_of p ≤ outlets.failures_of o + 17 * (length (drawn_field_of c words) + 313) → Drawn (done + 1) j p line
         next_row line same black ends short reads writes =
             let size = length-drawn_field_of c words in
-            let small = small_field c.system in
+            let sizes = sizes_of c.system in
             let l = length-append g.z b in
             let w = wrote.written in
             let before = g.small in

@@ -1,6 +1,6 @@
 -- Lines and fields that are drawn.
 use Rattle.std.proofs.Common.{◌≡◌, ◌≢◌, ℕ, zero, suc, ◌+◌, ◌*◌, ◌-◌, ◌/◌, ◌%◌, ◌<◌, ◌≤◌, ◌⊎◌, inl, inr, Bool, true, false, cond, List, [], ◌∷◌}
-use Rattle.std.proofs.Common.{◌++◌, length, take, set, get_or, refl, sym, ap, subst, ◌∙◌, arith, append_assoc, add-zero, zero-add, lit≤, lit<}
+use Rattle.std.proofs.Common.{◌++◌, length, take, set, get_or, refl, sym, ap, subst, ◌∙◌, arith, append_assoc, add-zero, zero-add}
 use Rattle.std.proofs.Math.Nat.{zero-mul, suc-mul}
 use Rattle.std.specs.Prelude.{Option, Some, None, ◌&&◌, nat_lt, nat_le}
 use Rattle.std.specs.List.{flat_map, list_any, range_with_len}
@@ -10,7 +10,6 @@ use Rattle.std.proofs.lemmas.List.FromFn.{length-range_with_len, get_or-range_wi
 use Rattle.std.proofs.lemmas.Bool.{and_parts, leb-true, ltb-true, le-leb, lt-ltb}
 use Rattle.std.proofs.lemmas.Bool.Decides.{nat_tests}
 use Rattle.vbi_words.specs.declared.system.System.{System}
-use Rattle.vbi_words.specs.declared.system.System.TheVariants.{Ntsc, Pal}
 use Rattle.vbi_words.specs.Geometry.{width_of, height_of, line_bytes, field_bytes}
 use Rattle.vbi_words.specs.Levels.{LevelsView}
 use Rattle.vbi_words.specs.Words.{halves_of}
@@ -18,6 +17,7 @@ use Rattle.vbi_words.specs.Drawn.{boundary, DrawnHigh, IsDrawn}
 use Rattle.vbi_field.specs.ConfigView.{ConfigView}
 use Rattle.vbi_field.specs.declared.word_row.WordRow.{WordRow}
 use Rattle.vbi_field.specs.Drawing.{is_drawn_in, is_drawn_high, drawn_sample_of, sample_bytes, drawn_line_of, word_at, drawn_field_of}
+use Rattle.vbi_field.proofs.Counts.{sizes_of}
 
 -- ---- lists made from the numbers from a on
 
@@ -107,14 +107,6 @@ IsDrawn-drawn_sample_of c (Some word) column = sample_from c word column _ refl
 
 -- ---- lines
 
-pub two_each : (s : System) → 2 * width_of s ≡ line_bytes s
-two_each Ntsc = refl
-two_each Pal = refl
-
-pub narrow : (s : System) → line_bytes s ≤ 2270
-narrow Ntsc = lit≤ tt
-narrow Pal = lit≤ tt
-
 -- the first columns of a drawn line
 unfoldable pub columns_of : ConfigView → Option ℕ → ℕ → List ℕ
 columns_of c word n = flat_map (λ column. sample_bytes (drawn_sample_of c word column)) (range_with_len 0 n)
@@ -123,7 +115,7 @@ pub length-drawn_line_of : (c : ConfigView) (word : Option ℕ) → length (draw
 unfolding drawn_line_of
 length-drawn_line_of c word =
     length-flat_range (λ column. sample_bytes (drawn_sample_of c word column)) 0 (width_of c.system) 2 (λ k. refl)
-    ∙ omega (arith, two_each c.system)
+    ∙ omega (arith, (sizes_of c.system).line)
 
 -- so many columns of a line are drawn
 pub record Drawn (c : ConfigView) (word : Option ℕ) (line : List ℕ) (column : ℕ) : Type 0 where
@@ -132,7 +124,7 @@ pub record Drawn (c : ConfigView) (word : Option ℕ) (line : List ℕ) (column 
 
 pub Drawn-none : (c : ConfigView) (word : Option ℕ) (line : List ℕ) → length line ≡ line_bytes c.system → Drawn c word line 0
 unfolding columns_of
-Drawn-none c word line long = record { long = long ∙ sym (two_each c.system); drawn = refl }
+Drawn-none c word line long = record { long = long ∙ (sizes_of c.system).line; drawn = refl }
 
 pub Drawn-more : (c : ConfigView) (word : Option ℕ) (line : List ℕ) (column s : ℕ) → Drawn c word line column → column < width_of c.system
     → s ≡ drawn_sample_of c word column → Drawn c word (set (set line (2 * column) (s % 256)) (2 * column + 1) (s / 256)) (column + 1)
@@ -210,23 +202,11 @@ lines_of-split c words n l =
       ap (λ (k : ℕ). flat_map f (range_with_len 0 k)) e ∙ flat_range_split f 0 n (height_of c.system - n),
     )
 
-few_rows : (s : System) → 18 < height_of s
-few_rows Ntsc = lit< tt
-few_rows Pal = lit< tt
-
-field_rows : (s : System) → height_of s * line_bytes s ≡ field_bytes s
-field_rows Ntsc = refl
-field_rows Pal = refl
-
 pub length-drawn_field_of : (c : ConfigView) (words : WordRow) → length (drawn_field_of c words) ≡ field_bytes c.system
-length-drawn_field_of c words = ap length (sym (lines_of-all c words)) ∙ length-lines_of c words (height_of c.system) ∙ field_rows c.system
-
-pub small_field : (s : System) → field_bytes s ≤ 710510
-small_field Ntsc = lit≤ tt
-small_field Pal = lit≤ tt
+length-drawn_field_of c words = ap length (sym (lines_of-all c words)) ∙ length-lines_of c words (height_of c.system) ∙ sym (sizes_of c.system).field
 
 -- the last row of a field has no word
 pub last_word : (c : ConfigView) (words : WordRow) → word_at words (height_of c.system - 1) ≡ None
 last_word c words =
-    let many = few_rows c.system in
+    let sizes = sizes_of c.system in
     no_word words (height_of c.system - 1) (omega arith) (omega arith) (omega arith)

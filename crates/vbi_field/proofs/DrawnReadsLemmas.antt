@@ -1,13 +1,11 @@
 -- A drawn field is read as the words that were drawn.
 use Rattle.std.proofs.Common.{◌≡◌, ℕ, zero, suc, ◌+◌, ◌*◌, ◌/◌, ◌%◌, ◌<◌, List, [], ◌∷◌, ◌++◌, length}
-use Rattle.std.proofs.Common.{take, drop, map, refl, sym, ap, subst, ◌∙◌, arith, append_assoc, inl, lit<}
+use Rattle.std.proofs.Common.{take, drop, map, refl, sym, ap, subst, ◌∙◌, arith, append_assoc, inl}
 use Rattle.std.specs.Prelude.{Option, Some, None, slice_get}
 use Rattle.std.specs.List.{flat_map, range_with_len}
-use Rattle.std.proofs.Math.Nat.{suc-mul, zero-mul}
+use Rattle.std.proofs.Math.Nat.{mul_comm, suc-mul, zero-mul}
 use Rattle.std.proofs.lemmas.List.{take_at, drop_at, drop-drop}
 use Rattle.std.proofs.lemmas.List.FromFn.{length-map-range_with_len, get_or-map-range_with_len}
-use Rattle.vbi_words.specs.declared.system.System.{System}
-use Rattle.vbi_words.specs.declared.system.System.TheVariants.{Ntsc, Pal}
 use Rattle.vbi_words.specs.Geometry.{width_of, height_of, line_bytes, field_bytes}
 use Rattle.vbi_words.specs.Levels.{samples_of, levels_of}
 use Rattle.vbi_words.specs.Drawn.{IsDrawn, IsDrawnRow}
@@ -21,6 +19,7 @@ use Rattle.vbi_field.specs.declared.word_row.WordRow.{WordRow}
 use Rattle.vbi_field.specs.Drawing.{drawn_sample_of, sample_bytes, drawn_line_of, word_at, drawn_field_of, draw_out}
 use Rattle.vbi_field.specs.DrawnReadings.{IsDrawable, AreDrawable, drawn_reading, drawn_readings}
 use Rattle.vbi_field.specs.ByLines.{RowReads, FieldReads}
+use Rattle.vbi_field.proofs.Counts.{sizes_of}
 use Rattle.vbi_field.proofs.DrawnLemmas.{IsDrawn-drawn_sample_of, length-drawn_line_of, length-drawn_field_of}
 use Rattle.vbi_field.proofs.DrawnLemmas.{lines_of, length-lines_of, lines_of-more, lines_of-split}
 
@@ -86,11 +85,6 @@ field_at c (row ∷ rows) (suc i) words e =
           ∙ later.1,
     )
 
--- where a row begins, in lines
-lines_before : (s : System) (r : ℕ) → r * line_bytes s ≡ line_bytes s * r
-lines_before Ntsc r = omega arith
-lines_before Pal r = omega arith
-
 row_of-draw_out : (c : ConfigView) (rows : List WordRow) (i r : ℕ) (words : WordRow) → slice_get rows i ≡ Some words → r < height_of c.system
     → row_of c.system (draw_out c rows) i r ≡ drawn_line_of c (word_at words r)
 row_of-draw_out c rows i r words e inside =
@@ -98,7 +92,7 @@ row_of-draw_out c rows i r words e inside =
     let line = drawn_line_of c (word_at words r) in
     let split = lines_of-split c words (r + 1) (omega arith) in
     let before = lines_of c words r in
-    let long : length before ≡ line_bytes c.system * r = length-lines_of c words r ∙ lines_before c.system r in
+    let long : length before ≡ line_bytes c.system * r = length-lines_of c words r ∙ mul_comm r (line_bytes c.system) in
     let whole : drawn_field_of c words ++ field.0 ≡ before ++ (line ++ (split.0 ++ field.0)) =
     ap (λ (l : List ℕ). l ++ field.0) (split.1 ∙ ap (λ (l : List ℕ). l ++ split.0) (lines_of-more c words r))
     ∙ append_assoc (before ++ line) split.0 field.0 ∙ append_assoc before line (split.0 ++ field.0) in
@@ -117,14 +111,10 @@ row_reads c rows i r words order e inside is =
     let same = ap samples_of (row_of-draw_out c rows i r words e inside) ∙ samples_of-drawn_line_of c (word_at words r) in
     subst P (sym same) (line_reads c (word_at words r) order is)
 
-high : (s : System) → 17 < height_of s
-high Ntsc = lit< tt
-high Pal = lit< tt
-
 pub drawn_field : (c : ConfigView) (rows : List WordRow) (i : ℕ) (words : WordRow) → c.levels.black < c.levels.white
     → slice_get rows i ≡ Some words → AreDrawable words → FieldReads c (draw_out c rows) i (drawn_readings words)
 drawn_field c rows i words order e are =
-    let many = high c.system in
+    let sizes = sizes_of c.system in
     record {
       first = row_reads c rows i 15 words order e (omega arith) are.first;
       second = row_reads c rows i 16 words order e (omega arith) are.second;

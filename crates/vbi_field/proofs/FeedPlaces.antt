@@ -2,11 +2,10 @@
 use Rattle.std.proofs.Common.{◌≡◌, ℕ, zero, suc, ◌+◌, ◌-◌, ◌*◌, ◌/◌, ◌%◌, ◌≤◌, ◌<◌}
 use Rattle.std.proofs.Common.{List, [], ◌∷◌, ◌++◌, length, take, drop, refl, sym, ap, ◌∙◌, arith}
 use Rattle.std.proofs.lemmas.List.{length-append, take-append-drop}
-use Rattle.std.proofs.Math.Nat.{le_trans, le_of_eq}
+use Rattle.std.proofs.Math.Nat.{le_trans, le_of_eq, mul-le-mul_right}
+use Rattle.std.proofs.lemmas.Nat.{div-mul-add, mod-mul-add}
 use Rattle.std.proofs.Math.Seq.{drop_at}
-use Rattle.vbi_words.specs.Geometry.{height_of, line_bytes, field_bytes}
-use Rattle.vbi_words.specs.declared.system.System.{System}
-use Rattle.vbi_words.specs.declared.system.System.TheVariants.{Ntsc, Pal}
+use Rattle.vbi_words.specs.Geometry.{height_of, line_bytes}
 use Rattle.vbi_words.specs.declared.outcome.Reading.{Reading}
 use Rattle.vbi_line.specs.Line.{Line}
 use Rattle.vbi_field.specs.Feed.{IsAt}
@@ -16,19 +15,8 @@ use Rattle.vbi_field.specs.ConfigView.{ConfigView, allowed_bytes}
 use Rattle.vbi_field.specs.Stand.{place_of}
 use Rattle.vbi_field.specs.Stream.{fields_of, rest_of, row_reading}
 use Rattle.vbi_field.specs.declared.progress.Progress.{Progress}
-use Rattle.vbi_field.proofs.Counts.{whole_fields, past_fields, rows_past}
-use Rattle.vbi_field.proofs.Growing.{row_mono, row_reading-more}
-
--- the bytes of the whole rows
-rows_long : (s : System) (n r f row h : ℕ) → f ≡ n / field_bytes s → row * line_bytes s + h ≡ n % field_bytes s → n ≡ r + h
-    → r ≡ (f * height_of s + row) * line_bytes s
-rows_long Ntsc n r f row h fs rs e = omega arith
-rows_long Pal n r f row h fs rs e = omega arith
-
--- the bytes past whole rows
-held_past : (s : System) (r h : ℕ) → h < line_bytes s → (r * line_bytes s + h) % line_bytes s ≡ h
-held_past Ntsc r h lt = omega arith
-held_past Pal r h lt = omega arith
+use Rattle.vbi_field.proofs.Counts.{bytes_of_rows, whole_fields, past_fields}
+use Rattle.vbi_field.proofs.Growing.{row_reading-more}
 
 -- the first of three readings
 firsts : (k : ℕ) (a b d x y w : Reading) → take k (a ∷ b ∷ d ∷ []) ≡ take k (x ∷ y ∷ w ∷ [])
@@ -71,12 +59,12 @@ module _ (c : ConfigView) (z held : List ℕ) (p : Progress) (s : Split c z held
       past_fields c.system (length z) p.fields p.row (length held) at.inside s.short split_long
 
   pub split_rows : rest_of c z / line_bytes c.system ≡ p.row
-  split_rows = ap (λ m. m / line_bytes c.system) split_rest ∙ rows_past c.system p.row (length held) s.short
+  split_rows = ap (λ m. m / line_bytes c.system) split_rest ∙ div-mul-add p.row (line_bytes c.system) (length held) s.short
 
   split_held : held ≡ drop (length z - rest_of c z % line_bytes c.system) z
   split_held =
       let past : rest_of c z % line_bytes c.system ≡ length held =
-      ap (λ m. m % line_bytes c.system) split_rest ∙ held_past c.system p.row (length held) s.short in
+      ap (λ m. m % line_bytes c.system) split_rest ∙ mod-mul-add p.row (line_bytes c.system) (length held) s.short in
       let long = ap length s.split in
       let both = length-append s.rows held in
       let at : length z - rest_of c z % line_bytes c.system ≡ length s.rows = omega arith in
@@ -88,7 +76,7 @@ module _ (c : ConfigView) (z held : List ℕ) (p : Progress) (s : Split c z held
       let at = s.position in
       ap (λ l. row_reading c l p.fields r) s.split
       ∙ row_reading-more c s.rows held p.fields r
-      (le_trans (row_mono c.system (p.fields * height_of c.system + r + 1) (p.fields * height_of c.system + p.row) (omega arith))
+      (le_trans (mul-le-mul_right {m = p.fields * height_of c.system + r + 1} (line_bytes c.system) (omega arith))
       (le_of_eq (sym at.whole)))
 
   split_readings : take (p.row - 15) (p.readings.first ∷ p.readings.second ∷ p.readings.third ∷ [])
@@ -127,9 +115,9 @@ split_of c z l p short inside at =
     let split : z ≡ rows ++ l.held = sym (take-append-drop n z) ∙ ap (λ h. take n z ++ h) (sym held) in
     let long : length z ≡ length rows + length l.held = ap length split ∙ length-append rows l.held in
     let whole : length rows ≡ (p.fields * height_of c.system + p.row) * line_bytes c.system =
-    rows_long c.system (length z) (length rows) p.fields p.row (length l.held) fields rest long in
+    bytes_of_rows c.system (length z) (length rows) p.fields p.row (length l.held) fields rest long in
     let past : rest_of c z / line_bytes c.system ≡ p.row =
-    ap (λ m. m / line_bytes c.system) (sym rest) ∙ rows_past c.system p.row (length l.held) short in
+    ap (λ m. m / line_bytes c.system) (sym rest) ∙ div-mul-add p.row (line_bytes c.system) (length l.held) short in
     let same : take (p.row - 15) (p.readings.first ∷ p.readings.second ∷ p.readings.third ∷ []) ≡ take (p.row - 15) (readings_of c z p.fields) =
     ap (λ q. q.readings) at.position
     ∙ ap (λ m. take (m - 15) (readings_of c z (fields_of c z))) past
@@ -138,7 +126,7 @@ split_of c z l p short inside at =
     let stays : (r : ℕ) → r < p.row → row_reading c z p.fields r ≡ row_reading c rows p.fields r = λ r lt.
     (ap (λ h. row_reading c h p.fields r) split
     ∙ row_reading-more c rows l.held p.fields r
-    (le_trans (row_mono c.system (p.fields * height_of c.system + r + 1) (p.fields * height_of c.system + p.row) (omega arith))
+    (le_trans (mul-le-mul_right {m = p.fields * height_of c.system + r + 1} (line_bytes c.system) (omega arith))
     (le_of_eq (sym whole)))) in
     record {
       rows = rows;

@@ -6,7 +6,6 @@ use Rattle.std.proofs.lemmas.List.{length-append, take-append-drop, take_at}
 use Rattle.vbi_words.specs.Geometry.{width_of, height_of, line_bytes, field_bytes}
 use Rattle.vbi_words.specs.Levels.{row_levels}
 use Rattle.vbi_words.specs.declared.system.System.{System}
-use Rattle.vbi_words.specs.declared.system.System.TheVariants.{Ntsc, Pal}
 use Rattle.vbi_words.specs.declared.outcome.Reading.{Reading}
 use Rattle.vbi_line.specs.Line.{Line}
 use Rattle.vbi_line.specs.OneReading.{reading_of}
@@ -22,22 +21,10 @@ use Rattle.vbi_field.specs.declared.outlet.Outlet.{Outlet}
 use Rattle.vbi_field.specs.declared.progress.Progress.{Progress}
 use Rattle.vbi_field.specs.declared.summary.RunFault.{RunFault}
 use Rattle.vbi_field.specs.declared.summary.RunFault.TheVariants.{Write, TooManyFields}
-use Rattle.vbi_field.proofs.Counts.{some_bytes, looks_next}
+use Rattle.vbi_field.proofs.Counts.{sizes_of, row_before, row_fits, exactly_fields, looks_next}
 use Rattle.vbi_field.proofs.FeedPlaces.{Split, split_of, split_fields, split_long, at_of}
 use Rattle.vbi_field.proofs.FeedTexts.{begun_same, begun_grows, completes_twice, cut_longer}
 use Rattle.vbi_field.proofs.Settling.{fields_at, further, wrote_none, longer_part}
-
--- a row more is allowed before the last field
-room_for_row : (s : System) (n f r h m : ℕ) → n ≡ (f * height_of s + r) * line_bytes s + h → r < height_of s → h ≤ line_bytes s
-    → f < m → n ≤ m * field_bytes s
-room_for_row Ntsc n f r h m e inside le lt = omega arith
-room_for_row Pal n f r h m e inside le lt = omega arith
-
--- no row and no byte is past the last field
-no_more : (s : System) (n f r h : ℕ) → n ≡ (f * height_of s + r) * line_bytes s + h → n ≤ f * field_bytes s
-    → n ≡ f * field_bytes s
-no_more Ntsc n f r h e le = omega arith
-no_more Pal n f r h e le = omega arith
 
 pub not_full : (b : Bool) (P : Type 0) → (IsTrue b ↔ P) → b ≡ false → P → ⊥
 not_full b P iff e p = let t = iff.1 p in cc
@@ -62,7 +49,7 @@ stand_next c l l' p p' sel sels st system cursors held inside next left most loo
     record {
       system = system;
       cursors = cursors;
-      short = rw held (some_bytes c.system);
+      short = rw held (sizes_of c.system).some;
       inside = inside;
       few = omega arith;
       most = omega arith;
@@ -85,7 +72,7 @@ module _ {W : Type 0} (contents : W → Option (List ℕ)) (c : ConfigView) (l :
       let m = allowed_bytes c in
       let le : length z ≤ p.fields * field_bytes c.system = rw last at.allowed in
       let exact : length z ≡ m =
-      no_more c.system (length z) p.fields p.row (length l.held) (split_long c z l.held p before) le
+      exactly_fields c.system (length z) p.fields p.row (length l.held) (split_long c z l.held p before) le
       ∙ ap (λ n. n * field_bytes c.system) last in
       let long = length-append z bytes in (
         omega arith,
@@ -99,8 +86,8 @@ module _ {W : Type 0} (contents : W → Option (List ℕ)) (c : ConfigView) (l :
     fits : length (z ++ more) ≤ allowed_bytes c
     fits =
         let whole = before.position in
-        room_for_row c.system (length (z ++ more)) p.fields p.row (length b) c.max_fields
-        (ap length cut ∙ length-append before.rows b ∙ ap (λ n. n + length b) whole.whole) st.inside le left
+        let long = ap length cut ∙ length-append before.rows b ∙ ap (λ n. n + length b) whole.whole in
+        rw long (row_fits c.system _ c.max_fields (length b) (row_before c.system p.fields p.row c.max_fields left st.inside) le)
 
     -- nothing is written where no field is whole now
     still : (l' : Line) (p' : Progress) → Split c (z ++ more) l'.held p' → p'.fields ≡ p.fields → (o : Outlet W)
@@ -130,7 +117,7 @@ module _ {W : Type 0} (contents : W → Option (List ℕ)) (c : ConfigView) (l :
     -- the row is whole
     pub after_row : (l' : Line) (p' : Progress) → l'.held ≡ [] → IsPosition c (before.rows ++ b) p' → Split c (z ++ more) l'.held p'
     after_row l' p' e whole =
-        let some = some_bytes c.system in
+        let sizes = sizes_of c.system in
         let l1 = ap length e in
         record {
           rows = before.rows ++ b;

@@ -1,32 +1,21 @@
 -- The text of a stream that grows.
-use Rattle.std.proofs.Common.{◌≡◌, ℕ, zero, suc, ◌+◌, ◌-◌, ◌*◌, ◌/◌, ◌≤◌, List, [], ◌++◌, length}
+use Rattle.std.proofs.Common.{◌≡◌, ℕ, zero, suc, ◌+◌, ◌-◌, ◌*◌, ◌≤◌, List, [], ◌++◌, length}
 use Rattle.std.proofs.Common.{take, refl, sym, ap, ◌∙◌, arith, append_assoc, append-nil, add-zero}
 use Rattle.std.proofs.lemmas.List.{length-append}
 use Rattle.std.proofs.Math.Seq.{take-append-add}
 use Rattle.std.proofs.Math.Nat.{le_refl}
-use Rattle.vbi_words.specs.Geometry.{height_of, line_bytes, field_bytes}
-use Rattle.vbi_words.specs.declared.system.System.{System}
-use Rattle.vbi_words.specs.declared.system.System.TheVariants.{Ntsc, Pal}
+use Rattle.vbi_words.specs.Geometry.{height_of}
 use Rattle.vbi_field.specs.ConfigView.{ConfigView}
 use Rattle.vbi_field.specs.Stream.{fields_of, field_readings}
 use Rattle.vbi_field.specs.Texts.{Texts, Completes, begun_of, joined_entry_of}
+use Rattle.vbi_field.proofs.Counts.{whole_rows_fit, more_fields}
 use Rattle.vbi_field.proofs.Entries.{stood, stood-more, stood-stays, begun_of-stood}
-
--- the rows of the whole fields of a stream are in it
-in_fields : (s : System) (n : ℕ) → n / field_bytes s * height_of s * line_bytes s ≤ n
-in_fields Ntsc n = omega arith
-in_fields Pal n = omega arith
-
--- a longer stream has no fewer fields
-more_fields : (s : System) (n m : ℕ) → n / field_bytes s ≤ (n + m) / field_bytes s
-more_fields Ntsc n m = omega arith
-more_fields Pal n m = omega arith
 
 module _ (t : Texts) (c : ConfigView) (z b : List ℕ) where
   -- the text of the fields that were whole
   stays : stood t c (z ++ b) (fields_of c z) ≡ begun_of t c z
   stays =
-      stood-stays t c z b (fields_of c z) (fields_of c z * height_of c.system) (le_refl _) (in_fields c.system (length z))
+      stood-stays t c z b (fields_of c z) (fields_of c z * height_of c.system) (le_refl _) (whole_rows_fit c.system (length z))
       ∙ sym (begun_of-stood t c z (fields_of c z) refl)
 
   -- no field more is whole

@@ -1,42 +1,27 @@
 -- Rows of a stream that grows.
-use Rattle.std.proofs.Common.{◌≡◌, ℕ, ◌+◌, ◌*◌, ◌≤◌, ◌<◌, inl, inr, List, ◌++◌, length, take, drop, sym, ap, ◌∙◌, arith, lit<, lit≤}
-use Rattle.std.proofs.Math.Nat.{eq-or-lt_of_le, le_trans}
+use Rattle.std.proofs.Common.{◌≡◌, ℕ, ◌+◌, ◌*◌, ◌≤◌, ◌<◌, inl, inr, List, ◌++◌, length, take, drop, sym, ap, ◌∙◌, arith, lit≤}
+use Rattle.std.proofs.Math.Nat.{eq-or-lt_of_le, le_trans, mul-le-mul_right}
 use Rattle.std.proofs.lemmas.List.{length-append, length-drop, take-append-le, drop-append-le, take_all}
 use Rattle.std.proofs.Math.Seq.{drop_at}
 use Rattle.vbi_words.specs.Geometry.{height_of, line_bytes, field_bytes}
 use Rattle.vbi_words.specs.Levels.{row_levels}
 use Rattle.vbi_line.specs.OneReading.{reading_of}
 use Rattle.vbi_words.specs.declared.system.System.{System}
-use Rattle.vbi_words.specs.declared.system.System.TheVariants.{Ntsc, Pal}
 use Rattle.vbi_words.specs.declared.outcome.Reading.{Reading}
 use Rattle.vbi_field.specs.ConfigView.{ConfigView}
 use Rattle.vbi_field.specs.declared.readings.FieldReadings.{FieldReadings}
 use Rattle.vbi_field.specs.declared.progress.Progress.{Progress}
 use Rattle.vbi_field.specs.Stream.{row_of, row_reading, field_readings}
 use Rattle.vbi_field.specs.Progress.{IsPosition, IsRowOf, Kept, Keeps}
-
--- where a row begins, in rows
-pub place : (s : System) (i r : ℕ) → i * field_bytes s + line_bytes s * r ≡ (i * height_of s + r) * line_bytes s
-place Ntsc i r = omega arith
-place Pal i r = omega arith
-
--- one row more
-pub next_row : (s : System) (n : ℕ) → (n + 1) * line_bytes s ≡ n * line_bytes s + line_bytes s
-next_row Ntsc n = omega arith
-next_row Pal n = omega arith
-
--- a later row begins later
-pub row_mono : (s : System) (m n : ℕ) → m ≤ n → m * line_bytes s ≤ n * line_bytes s
-row_mono Ntsc m n le = omega arith
-row_mono Pal m n le = omega arith
+use Rattle.vbi_field.proofs.Counts.{sizes_of, times-next, bytes_before}
 
 -- a row that is whole stays as it is
 pub row_of-more : (s : System) (z b : List ℕ) (i r : ℕ) → (i * height_of s + r + 1) * line_bytes s ≤ length z
     → row_of s (z ++ b) i r ≡ row_of s z i r
 row_of-more s z b i r le =
     let p = i * field_bytes s + line_bytes s * r in
-    let at = place s i r in
-    let next = next_row s (i * height_of s + r) in
+    let at = bytes_before s i r in
+    let next = times-next (i * height_of s + r) (line_bytes s) in
     let rest = length-drop p z in
     ap (take (line_bytes s)) (drop-append-le p z b (omega arith))
     ∙ take-append-le (line_bytes s) (drop p z) b (omega arith)
@@ -46,7 +31,7 @@ pub row_of-new : (s : System) (z b : List ℕ) (i r : ℕ) → length z ≡ (i *
     → length b ≡ line_bytes s → row_of s (z ++ b) i r ≡ b
 row_of-new s z b i r long whole =
     let p = i * field_bytes s + line_bytes s * r in
-    ap (take (line_bytes s)) (drop_at z b p (long ∙ sym (place s i r)))
+    ap (take (line_bytes s)) (drop_at z b p (long ∙ sym (bytes_before s i r)))
     ∙ take_all (line_bytes s) b (omega arith)
 
 -- the reading of a row that is whole stays
@@ -54,19 +39,13 @@ pub row_reading-more : (c : ConfigView) (z b : List ℕ) (i r : ℕ)
     → (i * height_of c.system + r + 1) * line_bytes c.system ≤ length z → row_reading c (z ++ b) i r ≡ row_reading c z i r
 row_reading-more c z b i r le = ap (λ l. reading_of c.system (row_levels c.levels l)) (row_of-more c.system z b i r le)
 
--- the rows of one field more
-pub whole_field : (f h r : ℕ) → r + 1 ≡ h → f * h + r + 1 ≡ (f + 1) * h + 0
-whole_field f h r e = grind arith
-
--- the last row that counts is inside its field
-tall : (s : System) → 18 < height_of s
-tall Ntsc = lit< tt
-tall Pal = lit< tt
-
 -- an inner row of a whole field is whole
-inner : (s : System) (i r n : ℕ) → r ≤ 17 → (i + 1) * height_of s ≤ n → (i * height_of s + r + 1) * line_bytes s ≤ n * line_bytes s
-inner Ntsc i r n small le = row_mono Ntsc (i * 263 + r + 1) n (omega arith)
-inner Pal i r n small le = row_mono Pal (i * 313 + r + 1) n (omega arith)
+inner : (s : System) (i r n : ℕ) → r ≤ 17 → (i + 1) * height_of s ≤ n
+    → (i * height_of s + r + 1) * line_bytes s ≤ n * line_bytes s
+inner s i r n small le =
+    let sizes = sizes_of s in
+    let within : i * height_of s + r + 1 ≤ n = omega (arith, times-next i (height_of s)) in
+    mul-le-mul_right (line_bytes s) within
 
 -- the readings of a whole field stay
 pub field_readings-more : (c : ConfigView) (z b : List ℕ) (i n : ℕ)
@@ -92,7 +71,8 @@ reads_next c z b i row r o was now low high long whole before kept lt =
           kept.0 (sym e) ∙ whole.shows (omega arith) (omega arith)
           ∙ ap (λ l. reading_of c.system (row_levels c.levels l)) (sym (row_of-new c.system z b i r here whole.whole))
       | inr k ↦
-          let m = row_mono c.system (i * height_of c.system + r + 1) (i * height_of c.system + row) (omega arith) in
+          let later : i * height_of c.system + r + 1 ≤ i * height_of c.system + row = omega arith in
+          let m = mul-le-mul_right (line_bytes c.system) later in
           kept.1 k ∙ before k ∙ sym (row_reading-more c z b i r (omega arith))
     ]
 
@@ -110,7 +90,7 @@ module _ (c : ConfigView) (z b : List ℕ) (p : Progress) (o : Reading) (now : F
   long : length (z ++ b) ≡ (p.fields * height_of c.system + p.row + 1) * line_bytes c.system
   long =
       let l = length-append z b in
-      let n = next_row c.system (p.fields * height_of c.system + p.row) in
+      let n = times-next (p.fields * height_of c.system + p.row) (line_bytes c.system) in
       let w = whole.whole in
       let a = at.whole in
       omega arith
@@ -131,9 +111,9 @@ module _ (c : ConfigView) (z b : List ℕ) (p : Progress) (o : Reading) (now : F
   past_field le =
       let inside = at.inside in
       let last : p.row + 1 ≡ height_of c.system = omega arith in
-      let high = tall c.system in (
+      let sizes = sizes_of c.system in (
         record {
-          whole = long ∙ ap (λ k. k * line_bytes c.system) (whole_field p.fields (height_of c.system) p.row last);
+          whole = long ∙ ap (λ k. k * line_bytes c.system) (omega (arith, times-next p.fields (height_of c.system)));
           inside = omega arith;
           first = λ h. absurd (omega arith);
           second = λ h. absurd (omega arith);

@@ -1,11 +1,11 @@
 -- What a run keeps from row to row, and how it ends.
-use Rattle.std.proofs.Common.{◌≡◌, ℕ, ◌+◌, ◌*◌, ◌/◌, ◌%◌, ◌≤◌, ◌<◌, inl, inr, Bool, true, false, List, [], ◌++◌, length, take, drop}
-use Rattle.std.proofs.Common.{refl, sym, ap, ◌∙◌, arith, subst, cond, zero-le, zero-add, add-zero, add_assoc, append_assoc}
+use Rattle.std.proofs.Common.{◌≡◌, ℕ, ◌+◌, ◌*◌, ◌≤◌, ◌<◌, inl, inr, Bool, true, false, List, [], ◌++◌, length, take, drop}
+use Rattle.std.proofs.Common.{refl, sym, ap, ◌∙◌, arith, subst, cond, zero-le, add-zero, append_assoc}
 use Rattle.std.specs.Prelude.{Option, Result, Ok, Err, OnOk, IfOk, OnErr, IfErr, IsErrAnd, IsTrue, ◌↔◌, ◌⊎◌}
-use Rattle.std.specs.Io.KnownBytes.{Consumes, Appends, IsAtEnd}
+use Rattle.std.specs.Io.KnownBytes.{Consumes, Appends}
 use Rattle.std.proofs.KnownBytes.{Appends-trans, Consumes-trans, Appends-nil, Consumes-nil}
 use Rattle.std.proofs.lemmas.List.{length-append, length-drop, length-take-le, take_at, take-append-drop}
-use Rattle.std.proofs.Math.Nat.{le_of_eq, le_trans, zero-mul}
+use Rattle.std.proofs.Math.Nat.{le_of_eq, le_trans, zero-mul, zero-div, mul-le-mul_right}
 use Rattle.vbi_words.specs.Geometry.{width_of, height_of, line_bytes, field_bytes}
 use Rattle.vbi_words.specs.Levels.{LevelsView, row_levels}
 use Rattle.vbi_words.specs.declared.system.System.{System}
@@ -31,11 +31,10 @@ use Rattle.vbi_field.specs.declared.run.NextLine.TheVariants.{Whole, Ended, Fail
 use Rattle.vbi_field.specs.declared.summary.RunFault.{RunFault}
 use Rattle.vbi_field.specs.declared.summary.Summary.{Summary}
 use Rattle.vbi_field.specs.declared.summary.RunFault.TheVariants.{Read, Write, TooManyFields}
-use Rattle.vbi_field.proofs.Counts.{all_fields, few_fields, few_bytes_row, few_looks, next_field, some_bytes, some_rows, bytes_of_fields}
-use Rattle.vbi_field.proofs.Counts.{looks_next, rows_within, selected_is, selected_past, whole_fields, past_fields}
+use Rattle.vbi_field.proofs.Counts.{sizes_of, all_fields, few_fields, bytes_of_fields, bytes_of_next_field, rows_fit}
+use Rattle.vbi_field.proofs.Counts.{whole_fields, past_fields, looks_next, no_looks, selected_is, selected_past}
 use Rattle.vbi_field.proofs.Entries.{stood-none, begun_of-stood}
 use Rattle.vbi_field.proofs.FeedTexts.{begun_same}
-use Rattle.vbi_field.proofs.Growing.{row_mono}
 use Rattle.vbi_field.proofs.Settling.{fields_at, further, wrote_whole, put_in_part}
 
 -- a device that hadn't given an error before has failed for good
@@ -52,18 +51,14 @@ has_failed old new calm h = record { rose = let r = h.rose in omega arith; cause
 
 -- ---- numbers
 
+-- a line has no more samples than this
+narrow : (s : System) → width_of s ≤ 2270
+narrow s = let sizes = sizes_of s in omega arith
+
 -- no more looks than a pass has
 cond_le : (b : Bool) (x : ℕ) → x ≤ 2270 → cond b x 0 ≤ 2270
 cond_le true x le = le
 cond_le false x le = zero-le
-
-no_fields : (s : System) → 0 / field_bytes s ≡ 0
-no_fields Ntsc = refl
-no_fields Pal = refl
-
-no_looks : (s : System) → width_of s * selected (0 / field_bytes s) (0 % field_bytes s / line_bytes s) ≡ 0
-no_looks Ntsc = refl
-no_looks Pal = refl
 
 -- before the first row
 record Starts (s : System) (f r : ℕ) : Type 0 where
@@ -102,24 +97,24 @@ last_field : (t : Texts) (c : ConfigView) (z b : List ℕ) (p p' : Progress) →
 last_field t c z b p p' at next fields row =
     let n : ℕ = p.fields * height_of c.system * line_bytes c.system in
     let tall : p.fields * height_of c.system ≤ p.fields * height_of c.system + p.row = omega arith in
-    let within : n ≤ length z = le_trans (row_mono c.system _ _ tall) (le_of_eq (sym at.whole)) in
+    let within : n ≤ length z = le_trans (mul-le-mul_right (line_bytes c.system) tall) (le_of_eq (sym at.whole)) in
     let all : length (z ++ b) ≡ (p.fields + 1) * height_of c.system * line_bytes c.system =
     next.whole ∙ ap (λ k. k * line_bytes c.system) (rw (fields, row) (add-zero _)) in
-    let long = next_field c.system p.fields in
+    let long = bytes_of_next_field c.system p.fields in
     let m = length-take-le n z within in
     let d = length-drop n z in
     let whole : take n z ++ drop n z ≡ z = take-append-drop n z in
     let head : length (take n z) ≡ (p.fields * height_of c.system + 0) * line_bytes c.system + 0 =
     m ∙ ap (λ k. k * line_bytes c.system) (sym (add-zero _)) ∙ sym (add-zero _) in
-    let some = some_rows c.system in
-    let bytes = some_bytes c.system in
-    let first : fields_of c (take n z) ≡ p.fields = whole_fields c.system _ p.fields 0 0 some bytes head in
+    let sizes = sizes_of c.system in
+    let some : 0 < height_of c.system = omega arith in
+    let first : fields_of c (take n z) ≡ p.fields = whole_fields c.system _ p.fields 0 0 some sizes.some head in
     let both : fields_of c (take n z ++ drop n z) ≡ fields_of c (take n z) = ap (fields_of c) whole ∙ fields_at c z p at ∙ sym first in
     record {
       before = take n z;
       last = drop n z ++ b;
       both = sym (append_assoc (take n z) (drop n z) b) ∙ ap (λ l. l ++ b) whole;
-      fields = past_fields c.system _ p.fields 0 0 some bytes head ∙ ap (λ k. k + 0) (zero-mul _);
+      fields = past_fields c.system _ p.fields 0 0 some sizes.some head ∙ ap (λ k. k + 0) (zero-mul _);
       field = omega (arith, length-append (drop n z) b, length-append z b);
       begun = begun_same t c (take n z) (drop n z) both ∙ ap (begun_of t c) whole;
     }
@@ -163,7 +158,7 @@ module _ (t : Texts) {R W : Type 0} (remaining : R → Option (List ℕ)) (conte
       → o.written ≡ o0.written + length text → outlets.errors_of o ≡ outlets.errors_of o0 → outlets.IsSameDevice o0 o → p.fields ≡ 0 → p.row ≡ 0
       → Pulled 0 i0 o p
   start o p text fresh clean is few puts whole no_error same fields row =
-      let begun : begun_of t c [] ≡ text = begun_of-stood t c [] 0 (no_fields c.system) ∙ stood-none t c [] ∙ sym is in
+      let begun : begun_of t c [] ≡ text = begun_of-stood t c [] 0 (zero-div (field_bytes c.system)) ∙ stood-none t c [] ∙ sym is in
       let wrote = wrote_whole contents o0 o text puts whole in
       let l = ap length begun in
       let first : Starts c.system p.fields p.row = rw (fields, row) (starts c.system) in
@@ -233,7 +228,7 @@ module _ (t : Texts) {R W : Type 0} (remaining : R → Option (List ℕ)) (conte
       → outlets.HasCause o0 o → outlets.written_of o < outlets.written_of o0 + length text
       → fault ≡ Write o.written → Runs t remaining contents c i0 i0 o0 o (Err fault)
   head_fault o text fault fresh clean is puts cause short fails =
-      let begun : text ≡ begun_of t c [] = is ∙ sym (begun_of-stood t c [] 0 (no_fields c.system) ∙ stood-none t c []) in
+      let begun : text ≡ begun_of t c [] = is ∙ sym (begun_of-stood t c [] 0 (zero-div (field_bytes c.system)) ∙ stood-none t c []) in
       let looks : i0.line.looked ≡ looks_of c [] = fresh.looked ∙ sym (no_looks c.system) in
       let w = put_in_part contents o0 o text puts short in
       write_fault i0 o0 o [] [] w.part fault (Consumes-nil _) fresh.fetched (Appends-nil _) clean.written (calm_reader fresh) (calm_writer clean)
@@ -268,9 +263,9 @@ module _ (t : Texts) {R W : Type 0} (remaining : R → Option (List ℕ)) (conte
         let z : List ℕ = g.z ++ row.bytes in
         let l = length-append g.z row.bytes in
         let came = row_came.whole in
-        let wide = few_bytes_row c.system in
+        let sizes = sizes_of c.system in
         let got = row.got in
-        let looks = cond_le sel (width_of i.line.system) (few_looks i.line.system) in
+        let looks = cond_le sel (width_of i.line.system) (narrow i.line.system) in
         let on = further c p p' i'.line.looked looks_after next in
         let place : p'.fields * height_of c.system + p'.row ≡ k + 1 = on.place ∙ ap (λ n. n + 1) g.place in
         let wrote = settled.wrote in
@@ -314,10 +309,10 @@ module _ (t : Texts) {R W : Type 0} (remaining : R → Option (List ℕ)) (conte
         let after = settled.position in
         let place : p'.fields * height_of c.system + p'.row ≡ k + 1 = on.place ∙ ap (λ n. n + 1) g.place in
         let long : length z ≡ (k + 1) * line_bytes c.system = after.whole ∙ ap (λ n. n * line_bytes c.system) place in
-        let within : length z ≤ allowed_bytes c = le_trans (le_of_eq long) (rows_within c.system (k + 1) c.max_fields limit) in
+        let within : length z ≤ allowed_bytes c = le_trans (le_of_eq long) (rows_fit c.system (k + 1) c.max_fields limit) in
         let looks : i'.line.looked ≡ looks_of c z =
         on.looks ∙ ap (λ n. width_of c.system * n)
-        (sym (selected_is c.system (length z) p'.fields p'.row 0 after.inside (some_bytes c.system) (after.whole ∙ sym (add-zero _)))) in
+        (sym (selected_is c.system (length z) p'.fields p'.row 0 after.inside (sizes_of c.system).some (after.whole ∙ sym (add-zero _)))) in
         let due = last_field t c g.z row.bytes p p' g.at after (next_fields p p' next first) first in
         let w = settled.wrote in
         let P : List ℕ → Type 0 = λ b. EndsInside b (begun_of t c z) (begun_of t c g.z ++ w.part) in
@@ -450,7 +445,7 @@ module _ (t : Texts) {R W : Type 0} (remaining : R → Option (List ℕ)) (conte
       let got = row.got in
       let short : length b < line_bytes c.system = rw (← g.system) got.short in
       let held = ap length got.held in
-      let rows : k * line_bytes c.system ≤ allowed_bytes c = rows_within c.system k c.max_fields last in
+      let rows : k * line_bytes c.system ≤ allowed_bytes c = rows_fit c.system k c.max_fields last in
       let bytes = all k i o p g b short in
       record {
         z = g.z ++ b;

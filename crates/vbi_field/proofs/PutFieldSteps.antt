@@ -1,24 +1,19 @@
 -- What the writing of a field keeps from row to row.
-use Rattle.std.proofs.Common.{◌≡◌, ℕ, ◌+◌, ◌-◌, ◌*◌, ◌≤◌, ◌<◌, List, ◌++◌, length, refl, sym, ap, subst, ◌∙◌, arith, lit≤}
+use Rattle.std.proofs.Common.{◌≡◌, ℕ, ◌+◌, ◌-◌, ◌*◌, ◌≤◌, ◌<◌, List, ◌++◌, length, refl, sym, ap, subst, ◌∙◌, arith}
 use Rattle.std.specs.Prelude.{Option, None}
 use Rattle.std.specs.Io.KnownBytes.{Appends}
 use Rattle.std.proofs.KnownBytes.{Appends-trans, Appends-nil}
 use Rattle.std.proofs.lemmas.List.{length-append}
-use Rattle.vbi_words.specs.declared.system.System.{System}
-use Rattle.vbi_words.specs.declared.system.System.TheVariants.{Ntsc, Pal}
 use Rattle.vbi_words.specs.Geometry.{height_of, line_bytes}
 use Rattle.vbi_field.specs.ConfigView.{ConfigView}
 use Rattle.vbi_field.specs.Outlet.{device_of, failures_of, errors_of, IsSameDevice, Puts, Wrote, WrotePart}
 use Rattle.vbi_field.specs.Drawing.{drawn_line_of, drawn_field_of, word_at}
 use Rattle.vbi_field.specs.declared.outlet.Outlet.{Outlet}
 use Rattle.vbi_field.specs.declared.word_row.WordRow.{WordRow}
-use Rattle.vbi_field.proofs.DrawnLemmas.{narrow, length-drawn_line_of, lines_of, lines_of-more}
+use Rattle.vbi_field.proofs.Counts.{sizes_of}
+use Rattle.vbi_field.proofs.DrawnLemmas.{length-drawn_line_of, lines_of, lines_of-more}
 use Rattle.vbi_field.proofs.Settling.{wrote_whole, put_in_part, longer_part, later_part}
 use Rattle.vbi_field.proofs.DrawnLemmas.{lines_of-none, lines_of-all, lines_of-split, last_word}
-
-few_rows : (s : System) → height_of s ≤ 313
-few_rows Ntsc = lit≤ tt
-few_rows Pal = lit≤ tt
 
 module _ {W : Type 0} (contents : W → Option (List ℕ)) (c : ConfigView) (words : WordRow) (old : Outlet W) where
   -- so many rows are written, and the line has the last of them
@@ -53,7 +48,7 @@ module _ {W : Type 0} (contents : W → Option (List ℕ)) (c : ConfigView) (wor
       → Puts contents now new line → new.written ≡ now.written + length line → errors_of new ≡ errors_of now
       → IsSameDevice now new → Putting new line (row + 1)
   Putting-more now new before line row p e puts ok no_error same =
-      let few = narrow c.system in
+      let sizes = sizes_of c.system in
       let long = long_line line (word_at words row) e in
       let joined : lines_of c words (row + 1) ≡ lines_of c words row ++ line
       = lines_of-more c words row ∙ ap (λ (l : List ℕ). lines_of c words row ++ l) (sym e) in
@@ -86,7 +81,7 @@ module _ {W : Type 0} (contents : W → Option (List ℕ)) (c : ConfigView) (wor
       let long = ap length whole in
       let w = p.written in
       let most = p.most in
-      let many = few_rows c.system in (
+      let sizes = sizes_of c.system in (
         record { appended = rw (← whole) p.appended; written = omega arith },
         p.drawn ∙ ap (λ (r : ℕ). drawn_line_of c (word_at words (r - 1))) e ∙ ap (drawn_line_of c) (last_word c words),
         omega arith,
@@ -108,10 +103,10 @@ module _ {W : Type 0} (contents : W → Option (List ℕ)) (c : ConfigView) (wor
       let most = p.most in
       let most2 = puts.most in
       let within = puts.within in
-      let many = few_rows c.system in
+      let sizes = sizes_of c.system in
       let first : Wrote contents old now base = record { appended = p.appended; written = p.written } in
       let P : List ℕ → Type 0 = WrotePart contents old new in (
         subst P field
-        (longer_part contents old new (base ++ line) split.0 (later_part contents old now new base line first (put_in_part contents now new line puts less))),
+            (longer_part contents old new (base ++ line) split.0 (later_part contents old now new base line first (put_in_part contents now new line puts less))),
         omega arith,
       )

@@ -1,17 +1,15 @@
 -- What the calls of an intake of rows keep from read to read.
 use Rattle.std.proofs.Common.{◌≡◌, ◌≢◌, ℕ, zero, suc, ◌+◌, ◌*◌, ◌<◌, ◌≤◌, List, [], ◌∷◌, ◌++◌}
-use Rattle.std.proofs.Common.{length, take, set, inl, inr, refl, sym, subst, ◌∙◌, arith}
+use Rattle.std.proofs.Common.{length, take, inl, inr, refl, sym, subst, ◌∙◌, arith}
 use Rattle.std.specs.Prelude.{Option, Some, None}
 use Rattle.std.proofs.KnownBytes.{Consumes-trans, Consumes-nil}
-use Rattle.std.proofs.lemmas.List.{append-nil, take_more_set, length-append, length-set, length-take-le}
-use Rattle.std.proofs.lemmas.List.Elements.{All-append}
-use Rattle.vbi_line.proofs.Causes.{cause_later}
+use Rattle.std.proofs.lemmas.List.{append-nil, length-append, length-take-le}
 use Rattle.vbi_field.specs.WordRows.{word_row_of}
 use Rattle.vbi_field.specs.RowIntake.{failures_of, errors_of, streak_of, HasNoNewline, Fetches, TakesByte, TakesRow}
 use Rattle.vbi_field.specs.declared.word_row.WordRow.{WordRow}
 use Rattle.vbi_field.specs.declared.row_intake.RowIntake.{RowIntake}
 use Rattle.vbi_field.specs.declared.row_intake.NextByte.TheVariants as bytes
-use Rattle.vbi_field.specs.declared.row_intake.NextRow.TheVariants.{Row, LastRow, Malformed, Failed}
+use Rattle.vbi_field.specs.declared.row_intake.NextRow.TheVariants.{Row, Malformed}
 use Rattle.vbi_field.proofs.WordRowLemmas.{long_row}
 
 all_one : (byte : ℕ) → byte ≢ 10 → HasNoNewline (byte ∷ [])
@@ -53,21 +51,6 @@ module _ {R : Type 0} (remaining : R → Option (List ℕ)) where
       }
 
   module _ (old now new : RowIntake R) (row : List ℕ) (held : ℕ) (h : Held old now row held) (inside : held < 21) where
-    -- one byte more
-    pub Held-more : (byte : ℕ) → TakesByte remaining now new (bytes.Byte byte) → byte ≢ 10 → Held old new (set row held byte) (held + 1)
-    Held-more byte t other =
-        let most = h.most in
-        let more = t.most in
-        let long = h.long in
-        let joined = take_more_set row held byte (omega arith) in
-        record {
-          fetches = rw joined (Fetches-more old now new (take held row) (byte ∷ []) h.fetches t.fetches);
-          most = omega arith;
-          errors = t.caused ∙ h.errors;
-          plain = rw joined (All-append (λ c. c ≢ 10) (take held row) (byte ∷ []) h.plain (all_one byte other));
-          long = length-set row held byte ∙ long;
-        }
-
     short : length (take held row) ≡ held
     short = length-take-le held row (omega (arith, h.long))
 
@@ -103,42 +86,6 @@ module _ {R : Type 0} (remaining : R → Option (List ℕ)) where
     -- no byte came
     as_held : Fetches remaining now new [] → Fetches remaining old new (take held row)
     as_held f = rw append-nil at (Fetches-more old now new (take held row) [] h.fetches f)
-
-    module _ (t : TakesByte remaining now new bytes.Ended) where
-      pub end_came : (words : WordRow) → held ≢ 0 → Some words ≡ word_row_of (take held row) → TakesRow remaining old new (LastRow words)
-      end_came words some w = record {
-        bytes = take held row;
-        fetches = as_held t.fetches;
-        short = omega (arith, short);
-        most = omega (arith, h.most, t.most);
-        got = (h.plain, omega (arith, short), sym w, t.got);
-        caused = t.caused ∙ h.errors;
-      }
-
-      pub bad_end_came : held ≢ 0 → None ≡ word_row_of (take held row) → TakesRow remaining old new Malformed
-      bad_end_came some w = record {
-        bytes = take held row;
-        fetches = as_held t.fetches;
-        short = omega (arith, short);
-        most = omega (arith, h.most, t.most);
-        got = record {
-          row = take held row;
-          plain = h.plain;
-          malformed = sym w;
-          read_to = inr (inl (refl, omega (arith, short), t.got));
-        };
-        caused = t.caused ∙ h.errors;
-      }
-
-    pub fault_came : TakesByte remaining now new bytes.Failed → TakesRow remaining old new Failed
-    fault_came t = record {
-      bytes = take held row;
-      fetches = as_held t.fetches;
-      short = omega (arith, short);
-      most = omega (arith, h.most, t.most);
-      got = h.plain;
-      caused = cause_later old.device now.device new.device h.errors h.fetches.least t.caused;
-    }
 
   -- a row of 21 bytes
   pub too_long : (old now : RowIntake R) (row : List ℕ) → Held old now row 21 → TakesRow remaining old now Malformed

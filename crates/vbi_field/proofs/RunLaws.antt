@@ -2,14 +2,14 @@
 use Rattle.std.proofs.Common.{◌≡◌, ℕ, ◌+◌, ◌*◌, ◌/◌, ◌%◌, ◌≤◌, ◌⊎◌, inl, inr, List, [], ◌++◌, length, take, Option, Some, None, refl, sym, ap, subst, ◌∙◌, arith, append-nil}
 use Rattle.std.specs.Io.KnownBytes.{Consumes, IsAtEnd}
 use Rattle.std.proofs.lemmas.List.{length-append, take_at}
+use Rattle.std.proofs.Math.Nat.{zero-mod}
 use Rattle.vbi_words.specs.Geometry.{width_of, line_bytes, field_bytes}
-use Rattle.vbi_words.specs.declared.system.System.{System}
-use Rattle.vbi_words.specs.declared.system.System.TheVariants.{Ntsc, Pal}
 use Rattle.vbi_field.specs.Extracts.{EndsWithin}
 use Rattle.vbi_field.specs.Ran.{EndsInside, IsFirstOf}
 use Rattle.vbi_field.specs.ConfigView.{ConfigView}
-use Rattle.vbi_field.specs.Stream.{fields_of, rest_of, selected, looks_of}
+use Rattle.vbi_field.specs.Stream.{fields_of, rest_of, looks_of}
 use Rattle.vbi_field.specs.Texts.{Texts, begun_of, document_of}
+use Rattle.vbi_field.proofs.Counts.{rest-next, few_looks}
 
 pub first : (all z : List ℕ) (input : Option (List ℕ)) → Consumes (Some all) input z → (length z ≤ length all) × (z ≡ take (length z) all)
 first all z None came = absurd came
@@ -21,12 +21,8 @@ pub whole : (all z : List ℕ) (input : Option (List ℕ)) → Consumes (Some al
 whole all z None came end = absurd came
 whole all z (Some left) came end = sym (came ∙ ap (λ l. z ++ l) end ∙ append-nil z)
 
-few_of : (s : System) (f r : ℕ) → width_of s * selected f r ≤ 3 * width_of s * (f + 1)
-few_of Ntsc f r = omega arith
-few_of Pal f r = omega arith
-
 pub few : (c : ConfigView) (z : List ℕ) → looks_of c z ≤ 3 * width_of c.system * (fields_of c z + 1)
-few c z = few_of c.system (fields_of c z) (rest_of c z / line_bytes c.system)
+few c z = few_looks c.system (fields_of c z) (rest_of c z / line_bytes c.system)
 
 first_inside : (before due text : List ℕ) → EndsInside before due text → IsFirstOf text due
 first_inside before due text ends =
@@ -43,20 +39,12 @@ first_of_text t c input z text (inl head) =
 first_of_text t c input z text (inr (inl entry)) = inl (first_inside (begun_of t c entry.before) (begun_of t c z) text entry.ends)
 first_of_text t c input z text (inr (inr tail)) = inr (tail.ended, first_inside (begun_of t c z) (document_of t c z) text tail.ends)
 
-no_rest : (s : System) → 0 % field_bytes s ≡ 0
-no_rest Ntsc = refl
-no_rest Pal = refl
-
-rest_more : (s : System) (n m : ℕ) → n % field_bytes s ≡ 0 → m ≡ field_bytes s → (n + m) % field_bytes s ≡ 0
-rest_more Ntsc n m none field = omega arith
-rest_more Pal n m none field = omega arith
-
 pub prompt : (t : Texts) (c : ConfigView) (input : Option (List ℕ)) (z text : List ℕ) → EndsWithin t c input z text
     → (rest_of c z ≡ 0) ⊎ (IsAtEnd input × (length (begun_of t c z) ≤ length text))
-prompt t c input z text (inl head) = inl (ap (rest_of c) head.none ∙ no_rest c.system)
+prompt t c input z text (inl head) = inl (ap (rest_of c) head.none ∙ zero-mod (field_bytes c.system))
 prompt t c input z text (inr (inl entry)) =
     inl (ap (rest_of c) (sym entry.both) ∙ ap (λ n. n % field_bytes c.system) (length-append entry.before entry.last)
-    ∙ rest_more c.system (length entry.before) (length entry.last) entry.fields entry.field)
+    ∙ rest-next c.system (length entry.before) (length entry.last) entry.fields entry.field)
 prompt t c input z text (inr (inr tail)) =
     let ends = tail.ends in
     let l = ap length ends.begun in

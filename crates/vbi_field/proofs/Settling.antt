@@ -1,5 +1,5 @@
 -- What is written with a whole row.
-use Rattle.std.proofs.Common.{◌≡◌, ℕ, ◌+◌, ◌-◌, ◌*◌, ◌≤◌, ◌<◌, inl, inr, List, [], ◌++◌, length, take, drop, refl, sym, ap, ◌∙◌, arith, append-nil, append_assoc, add-zero, add_assoc}
+use Rattle.std.proofs.Common.{◌≡◌, ℕ, ◌+◌, ◌*◌, ◌<◌, inl, inr, List, [], ◌++◌, length, take, drop, sym, ap, ◌∙◌, arith, append-nil, append_assoc, add-zero, add_assoc}
 use Rattle.std.specs.Prelude.{Option, Result, Err, Ok, IsErr}
 use Rattle.std.proofs.KnownBytes.{Appends-nil, Appends-trans}
 use Rattle.std.proofs.lemmas.List.{length-append, length-drop, length-take-le, take_all, take-append-drop}
@@ -13,13 +13,12 @@ use Rattle.vbi_field.specs.declared.outlet.Outlet.{Outlet}
 use Rattle.vbi_field.specs.declared.progress.Progress.{Progress}
 use Rattle.vbi_field.specs.declared.summary.RunFault.{RunFault}
 use Rattle.vbi_field.specs.declared.readings.FieldReadings.{FieldReadings}
-use Rattle.vbi_field.proofs.Counts.{whole_fields, some_bytes, looks_field}
+use Rattle.vbi_field.proofs.Counts.{sizes_of, times-next, whole_fields, looks_field}
 use Rattle.vbi_field.proofs.FeedTexts.{begun_same, begun_next}
-use Rattle.vbi_field.proofs.Growing.{whole_field}
 
 -- the whole fields of whole rows
 pub fields_at : (c : ConfigView) (z : List ℕ) (p : Progress) → IsPosition c z p → fields_of c z ≡ p.fields
-fields_at c z p at = whole_fields c.system (length z) p.fields p.row 0 at.inside (some_bytes c.system) (at.whole ∙ sym (add-zero _))
+fields_at c z p at = whole_fields c.system (length z) p.fields p.row 0 at.inside (sizes_of c.system).some (at.whole ∙ sym (add-zero _))
 
 -- the number of rows, and the looks, one row further
 pub record Further (c : ConfigView) (p p' : Progress) (looked : ℕ) : Type 0 where
@@ -33,7 +32,7 @@ further c p p' looked before (inl (fields, row)) = record {
   looks = rw (fields, row) before;
 }
 further c p p' looked before (inr (fields, row, last)) = record {
-  place = rw (fields, row) (sym (whole_field p.fields (height_of c.system) p.row last));
+  place = rw (fields, row) (omega (arith, times-next p.fields (height_of c.system)));
   looks = rw (fields, row) (looks_field c.system p.fields p.row looked last before);
 }
 

@@ -1,5 +1,5 @@
 -- What a feeder does with a stream that comes in pieces. The pieces before make the stream z so far.
-use Rattle.std.specs.Prelude.{◌≡◌, ℕ, ◌+◌, ◌*◌, ◌<◌, ◌≤◌, false, List, ◌++◌, length, take, Option, Result, Ok, Err}
+use Rattle.std.specs.Prelude.{◌≡◌, ℕ, ◌<◌, ◌≤◌, false, List, ◌++◌, length, take, Option, Result, Ok, Err}
 use Rattle.vbi_field.specs.Kinds.{document}
 use Rattle.vbi_field.specs.Outlet.{errors_of, written_of, HasCause, Wrote, WrotePart}
 use Rattle.vbi_field.specs.Position.{Position, position_of}

@@ -11,37 +11,37 @@ use Rattle.vbi_field.specs.declared.run.NextLine.{NextLine}
 use Rattle.vbi_field.specs.declared.run.NextLine.TheVariants.{Whole, Ended, Failed}
 
 module _ {R : Type 0} (remaining : R → Option (List ℕ)) (levels : LevelsView) (selected : Bool) (old new : Intake R) (bytes : List ℕ)
-    where
-  -- a whole line, of which each sample was looked at once if its reading was asked for
-  pub record GotWhole (reading : Reading) : Type 0 where
-    pub whole : length bytes ≡ line_bytes (line_of old).system
-    pub held : held_of new ≡ []
-    pub cursors : (line_of new).cursors ≡ []
-    pub shows : IsTrue selected → reading ≡ reading_of (line_of old).system (row_levels levels bytes)
-    pub looked : (line_of new).looked ≡ (line_of old).looked + (if selected then width_of (line_of old).system else 0)
-    pub no_error : errors_of new ≡ errors_of old
+  where
+    -- a whole line, of which each sample was looked at once if its reading was asked for
+    pub record GotWhole (reading : Reading) : Type 0 where
+      pub whole : length bytes ≡ line_bytes (line_of old).system
+      pub held : held_of new ≡ []
+      pub cursors : (line_of new).cursors ≡ []
+      pub shows : IsTrue selected → reading ≡ reading_of (line_of old).system (row_levels levels bytes)
+      pub looked : (line_of new).looked ≡ (line_of old).looked + (if selected then width_of (line_of old).system else 0)
+      pub no_error : errors_of new ≡ errors_of old
 
-  -- the rest of the stream, less than a line
-  pub record GotRest (count : ℕ) : Type 0 where
-    pub count_of : count ≡ length bytes
-    pub held : held_of new ≡ bytes
-    pub short : length bytes < line_bytes (line_of old).system
-    pub ended : IsAtEnd (remaining (device_of new))
-    pub looked : (line_of new).looked ≡ (line_of old).looked
-    pub no_error : errors_of new ≡ errors_of old
+    -- the rest of the stream, less than a line
+    pub record GotRest (count : ℕ) : Type 0 where
+      pub count_of : count ≡ length bytes
+      pub held : held_of new ≡ bytes
+      pub short : length bytes < line_bytes (line_of old).system
+      pub ended : IsAtEnd (remaining (device_of new))
+      pub looked : (line_of new).looked ≡ (line_of old).looked
+      pub no_error : errors_of new ≡ errors_of old
 
-  -- the bytes before a fault of the reader, less than a line
-  pub record GotPart : Type 0 where
-    pub held : held_of new ≡ bytes
-    pub short : length bytes < line_bytes (line_of old).system
-    pub failed : HasCause old new
-    pub looked : (line_of new).looked ≡ (line_of old).looked
+    -- the bytes before a fault of the reader, less than a line
+    pub record GotPart : Type 0 where
+      pub held : held_of new ≡ bytes
+      pub short : length bytes < line_bytes (line_of old).system
+      pub failed : HasCause old new
+      pub looked : (line_of new).looked ≡ (line_of old).looked
 
-  -- these bytes were got, by the answer
-  abbrev pub Got : NextLine → Type 0
-  Got (Whole reading) = GotWhole reading
-  Got (Ended count) = GotRest count
-  Got Failed = GotPart
+    -- these bytes were got, by the answer
+    abbrev pub Got : NextLine → Type 0
+    Got (Whole reading) = GotWhole reading
+    Got (Ended count) = GotRest count
+    Got Failed = GotPart
 
 module _ {R : Type 0} (remaining : R → Option (List ℕ)) (levels : LevelsView) (selected : Bool) (old new : Intake R) where
   -- some bytes of the reader were got, and the counts rose by their number

@@ -1,4 +1,4 @@
-use Rattle.std.proofs.Common.{◌+◌, ◌-◌, ◌≤◌, ◌<◌, cond, length, take, refl, ap, ◌∙◌, arith, rules}
+use Rattle.std.proofs.Common.{◌+◌, ◌≤◌, ◌<◌, cond, length, take, refl, ap, ◌∙◌, arith, rules}
 use Rattle.std.proofs.Math.Nat.{le_trans, le_of_eq}
 use Rattle.vbi_words.specs.Geometry.{width_of, line_bytes}
 use Rattle.vbi_field.specs.Outlet.{written_of}

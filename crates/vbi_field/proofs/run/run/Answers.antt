@@ -1,9 +1,7 @@
-use Rattle.std.proofs.Common.{◌≡◌, ◌<◌, ◌≤◌, ◌+◌, ◌-◌, ◌*◌, refl, sym, ap, ◌∙◌, arith, rules, length}
-use Rattle.std.proofs.Math.Nat.{zero-mul, le_of_eq}
-use Rattle.vbi_words.specs.Geometry.{height_of, line_bytes}
-use Rattle.vbi_line.specs.Intake.{errors_of}
-use Rattle.vbi_field.specs.Outlet.{errors_of as writer_errors}
-use Rattle.vbi_field.proofs.Counts.{all_fields, some_bytes, within_rows, within_all}
+use Rattle.std.proofs.Common.{◌≡◌, ◌<◌, ◌≤◌, ◌+◌, ◌*◌, refl, ◌∙◌, arith, rules}
+use Rattle.std.proofs.Math.Nat.{zero-mul, le_of_eq, le_of_lt}
+use Rattle.vbi_words.specs.Geometry.{height_of, line_bytes, field_bytes}
+use Rattle.vbi_field.proofs.Counts.{sizes_of, all_fields, rows_fit, row_fits}
 use Rattle.vbi_field.proofs.Pulling.{start, head_fault, row_came, step, entry_fault, ended, read_fault, too_many, runs_fault}
 use Rattle.vbi_field.proofs.run.run.Goals as goal
 
@@ -52,8 +50,9 @@ returns-in-Ended-clause-run g c =
     let v = c.loop-row.invariant in
     let before : c.loop-row.row < c.args.config.now.max_fields * height_of c.args.config.now.system =
     omega (arith, c.row_limit-row-end.ensures.value) in
-    let within = within_rows c.args.config.now.system c.loop-row.row c.args.config.now.max_fields c.in-Ended.bytes before
-    (rw (got.count_of, ← v.system) got.short) in
+    let short : c.in-Ended.bytes < line_bytes c.args.config.now.system = rw (got.count_of, ← v.system) got.short in
+    let within = row_fits c.args.config.now.system c.loop-row.row c.args.config.now.max_fields c.in-Ended.bytes before
+    (le_of_lt short) in
     let e = c.end.ensures in
     ended _ _ _ _ _ _ _ _ _ _ _ _ v _ c.levels.result c.in-Ended.bytes t _ _ _ refl c.rest-rest.ensures within c.looked.ensures e.puts _
     e.written e.no_error e.ok e.failed e.short e.fault
@@ -72,8 +71,9 @@ returns-in-Ended-eq0-clause-run g c =
     omega (arith, c.row_limit-row-end.ensures.value) in
     let none = (all_fields c.args.config.now.system c.loop-row.progress.fields c.loop-row.progress.row c.args.config.now.max_fields at.inside
     (v.place ∙ last)).1 in
-    let within = within_all c.args.config.now.system c.loop-row.row c.args.config.now.max_fields c.in-Ended-eq0.field-0 last
-    c.in-Ended-eq0.field-0-test in
+    let rows = rows_fit c.args.config.now.system c.loop-row.row c.args.config.now.max_fields (le_of_eq last) in
+    let within : c.loop-row.row * line_bytes c.args.config.now.system + c.in-Ended-eq0.field-0
+    ≤ c.args.config.now.max_fields * field_bytes c.args.config.now.system = omega (arith, c.in-Ended-eq0.field-0-test) in
     let e = c.end-in-Ended-eq0.ensures in
     ended _ _ _ _ _ _ _ _ _ _ _ _ v _ c.levels-2.result c.in-Ended-eq0.field-0 c.in-Ended-eq0.ensures.takes _ _ _
     refl (rw none (omega (arith, zero-mul (line_bytes c.args.config.now.system), c.in-Ended-eq0.field-0-test))) within c.looked-in-Ended-eq0.ensures e.puts _
@@ -98,7 +98,7 @@ pub returns-in-Whole-take_line-clause-run : goal.returns-in-Whole-take_line-clau
 returns-in-Whole-take_line-clause-run g c =
     let t = c.in-Whole-take_line.ensures.takes in
     let got = t.got in
-    let some = some_bytes c.loop-row.intake.line.system in
+    let sizes = sizes_of c.loop-row.intake.line.system in
     let last : c.loop-row.row ≡ c.args.config.now.max_fields * height_of c.args.config.now.system =
     omega (arith, c.row_limit-row-end.ensures.value) in
     too_many _ _ _ _ _ _ _ _ _ _ _ c.loop-row.invariant _ _ _ t last (omega (arith, got.whole)) (le_of_eq got.whole)

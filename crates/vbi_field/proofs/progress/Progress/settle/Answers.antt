@@ -1,4 +1,4 @@
-use Rattle.std.proofs.Common.{◌≡◌, ◌+◌, ◌-◌, ◌∙◌, arith}
+use Rattle.std.proofs.Common.{◌-◌, ◌∙◌, arith}
 use Rattle.vbi_field.proofs.Settling.{settled_inside, settled_whole, settled_in_part, settles_fault}
 use Rattle.vbi_field.proofs.progress.Progress.settle.Goals as goal
 
