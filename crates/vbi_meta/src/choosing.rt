@@ -4,9 +4,11 @@ ghost use Rattle.std.specs.Prelude.{◌≡◌, ◌<◌, ◌≤◌, ◌^◌, Opti
 ghost use Rattle.std.specs.Prelude.{option_map, option_and_then};
 ghost use Rattle.serde_json.specs.View.{view};
 ghost use Rattle.vbi_meta.specs.DocumentValue.{IsConfig};
-ghost use Rattle.vbi_meta.specs.Settings.{parameters_of, member_of, named_system, flagged_system, chosen_system, chosen_level};
+ghost use Rattle.vbi_meta.specs.Settings.{parameters_of, member_of, named_system, flagged_system};
+ghost use Rattle.vbi_meta.specs.Settings.{chosen_system, chosen_level};
 ghost use Rattle.vbi_meta.specs.Settings.{chosen_limit, document_refusals, system_refusals, level_refusals};
-ghost use Rattle.vbi_meta.specs.Settings.{order_refusals, size_refusals, limit_refusals, first_refusal, IsRefused, IsSettled};
+ghost use Rattle.vbi_meta.specs.Settings.{order_refusals, size_refusals, limit_refusals, first_refusal};
+ghost use Rattle.vbi_meta.specs.Settings.{IsRefused, IsSettled};
 
 use crate::fault::MetaFault;
 use serde_json::Value;

@@ -1,7 +1,7 @@
 //! The metadata of a capture, and the settings of a run that it and the command line give together.
 //!
-//! ld-decode writes a `.tbc.json` beside each TBC file. `read_meta` reads such a document, and `settings` takes from its
-//! `videoParameters` and from the options of the command line what a run needs: system, levels and limit.
+//! ld-decode writes a `.tbc.json` beside each TBC file. `read_meta` reads such a document, and `settings` takes from
+//! its `videoParameters` and from the options of the command line what a run needs: system, levels and limit.
 //! `specs/Settings` has the refusals in the order in which they are tried, `specs/Metadata` what a document is. Only
 //! `read_meta` takes memory. `laws` says what readers of JSON, `read_meta` among them, find in the document of a run:
 //! `specs/DocumentValue` has its value, and `specs/ReadBack` what is found at each path.
