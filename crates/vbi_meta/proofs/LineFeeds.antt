@@ -94,7 +94,7 @@ after_number-fed : (t : List ℕ) → after_number (fed t) ≡ option_map fed (a
 unfolding after_number
 after_number-fed t =
     let whole = after_whole (after_minus t) in
-    ap (λ o. option_and_then after_exponent (option_and_then after_fraction o))
+    ap (λ left. option_and_then after_exponent (option_and_then after_fraction left))
     (ap after_whole (after_minus-fed t) ∙ after_whole-fed (after_minus t))
     ∙ ap (option_and_then after_exponent) (then-fed after_fraction after_fraction-fed whole)
     ∙ then-fed after_exponent after_exponent-fed (option_and_then after_fraction whole)

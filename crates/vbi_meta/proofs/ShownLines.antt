@@ -4,7 +4,7 @@ use Rattle.std.proofs.Common.{◌∙◌, refl, ap, ap₂, inl, inr, arith, lit<,
 use Rattle.std.proofs.lemmas.List.{length-take, length-map}
 use Rattle.std.proofs.lemmas.Fmt.{decimal_is_IsNumeral, IsAscii-decimal}
 use Rattle.std.proofs.lemmas.Str.{IsUtf8-append, IsUtf8-from_ascii}
-use Rattle.std.specs.Char.{digit_value}
+use Rattle.std.proofs.lemmas.Str.Parse.{digit_from_value}
 use Rattle.std.specs.Prelude.{codes}
 use Rattle.std.specs.Str.Parse.{AllDigits}
 use Rattle.json.proofs.Printed.Strings.{escape_byte_plain}
@@ -41,13 +41,10 @@ pub record AreShown (readings : FieldReadings) : Type 0 where
 
 -- ---- the text of a number
 
-digit_range : (d : ℕ) → digit_value d < 10 → (48 ≤ d) × (d ≤ 57)
-digit_range d h = grind arith
-
 escape_digits : (ds : List ℕ) → AllDigits 10 ds → escape ds ≡ ds
 escape_digits [] h = refl
 escape_digits (d ∷ ds) h =
-    let range = digit_range d h.0 in
+    let range = digit_from_value d h.0 in
     ap₂ (λ (a b : List ℕ). a ++ b) (escape_byte_plain d (λ e. omega arith) (λ e. omega arith) (omega arith))
     (escape_digits ds h.1)
 
