@@ -1,9 +1,10 @@
 //! The classes of code words (IEC 60857 for NTSC discs, IEC 60856 for PAL discs).
 
-ghost use Rattle.std.specs.Prelude.{◌≡◌, ◌↔◌, ◌≤◌, ◌<◌, ◌+◌, ◌-◌, ◌*◌, IsTrue};
+ghost use Rattle.std.specs.Prelude.{◌≡◌, ◌↔◌, ◌≤◌, ◌<◌, IsTrue};
 ghost use Rattle.vbi_words.specs.declared.code.Code.{Code};
 ghost use Rattle.vbi_words.specs.CodeTable.{code_of};
-ghost use Rattle.vbi_words.specs.Codes.{digit_of, IsBetween, last_three, HasNumbers, IsCode};
+ghost use Rattle.vbi_words.specs.Codes.{digit_of, IsBetween, picture_of, chapter_of, seconds_of, last_two};
+ghost use Rattle.vbi_words.specs.Codes.{last_three, IsCode};
 
 use crate::word::Word24;
 
@@ -74,6 +75,13 @@ fn is_between(word: u32, least: u32, greatest: u32) -> bool
     true
 }
 
+/// The number that the word's last two decimal digits make.
+fn two_digits(word: u32) -> u8
+    ensures { result ≡ last_two word }
+{
+    10 * digit(word, 5) + digit(word, 6)
+}
+
 /// The number that the word's last three hexadecimal digits make.
 fn three_digits(word: u32) -> u16
     ensures { result ≡ last_three word }
@@ -83,7 +91,7 @@ fn three_digits(word: u32) -> u16
 
 /// The number of a picture's word. The second digit counts without its top bit.
 fn picture(word: u32) -> u32
-    ensures { HasNumbers word (Code.Picture result) }
+    ensures { result ≡ picture_of word }
 {
     10000 * u32::from(digit(word, 2) % 8)
         + 1000 * u32::from(digit(word, 3))
@@ -92,10 +100,17 @@ fn picture(word: u32) -> u32
         + u32::from(digit(word, 6))
 }
 
+/// The number of a chapter's word. The second digit counts without its top bit.
+fn chapter(word: u32) -> u8
+    ensures { result ≡ chapter_of word }
+{
+    10 * (digit(word, 2) % 8) + digit(word, 3)
+}
+
 /// The seconds of a CLV picture's word. The second digit, from A to F, has the tens.
 fn seconds(word: u32) -> u8
     requires { IsBetween 0x8AE000 0x8FE999 word }
-    ensures { result ≡ 10 * (digit_of word 2 - 10) + digit_of word 4 }
+    ensures { result ≡ seconds_of word }
 {
     10 * (digit(word, 2) - 10) + digit(word, 4)
 }
@@ -113,18 +128,18 @@ fn code_of_number(word: u32) -> Code
     } else if is_between(word, 0x82CFFF, 0x82CFFF) {
         Code::PictureStop
     } else if is_between(word, 0x800DDD, 0x8F9DDD) {
-        Code::Chapter(10 * (digit(word, 2) % 8) + digit(word, 3))
+        Code::Chapter(chapter(word))
     } else if is_between(word, 0x87FFFF, 0x87FFFF) {
         Code::ClvMark
     } else if is_between(word, 0xF0DD00, 0xF9DD99) {
         Code::Time {
             hours: digit(word, 2),
-            minutes: 10 * digit(word, 5) + digit(word, 6),
+            minutes: two_digits(word),
         }
     } else if is_between(word, 0x8AE000, 0x8FE999) {
         Code::ClvPicture {
             seconds: seconds(word),
-            picture: 10 * digit(word, 5) + digit(word, 6),
+            picture: two_digits(word),
         }
     } else if is_between(word, 0x8DC000, 0x8DCFFF) {
         Code::CxOn(three_digits(word))
