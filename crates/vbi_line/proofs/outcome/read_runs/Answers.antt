@@ -34,12 +34,12 @@ returns-in-Err c =
     let P : Outcome → Type 0 = λ o. IsOutcome c.args.system c.args.packed.now o in
     elim (cases_eq lived 0) [
       | inl none ↦
-        subst P (sym (c.cause.ensures.change none))
-        (changes run c.args.system c.loop-column.decoder now.state now.turns lived none err.1)
+          subst P (sym (c.cause.ensures.change none))
+          (changes run c.args.system c.loop-column.decoder now.state now.turns lived none err.1)
       | inr some ↦
-        let behind : 0 < lived = omega arith in
-        subst P (sym (c.cause.ensures.hold behind))
-        (holds run c.args.system c.loop-column.decoder now.state lived behind err.0 err.1)
+          let behind : 0 < lived = omega arith in
+          subst P (sym (c.cause.ensures.hold behind))
+          (holds run c.args.system c.loop-column.decoder now.state lived behind err.0 err.1)
     ]
 
 pub end-requires-clause-fit : goal.end-requires-clause-fit
