@@ -25,10 +25,12 @@ use Rattle.vbi_field.proofs.DrawnLemmas.{length-drawn_field_of}
 use Rattle.vbi_field.proofs.Pulling.{has_failed, inside_of}
 use Rattle.vbi_field.proofs.RowSteps.{Fetches-none, Fetches-more}
 use Rattle.vbi_field.proofs.Settling.{wrote_none, wrote_twice}
-use Rattle.vbi_field.proofs.WordRowLemmas.{rows_of-append, rows_of-line, rows_of-part, row_words-line, row_words-part, AreRows-more}
+use Rattle.vbi_field.proofs.WordRowLemmas.{rows_of-append, rows_of-line, rows_of-part, row_words-line, row_words-part}
+use Rattle.vbi_field.proofs.WordRowLemmas.{AreRows-more}
 
 -- a field more
-draw_out-more : (c : ConfigView) (rows : List WordRow) (words : WordRow) → draw_out c (rows ++ words ∷ []) ≡ draw_out c rows ++ drawn_field_of c words
+draw_out-more : (c : ConfigView) (rows : List WordRow) (words : WordRow)
+    → draw_out c (rows ++ words ∷ []) ≡ draw_out c rows ++ drawn_field_of c words
 unfolding draw_out
 draw_out-more c rows words =
     flat_map-append (drawn_field_of c) rows (words ∷ [])
@@ -97,7 +99,8 @@ module _ {R W : Type 0} (remaining : R → Option (List ℕ)) (contents : W → 
       fetched_more = omega (arith, f.fetched, g.fetched, length-append g.z b)
 
       -- the run ends with these bytes, and nothing more is written
-      ends_here : (result : Result ℕ DrawFault) → Draws c (remaining (intakes.device_of j)) (counts_of j o) result (g.z ++ b) (draw_out c g.rows)
+      ends_here : (result : Result ℕ DrawFault)
+          → Draws c (remaining (intakes.device_of j)) (counts_of j o) result (g.z ++ b) (draw_out c g.rows)
           → RunsDrawing remaining contents c i0 j o0 o result
       ends_here result says =
           let all = fetches_more in
@@ -118,7 +121,8 @@ module _ {R W : Type 0} (remaining : R → Option (List ℕ)) (contents : W → 
 
     -- the reader ended after whole rows
     ended : (j : RowIntake R) → Fetches remaining i j [] → intakes.errors_of j ≡ intakes.errors_of i
-        → IsAtEnd (remaining (intakes.device_of j)) → done ≤ c.max_fields → RunsDrawing remaining contents c i0 j o0 o (Ok done)
+        → IsAtEnd (remaining (intakes.device_of j)) → done ≤ c.max_fields
+        → RunsDrawing remaining contents c i0 j o0 o (Ok done)
     ended j f calm end few = ends_here j [] f (Ok done) (record {
       rows = g.rows;
       well_formed = rw append-nil g.well_formed;
@@ -165,7 +169,8 @@ module _ {R W : Type 0} (remaining : R → Option (List ℕ)) (contents : W → 
 
     -- ---- a malformed row
 
-    module _ (j : RowIntake R) (b : List ℕ) (f : Fetches remaining i j b) (calm : intakes.errors_of j ≡ intakes.errors_of i)
+    module _ (j : RowIntake R) (b : List ℕ) (f : Fetches remaining i j b)
+        (calm : intakes.errors_of j ≡ intakes.errors_of i)
         (few : done < c.max_fields) where
       bad : rows_of b ≡ b ∷ [] → row_words b ≡ None
           → ((front : List ℕ) × (b ≡ front ++ 10 ∷ [])) ⊎ (IsAtEnd (remaining (intakes.device_of j)) ⊎ (length b ≡ 21))
@@ -186,13 +191,19 @@ module _ {R W : Type 0} (remaining : R → Option (List ℕ)) (contents : W → 
       })
 
       bad_as : (row : List ℕ) → HasNoNewline row → word_row_of row ≡ None
-          → (b ≡ row ++ 10 ∷ []) ⊎ (((b ≡ row) × (0 < length row) × IsAtEnd (remaining (intakes.device_of j))) ⊎ ((b ≡ row) × (length row ≡ 21)))
+          → (b ≡ row ++ 10 ∷ [])
+          ⊎
+          (((b ≡ row) × (0 < length row) × IsAtEnd (remaining (intakes.device_of j)))
+          ⊎ ((b ≡ row) × (length row ≡ 21)))
           → RunsDrawing remaining contents c i0 j o0 o (Err (faults.Row (done + 1)))
-      bad_as row plain none (inl e) = bad (rw e (rows_of-line row plain)) (rw e (row_words-line row plain ∙ none)) (inl (row, e))
+      bad_as row plain none (inl e) =
+          bad (rw e (rows_of-line row plain)) (rw e (row_words-line row plain ∙ none)) (inl (row, e))
       bad_as row plain none (inr (inl e)) =
-          bad (let e0 = e.0 in rw e0 (rows_of-part row plain e.1)) (ap row_words e.0 ∙ row_words-part row plain ∙ none) (inr (inl e.2))
+          bad (let e0 = e.0 in rw e0 (rows_of-part row plain e.1))
+          (ap row_words e.0 ∙ row_words-part row plain ∙ none) (inr (inl e.2))
       bad_as row plain none (inr (inr e)) =
-          bad (let e0 = e.0 in rw e0 (rows_of-part row plain (omega (arith, e.1)))) (ap row_words e.0 ∙ row_words-part row plain ∙ none)
+          bad (let e0 = e.0 in rw e0 (rows_of-part row plain (omega (arith, e.1))))
+          (ap row_words e.0 ∙ row_words-part row plain ∙ none)
           (inr (inr (ap length e.0 ∙ e.1)))
 
     pub bad_row : (j : RowIntake R) (t : TakesRow remaining i j Malformed) → done < c.max_fields
@@ -201,7 +212,8 @@ module _ {R W : Type 0} (remaining : R → Option (List ℕ)) (contents : W → 
 
     -- ---- a good row came, and its field is written, whole or in part
 
-    module _ (j : RowIntake R) (b : List ℕ) (words : WordRow) (f : Fetches remaining i j b) (calm : intakes.errors_of j ≡ intakes.errors_of i)
+    module _ (j : RowIntake R) (b : List ℕ) (words : WordRow) (f : Fetches remaining i j b)
+        (calm : intakes.errors_of j ≡ intakes.errors_of i)
         (one : rows_of b ≡ b ∷ []) (is : row_words b ≡ Some words) (few : done < c.max_fields) where
       well_formed_more : AreRows (g.z ++ b) (g.rows ++ words ∷ [])
       well_formed_more = AreRows-more g.z b g.rows words g.well_formed g.ends one is
@@ -211,7 +223,8 @@ module _ {R W : Type 0} (remaining : R → Option (List ℕ)) (contents : W → 
 
       -- the writer failed
       write_failed : (p : Outlet W) (r : Result ℕ DrawFault) → outlets.WrotePart contents o p (drawn_field_of c words)
-          → outlets.HasCause o p → IsErrAnd r (λ e. e ≡ faults.Write p.written) → RunsDrawing remaining contents c i0 j o0 p r
+          → outlets.HasCause o p → IsErrAnd r (λ e. e ≡ faults.Write p.written)
+          → RunsDrawing remaining contents c i0 j o0 p r
       write_failed p (Ok n) part cause e = absurd e
       write_failed p (Err fault) part cause e =
           let base = draw_out c g.rows in
@@ -243,13 +256,16 @@ module _ {R W : Type 0} (remaining : R → Option (List ℕ)) (contents : W → 
       module _ (p : Outlet W) (wrote : outlets.Wrote contents o p (drawn_field_of c words))
           (no_error : outlets.errors_of p ≡ outlets.errors_of o) where
         wrote_more : outlets.Wrote contents o0 p (draw_out c (g.rows ++ words ∷ []))
-        wrote_more = rw (draw_out-more c g.rows words) (wrote_twice contents o0 o p (draw_out c g.rows) (drawn_field_of c words) g.wrote wrote)
+        wrote_more =
+            rw (draw_out-more c g.rows words)
+            (wrote_twice contents o0 o p (draw_out c g.rows) (drawn_field_of c words) g.wrote wrote)
 
         written_more : p.written ≡ length (draw_out c (g.rows ++ words ∷ []))
         written_more = omega (arith, longer, g.written, wrote.written)
 
         -- the field is written, and the row was the last
-        last_row : IsAtEnd (remaining (intakes.device_of j)) → RunsDrawing remaining contents c i0 j o0 p (Ok (done + 1))
+        last_row : IsAtEnd (remaining (intakes.device_of j))
+            → RunsDrawing remaining contents c i0 j o0 p (Ok (done + 1))
         last_row end =
             let all = fetches_more j b f in
             let drew = wrote_more in
@@ -272,9 +288,11 @@ module _ {R W : Type 0} (remaining : R → Option (List ℕ)) (contents : W → 
             }
 
         -- the field is written, and rows may follow
-        next_row : (line : List ℕ) → outlets.IsSameDevice o p → line ≡ drawn_line_of c None → EndsRow (g.z ++ b) → length b ≤ 21
+        next_row : (line : List ℕ) → outlets.IsSameDevice o p → line ≡ drawn_line_of c None → EndsRow (g.z ++ b)
+            → length b ≤ 21
             → intakes.failures_of j ≤ intakes.failures_of i + 357
-            → outlets.failures_of p ≤ outlets.failures_of o + 17 * (length (drawn_field_of c words) + 313) → Drawn (done + 1) j p line
+            → outlets.failures_of p ≤ outlets.failures_of o + 17 * (length (drawn_field_of c words) + 313)
+            → Drawn (done + 1) j p line
         next_row line same black ends short reads writes =
             let size = length-drawn_field_of c words in
             let sizes = sizes_of c.system in
@@ -307,40 +325,52 @@ module _ {R W : Type 0} (remaining : R → Option (List ℕ)) (contents : W → 
     line_one : (b row : List ℕ) → HasNoNewline row → b ≡ row ++ 10 ∷ [] → rows_of b ≡ b ∷ []
     line_one b row plain e = rw e (rows_of-line row plain)
 
-    line_is : (b row : List ℕ) (words : WordRow) → HasNoNewline row → b ≡ row ++ 10 ∷ [] → word_row_of row ≡ Some words → row_words b ≡ Some words
+    line_is : (b row : List ℕ) (words : WordRow) → HasNoNewline row → b ≡ row ++ 10 ∷ [] → word_row_of row ≡ Some words
+        → row_words b ≡ Some words
     line_is b row words plain e w = rw e (row_words-line row plain ∙ w)
 
     line_ends : (b row : List ℕ) → b ≡ row ++ 10 ∷ [] → EndsRow (g.z ++ b)
     line_ends b row e = inr (g.z ++ row, ap (λ (l : List ℕ). g.z ++ l) e ∙ sym (append_assoc g.z row (10 ∷ [])))
 
-    module _ (j : RowIntake R) (words : WordRow) (t : TakesRow remaining i j (Row words)) (few : done < c.max_fields) (p : Outlet W) where
-      pub row_failed : (r : Result ℕ DrawFault) → outlets.WrotePart contents o p (drawn_field_of c words) → outlets.HasCause o p
+    module _ (j : RowIntake R) (words : WordRow) (t : TakesRow remaining i j (Row words)) (few : done < c.max_fields)
+        (p : Outlet W) where
+      pub row_failed : (r : Result ℕ DrawFault) → outlets.WrotePart contents o p (drawn_field_of c words)
+          → outlets.HasCause o p
           → IsErrAnd r (λ e. e ≡ faults.Write p.written) → RunsDrawing remaining contents c i0 j o0 p r
       row_failed =
           write_failed j t.bytes words t.fetches t.caused (line_one t.bytes t.got.0 t.got.1 t.got.2)
           (line_is t.bytes t.got.0 words t.got.1 t.got.2 t.got.3) few p
 
-      pub row_drawn : (line : List ℕ) → outlets.Wrote contents o p (drawn_field_of c words) → outlets.errors_of p ≡ outlets.errors_of o
-          → outlets.IsSameDevice o p → outlets.failures_of p ≤ outlets.failures_of o + 17 * (length (drawn_field_of c words) + 313)
+      pub row_drawn : (line : List ℕ) → outlets.Wrote contents o p (drawn_field_of c words)
+          → outlets.errors_of p ≡ outlets.errors_of o
+          → outlets.IsSameDevice o p
+          → outlets.failures_of p ≤ outlets.failures_of o + 17 * (length (drawn_field_of c words) + 313)
           → line ≡ drawn_line_of c None → Drawn (done + 1) j p line
       row_drawn line wrote no_error same writes black =
-          next_row j t.bytes words t.fetches t.caused (line_one t.bytes t.got.0 t.got.1 t.got.2) (line_is t.bytes t.got.0 words t.got.1 t.got.2 t.got.3)
+          next_row j t.bytes words t.fetches t.caused (line_one t.bytes t.got.0 t.got.1 t.got.2)
+          (line_is t.bytes t.got.0 words t.got.1 t.got.2 t.got.3)
           few p wrote no_error line same black (line_ends t.bytes t.got.0 t.got.2) t.short t.most writes
 
-    module _ (j : RowIntake R) (words : WordRow) (t : TakesRow remaining i j (LastRow words)) (few : done < c.max_fields) (p : Outlet W) where
-      pub last_row_failed : (r : Result ℕ DrawFault) → outlets.WrotePart contents o p (drawn_field_of c words) → outlets.HasCause o p
+    module _ (j : RowIntake R) (words : WordRow) (t : TakesRow remaining i j (LastRow words))
+        (few : done < c.max_fields) (p : Outlet W) where
+      pub last_row_failed : (r : Result ℕ DrawFault) → outlets.WrotePart contents o p (drawn_field_of c words)
+          → outlets.HasCause o p
           → IsErrAnd r (λ e. e ≡ faults.Write p.written) → RunsDrawing remaining contents c i0 j o0 p r
       last_row_failed =
-          write_failed j t.bytes words t.fetches t.caused (rows_of-part t.bytes t.got.0 t.got.1) (row_words-part t.bytes t.got.0 ∙ t.got.2) few p
+          write_failed j t.bytes words t.fetches t.caused (rows_of-part t.bytes t.got.0 t.got.1)
+          (row_words-part t.bytes t.got.0 ∙ t.got.2) few p
 
-      pub last_row_drawn : outlets.Wrote contents o p (drawn_field_of c words) → outlets.errors_of p ≡ outlets.errors_of o
+      pub last_row_drawn : outlets.Wrote contents o p (drawn_field_of c words)
+          → outlets.errors_of p ≡ outlets.errors_of o
           → RunsDrawing remaining contents c i0 j o0 p (Ok (done + 1))
       last_row_drawn wrote no_error =
-          last_row j t.bytes words t.fetches t.caused (rows_of-part t.bytes t.got.0 t.got.1) (row_words-part t.bytes t.got.0 ∙ t.got.2)
+          last_row j t.bytes words t.fetches t.caused (rows_of-part t.bytes t.got.0 t.got.1)
+          (row_words-part t.bytes t.got.0 ∙ t.got.2)
           few p wrote no_error t.got.3
 
     -- the reader ended after whole rows, or failed in the next
-    pub row_ended : (j : RowIntake R) (t : TakesRow remaining i j Ended) → done ≤ c.max_fields → RunsDrawing remaining contents c i0 j o0 o (Ok done)
+    pub row_ended : (j : RowIntake R) (t : TakesRow remaining i j Ended) → done ≤ c.max_fields
+        → RunsDrawing remaining contents c i0 j o0 o (Ok done)
     row_ended j t few =
         let P : List ℕ → Type 0 = Fetches remaining i j in
         ended j (subst P t.got.0 t.fetches) t.caused t.got.1 few
@@ -355,7 +385,8 @@ module _ {R W : Type 0} (remaining : R → Option (List ℕ)) (contents : W → 
         let P : ℕ → Type 0 = λ k. RunsDrawing remaining contents c i0 j o0 o (Ok k) in
         subst P last (ended j t.fetches t.caused t.got (omega arith))
 
-    pub byte_read_failed : (j : RowIntake R) → TakesByte remaining i j bytes.Failed → (n : ℕ) → n ≡ c.max_fields → done ≡ n
+    pub byte_read_failed : (j : RowIntake R) → TakesByte remaining i j bytes.Failed → (n : ℕ) → n ≡ c.max_fields
+        → done ≡ n
         → RunsDrawing remaining contents c i0 j o0 o (Err (faults.Read (n + 1)))
     byte_read_failed j t n max last =
         let P : ℕ → Type 0 = λ k. RunsDrawing remaining contents c i0 j o0 o (Err (faults.Read (k + 1))) in

@@ -12,15 +12,16 @@ use Rattle.vbi_field.specs.ConfigView.{ConfigView}
 use Rattle.vbi_field.specs.Drawing.{draw_out, drawn_field_of}
 use Rattle.vbi_field.specs.DrawnReadings.{drawn_readings, drawn_text, no_words}
 use Rattle.vbi_field.specs.Stream.{fields_of, rest_of}
-use Rattle.vbi_field.specs.Texts.{Texts, document_of}
+use Rattle.vbi_field.specs.Texts.{Texts, whole_text}
 use Rattle.vbi_field.specs.WordRows.{AreRows}
 use Rattle.vbi_field.specs.declared.word_row.WordRow.{WordRow}
 use Rattle.vbi_field.proofs.DrawnLemmas.{length-drawn_field_of}
-use Rattle.vbi_field.proofs.DrawnReadsLemmas.{drawn_field}
+use Rattle.vbi_field.proofs.DrawnReads.{drawn_field}
 use Rattle.vbi_field.proofs.OneDocument.{one_document}
 use Rattle.vbi_field.proofs.WordRowLaw.{rows_drawable}
 
-pub length-draw_out : (c : ConfigView) (rows : List WordRow) → length (draw_out c rows) ≡ length rows * field_bytes c.system
+pub length-draw_out : (c : ConfigView) (rows : List WordRow)
+    → length (draw_out c rows) ≡ length rows * field_bytes c.system
 unfolding draw_out
 length-draw_out c [] = sym (zero-mul (field_bytes c.system))
 length-draw_out c (row ∷ rows) =
@@ -36,8 +37,9 @@ no_rest : (s : System) (n k : ℕ) → n ≡ k * field_bytes s → n % field_byt
 no_rest Ntsc n k e = omega arith
 no_rest Pal n k e = omega arith
 
-pub drawn_document : (t : Texts) (c : ConfigView) (text : List ℕ) (rows : List WordRow) → c.levels.black < c.levels.white
-    → AreRows text rows → document_of t c (draw_out c rows) ≡ drawn_text t c rows
+pub drawn_document : (t : Texts) (c : ConfigView) (text : List ℕ) (rows : List WordRow)
+    → c.levels.black < c.levels.white
+    → AreRows text rows → whole_text t c (draw_out c rows) ≡ drawn_text t c rows
 drawn_document t c text rows order are =
     let z = draw_out c rows in
     let whole : fields_of c z ≡ length rows = all_fields c.system _ _ (length-draw_out c rows) in
@@ -46,12 +48,14 @@ drawn_document t c text rows order are =
       λ i. drawn_readings (slice_index_or rows i no_words),
       λ i lt.
           let is = slice_get-get_or rows i no_words (omega arith) in
-          drawn_field c rows i (slice_index_or rows i no_words) order is (rows_drawable text rows i (slice_index_or rows i no_words) are is),
+          drawn_field c rows i (slice_index_or rows i no_words) order is
+          (rows_drawable text rows i (slice_index_or rows i no_words) are is),
       same z whole none,
     ))
   where
     same : (z : List ℕ) → fields_of c z ≡ length rows → rest_of c z ≡ 0 → drawn_text t c rows
         ≡ t.head c
-        ++ join_by (λ i. t.entry (i + 1) (drawn_readings (slice_index_or rows i no_words))) t.joint (range_with_len 0 (fields_of c z))
+        ++ join_by (λ i. t.entry (i + 1) (drawn_readings (slice_index_or rows i no_words))) t.joint
+        (range_with_len 0 (fields_of c z))
         ++ t.tail (fields_of c z) (rest_of c z)
     same z whole none = rw (whole, none) refl

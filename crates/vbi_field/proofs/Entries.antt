@@ -7,9 +7,9 @@ use Rattle.std.proofs.lemmas.Grind.{flat_map-append}
 use Rattle.std.proofs.Math.Dec.{eqb-suc-zero}
 use Rattle.vbi_words.specs.Geometry.{height_of, line_bytes}
 use Rattle.vbi_field.specs.ConfigView.{ConfigView}
-use Rattle.vbi_field.specs.Stream.{fields_of, field_readings}
-use Rattle.vbi_field.specs.Texts.{Texts, entry_of, begun_of, joined_entry_of}
-use Rattle.vbi_field.proofs.Growing.{field_readings-more}
+use Rattle.vbi_field.specs.Stream.{fields_of, readings_at}
+use Rattle.vbi_field.specs.Texts.{Texts, entry_of, text_before_tail, joined_entry_of}
+use Rattle.vbi_field.proofs.Growing.{readings_at-more}
 
 -- one number more
 range-push : (a n : ℕ) → range_with_len a (suc n) ≡ range_with_len a n ++ (a + n) ∷ []
@@ -22,12 +22,15 @@ range-push a (suc n) =
 joined-push : {X : Type 0} (f : X → List ℕ) (joint : List ℕ) (x : X) (xs : List X) (y : X)
     → join_by f joint ((x ∷ xs) ++ y ∷ []) ≡ join_by f joint (x ∷ xs) ++ (joint ++ f y)
 joined-push f joint x xs y =
-    ap (λ l. f x ++ l) (flat_map-append (λ y. joint ++ f y) xs (y ∷ []) ∙ ap (λ l. flat_map (λ y. joint ++ f y) xs ++ l) (append-nil (joint ++ f y)))
+    ap (λ l. f x ++ l)
+    (flat_map-append (λ y. joint ++ f y) xs (y ∷ [])
+    ∙ ap (λ l. flat_map (λ y. joint ++ f y) xs ++ l) (append-nil (joint ++ f y)))
     ∙ sym (append_assoc (f x) (flat_map (λ y. joint ++ f y) xs) (joint ++ f y))
 
 -- one number more, joined
 joined-more : (f : ℕ → List ℕ) (joint : List ℕ) (n : ℕ)
-    → join_by f joint (range_with_len 0 (n + 1)) ≡ join_by f joint (range_with_len 0 n) ++ (cond (n == 0) [] joint ++ f n)
+    → join_by f joint (range_with_len 0 (n + 1))
+    ≡ join_by f joint (range_with_len 0 n) ++ (cond (n == 0) [] joint ++ f n)
 joined-more f joint zero = append-nil (f 0)
 joined-more f joint (suc m) =
     ap (λ k. join_by f joint (range_with_len 0 k)) (add-one (suc m))
@@ -43,7 +46,8 @@ pieces-same f g joint a zero same = refl
 pieces-same f g joint a (suc n) same =
     let rest = pieces-same f g joint (a + 1) n (λ i lt. same i (omega arith)) in
     let here : f a ≡ g a = same a (omega arith) in
-    ap (λ l. (joint ++ l) ++ flat_map (λ y. joint ++ f y) (range_with_len (a + 1) n)) here ∙ ap (λ l. (joint ++ g a) ++ l) rest
+    ap (λ l. (joint ++ l) ++ flat_map (λ y. joint ++ f y) (range_with_len (a + 1) n)) here
+    ∙ ap (λ l. (joint ++ g a) ++ l) rest
 
 -- and so joined
 pub joined-same : (f g : ℕ → List ℕ) (joint : List ℕ) (n : ℕ) → ((i : ℕ) → i < n → f i ≡ g i)
@@ -51,7 +55,8 @@ pub joined-same : (f g : ℕ → List ℕ) (joint : List ℕ) (n : ℕ) → ((i 
 joined-same f g joint zero same = refl
 joined-same f g joint (suc n) same =
     let rest = pieces-same f g joint (0 + 1) n (λ i lt. same i (omega arith)) in
-    ap (λ l. l ++ flat_map (λ y. joint ++ f y) (range_with_len (0 + 1) n)) (same 0 (omega arith)) ∙ ap (λ l. g 0 ++ l) rest
+    ap (λ l. l ++ flat_map (λ y. joint ++ f y) (range_with_len (0 + 1) n)) (same 0 (omega arith))
+    ∙ ap (λ l. g 0 ++ l) rest
 
 -- the head and the entries of the first n fields
 unfoldable pub stood : Texts → ConfigView → List ℕ → ℕ → List ℕ
@@ -62,11 +67,13 @@ unfolding stood
 stood-none t c z = append-nil (t.head c)
 
 -- one field more
-pub stood-more : (t : Texts) (c : ConfigView) (z : List ℕ) (n : ℕ) → stood t c z (n + 1) ≡ stood t c z n ++ joined_entry_of t n (field_readings c z n)
+pub stood-more : (t : Texts) (c : ConfigView) (z : List ℕ) (n : ℕ)
+    → stood t c z (n + 1) ≡ stood t c z n ++ joined_entry_of t n (readings_at c z n)
 unfolding stood
 stood-more t c z n =
     ap (λ l. t.head c ++ l) (joined-more (entry_of t c z) t.joint n)
-    ∙ sym (append_assoc (t.head c) (join_by (entry_of t c z) t.joint (range_with_len 0 n)) (joined_entry_of t n (field_readings c z n)))
+    ∙ sym (append_assoc (t.head c) (join_by (entry_of t c z) t.joint (range_with_len 0 n))
+    (joined_entry_of t n (readings_at c z n)))
 
 -- the text of whole fields stays as the stream grows
 pub stood-stays : (t : Texts) (c : ConfigView) (z b : List ℕ) (n rows : ℕ) → n * height_of c.system ≤ rows
@@ -74,10 +81,11 @@ pub stood-stays : (t : Texts) (c : ConfigView) (z b : List ℕ) (n rows : ℕ) �
 unfolding stood
 stood-stays t c z b n rows le long =
     let same : (i : ℕ) → i < n → entry_of t c (z ++ b) i ≡ entry_of t c z i =
-    λ i lt. ap (t.entry (i + 1)) (field_readings-more c z b i rows (grind (arith, lt, le)) long) in
+    λ i lt. ap (t.entry (i + 1)) (readings_at-more c z b i rows (grind (arith, lt, le)) long) in
     ap (λ l. t.head c ++ l) (joined-same (entry_of t c (z ++ b)) (entry_of t c z) t.joint n same)
 
 -- it is the text that stands where the stream has so many whole fields
-pub begun_of-stood : (t : Texts) (c : ConfigView) (z : List ℕ) (n : ℕ) → fields_of c z ≡ n → begun_of t c z ≡ stood t c z n
-unfolding begun_of stood
-begun_of-stood t c z n e = ap (λ k. t.head c ++ join_by (entry_of t c z) t.joint (range_with_len 0 k)) e
+pub text_before_tail-stood : (t : Texts) (c : ConfigView) (z : List ℕ) (n : ℕ) → fields_of c z ≡ n
+    → text_before_tail t c z ≡ stood t c z n
+unfolding text_before_tail stood
+text_before_tail-stood t c z n e = ap (λ k. t.head c ++ join_by (entry_of t c z) t.joint (range_with_len 0 k)) e

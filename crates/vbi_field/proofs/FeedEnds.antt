@@ -7,14 +7,14 @@ use Rattle.vbi_field.specs.Kinds.{document}
 use Rattle.vbi_field.specs.Feed.{IsAt, IsFinished}
 use Rattle.vbi_field.specs.Outlet.{written_of, Puts, WrotePart}
 use Rattle.vbi_field.specs.ConfigView.{ConfigView}
-use Rattle.vbi_field.specs.Stand.{IsStand, place_of}
+use Rattle.vbi_field.specs.FeederState.{IsFeederState, position_in}
 use Rattle.vbi_field.specs.Stream.{fields_of, rest_of, cut_of, selected, selected_rows, looks_of}
 use Rattle.vbi_field.specs.declared.outlet.Outlet.{Outlet}
 use Rattle.vbi_field.specs.declared.progress.Progress.{Progress}
 use Rattle.vbi_field.specs.declared.summary.RunFault.{RunFault}
 use Rattle.vbi_field.specs.declared.summary.RunFault.TheVariants.{Write}
 use Rattle.vbi_field.specs.declared.summary.Summary.{Summary}
-use Rattle.vbi_field.proofs.FeedPlaces.{Split, split_of, split_fields, split_rest, split_rows}
+use Rattle.vbi_field.proofs.Positions.{Split, split_of, split_fields, split_rest, split_rows}
 use Rattle.vbi_field.proofs.Settling.{wrote_whole, put_in_part}
 
 -- what was put is the first of it
@@ -24,8 +24,10 @@ in_part contents o o' bytes whole is puts less =
     let P : List ℕ → Type 0 = WrotePart contents o o' in
     subst P is (put_in_part contents o o' bytes puts less)
 
-module _ {W : Type 0} (contents : W → Option (List ℕ)) (c : ConfigView) (l : Line) (p : Progress) (st : IsStand c l p) (o o' : Outlet W)
-    (z : List ℕ) (at : IsAt c z (place_of c l p)) (held rest : ℕ) (hs : held ≡ length l.held)
+module _ {W : Type 0} (contents : W → Option (List ℕ)) (c : ConfigView) (l : Line) (p : Progress)
+    (st : IsFeederState c l p)
+    (o o' : Outlet W)
+    (z : List ℕ) (at : IsAt c z (position_in c l p)) (held rest : ℕ) (hs : held ≡ length l.held)
     (rs : rest ≡ p.row * line_bytes c.system + held) where
   parts : Split c z l.held p
   parts = split_of c z l p st.short st.inside at
@@ -46,7 +48,8 @@ module _ {W : Type 0} (contents : W → Option (List ℕ)) (c : ConfigView) (l :
       st.looked ∙ ap (λ n. width_of c.system * n) same
 
   -- the tail was put, or the first of it
-  pub finished : (looked : ℕ) (r : Result Summary RunFault) → looked ≡ l.looked → Puts contents o o' (document.tail p.fields rest)
+  pub finished : (looked : ℕ) (r : Result Summary RunFault) → looked ≡ l.looked
+      → Puts contents o o' (document.tail p.fields rest)
       → OnOk r (written_of o' ≡ written_of o + length (document.tail p.fields rest))
       → IfOk r (λ s. s ≡ record { fields = p.fields; cut = cut_of rest; looked = looked })
       → OnErr r (written_of o' < written_of o + length (document.tail p.fields rest))
@@ -59,4 +62,6 @@ module _ {W : Type 0} (contents : W → Option (List ℕ)) (c : ConfigView) (l :
         same ∙ looks,
       )
   finished looked (Err e) ls puts whole says less fails =
-      rw fails (in_part contents o o' (document.tail p.fields rest) (document.tail (fields_of c z) (rest_of c z)) tail puts less)
+      rw fails
+      (in_part contents o o' (document.tail p.fields rest) (document.tail (fields_of c z) (rest_of c z)) tail puts
+      less)

@@ -12,8 +12,8 @@ use Rattle.vbi_field.specs.Feeding.{Feeding}
 use Rattle.vbi_field.specs.Outlet.{errors_of, IsSameDevice, Rises}
 use Rattle.vbi_field.specs.Position.{Position}
 use Rattle.vbi_field.specs.ConfigView.{ConfigView, allowed_bytes}
-use Rattle.vbi_field.specs.Stand.{IsStand, IsStep, place_of}
-use Rattle.vbi_field.specs.Texts.{begun_of}
+use Rattle.vbi_field.specs.FeederState.{IsFeederState, IsStep, position_in}
+use Rattle.vbi_field.specs.Texts.{text_before_tail}
 use Rattle.vbi_field.specs.declared.feeder.Feeder.TheInside.{Inside}
 use Rattle.vbi_line.proofs.Causes.{cause_later}
 use Rattle.vbi_line.specs.Line.{Line}
@@ -26,24 +26,33 @@ use Rattle.vbi_field.proofs.Settling.{wrote_none, wrote_twice, later_part}
 
 module _ {W : Type 0} (contents : W → Option (List ℕ)) (c : ConfigView) where
   -- nothing came
-  pub fed_none : (o : Outlet W) (z piece : List ℕ) (now : Position) → IsAt c z now → IsFed contents c o o z (take 0 piece) now (Ok tt)
+  pub fed_none : (o : Outlet W) (z piece : List ℕ) (now : Position) → IsAt c z now
+      → IsFed contents c o o z (take 0 piece) now (Ok tt)
   fed_none o z piece now at =
       let P : List ℕ → Type 0 = λ l. IsFed contents c o o z [] now (Ok tt) in
       let Q : List ℕ → Type 0 = λ l. IsAt c l now in (
         subst Q (sym (append-nil z)) at,
-        ([], append-nil (begun_of document c z) ∙ ap (begun_of document c) (sym (append-nil z)), wrote_none contents o),
+        (
+          [],
+          append-nil (text_before_tail document c z)
+              ∙ ap (text_before_tail document c) (sym (append-nil z)),
+          wrote_none contents o,
+        ),
       )
 
-  module _ (o0 o o' : Outlet W) (z first bytes : List ℕ) (was now : Position) (before : IsFed contents c o0 o z first was (Ok tt)) where
+  module _ (o0 o o' : Outlet W) (z first bytes : List ℕ) (was now : Position)
+      (before : IsFed contents c o0 o z first was (Ok tt)) where
     -- the rest of a piece was fed whole
-    pub fed_more : IsFed contents c o o' (z ++ first) bytes now (Ok tt) → IsFed contents c o0 o' z (first ++ bytes) now (Ok tt)
+    pub fed_more : IsFed contents c o o' (z ++ first) bytes now (Ok tt)
+        → IsFed contents c o0 o' z (first ++ bytes) now (Ok tt)
     fed_more after =
         let all = append_assoc z first bytes in
         let P : List ℕ → Type 0 = λ l. IsAt c l now in (
           subst P all after.0,
           (
             before.1.0 ++ after.1.0,
-            completes_twice document c z (z ++ first) ((z ++ first) ++ bytes) before.1.0 after.1.0 before.1.1 after.1.1 ∙ ap (begun_of document c) all,
+            completes_twice document c z (z ++ first) ((z ++ first) ++ bytes) before.1.0 after.1.0 before.1.1 after.1.1
+                ∙ ap (text_before_tail document c) all,
             wrote_twice contents o0 o o' before.1.0 after.1.0 before.1.2 after.1.2,
           ),
         )
@@ -59,38 +68,43 @@ module _ {W : Type 0} (contents : W → Option (List ℕ)) (c : ConfigView) wher
           omega (arith, after.0),
           (
             before.1.0 ++ after.1.0,
-            completes_twice document c z (z ++ first) (take (allowed_bytes c) ((z ++ first) ++ bytes)) before.1.0 after.1.0 before.1.1 after.1.1
-                ∙ ap (λ l. begun_of document c (take (allowed_bytes c) l)) all,
+            completes_twice document c z (z ++ first) (take (allowed_bytes c) ((z ++ first) ++ bytes)) before.1.0
+                after.1.0 before.1.1 after.1.1
+                ∙ ap (λ l. text_before_tail document c (take (allowed_bytes c) l)) all,
             wrote_twice contents o0 o o' before.1.0 after.1.0 before.1.2 after.1.2,
           ),
         )
     fed_fault (Write written) after =
         let all = append_assoc z first bytes in (
           before.1.0 ++ after.0,
-          completes_twice document c z (z ++ first) (take (allowed_bytes c) ((z ++ first) ++ bytes)) before.1.0 after.0 before.1.1 after.1
-              ∙ ap (λ l. begun_of document c (take (allowed_bytes c) l)) all,
+          completes_twice document c z (z ++ first) (take (allowed_bytes c) ((z ++ first) ++ bytes)) before.1.0 after.0
+              before.1.1 after.1
+              ∙ ap (λ l. text_before_tail document c (take (allowed_bytes c) l)) all,
           later_part contents o0 o o' before.1.0 after.0 before.1.2 after.2,
         )
 
 -- so much of a piece was taken
-pub record Taken {W : Type 0} (contents : W → Option (List ℕ)) (old : Feeding) (now : Inside) (o0 o : Outlet W) (piece : List ℕ)
+pub record Taken {W : Type 0} (contents : W → Option (List ℕ)) (old : Feeding) (now : Inside) (o0 o : Outlet W)
+    (piece : List ℕ)
     (at : ℕ) : Type 0 where
   pub config : now.config ≡ old.config
   pub calm : now.has_failed ≡ false
   pub started : old.has_failed ≡ false
-  pub stand : IsStand now.config now.line now.progress
+  pub stand : IsFeederState now.config now.line now.progress
   pub within : at ≤ length piece
   pub same : IsSameDevice o0 o
   pub errors : errors_of o ≡ errors_of o0
   pub rises : Rises o0 o old.position.fields now.progress.fields
   pub fed : (z : List ℕ) → StandsAt old z
-      → IsFed contents old.config o0 o z (take at piece) (place_of now.config now.line now.progress) (Ok tt)
+      → IsFed contents old.config o0 o z (take at piece) (position_in now.config now.line now.progress) (Ok tt)
 
 -- before the first row
-pub taken_none : {W : Type 0} (contents : W → Option (List ℕ)) (old : Feeding) (now : Inside) (o : Outlet W) (piece : List ℕ)
-    → feeding_of now ≡ old → now.has_failed ≡ false → IsStand now.config now.line now.progress → Taken contents old now o o piece 0
+pub taken_none : {W : Type 0} (contents : W → Option (List ℕ)) (old : Feeding) (now : Inside) (o : Outlet W)
+    (piece : List ℕ)
+    → feeding_of now ≡ old → now.has_failed ≡ false → IsFeederState now.config now.line now.progress
+    → Taken contents old now o o piece 0
 taken_none contents old now o piece is calm stand =
-    let place : old.position ≡ place_of now.config now.line now.progress = ap (λ f. f.position) (sym is) in
+    let place : old.position ≡ position_in now.config now.line now.progress = ap (λ f. f.position) (sym is) in
     let same : old.position.fields ≡ now.progress.fields = ap (λ q. q.fields) place in
     let failed : old.has_failed ≡ now.has_failed = ap (λ f. f.has_failed) (sym is) in
     record {
@@ -115,8 +129,10 @@ taken_none contents old now o piece is calm stand =
     }
 
 -- a fault in the next row has the same cause
-pub fault_since : {W : Type 0} (contents : W → Option (List ℕ)) (old : Feeding) (was : Inside) (o0 o o' : Outlet W) (piece : List ℕ)
-    (at : ℕ) → Taken contents old was o0 o piece at → (fault : RunFault) → IsFeedFault o o' fault → IsFeedFault o0 o' fault
+pub fault_since : {W : Type 0} (contents : W → Option (List ℕ)) (old : Feeding) (was : Inside) (o0 o o' : Outlet W)
+    (piece : List ℕ)
+    (at : ℕ) → Taken contents old was o0 o piece at → (fault : RunFault) → IsFeedFault o o' fault
+    → IsFeedFault o0 o' fault
 fault_since contents old was o0 o o' piece at t (Write written) f =
     let least = t.rises.least in (f.0, cause_later o0.device o.device o'.device t.errors least f.1)
 fault_since contents old was o0 o o' piece at t TooManyFields f = f ∙ t.errors
@@ -127,22 +143,28 @@ fault_since contents old was o0 o o' piece at t (Read field offset) f = f
 rest_of_piece : (piece : List ℕ) (at : ℕ) → take (length piece - at) (drop at piece) ≡ drop at piece
 rest_of_piece piece at = let l = length-drop at piece in take_all (length piece - at) (drop at piece) (omega arith)
 
-module _ {W : Type 0} (contents : W → Option (List ℕ)) (old : Feeding) (was : Inside) (o0 o o' : Outlet W) (piece bytes : List ℕ) (at : ℕ)
-    (t : Taken contents old was o0 o piece at) (is : bytes ≡ take (length piece - at) (drop at piece)) (l : Line) (p : Progress)
+module _ {W : Type 0} (contents : W → Option (List ℕ)) (old : Feeding) (was : Inside) (o0 o o' : Outlet W)
+    (piece bytes : List ℕ) (at : ℕ)
+    (t : Taken contents old was o0 o piece at) (is : bytes ≡ take (length piece - at) (drop at piece)) (l : Line)
+    (p : Progress)
     (result : Result ℕ RunFault)
-    (step : (z : List ℕ) → IsAt was.config z (place_of was.config was.line was.progress)
-    → IsStep contents was.config o o' z bytes (place_of was.config l p) result) where
+    (step : (z : List ℕ) → IsAt was.config z (position_in was.config was.line was.progress)
+    → IsStep contents was.config o o' z bytes (position_in was.config l p) result) where
   -- the piece so far
   so_far : (z : List ℕ) → StandsAt old z
-      → IsFed contents was.config o0 o z (take at piece) (place_of was.config was.line was.progress) (Ok tt)
+      → IsFed contents was.config o0 o z (take at piece) (position_in was.config was.line was.progress) (Ok tt)
   so_far z s =
-      let P : ConfigView → Type 0 = λ k. IsFed contents k o0 o z (take at piece) (place_of was.config was.line was.progress) (Ok tt) in
+      let P : ConfigView
+      → Type 0 =
+      λ k. IsFed contents k o0 o z (take at piece) (position_in was.config was.line was.progress) (Ok tt) in
       subst P (sym t.config) (t.fed z s)
 
   -- the bytes of one row more
-  pub taken_more : (n : ℕ) → result ≡ Ok n → at ≤ length piece → n ≤ length bytes → IsSameDevice o o' → IsStand was.config l p
+  pub taken_more : (n : ℕ) → result ≡ Ok n → at ≤ length piece → n ≤ length bytes → IsSameDevice o o'
+      → IsFeederState was.config l p
       → Rises o o' was.progress.fields p.fields → errors_of o' ≡ errors_of o
-      → Taken contents old (record { config = was.config; line = l; progress = p; has_failed = was.has_failed }) o0 o' piece (at + n)
+      → Taken contents old (record { config = was.config; line = l; progress = p; has_failed = was.has_failed }) o0 o'
+      piece (at + n)
   taken_more n took le few same stand rises no_error =
       let long = ap length (is ∙ rest_of_piece piece at) in
       let dropped = length-drop at piece in
@@ -167,34 +189,41 @@ module _ {W : Type 0} (contents : W → Option (List ℕ)) (old : Feeding) (was 
             };
         fed = λ z s.
             let far = so_far z s in
-            let R : Result ℕ RunFault → Type 0 = λ r. IsStep contents was.config o o' (z ++ take at piece) bytes (place_of was.config l p) r in
+            let R : Result ℕ RunFault
+            → Type 0 =
+            λ r. IsStep contents was.config o o' (z ++ take at piece) bytes (position_in was.config l p) r in
             let next = subst R took (step (z ++ take at piece) far.0) in
-            let P : ConfigView → Type 0 = λ k. IsFed contents k o0 o' z (take (at + n) piece) (place_of was.config l p) (Ok tt) in
-            let Q : List ℕ → Type 0 = λ x. IsFed contents was.config o0 o' z x (place_of was.config l p) (Ok tt) in
+            let P : ConfigView
+            → Type 0 = λ k. IsFed contents k o0 o' z (take (at + n) piece) (position_in was.config l p) (Ok tt) in
+            let Q : List ℕ → Type 0 = λ x. IsFed contents was.config o0 o' z x (position_in was.config l p) (Ok tt) in
             subst P t.config (subst Q all
-            (fed_more contents was.config o0 o o' z (take at piece) (take n bytes) (place_of was.config was.line was.progress)
-            (place_of was.config l p) far next));
+            (fed_more contents was.config o0 o o' z (take at piece) (take n bytes)
+            (position_in was.config was.line was.progress)
+            (position_in was.config l p) far next));
       }
 
   -- a fault in the next row
   pub taken_fault : (fault : RunFault) → result ≡ Err fault → (z : List ℕ) → StandsAt old z
-      → IsFed contents old.config o0 o' z piece (place_of was.config l p) (Err fault)
+      → IsFed contents old.config o0 o' z piece (position_in was.config l p) (Err fault)
   taken_fault fault fails z s =
       let far = so_far z s in
       let all : take at piece ++ bytes ≡ piece =
       ap (λ x. take at piece ++ x) (is ∙ rest_of_piece piece at) ∙ take-append-drop at piece in
-      let R : Result ℕ RunFault → Type 0 = λ r. IsStep contents was.config o o' (z ++ take at piece) bytes (place_of was.config l p) r in
+      let R : Result ℕ RunFault
+      → Type 0 = λ r. IsStep contents was.config o o' (z ++ take at piece) bytes (position_in was.config l p) r in
       let next = subst R fails (step (z ++ take at piece) far.0) in
-      let P : ConfigView → Type 0 = λ k. IsFed contents k o0 o' z piece (place_of was.config l p) (Err fault) in
-      let Q : List ℕ → Type 0 = λ x. IsFed contents was.config o0 o' z x (place_of was.config l p) (Err fault) in
+      let P : ConfigView → Type 0 = λ k. IsFed contents k o0 o' z piece (position_in was.config l p) (Err fault) in
+      let Q : List ℕ → Type 0 = λ x. IsFed contents was.config o0 o' z x (position_in was.config l p) (Err fault) in
       subst P t.config (subst Q all
-      (fed_fault contents was.config o0 o o' z (take at piece) bytes (place_of was.config was.line was.progress)
-      (place_of was.config l p) far fault next))
+      (fed_fault contents was.config o0 o o' z (take at piece) bytes (position_in was.config was.line was.progress)
+      (position_in was.config l p) far fault next))
 
 -- the whole piece was taken
-pub taken_whole : {W : Type 0} (contents : W → Option (List ℕ)) (old : Feeding) (now : Inside) (o0 o : Outlet W) (piece : List ℕ) (at : ℕ)
+pub taken_whole : {W : Type 0} (contents : W → Option (List ℕ)) (old : Feeding) (now : Inside) (o0 o : Outlet W)
+    (piece : List ℕ) (at : ℕ)
     → Taken contents old now o0 o piece at → length piece ≤ at → (z : List ℕ) → StandsAt old z
-    → IsFed contents old.config o0 o z piece (place_of now.config now.line now.progress) (Ok tt)
+    → IsFed contents old.config o0 o z piece (position_in now.config now.line now.progress) (Ok tt)
 taken_whole contents old now o0 o piece at t done z s =
-    let P : List ℕ → Type 0 = λ x. IsFed contents old.config o0 o z x (place_of now.config now.line now.progress) (Ok tt) in
+    let P : List ℕ
+    → Type 0 = λ x. IsFed contents old.config o0 o z x (position_in now.config now.line now.progress) (Ok tt) in
     subst P (take_all at piece done) (t.fed z s)

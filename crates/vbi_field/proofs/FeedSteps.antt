@@ -12,17 +12,17 @@ use Rattle.vbi_line.specs.OneReading.{reading_of}
 use Rattle.vbi_field.specs.Kinds.{document}
 use Rattle.vbi_field.specs.Feed.{IsAt, IsFed}
 use Rattle.vbi_field.specs.Position.{Position}
-use Rattle.vbi_field.specs.Progress.{IsPosition, IsRowOf, IsNextRow, SettlesWhole, SettlesInPart}
+use Rattle.vbi_field.specs.Progress.{IsProgress, IsLineOf, MovesOneRow, SettlesWhole, SettlesInPart}
 use Rattle.vbi_field.specs.ConfigView.{ConfigView, allowed_bytes}
-use Rattle.vbi_field.specs.Stand.{IsStand, IsStep, place_of}
+use Rattle.vbi_field.specs.FeederState.{IsFeederState, IsStep, position_in}
 use Rattle.vbi_field.specs.Stream.{fields_of}
-use Rattle.vbi_field.specs.Texts.{Completes, begun_of}
+use Rattle.vbi_field.specs.Texts.{IsTextBetween, text_before_tail}
 use Rattle.vbi_field.specs.declared.outlet.Outlet.{Outlet}
 use Rattle.vbi_field.specs.declared.progress.Progress.{Progress}
 use Rattle.vbi_field.specs.declared.summary.RunFault.{RunFault}
 use Rattle.vbi_field.specs.declared.summary.RunFault.TheVariants.{Write, TooManyFields}
 use Rattle.vbi_field.proofs.Counts.{sizes_of, row_before, row_fits, exactly_fields, looks_next}
-use Rattle.vbi_field.proofs.FeedPlaces.{Split, split_of, split_fields, split_long, at_of}
+use Rattle.vbi_field.proofs.Positions.{Split, split_of, split_fields, split_long, at_of}
 use Rattle.vbi_field.proofs.FeedTexts.{begun_same, begun_grows, completes_twice, cut_longer}
 use Rattle.vbi_field.proofs.Settling.{fields_at, further, wrote_none, longer_part}
 
@@ -32,7 +32,7 @@ not_full b P iff e p = let t = iff.1 p in cc
 -- the line that is held is a row
 pub row_held : (c : ConfigView) (s : System) (sel : Bool) (b : List ℕ) (row : ℕ) (o : Reading)
     → (IsTrue sel ↔ ((15 ≤ row) × (row ≤ 17))) → s ≡ c.system → length b ≡ line_bytes s
-    → (IsTrue sel → o ≡ reading_of c.system (row_levels c.levels b)) → IsRowOf c b row o
+    → (IsTrue sel → o ≡ reading_of c.system (row_levels c.levels b)) → IsLineOf c b row o
 row_held c s sel b row o sels ss whole shows =
     record {
       whole = whole ∙ ap line_bytes ss;
@@ -40,11 +40,16 @@ row_held c s sel b row o sels ss whole shows =
     }
 
 -- where the line is held no longer, and its row is settled
-pub stand_next : (c : ConfigView) (l l' : Line) (p p' : Progress) (sel : Bool) → (IsTrue sel ↔ ((15 ≤ p.row) × (p.row ≤ 17)))
-    → IsStand c l p → l'.system ≡ c.system → l'.cursors ≡ [] → l'.held ≡ [] → p'.row < height_of c.system → IsNextRow c p p'
-    → p.fields < c.max_fields → c.max_fields ≤ 1000000 → l'.looked ≡ l.looked + cond sel (width_of c.system) 0 → IsStand c l' p'
+pub stand_next : (c : ConfigView) (l l' : Line) (p p' : Progress) (sel : Bool)
+    → (IsTrue sel ↔ ((15 ≤ p.row) × (p.row ≤ 17)))
+    → IsFeederState c l p → l'.system ≡ c.system → l'.cursors ≡ [] → l'.held ≡ [] → p'.row < height_of c.system
+    → MovesOneRow c p p'
+    → p.fields < c.max_fields → c.max_fields ≤ 1000000 → l'.looked ≡ l.looked + cond sel (width_of c.system) 0
+    → IsFeederState c l' p'
 stand_next c l l' p p' sel sels st system cursors held inside next left most looked =
-    let on = further c p p' l'.looked (looks_next c.system p.fields p.row l.looked l'.looked sel sels st.looked looked) next in
+    let on =
+    further c p p' l'.looked (looks_next c.system p.fields p.row l.looked l'.looked sel sels st.looked looked)
+    next in
     let few = more p p' next in
     record {
       system = system;
@@ -56,18 +61,20 @@ stand_next c l l' p p' sel sels st system cursors held inside next left most loo
       looked = on.looks;
     }
   where
-    more : (p p' : Progress) → IsNextRow c p p' → p'.fields ≤ p.fields + 1
+    more : (p p' : Progress) → MovesOneRow c p p' → p'.fields ≤ p.fields + 1
     more p p' (inl (fields, row)) = omega arith
     more p p' (inr (fields, row, last)) = omega arith
 
-module _ {W : Type 0} (contents : W → Option (List ℕ)) (c : ConfigView) (l : Line) (p : Progress) (st : IsStand c l p) (z : List ℕ)
-    (at : IsAt c z (place_of c l p)) where
+module _ {W : Type 0} (contents : W → Option (List ℕ)) (c : ConfigView) (l : Line) (p : Progress)
+    (st : IsFeederState c l p)
+    (z : List ℕ)
+    (at : IsAt c z (position_in c l p)) where
   pub before : Split c z l.held p
   before = split_of c z l p st.short st.inside at
 
   -- no byte more is allowed
   pub too_many : (o : Outlet W) (bytes : List ℕ) → 0 < length bytes → p.fields ≡ c.max_fields
-      → IsFed contents c o o z bytes (place_of c l p) (Err TooManyFields)
+      → IsFed contents c o o z bytes (position_in c l p) (Err TooManyFields)
   too_many o bytes some last =
       let m = allowed_bytes c in
       let le : length z ≤ p.fields * field_bytes c.system = rw last at.allowed in
@@ -76,10 +83,16 @@ module _ {W : Type 0} (contents : W → Option (List ℕ)) (c : ConfigView) (l :
       ∙ ap (λ n. n * field_bytes c.system) last in
       let long = length-append z bytes in (
         omega arith,
-        ([], append-nil (begun_of document c z) ∙ ap (begun_of document c) (sym (take_at z bytes m exact)), wrote_none contents o),
+        (
+          [],
+          append-nil (text_before_tail document c z)
+              ∙ ap (text_before_tail document c) (sym (take_at z bytes m exact)),
+          wrote_none contents o,
+        ),
       )
 
-  module _ (more b : List ℕ) (bs : b ≡ l.held ++ more) (le : length b ≤ line_bytes c.system) (left : p.fields < c.max_fields) where
+  module _ (more b : List ℕ) (bs : b ≡ l.held ++ more) (le : length b ≤ line_bytes c.system)
+      (left : p.fields < c.max_fields) where
     cut : z ++ more ≡ before.rows ++ b
     cut = ap (λ x. x ++ more) before.split ∙ append_assoc before.rows l.held more ∙ ap (λ x. before.rows ++ x) (sym bs)
 
@@ -87,24 +100,27 @@ module _ {W : Type 0} (contents : W → Option (List ℕ)) (c : ConfigView) (l :
     fits =
         let whole = before.position in
         let long = ap length cut ∙ length-append before.rows b ∙ ap (λ n. n + length b) whole.whole in
-        rw long (row_fits c.system _ c.max_fields (length b) (row_before c.system p.fields p.row c.max_fields left st.inside) le)
+        rw long
+        (row_fits c.system _ c.max_fields (length b)
+        (row_before c.system p.fields p.row c.max_fields left st.inside) le)
 
     -- nothing is written where no field is whole now
     still : (l' : Line) (p' : Progress) → Split c (z ++ more) l'.held p' → p'.fields ≡ p.fields → (o : Outlet W)
-        → IsFed contents c o o z more (place_of c l' p') (Ok tt)
+        → IsFed contents c o o z more (position_in c l' p') (Ok tt)
     still l' p' after same o = (
       at_of c (z ++ more) l'.held p' after l' refl fits,
       (
         [],
-        append-nil (begun_of document c z)
-            ∙ begun_same document c z more (split_fields c (z ++ more) l'.held p' after ∙ same ∙ sym (split_fields c z l.held p before)),
+        append-nil (text_before_tail document c z)
+            ∙ begun_same document c z more
+            (split_fields c (z ++ more) l'.held p' after ∙ same ∙ sym (split_fields c z l.held p before)),
         wrote_none contents o,
       ),
     )
 
     -- the line isn't whole yet
     pub fed_inside : (l' : Line) (o : Outlet W) → l'.held ≡ b → length b < line_bytes c.system
-        → IsFed contents c o o z more (place_of c l' p) (Ok tt)
+        → IsFed contents c o o z more (position_in c l' p) (Ok tt)
     fed_inside l' o e short =
         let l1 = ap length e in
         still l' p (record {
@@ -115,7 +131,8 @@ module _ {W : Type 0} (contents : W → Option (List ℕ)) (c : ConfigView) (l :
         }) refl o
 
     -- the row is whole
-    pub after_row : (l' : Line) (p' : Progress) → l'.held ≡ [] → IsPosition c (before.rows ++ b) p' → Split c (z ++ more) l'.held p'
+    pub after_row : (l' : Line) (p' : Progress) → l'.held ≡ [] → IsProgress c (before.rows ++ b) p'
+        → Split c (z ++ more) l'.held p'
     after_row l' p' e whole =
         let sizes = sizes_of c.system in
         let l1 = ap length e in
@@ -127,44 +144,53 @@ module _ {W : Type 0} (contents : W → Option (List ℕ)) (c : ConfigView) (l :
         }
 
     -- the text that is due with the row is that by which the text of the longer stream is longer
-    due_more : (text : List ℕ) → Completes document c before.rows (before.rows ++ b) text → Completes document c z (z ++ more) text
+    due_more : (text : List ℕ) → IsTextBetween document c before.rows (before.rows ++ b) text
+        → IsTextBetween document c z (z ++ more) text
     due_more text due =
         let same : fields_of c (before.rows ++ l.held) ≡ fields_of c before.rows =
-        ap (fields_of c) (sym before.split) ∙ split_fields c z l.held p before ∙ sym (fields_at c before.rows p before.position) in
-        let begun : begun_of document c z ≡ begun_of document c before.rows =
-        ap (begun_of document c) before.split ∙ sym (begun_same document c before.rows l.held same) in
-        ap (λ x. x ++ text) begun ∙ due ∙ ap (begun_of document c) (sym cut)
+        ap (fields_of c) (sym before.split) ∙ split_fields c z l.held p before
+        ∙ sym (fields_at c before.rows p before.position) in
+        let begun : text_before_tail document c z ≡ text_before_tail document c before.rows =
+        ap (text_before_tail document c) before.split ∙ sym (begun_same document c before.rows l.held same) in
+        ap (λ x. x ++ text) begun ∙ due ∙ ap (text_before_tail document c) (sym cut)
 
     -- and was written
-    pub fed_row : (l' : Line) (p' : Progress) (o o' : Outlet W) → l'.held ≡ [] → SettlesWhole document contents c o o' before.rows b p'
-        → IsFed contents c o o' z more (place_of c l' p') (Ok tt)
+    pub fed_row : (l' : Line) (p' : Progress) (o o' : Outlet W) → l'.held ≡ []
+        → SettlesWhole document contents c o o' before.rows b p'
+        → IsFed contents c o o' z more (position_in c l' p') (Ok tt)
     fed_row l' p' o o' e settled = (
       at_of c (z ++ more) l'.held p' (after_row l' p' e settled.position) l' refl fits,
       (settled.text, due_more settled.text settled.due, settled.wrote),
     )
 
     -- or in part
-    pub fed_in_part : (p' now : Progress) (l' : Line) (o o' : Outlet W) → SettlesInPart document contents c o o' before.rows b p'
+    pub fed_in_part : (p' now : Progress) (l' : Line) (o o' : Outlet W)
+        → SettlesInPart document contents c o o' before.rows b p'
         → (bytes : List ℕ) (n : ℕ) (fault : RunFault) (written : ℕ) → more ≡ take n bytes
-        → fault ≡ Write written → IsFed contents c o o' z bytes (place_of c l' now) (Err fault)
+        → fault ≡ Write written → IsFed contents c o o' z bytes (position_in c l' now) (Err fault)
     fed_in_part p' now l' o o' settled bytes n fault written front fails =
         let text : List ℕ = settled.text in
         let w = settled.wrote in
         let all : (z ++ more) ++ drop n bytes ≡ z ++ bytes =
-        append_assoc z more (drop n bytes) ∙ ap (λ x. z ++ (x ++ drop n bytes)) front ∙ ap (λ x. z ++ x) (take-append-drop n bytes) in
+        append_assoc z more (drop n bytes) ∙ ap (λ x. z ++ (x ++ drop n bytes)) front
+        ∙ ap (λ x. z ++ x) (take-append-drop n bytes) in
         let further = cut_longer (z ++ more) (drop n bytes) (allowed_bytes c) fits in
         let grown = begun_grows document c (z ++ more) further.0 in
-        let longer : begun_of document c ((z ++ more) ++ further.0) ≡ begun_of document c (take (allowed_bytes c) (z ++ bytes)) =
-        ap (begun_of document c) (further.1 ∙ ap (take (allowed_bytes c)) all) in
+        let longer : text_before_tail document c ((z ++ more) ++ further.0) ≡ text_before_tail document c
+        (take (allowed_bytes c) (z ++ bytes)) =
+        ap (text_before_tail document c) (further.1 ∙ ap (take (allowed_bytes c)) all) in
         rw fails (
           text ++ grown.0,
-          completes_twice document c z (z ++ more) ((z ++ more) ++ further.0) text grown.0 (due_more text settled.due) grown.1 ∙ longer,
+          completes_twice document c z (z ++ more) ((z ++ more) ++ further.0) text grown.0 (due_more text settled.due)
+              grown.1 ∙ longer,
           longer_part contents o o' text grown.0 w,
         )
 
 -- a fault that was passed on
-pub step_fault : {W : Type 0} (contents : W → Option (List ℕ)) (c : ConfigView) (o o' : Outlet W) (z bytes : List ℕ) (now : Position)
+pub step_fault : {W : Type 0} (contents : W → Option (List ℕ)) (c : ConfigView) (o o' : Outlet W) (z bytes : List ℕ)
+    (now : Position)
     (written : ℕ) (r : Result ℕ RunFault) → IsErrAnd r (λ e. e ≡ Write written)
-    → ((fault : RunFault) → fault ≡ Write written → IsFed contents c o o' z bytes now (Err fault)) → IsStep contents c o o' z bytes now r
+    → ((fault : RunFault) → fault ≡ Write written → IsFed contents c o o' z bytes now (Err fault))
+    → IsStep contents c o o' z bytes now r
 step_fault contents c o o' z bytes now written (Ok n) is says = absurd is
 step_fault contents c o o' z bytes now written (Err fault) is says = says fault is

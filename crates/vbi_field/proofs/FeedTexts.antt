@@ -6,36 +6,39 @@ use Rattle.std.proofs.Math.Seq.{take-append-add}
 use Rattle.std.proofs.Math.Nat.{le_refl}
 use Rattle.vbi_words.specs.Geometry.{height_of}
 use Rattle.vbi_field.specs.ConfigView.{ConfigView}
-use Rattle.vbi_field.specs.Stream.{fields_of, field_readings}
-use Rattle.vbi_field.specs.Texts.{Texts, Completes, begun_of, joined_entry_of}
+use Rattle.vbi_field.specs.Stream.{fields_of, readings_at}
+use Rattle.vbi_field.specs.Texts.{Texts, IsTextBetween, text_before_tail, joined_entry_of}
 use Rattle.vbi_field.proofs.Counts.{whole_rows_fit, more_fields}
-use Rattle.vbi_field.proofs.Entries.{stood, stood-more, stood-stays, begun_of-stood}
+use Rattle.vbi_field.proofs.Entries.{stood, stood-more, stood-stays, text_before_tail-stood}
 
 module _ (t : Texts) (c : ConfigView) (z b : List ℕ) where
   -- the text of the fields that were whole
-  stays : stood t c (z ++ b) (fields_of c z) ≡ begun_of t c z
+  stays : stood t c (z ++ b) (fields_of c z) ≡ text_before_tail t c z
   stays =
-      stood-stays t c z b (fields_of c z) (fields_of c z * height_of c.system) (le_refl _) (whole_rows_fit c.system (length z))
-      ∙ sym (begun_of-stood t c z (fields_of c z) refl)
+      stood-stays t c z b (fields_of c z) (fields_of c z * height_of c.system) (le_refl _)
+      (whole_rows_fit c.system (length z))
+      ∙ sym (text_before_tail-stood t c z (fields_of c z) refl)
 
   -- no field more is whole
-  pub begun_same : fields_of c (z ++ b) ≡ fields_of c z → begun_of t c z ≡ begun_of t c (z ++ b)
-  begun_same e = sym (begun_of-stood t c (z ++ b) (fields_of c z) e ∙ stays)
+  pub begun_same : fields_of c (z ++ b) ≡ fields_of c z → text_before_tail t c z ≡ text_before_tail t c (z ++ b)
+  begun_same e = sym (text_before_tail-stood t c (z ++ b) (fields_of c z) e ∙ stays)
 
   -- one field more is
   pub begun_next : fields_of c (z ++ b) ≡ fields_of c z + 1
-      → begun_of t c z ++ joined_entry_of t (fields_of c z) (field_readings c (z ++ b) (fields_of c z)) ≡ begun_of t c (z ++ b)
+      → text_before_tail t c z
+      ++ joined_entry_of t (fields_of c z) (readings_at c (z ++ b) (fields_of c z)) ≡ text_before_tail t c (z ++ b)
   begun_next e =
-      sym (begun_of-stood t c (z ++ b) (fields_of c z + 1) e
+      sym (text_before_tail-stood t c (z ++ b) (fields_of c z + 1) e
       ∙ stood-more t c (z ++ b) (fields_of c z)
-      ∙ ap (λ l. l ++ joined_entry_of t (fields_of c z) (field_readings c (z ++ b) (fields_of c z))) stays)
+      ∙ ap (λ l. l ++ joined_entry_of t (fields_of c z) (readings_at c (z ++ b) (fields_of c z))) stays)
 
 -- the text of more fields begins with that of fewer
-stood-grows : (t : Texts) (c : ConfigView) (z : List ℕ) (n k : ℕ) → (rest : List ℕ) × (stood t c z n ++ rest ≡ stood t c z (n + k))
+stood-grows : (t : Texts) (c : ConfigView) (z : List ℕ) (n k : ℕ)
+    → (rest : List ℕ) × (stood t c z n ++ rest ≡ stood t c z (n + k))
 stood-grows t c z n zero = ([], append-nil (stood t c z n) ∙ ap (stood t c z) (sym (add-zero n)))
 stood-grows t c z n (suc k) =
     let before = stood-grows t c z n k in
-    let piece : List ℕ = joined_entry_of t (n + k) (field_readings c z (n + k)) in
+    let piece : List ℕ = joined_entry_of t (n + k) (readings_at c z (n + k)) in
     let next : n + k + 1 ≡ n + suc k = omega arith in (
       before.0 ++ piece,
       sym (append_assoc (stood t c z n) before.0 piece)
@@ -45,7 +48,8 @@ stood-grows t c z n (suc k) =
     )
 
 -- the text of a longer stream begins with that of the shorter
-pub begun_grows : (t : Texts) (c : ConfigView) (z b : List ℕ) → (rest : List ℕ) × (begun_of t c z ++ rest ≡ begun_of t c (z ++ b))
+pub begun_grows : (t : Texts) (c : ConfigView) (z b : List ℕ)
+    → (rest : List ℕ) × (text_before_tail t c z ++ rest ≡ text_before_tail t c (z ++ b))
 begun_grows t c z b =
     let n = fields_of c z in
     let m = fields_of c (z ++ b) in
@@ -56,14 +60,15 @@ begun_grows t c z b =
       ap (λ l. l ++ grown.0) (sym (stays t c z b))
           ∙ grown.1
           ∙ ap (stood t c (z ++ b)) all
-          ∙ sym (begun_of-stood t c (z ++ b) m refl),
+          ∙ sym (text_before_tail-stood t c (z ++ b) m refl),
     )
 
 -- one text after the other
-pub completes_twice : (t : Texts) (c : ConfigView) (x y z first second : List ℕ) → Completes t c x y first → Completes t c y z second
-    → Completes t c x z (first ++ second)
+pub completes_twice : (t : Texts) (c : ConfigView) (x y z first second : List ℕ) → IsTextBetween t c x y first
+    → IsTextBetween t c y z second
+    → IsTextBetween t c x z (first ++ second)
 completes_twice t c x y z first second h k =
-    sym (append_assoc (begun_of t c x) first second) ∙ ap (λ l. l ++ second) h ∙ k
+    sym (append_assoc (text_before_tail t c x) first second) ∙ ap (λ l. l ++ second) h ∙ k
 
 -- the stream up to a limit that it hasn't reached yet
 pub cut_longer : (z bytes : List ℕ) (m : ℕ) → length z ≤ m → (more : List ℕ) × (z ++ more ≡ take m (z ++ bytes))

@@ -2,15 +2,15 @@ pub mod Counts
 pub mod DrawSteps
 pub mod DrawnDocument
 pub mod DrawnLemmas
-pub mod DrawnReadsLemmas
+pub mod DrawnReads
 pub mod Entries
 pub mod FeedEnds
 pub mod FeedLoop
-pub mod FeedPlaces
 pub mod FeedSteps
 pub mod FeedTexts
 pub mod Growing
 pub mod OneDocument
+pub mod Positions
 pub mod Pulling
 pub mod PutFieldSteps
 pub mod PutSteps

@@ -1,6 +1,6 @@
 -- What a run keeps from row to row, and how it ends.
-use Rattle.std.proofs.Common.{◌≡◌, ℕ, ◌+◌, ◌*◌, ◌≤◌, ◌<◌, inl, inr, Bool, true, false, List, [], ◌++◌, length, take, drop}
-use Rattle.std.proofs.Common.{refl, sym, ap, ◌∙◌, arith, subst, cond, zero-le, add-zero, append_assoc}
+use Rattle.std.proofs.Common.{◌≡◌, ℕ, ◌+◌, ◌*◌, ◌≤◌, ◌<◌, inl, inr, Bool, true, false, List, [], ◌++◌, length, take}
+use Rattle.std.proofs.Common.{drop, refl, sym, ap, ◌∙◌, arith, subst, cond, zero-le, add-zero, append_assoc}
 use Rattle.std.specs.Prelude.{Option, Result, Ok, Err, OnOk, IfOk, OnErr, IfErr, IsErrAnd, IsTrue, ◌↔◌, ◌⊎◌}
 use Rattle.std.specs.Io.KnownBytes.{Consumes, Appends}
 use Rattle.std.proofs.KnownBytes.{Appends-trans, Consumes-trans, Appends-nil, Consumes-nil}
@@ -20,10 +20,10 @@ use Rattle.vbi_field.specs.ConfigView.{ConfigView, allowed_bytes}
 use Rattle.vbi_field.specs.Extracts.{EndsWithin, Runs}
 use Rattle.vbi_field.specs.NextLine.{TakesLine}
 use Rattle.vbi_field.specs.Outlet as outlets
-use Rattle.vbi_field.specs.Progress.{IsPosition, IsRowOf, IsNextRow, SettlesWhole, SettlesInPart}
+use Rattle.vbi_field.specs.Progress.{IsProgress, IsLineOf, MovesOneRow, SettlesWhole, SettlesInPart}
 use Rattle.vbi_field.specs.Ran.{EndsInside, HasFailed}
 use Rattle.vbi_field.specs.Stream.{fields_of, rest_of, cut_of, selected, looks_of}
-use Rattle.vbi_field.specs.Texts.{Texts, begun_of, document_of}
+use Rattle.vbi_field.specs.Texts.{Texts, text_before_tail, whole_text}
 use Rattle.vbi_field.specs.declared.outlet.Outlet.{Outlet}
 use Rattle.vbi_field.specs.declared.progress.Progress.{Progress}
 use Rattle.vbi_field.specs.declared.run.NextLine.{NextLine}
@@ -33,19 +33,21 @@ use Rattle.vbi_field.specs.declared.summary.Summary.{Summary}
 use Rattle.vbi_field.specs.declared.summary.RunFault.TheVariants.{Read, Write, TooManyFields}
 use Rattle.vbi_field.proofs.Counts.{sizes_of, all_fields, few_fields, bytes_of_fields, bytes_of_next_field, rows_fit}
 use Rattle.vbi_field.proofs.Counts.{whole_fields, past_fields, looks_next, no_looks, selected_is, selected_past}
-use Rattle.vbi_field.proofs.Entries.{stood-none, begun_of-stood}
+use Rattle.vbi_field.proofs.Entries.{stood-none, text_before_tail-stood}
 use Rattle.vbi_field.proofs.FeedTexts.{begun_same}
 use Rattle.vbi_field.proofs.Settling.{fields_at, further, wrote_whole, put_in_part}
 
 -- a device that hadn't given an error before has failed for good
 pub has_failed : {D : Type 0} (old new : Counted D) → counted.errors_of old ≡ 0 → counted.HasCause old new
-    → HasFailed (record { all = counted.failures_of new; errors = counted.errors_of new; streak = counted.streak_of new })
+    → HasFailed
+    (record { all = counted.failures_of new; errors = counted.errors_of new; streak = counted.streak_of new })
 has_failed old new calm h = record { rose = let r = h.rose in omega arith; cause = since h.cause }
   where
     since : ((counted.errors_of new ≡ counted.errors_of old + 1) × (counted.streak_of new ≡ 0))
         ⊎ ((counted.errors_of new ≡ counted.errors_of old) × (17 ≤ counted.streak_of new)
         × (counted.failures_of old + 17 ≤ counted.failures_of new))
-        → ((counted.errors_of new ≡ 1) × (counted.streak_of new ≡ 0)) ⊎ ((counted.errors_of new ≡ 0) × (17 ≤ counted.streak_of new))
+        → ((counted.errors_of new ≡ 1) × (counted.streak_of new ≡ 0))
+        ⊎ ((counted.errors_of new ≡ 0) × (17 ≤ counted.streak_of new))
     since (inl (errors, streak)) = inl (omega arith, streak)
     since (inr (errors, streak, failures)) = inr (omega arith, streak)
 
@@ -89,10 +91,10 @@ record LastField (t : Texts) (c : ConfigView) (z b : List ℕ) : Type 0 where
   pub both : before ++ last ≡ z ++ b
   pub fields : rest_of c before ≡ 0
   pub field : length last ≡ field_bytes c.system
-  pub begun : begun_of t c before ≡ begun_of t c z
+  pub begun : text_before_tail t c before ≡ text_before_tail t c z
 
 -- where a row b behind z ends a field
-last_field : (t : Texts) (c : ConfigView) (z b : List ℕ) (p p' : Progress) → IsPosition c z p → IsPosition c (z ++ b) p'
+last_field : (t : Texts) (c : ConfigView) (z b : List ℕ) (p p' : Progress) → IsProgress c z p → IsProgress c (z ++ b) p'
     → p'.fields ≡ p.fields + 1 → p'.row ≡ 0 → LastField t c z b
 last_field t c z b p p' at next fields row =
     let n : ℕ = p.fields * height_of c.system * line_bytes c.system in
@@ -109,14 +111,15 @@ last_field t c z b p p' at next fields row =
     let sizes = sizes_of c.system in
     let some : 0 < height_of c.system = omega arith in
     let first : fields_of c (take n z) ≡ p.fields = whole_fields c.system _ p.fields 0 0 some sizes.some head in
-    let both : fields_of c (take n z ++ drop n z) ≡ fields_of c (take n z) = ap (fields_of c) whole ∙ fields_at c z p at ∙ sym first in
+    let both : fields_of c (take n z ++ drop n z) ≡ fields_of c (take n z) = ap (fields_of c) whole ∙ fields_at c z p at
+    ∙ sym first in
     record {
       before = take n z;
       last = drop n z ++ b;
       both = sym (append_assoc (take n z) (drop n z) b) ∙ ap (λ l. l ++ b) whole;
       fields = past_fields c.system _ p.fields 0 0 some sizes.some head ∙ ap (λ k. k + 0) (zero-mul _);
       field = omega (arith, length-append (drop n z) b, length-append z b);
-      begun = begun_same t c (take n z) (drop n z) both ∙ ap (begun_of t c) whole;
+      begun = begun_same t c (take n z) (drop n z) both ∙ ap (text_before_tail t c) whole;
     }
 
 module _ (t : Texts) {R W : Type 0} (remaining : R → Option (List ℕ)) (contents : W → Option (List ℕ)) (c : ConfigView)
@@ -128,13 +131,13 @@ module _ (t : Texts) {R W : Type 0} (remaining : R → Option (List ℕ)) (conte
     pub fetched : i.fetched ≡ length z
     pub long : length z ≤ 2270 * k
     pub reads : intakes.failures_of i ≤ 38607 * k
-    pub appended : Appends (contents (outlets.device_of o0)) (contents (outlets.device_of o)) (begun_of t c z)
-    pub written : o.written ≡ length (begun_of t c z)
+    pub appended : Appends (contents (outlets.device_of o0)) (contents (outlets.device_of o)) (text_before_tail t c z)
+    pub written : o.written ≡ length (text_before_tail t c z)
     pub small : o.written ≤ 192 + 192 * p.fields
     pub writes : outlets.failures_of o ≤ 3281 + 3281 * p.fields
     pub calm_reads : intakes.errors_of i ≡ 0
     pub calm_writes : outlets.errors_of o ≡ 0
-    pub at : IsPosition c z p
+    pub at : IsProgress c z p
     pub place : p.fields * height_of c.system + p.row ≡ k
     pub few : p.fields ≤ c.max_fields
     pub system : i.line.system ≡ c.system
@@ -155,10 +158,13 @@ module _ (t : Texts) {R W : Type 0} (remaining : R → Option (List ℕ)) (conte
   -- before the first row
   pub start : (o : Outlet W) (p : Progress) (text : List ℕ) → intakes.IsFresh i0 c.system → outlets.IsFresh o0
       → text ≡ t.head c → length text ≤ 192 → outlets.Puts contents o0 o text
-      → o.written ≡ o0.written + length text → outlets.errors_of o ≡ outlets.errors_of o0 → outlets.IsSameDevice o0 o → p.fields ≡ 0 → p.row ≡ 0
+      → o.written ≡ o0.written + length text → outlets.errors_of o ≡ outlets.errors_of o0 → outlets.IsSameDevice o0 o
+      → p.fields ≡ 0 → p.row ≡ 0
       → Pulled 0 i0 o p
   start o p text fresh clean is few puts whole no_error same fields row =
-      let begun : begun_of t c [] ≡ text = begun_of-stood t c [] 0 (zero-div (field_bytes c.system)) ∙ stood-none t c [] ∙ sym is in
+      let begun : text_before_tail t c [] ≡ text = text_before_tail-stood t c [] 0 (zero-div (field_bytes c.system))
+      ∙ stood-none t c []
+      ∙ sym is in
       let wrote = wrote_whole contents o0 o text puts whole in
       let l = ap length begun in
       let first : Starts c.system p.fields p.row = rw (fields, row) (starts c.system) in
@@ -202,7 +208,8 @@ module _ (t : Texts) {R W : Type 0} (remaining : R → Option (List ℕ)) (conte
       → length z ≤ allowed_bytes c → i.line.looked ≡ looks_of c z
       → EndsWithin t c (remaining (intakes.device_of i)) z (base ++ part)
       → Runs t remaining contents c i0 i o0 o' (Err fault)
-  write_fault i o o' z base part fault consumed fetched appended written reads writes wrote cause is within looks inside =
+  write_fault i o o' z base part fault consumed fetched appended written reads writes wrote cause is within looks inside
+      =
       let w = wrote.written in
       let count : o'.written ≡ length (base ++ part) = omega (arith, length-append base part) in
       record {
@@ -228,19 +235,21 @@ module _ (t : Texts) {R W : Type 0} (remaining : R → Option (List ℕ)) (conte
       → outlets.HasCause o0 o → outlets.written_of o < outlets.written_of o0 + length text
       → fault ≡ Write o.written → Runs t remaining contents c i0 i0 o0 o (Err fault)
   head_fault o text fault fresh clean is puts cause short fails =
-      let begun : text ≡ begun_of t c [] = is ∙ sym (begun_of-stood t c [] 0 (zero-div (field_bytes c.system)) ∙ stood-none t c []) in
+      let begun : text ≡ text_before_tail t c [] = is
+      ∙ sym (text_before_tail-stood t c [] 0 (zero-div (field_bytes c.system)) ∙ stood-none t c []) in
       let looks : i0.line.looked ≡ looks_of c [] = fresh.looked ∙ sym (no_looks c.system) in
       let w = put_in_part contents o0 o text puts short in
-      write_fault i0 o0 o [] [] w.part fault (Consumes-nil _) fresh.fetched (Appends-nil _) clean.written (calm_reader fresh) (calm_writer clean)
+      write_fault i0 o0 o [] [] w.part fault (Consumes-nil _) fresh.fetched (Appends-nil _) clean.written
+      (calm_reader fresh) (calm_writer clean)
       w.wrote cause fails (zero-le) looks
-      (inl (record { none = refl; ends = inside_of contents o0 o [] text (begun_of t c []) w begun }))
+      (inl (record { none = refl; ends = inside_of contents o0 o [] text (text_before_tail t c []) w begun }))
 
   -- ---- a whole row came
 
   module _ (k : ℕ) (i i' : Intake R) (o : Outlet W) (p : Progress) (g : Pulled k i o p) (sel : Bool)
       (sels : IsTrue sel ↔ ((15 ≤ p.row) × (p.row ≤ 17))) (reading : Reading) (lv : LevelsView) (lvs : lv ≡ c.levels)
       (row : TakesLine remaining lv sel i i' (Whole reading)) where
-    pub row_came : IsRowOf c row.bytes p.row reading
+    pub row_came : IsLineOf c row.bytes p.row reading
     row_came =
         let got = row.got in
         record {
@@ -256,8 +265,10 @@ module _ (t : Texts) {R W : Type 0} (remaining : R → Option (List ℕ)) (conte
         (got.looked ∙ ap (λ s. i.line.looked + cond sel (width_of s) 0) g.system)
 
     -- and what is due with it was written
-    pub step : (o' : Outlet W) (p' : Progress) → intakes.IsSameDevice i i' → IsNextRow c p p' → outlets.Rises o o' p.fields p'.fields
-        → SettlesWhole t contents c o o' g.z row.bytes p' → outlets.errors_of o' ≡ outlets.errors_of o → outlets.IsSameDevice o o'
+    pub step : (o' : Outlet W) (p' : Progress) → intakes.IsSameDevice i i' → MovesOneRow c p p'
+        → outlets.Rises o o' p.fields p'.fields
+        → SettlesWhole t contents c o o' g.z row.bytes p' → outlets.errors_of o' ≡ outlets.errors_of o
+        → outlets.IsSameDevice o o'
         → k + 1 ≤ c.max_fields * height_of c.system → Pulled (k + 1) i' o' p'
     step o' p' same next rises settled no_error same_writer limit =
         let z : List ℕ = g.z ++ row.bytes in
@@ -271,7 +282,7 @@ module _ (t : Texts) {R W : Type 0} (remaining : R → Option (List ℕ)) (conte
         let wrote = settled.wrote in
         let w = wrote.written in
         let m = ap length settled.due in
-        let n = length-append (begun_of t c g.z) settled.text in
+        let n = length-append (text_before_tail t c g.z) settled.text in
         let P : List ℕ → Type 0 = Appends (contents (outlets.device_of o0)) (contents (outlets.device_of o')) in
         record {
           z = z;
@@ -279,7 +290,9 @@ module _ (t : Texts) {R W : Type 0} (remaining : R → Option (List ℕ)) (conte
           fetched = omega (arith, row.fetched, g.fetched);
           long = omega (arith, g.long);
           reads = omega (arith, row.most, g.reads);
-          appended = subst P settled.due (Appends-trans _ _ _ (begun_of t c g.z) settled.text g.appended wrote.appended);
+          appended =
+              subst P settled.due
+              (Appends-trans _ _ _ (text_before_tail t c g.z) settled.text g.appended wrote.appended);
           written = omega (arith, g.written);
           small = omega (arith, g.small, rises.written);
           writes = omega (arith, g.writes, rises.failures);
@@ -298,7 +311,7 @@ module _ (t : Texts) {R W : Type 0} (remaining : R → Option (List ℕ)) (conte
         }
 
     -- or the entry of the field that it ends was put in part
-    pub entry_fault : (o' : Outlet W) (p' : Progress) (fault : RunFault) → IsNextRow c p p' → p'.row ≡ 0
+    pub entry_fault : (o' : Outlet W) (p' : Progress) (fault : RunFault) → MovesOneRow c p p' → p'.row ≡ 0
         → SettlesInPart t contents c o o' g.z row.bytes p' → outlets.HasCause o o' → fault ≡ Write o'.written
         → k + 1 ≤ c.max_fields * height_of c.system → Runs t remaining contents c i0 i' o0 o' (Err fault)
     entry_fault o' p' fault next first settled cause fails limit =
@@ -309,15 +322,19 @@ module _ (t : Texts) {R W : Type 0} (remaining : R → Option (List ℕ)) (conte
         let after = settled.position in
         let place : p'.fields * height_of c.system + p'.row ≡ k + 1 = on.place ∙ ap (λ n. n + 1) g.place in
         let long : length z ≡ (k + 1) * line_bytes c.system = after.whole ∙ ap (λ n. n * line_bytes c.system) place in
-        let within : length z ≤ allowed_bytes c = le_trans (le_of_eq long) (rows_fit c.system (k + 1) c.max_fields limit) in
+        let within : length z ≤ allowed_bytes c =
+        le_trans (le_of_eq long) (rows_fit c.system (k + 1) c.max_fields limit) in
         let looks : i'.line.looked ≡ looks_of c z =
         on.looks ∙ ap (λ n. width_of c.system * n)
-        (sym (selected_is c.system (length z) p'.fields p'.row 0 after.inside (sizes_of c.system).some (after.whole ∙ sym (add-zero _)))) in
+        (sym
+        (selected_is c.system (length z) p'.fields p'.row 0 after.inside (sizes_of c.system).some
+        (after.whole ∙ sym (add-zero _)))) in
         let due = last_field t c g.z row.bytes p p' g.at after (next_fields p p' next first) first in
         let w = settled.wrote in
-        let P : List ℕ → Type 0 = λ b. EndsInside b (begun_of t c z) (begun_of t c g.z ++ w.part) in
-        write_fault i' o o' z (begun_of t c g.z) w.part fault
-        (Consumes-trans _ _ _ g.z row.bytes g.consumed row.consumed) (omega (arith, row.fetched, g.fetched)) g.appended g.written
+        let P : List ℕ → Type 0 = λ b. EndsInside b (text_before_tail t c z) (text_before_tail t c g.z ++ w.part) in
+        write_fault i' o o' z (text_before_tail t c g.z) w.part fault
+        (Consumes-trans _ _ _ g.z row.bytes g.consumed row.consumed) (omega (arith, row.fetched, g.fetched)) g.appended
+        g.written
         (got.no_error ∙ g.calm_reads) g.calm_writes w.wrote cause fails within looks
         (inr (inl (record {
           before = due.before;
@@ -325,22 +342,26 @@ module _ (t : Texts) {R W : Type 0} (remaining : R → Option (List ℕ)) (conte
           both = due.both;
           fields = due.fields;
           field = due.field;
-          ends = subst P (sym due.begun) (inside_of contents o o' (begun_of t c g.z) settled.text (begun_of t c z) w settled.due);
+          ends =
+              subst P (sym due.begun)
+              (inside_of contents o o' (text_before_tail t c g.z) settled.text (text_before_tail t c z) w settled.due);
         })))
       where
-        next_fields : (p p' : Progress) → IsNextRow c p p' → p'.row ≡ 0 → p'.fields ≡ p.fields + 1
+        next_fields : (p p' : Progress) → MovesOneRow c p p' → p'.row ≡ 0 → p'.fields ≡ p.fields + 1
         next_fields p p' (inl (fields, row)) first = absurd (omega arith)
         next_fields p p' (inr (fields, row, last)) first = fields
 
   -- ---- less than a row came
 
-  module _ (k : ℕ) (i : Intake R) (o : Outlet W) (p : Progress) (g : Pulled k i o p) (b : List ℕ) (short : length b < line_bytes c.system) where
+  module _ (k : ℕ) (i : Intake R) (o : Outlet W) (p : Progress) (g : Pulled k i o p) (b : List ℕ)
+      (short : length b < line_bytes c.system) where
     long : length (g.z ++ b) ≡ (p.fields * height_of c.system + p.row) * line_bytes c.system + length b
     long = let at = g.at in length-append g.z b ∙ ap (λ n. n + length b) at.whole
 
     -- the whole fields
     fields_are : fields_of c (g.z ++ b) ≡ p.fields
-    fields_are = let at = g.at in whole_fields c.system (length (g.z ++ b)) p.fields p.row (length b) at.inside short long
+    fields_are = let at =
+        g.at in whole_fields c.system (length (g.z ++ b)) p.fields p.row (length b) at.inside short long
 
     -- and the bytes past them
     rest_is : rest_of c (g.z ++ b) ≡ p.row * line_bytes c.system + length b
@@ -350,10 +371,12 @@ module _ (t : Texts) {R W : Type 0} (remaining : R → Option (List ℕ)) (conte
     looks_are : i.line.looked ≡ looks_of c (g.z ++ b)
     looks_are =
         let at = g.at in
-        g.looks ∙ ap (λ n. width_of c.system * n) (sym (selected_is c.system (length (g.z ++ b)) p.fields p.row (length b) at.inside short long))
+        g.looks
+        ∙ ap (λ n. width_of c.system * n)
+        (sym (selected_is c.system (length (g.z ++ b)) p.fields p.row (length b) at.inside short long))
 
     -- the text that stands then
-    begun_is : begun_of t c g.z ≡ begun_of t c (g.z ++ b)
+    begun_is : text_before_tail t c g.z ≡ text_before_tail t c (g.z ++ b)
     begun_is = begun_same t c g.z b (fields_are ∙ sym (fields_at c g.z p g.at))
 
     -- how many bytes came
@@ -361,14 +384,16 @@ module _ (t : Texts) {R W : Type 0} (remaining : R → Option (List ℕ)) (conte
     all = long ∙ ap (λ m. m * line_bytes c.system + length b) g.place
 
   -- the reader ended, and the tail was put, or not
-  pub ended : (k : ℕ) (i i' : Intake R) (o o' : Outlet W) (p : Progress) (g : Pulled k i o p) (sel : Bool) (lv : LevelsView) (n : ℕ)
+  pub ended : (k : ℕ) (i i' : Intake R) (o o' : Outlet W) (p : Progress) (g : Pulled k i o p) (sel : Bool)
+      (lv : LevelsView) (n : ℕ)
       (row : TakesLine remaining lv sel i i' (Ended n)) (fields rest looked : ℕ) → fields ≡ p.fields
       → rest ≡ p.row * line_bytes c.system + n → k * line_bytes c.system + n ≤ allowed_bytes c
       → looked ≡ i'.line.looked → outlets.Puts contents o o' (t.tail fields rest)
       → (r : Result Summary RunFault) → OnOk r (o'.written ≡ o.written + length (t.tail fields rest))
       → OnOk r (outlets.errors_of o' ≡ outlets.errors_of o)
       → IfOk r (λ s. s ≡ record { fields = fields; cut = cut_of rest; looked = looked })
-      → OnErr r (outlets.HasCause o o') → OnErr r (outlets.written_of o' < outlets.written_of o + length (t.tail fields rest))
+      → OnErr r (outlets.HasCause o o')
+      → OnErr r (outlets.written_of o' < outlets.written_of o + length (t.tail fields rest))
       → IfErr r (λ e. e ≡ Write o'.written) → Runs t remaining contents c i0 i' o0 o' r
   ended k i i' o o' p g sel lv n row fields rest looked fs rs within ls puts r whole calm says cause less fails =
       by r whole calm says cause less fails
@@ -383,36 +408,40 @@ module _ (t : Texts) {R W : Type 0} (remaining : R → Option (List ℕ)) (conte
       is_fields = fs ∙ sym (fields_are k i o p g b short)
 
       is_rest : rest ≡ rest_of c (g.z ++ b)
-      is_rest = let got = row.got in rs ∙ ap (λ m. p.row * line_bytes c.system + m) got.count_of ∙ sym (rest_is k i o p g b short)
+      is_rest = let got = row.got in rs ∙ ap (λ m. p.row * line_bytes c.system + m) got.count_of
+          ∙ sym (rest_is k i o p g b short)
 
       looks : i'.line.looked ≡ looks_of c (g.z ++ b)
       looks = let got = row.got in got.looked ∙ looks_are k i o p g b short
 
       few : length (g.z ++ b) ≤ allowed_bytes c
-      few = let got = row.got in le_trans (le_of_eq (all k i o p g b short ∙ ap (λ m. k * line_bytes c.system + m) (sym got.count_of))) within
+      few = let got =
+          row.got in le_trans
+          (le_of_eq (all k i o p g b short ∙ ap (λ m. k * line_bytes c.system + m) (sym got.count_of))) within
 
       -- the text of the stream
-      document_is : begun_of t c g.z ++ t.tail fields rest ≡ document_of t c (g.z ++ b)
+      document_is : text_before_tail t c g.z ++ t.tail fields rest ≡ whole_text t c (g.z ++ b)
       document_is =
           ap (λ l. l ++ t.tail fields rest) (begun_is k i o p g b short)
-          ∙ ap (λ n. begun_of t c (g.z ++ b) ++ t.tail n rest) is_fields
-          ∙ ap (λ n. begun_of t c (g.z ++ b) ++ t.tail (fields_of c (g.z ++ b)) n) is_rest
+          ∙ ap (λ n. text_before_tail t c (g.z ++ b) ++ t.tail n rest) is_fields
+          ∙ ap (λ n. text_before_tail t c (g.z ++ b) ++ t.tail (fields_of c (g.z ++ b)) n) is_rest
 
       by : (r : Result Summary RunFault) → OnOk r (o'.written ≡ o.written + length (t.tail fields rest))
           → OnOk r (outlets.errors_of o' ≡ outlets.errors_of o)
           → IfOk r (λ s. s ≡ record { fields = fields; cut = cut_of rest; looked = looked })
-          → OnErr r (outlets.HasCause o o') → OnErr r (outlets.written_of o' < outlets.written_of o + length (t.tail fields rest))
+          → OnErr r (outlets.HasCause o o')
+          → OnErr r (outlets.written_of o' < outlets.written_of o + length (t.tail fields rest))
           → IfErr r (λ e. e ≡ Write o'.written) → Runs t remaining contents c i0 i' o0 o' r
       by (Ok s) whole calm says cause less fails =
           let got = row.got in
           let wrote = wrote_whole contents o o' (t.tail fields rest) puts whole in
           record {
             z = g.z ++ b;
-            text = begun_of t c g.z ++ t.tail fields rest;
+            text = text_before_tail t c g.z ++ t.tail fields rest;
             consumed = Consumes-trans _ _ _ g.z b g.consumed row.consumed;
-            appended = Appends-trans _ _ _ (begun_of t c g.z) (t.tail fields rest) g.appended wrote.appended;
+            appended = Appends-trans _ _ _ (text_before_tail t c g.z) (t.tail fields rest) g.appended wrote.appended;
             fetched = omega (arith, row.fetched, g.fetched, length-append g.z b);
-            written = omega (arith, g.written, length-append (begun_of t c g.z) (t.tail fields rest));
+            written = omega (arith, g.written, length-append (text_before_tail t c g.z) (t.tail fields rest));
             says = record {
               document = document_is;
               ended = got.ended;
@@ -428,15 +457,19 @@ module _ (t : Texts) {R W : Type 0} (remaining : R → Option (List ℕ)) (conte
           let got = row.got in
           let tail : List ℕ = t.tail fields rest in
           let w = put_in_part contents o o' tail puts less in
-          let P : List ℕ → Type 0 = λ x. EndsInside x (document_of t c (g.z ++ b)) (begun_of t c g.z ++ w.part) in
-          let inside = inside_of contents o o' (begun_of t c g.z) tail (document_of t c (g.z ++ b)) w document_is in
-          write_fault i' o o' (g.z ++ b) (begun_of t c g.z) w.part e
-          (Consumes-trans _ _ _ g.z b g.consumed row.consumed) (omega (arith, row.fetched, g.fetched, length-append g.z b)) g.appended g.written
+          let P : List ℕ
+          → Type 0 = λ x. EndsInside x (whole_text t c (g.z ++ b)) (text_before_tail t c g.z ++ w.part) in
+          let inside =
+          inside_of contents o o' (text_before_tail t c g.z) tail (whole_text t c (g.z ++ b)) w document_is in
+          write_fault i' o o' (g.z ++ b) (text_before_tail t c g.z) w.part e
+          (Consumes-trans _ _ _ g.z b g.consumed row.consumed)
+          (omega (arith, row.fetched, g.fetched, length-append g.z b)) g.appended g.written
           (got.no_error ∙ g.calm_reads) g.calm_writes w.wrote cause fails few looks
           (inr (inr (record { ended = got.ended; ends = subst P (begun_is k i o p g b short) inside })))
 
   -- the reader failed
-  pub read_fault : (k : ℕ) (i i' : Intake R) (o : Outlet W) (p : Progress) (g : Pulled k i o p) (sel : Bool) (lv : LevelsView)
+  pub read_fault : (k : ℕ) (i i' : Intake R) (o : Outlet W) (p : Progress) (g : Pulled k i o p) (sel : Bool)
+      (lv : LevelsView)
       (row : TakesLine remaining lv sel i i' Failed) (fault : RunFault) → k ≤ c.max_fields * height_of c.system
       → fault ≡ Read (p.fields + 1) (p.row * line_bytes c.system + length (intakes.held_of i'))
       → Runs t remaining contents c i0 i' o0 o (Err fault)
@@ -449,7 +482,7 @@ module _ (t : Texts) {R W : Type 0} (remaining : R → Option (List ℕ)) (conte
       let bytes = all k i o p g b short in
       record {
         z = g.z ++ b;
-        text = begun_of t c g.z;
+        text = text_before_tail t c g.z;
         consumed = Consumes-trans _ _ _ g.z b g.consumed row.consumed;
         appended = g.appended;
         fetched = omega (arith, row.fetched, g.fetched, length-append g.z b);
@@ -466,22 +499,25 @@ module _ (t : Texts) {R W : Type 0} (remaining : R → Option (List ℕ)) (conte
       }
 
   -- some bytes came past the last field that is allowed, a line's at most
-  pub too_many : (k : ℕ) (i i' : Intake R) (o : Outlet W) (p : Progress) (g : Pulled k i o p) (sel : Bool) (lv : LevelsView) (came : NextLine)
+  pub too_many : (k : ℕ) (i i' : Intake R) (o : Outlet W) (p : Progress) (g : Pulled k i o p) (sel : Bool)
+      (lv : LevelsView) (came : NextLine)
       (row : TakesLine remaining lv sel i i' came)
       → k ≡ c.max_fields * height_of c.system → 0 < length row.bytes → length row.bytes ≤ line_bytes i.line.system
-      → i'.line.looked ≡ i.line.looked → intakes.errors_of i' ≡ intakes.errors_of i → Runs t remaining contents c i0 i' o0 o (Err TooManyFields)
+      → i'.line.looked ≡ i.line.looked → intakes.errors_of i' ≡ intakes.errors_of i
+      → Runs t remaining contents c i0 i' o0 o (Err TooManyFields)
   too_many k i i' o p g sel lv came row last some few unread no_error =
       let b : List ℕ = row.bytes in
       let at = g.at in
       let place : p.fields * height_of c.system + p.row ≡ c.max_fields * height_of c.system = g.place ∙ last in
-      let long : length g.z ≡ allowed_bytes c = at.whole ∙ ap (λ n. n * line_bytes c.system) place ∙ sym (bytes_of_fields c.system c.max_fields) in
+      let long : length g.z ≡ allowed_bytes c = at.whole ∙ ap (λ n. n * line_bytes c.system) place
+      ∙ sym (bytes_of_fields c.system c.max_fields) in
       let cut : take (allowed_bytes c) (g.z ++ b) ≡ g.z = take_at g.z b _ long in
       let all = all_fields c.system p.fields p.row c.max_fields at.inside place in
       let few' : length b ≤ line_bytes c.system = rw (← g.system) few in
       let both : length (g.z ++ b) ≡ allowed_bytes c + length b = length-append g.z b ∙ ap (λ n. n + length b) long in
       record {
         z = g.z ++ b;
-        text = begun_of t c g.z;
+        text = text_before_tail t c g.z;
         consumed = Consumes-trans _ _ _ g.z b g.consumed row.consumed;
         appended = g.appended;
         fetched = omega (arith, g.fetched, row.fetched, length-append g.z b);
@@ -490,7 +526,7 @@ module _ (t : Texts) {R W : Type 0} (remaining : R → Option (List ℕ)) (conte
           calm = (no_error ∙ g.calm_reads, g.calm_writes);
           more = omega arith;
           within = omega arith;
-          begun = ap (begun_of t c) (sym cut);
+          begun = ap (text_before_tail t c) (sym cut);
           looks = unread ∙ g.looks
               ∙ ap (λ n. width_of c.system * n) (ap (λ f. selected f p.row) all.0 ∙ ap (selected c.max_fields) all.1
               ∙ sym (selected_past c.system (length (g.z ++ b)) c.max_fields (length b) both few'));
@@ -498,7 +534,9 @@ module _ (t : Texts) {R W : Type 0} (remaining : R → Option (List ℕ)) (conte
       }
 
   -- a fault that was passed on
-  pub runs_fault : (i : Intake R) (o : Outlet W) (written : ℕ) (r : Result Summary RunFault) → IsErrAnd r (λ e. e ≡ Write written)
-      → ((fault : RunFault) → fault ≡ Write written → Runs t remaining contents c i0 i o0 o (Err fault)) → Runs t remaining contents c i0 i o0 o r
+  pub runs_fault : (i : Intake R) (o : Outlet W) (written : ℕ) (r : Result Summary RunFault)
+      → IsErrAnd r (λ e. e ≡ Write written)
+      → ((fault : RunFault) → fault ≡ Write written → Runs t remaining contents c i0 i o0 o (Err fault))
+      → Runs t remaining contents c i0 i o0 o r
   runs_fault i o written (Ok s) is says = absurd is
   runs_fault i o written (Err fault) is says = says fault is

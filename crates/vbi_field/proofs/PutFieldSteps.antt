@@ -44,7 +44,8 @@ module _ {W : Type 0} (contents : W → Option (List ℕ)) (c : ConfigView) (wor
   long_line line word e = ap length e ∙ length-drawn_line_of c word
 
   -- one row more
-  pub Putting-more : (now new : Outlet W) (before line : List ℕ) (row : ℕ) → Putting now before row → line ≡ drawn_line_of c (word_at words row)
+  pub Putting-more : (now new : Outlet W) (before line : List ℕ) (row : ℕ) → Putting now before row
+      → line ≡ drawn_line_of c (word_at words row)
       → Puts contents now new line → new.written ≡ now.written + length line → errors_of new ≡ errors_of now
       → IsSameDevice now new → Putting new line (row + 1)
   Putting-more now new before line row p e puts ok no_error same =
@@ -62,7 +63,10 @@ module _ {W : Type 0} (contents : W → Option (List ℕ)) (c : ConfigView) (wor
       let most2 = puts.most in
       let back : row + 1 - 1 ≡ row = omega arith in
       record {
-        appended = rw joined (Appends-trans _ _ _ (lines_of c words row) line p.appended (let wrote = wrote_whole contents now new line puts ok in wrote.appended));
+        appended =
+            rw joined
+            (Appends-trans _ _ _ (lines_of c words row) line p.appended
+            (let wrote = wrote_whole contents now new line puts ok in wrote.appended));
         written = omega arith;
         small = omega arith;
         least = omega arith;
@@ -88,15 +92,19 @@ module _ {W : Type 0} (contents : W → Option (List ℕ)) (c : ConfigView) (wor
       )
 
   -- the writer failed in this row
-  pub put_part : (now new : Outlet W) (before line : List ℕ) (row : ℕ) → Putting now before row → row < height_of c.system
-      → line ≡ drawn_line_of c (word_at words row) → (puts : Puts contents now new line) → new.written < now.written + length line
+  pub put_part : (now new : Outlet W) (before line : List ℕ) (row : ℕ) → Putting now before row
+      → row < height_of c.system
+      → line ≡ drawn_line_of c (word_at words row) → (puts : Puts contents now new line)
+      → new.written < now.written + length line
       → WrotePart contents old new (drawn_field_of c words)
       × (failures_of new ≤ failures_of old + 17 * (length (drawn_field_of c words) + 313))
   put_part now new before line row p inside e puts less =
       let base = lines_of c words row in
       let split = lines_of-split c words (row + 1) (omega arith) in
-      let joined : lines_of c words (row + 1) ≡ base ++ line = lines_of-more c words row ∙ ap (λ (l : List ℕ). base ++ l) (sym e) in
-      let field : (base ++ line) ++ split.0 ≡ drawn_field_of c words = sym (split.1 ∙ ap (λ (l : List ℕ). l ++ split.0) joined) in
+      let joined : lines_of c words (row + 1) ≡ base ++ line = lines_of-more c words row
+      ∙ ap (λ (l : List ℕ). base ++ l) (sym e) in
+      let field : (base ++ line) ++ split.0 ≡ drawn_field_of c words =
+      sym (split.1 ∙ ap (λ (l : List ℕ). l ++ split.0) joined) in
       let long = ap length field in
       let longer = length-append (base ++ line) split.0 in
       let long2 = length-append base line in
@@ -107,6 +115,7 @@ module _ {W : Type 0} (contents : W → Option (List ℕ)) (c : ConfigView) (wor
       let first : Wrote contents old now base = record { appended = p.appended; written = p.written } in
       let P : List ℕ → Type 0 = WrotePart contents old new in (
         subst P field
-            (longer_part contents old new (base ++ line) split.0 (later_part contents old now new base line first (put_in_part contents now new line puts less))),
+            (longer_part contents old new (base ++ line) split.0
+            (later_part contents old now new base line first (put_in_part contents now new line puts less))),
         omega arith,
       )

@@ -35,7 +35,8 @@ module _ {R : Type 0} (remaining : R → Option (List ℕ)) where
   pub Fetches-none : (i : RowIntake R) → Fetches remaining i i []
   Fetches-none i = record { consumed = Consumes-nil _; fetched = omega arith; least = omega arith; same = refl }
 
-  pub Fetches-more : (old now new : RowIntake R) (a b : List ℕ) → Fetches remaining old now a → Fetches remaining now new b
+  pub Fetches-more : (old now new : RowIntake R) (a b : List ℕ) → Fetches remaining old now a
+      → Fetches remaining now new b
       → Fetches remaining old new (a ++ b)
   Fetches-more old now new a b f g =
       let l = length-append a b in
@@ -63,7 +64,8 @@ module _ {R : Type 0} (remaining : R → Option (List ℕ)) where
       few : length (take held row ++ 10 ∷ []) ≤ 21
       few = omega (arith, length-append (take held row) (10 ∷ []), short)
 
-      pub newline_came : (words : WordRow) → Some words ≡ word_row_of (take held row) → TakesRow remaining old new (Row words)
+      pub newline_came : (words : WordRow) → Some words ≡ word_row_of (take held row)
+          → TakesRow remaining old new (Row words)
       newline_came words w = record {
         bytes = take held row ++ 10 ∷ [];
         fetches = with_newline;

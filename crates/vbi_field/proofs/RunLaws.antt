@@ -1,5 +1,6 @@
 -- What follows from what a run says.
-use Rattle.std.proofs.Common.{◌≡◌, ℕ, ◌+◌, ◌*◌, ◌/◌, ◌%◌, ◌≤◌, ◌⊎◌, inl, inr, List, [], ◌++◌, length, take, Option, Some, None, refl, sym, ap, subst, ◌∙◌, arith, append-nil}
+use Rattle.std.proofs.Common.{◌≡◌, ℕ, ◌+◌, ◌*◌, ◌/◌, ◌%◌, ◌≤◌, ◌⊎◌, inl, inr, List, [], ◌++◌, length, take, Option}
+use Rattle.std.proofs.Common.{Some, None, refl, sym, ap, subst, ◌∙◌, arith, append-nil}
 use Rattle.std.specs.Io.KnownBytes.{Consumes, IsAtEnd}
 use Rattle.std.proofs.lemmas.List.{length-append, take_at}
 use Rattle.std.proofs.Math.Nat.{zero-mod}
@@ -8,10 +9,11 @@ use Rattle.vbi_field.specs.Extracts.{EndsWithin}
 use Rattle.vbi_field.specs.Ran.{EndsInside, IsFirstOf}
 use Rattle.vbi_field.specs.ConfigView.{ConfigView}
 use Rattle.vbi_field.specs.Stream.{fields_of, rest_of, looks_of}
-use Rattle.vbi_field.specs.Texts.{Texts, begun_of, document_of}
+use Rattle.vbi_field.specs.Texts.{Texts, text_before_tail, whole_text}
 use Rattle.vbi_field.proofs.Counts.{rest-next, few_looks}
 
-pub first : (all z : List ℕ) (input : Option (List ℕ)) → Consumes (Some all) input z → (length z ≤ length all) × (z ≡ take (length z) all)
+pub first : (all z : List ℕ) (input : Option (List ℕ)) → Consumes (Some all) input z
+    → (length z ≤ length all) × (z ≡ take (length z) all)
 first all z None came = absurd came
 first all z (Some left) came =
     let l = ap length came ∙ length-append z left in
@@ -31,16 +33,19 @@ first_inside before due text ends =
     let short = ends.short in
     (sym (ap (take (length text)) (sym ends.more) ∙ take_at text ends.rest (length text) refl), omega arith)
 
-pub first_of_text : (t : Texts) (c : ConfigView) (input : Option (List ℕ)) (z text : List ℕ) → EndsWithin t c input z text
-    → IsFirstOf text (begun_of t c z) ⊎ (IsAtEnd input × IsFirstOf text (document_of t c z))
+pub first_of_text : (t : Texts) (c : ConfigView) (input : Option (List ℕ)) (z text : List ℕ)
+    → EndsWithin t c input z text
+    → IsFirstOf text (text_before_tail t c z) ⊎ (IsAtEnd input × IsFirstOf text (whole_text t c z))
 first_of_text t c input z text (inl head) =
-    let P : List ℕ → Type 0 = λ z. IsFirstOf text (begun_of t c z) in
-    inl (subst P (sym head.none) (first_inside [] (begun_of t c []) text head.ends))
-first_of_text t c input z text (inr (inl entry)) = inl (first_inside (begun_of t c entry.before) (begun_of t c z) text entry.ends)
-first_of_text t c input z text (inr (inr tail)) = inr (tail.ended, first_inside (begun_of t c z) (document_of t c z) text tail.ends)
+    let P : List ℕ → Type 0 = λ z. IsFirstOf text (text_before_tail t c z) in
+    inl (subst P (sym head.none) (first_inside [] (text_before_tail t c []) text head.ends))
+first_of_text t c input z text (inr (inl entry)) =
+    inl (first_inside (text_before_tail t c entry.before) (text_before_tail t c z) text entry.ends)
+first_of_text t c input z text (inr (inr tail)) =
+    inr (tail.ended, first_inside (text_before_tail t c z) (whole_text t c z) text tail.ends)
 
 pub prompt : (t : Texts) (c : ConfigView) (input : Option (List ℕ)) (z text : List ℕ) → EndsWithin t c input z text
-    → (rest_of c z ≡ 0) ⊎ (IsAtEnd input × (length (begun_of t c z) ≤ length text))
+    → (rest_of c z ≡ 0) ⊎ (IsAtEnd input × (length (text_before_tail t c z) ≤ length text))
 prompt t c input z text (inl head) = inl (ap (rest_of c) head.none ∙ zero-mod (field_bytes c.system))
 prompt t c input z text (inr (inl entry)) =
     inl (ap (rest_of c) (sym entry.both) ∙ ap (λ n. n % field_bytes c.system) (length-append entry.before entry.last)
@@ -48,5 +53,5 @@ prompt t c input z text (inr (inl entry)) =
 prompt t c input z text (inr (inr tail)) =
     let ends = tail.ends in
     let l = ap length ends.begun in
-    let m = length-append (begun_of t c z) ends.part in
+    let m = length-append (text_before_tail t c z) ends.part in
     inr (tail.ended, omega arith)

@@ -23,14 +23,16 @@ digits_all (c ∷ cs) e =
 
 all_digits : (text : List ℕ) → AllDigits 16 text → list_all (λ c. is_digit c 16) text ≡ true
 all_digits [] d = refl
-all_digits (c ∷ cs) d = let first : is_digit c 16 ≡ true = lt-ltb (digit_value c) 16 d.0 in rw (first, all_digits cs d.1) refl
+all_digits (c ∷ cs) d = let first : is_digit c 16 ≡ true =
+    lt-ltb (digit_value c) 16 d.0 in rw (first, all_digits cs d.1) refl
 
 one_byte : (text : List ℕ) → length text ≡ 1 → get_or text 0 0 ≡ 45 → text ≡ 45 ∷ []
 one_byte [] l e = absurd (omega arith)
 one_byte (c ∷ []) l e = ap (λ (b : ℕ). b ∷ []) e
 one_byte (c ∷ d ∷ cs) l e = absurd (omega arith)
 
-item_from : (text : List ℕ) (item : Option ℕ) (a b : Bool) → is_none_item text ≡ a → (is_hex_item text && is_word (digits_value 16 text)) ≡ b
+item_from : (text : List ℕ) (item : Option ℕ) (a b : Bool) → is_none_item text ≡ a
+    → (is_hex_item text && is_word (digits_value 16 text)) ≡ b
     → cond a (Some None) (cond b (Some (Some (digits_value 16 text))) None) ≡ Some item → IsItem text item
 item_from text item true b f g e =
     let both = and_parts (length text == 1) (get_or text 0 0 == 45) f in
@@ -70,7 +72,8 @@ no_space : (c : ℕ) → digit_value c < 16 → (c == 32) ≡ false
 no_space c d = go (c == 32) refl
   where
     go : (b : Bool) → (c == 32) ≡ b → b ≡ false
-    go true e = let P : ℕ → Type 0 = λ k. digit_value k < 16 in let bad : 36 < 16 = subst P (eqb-true c 32 e) d in absurd (omega arith)
+    go true e = let P : ℕ
+        → Type 0 = λ k. digit_value k < 16 in let bad : 36 < 16 = subst P (eqb-true c 32 e) d in absurd (omega arith)
     go false e = refl
 
 plain_at : (text : List ℕ) → AllDigits 16 text → (k d : ℕ) → k < length text → (get_or text k d == 32) ≡ false
@@ -107,7 +110,8 @@ items_of (Some a) (Some b) (Some c) words e =
     let same : record { first = a; second = b; third = c } ≡ words = cc in
     subst (AreItems (Some a) (Some b) (Some c)) same (record { first = refl; second = refl; third = refl })
 
-row_from : (row : List ℕ) (words : WordRow) (parts : List (List ℕ)) → join_with_byte 32 parts ≡ row → row_of_parts parts ≡ Some words
+row_from : (row : List ℕ) (words : WordRow) (parts : List (List ℕ)) → join_with_byte 32 parts ≡ row
+    → row_of_parts parts ≡ Some words
     → IsWordRow row words
 row_from row words [] j e = cc
 row_from row words (a ∷ []) j e = cc
@@ -134,10 +138,12 @@ unfolding word_row_of
 word_row_is row words w =
     let parts : parts_of row ≡ w.first ∷ w.second ∷ w.third ∷ [] =
     ap parts_of (w.joined ∙ spaced w.first w.second w.third)
-    ∙ slice_split_at (λ c. c == 32) w.first 32 (w.second ++ 32 ∷ w.third) (item_plain w.first words.first w.first_is) refl
+    ∙ slice_split_at (λ c. c == 32) w.first 32 (w.second ++ 32 ∷ w.third) (item_plain w.first words.first w.first_is)
+    refl
     ∙ ap (λ (l : List (List ℕ)). w.first ∷ l) (
     slice_split_at (λ c. c == 32) w.second 32 w.third (item_plain w.second words.second w.second_is) refl
-    ∙ ap (λ (l : List (List ℕ)). w.second ∷ l) (slice_split_none (λ c. c == 32) w.third (item_plain w.third words.third w.third_is))
+    ∙ ap (λ (l : List (List ℕ)). w.second ∷ l)
+    (slice_split_none (λ c. c == 32) w.third (item_plain w.third words.third w.third_is))
     ) in
     let a = is_item w.first words.first w.first_is in
     let b = is_item w.second words.second w.second_is in
@@ -154,10 +160,13 @@ row_at : (rows : List (List ℕ)) (all : List WordRow) (i : ℕ) (words : WordRo
     → slice_get all i ≡ Some words → (row : List ℕ) × (row_words row ≡ Some words)
 row_at rows [] i words e f = cc
 row_at [] (first ∷ all) i words e f = cc
-row_at (row ∷ rows) (first ∷ all) zero words e f = (row, let same : row_words row ≡ Some first = cc in let here : first ≡ words = cc in cc)
-row_at (row ∷ rows) (first ∷ all) (suc i) words e f = row_at rows all i words (let rest : map row_words rows ≡ map Some all = cc in rest) f
+row_at (row ∷ rows) (first ∷ all) zero words e f =
+    (row, let same : row_words row ≡ Some first = cc in let here : first ≡ words = cc in cc)
+row_at (row ∷ rows) (first ∷ all) (suc i) words e f =
+    row_at rows all i words (let rest : map row_words rows ≡ map Some all = cc in rest) f
 
-pub rows_drawable : (text : List ℕ) (rows : List WordRow) (i : ℕ) (words : WordRow) → AreRows text rows → slice_get rows i ≡ Some words
+pub rows_drawable : (text : List ℕ) (rows : List WordRow) (i : ℕ) (words : WordRow) → AreRows text rows
+    → slice_get rows i ≡ Some words
     → AreDrawable words
 rows_drawable text rows i words are e =
     let row = row_at (rows_of text) rows i words are e in

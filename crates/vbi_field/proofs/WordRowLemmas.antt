@@ -4,13 +4,16 @@ use Rattle.std.proofs.Common.{take, drop, cond, refl, sym, ap, ◌∙◌, arith,
 use Rattle.std.specs.Prelude.{Option, Some, None, nat_lt, ◌==◌, ◌⊎◌}
 use Rattle.std.specs.List.{position, position_or_len, count_by, join_with_byte, onto_first}
 use Rattle.std.proofs.lemmas.Bool.{ltb-true, ltb-false, cases_lt}
-use Rattle.std.proofs.lemmas.List.{take_rest, take_at, take_all, length-append, map-append, get_or_append_left, get_or_push}
+use Rattle.std.proofs.lemmas.List.{take_rest, take_at, take_all, length-append, map-append, get_or_append_left}
+use Rattle.std.proofs.lemmas.List.{get_or_push}
 use Rattle.std.proofs.lemmas.List.Sums.{position_or_len_is, fails_before_first}
 use Rattle.std.proofs.lemmas.List.Elements.{All-from_get_or}
-use Rattle.std.proofs.lemmas.List.Splits.{slice_split_first, slice_split_none, length-slice_split, join_with_byte-slice_split}
+use Rattle.std.proofs.lemmas.List.Splits.{slice_split_first, slice_split_none, length-slice_split}
+use Rattle.std.proofs.lemmas.List.Splits.{join_with_byte-slice_split}
 use Rattle.std.proofs.lemmas.Bool.Decides.{nat_tests}
 use Rattle.vbi_field.specs.declared.word_row.WordRow.{WordRow}
-use Rattle.vbi_field.specs.WordRows.{parts_of, item_of, row_of_items, row_of_parts, word_row_of, rows_of, row_words, AreRows}
+use Rattle.vbi_field.specs.WordRows.{parts_of, item_of, row_of_items, row_of_parts, word_row_of, rows_of, row_words}
+use Rattle.vbi_field.specs.WordRows.{AreRows}
 use Rattle.vbi_field.specs.RowIntake.{HasNoNewline}
 use Rattle.vbi_field.specs.Draws.{EndsRow}
 
@@ -51,11 +54,13 @@ pub one_part : (row : List ℕ) → parts_of row ≡ row ∷ [] → None ≡ wor
 unfolding word_row_of
 one_part row e = ap row_of_parts (sym e)
 
-pub two_parts : (row first rest : List ℕ) → parts_of row ≡ first ∷ parts_of rest → parts_of rest ≡ rest ∷ [] → None ≡ word_row_of row
+pub two_parts : (row first rest : List ℕ) → parts_of row ≡ first ∷ parts_of rest → parts_of rest ≡ rest ∷ []
+    → None ≡ word_row_of row
 unfolding word_row_of
 two_parts row first rest e f = ap row_of_parts (sym (e ∙ ap (λ (l : List (List ℕ)). first ∷ l) f))
 
-pub three_parts : (row first rest second third : List ℕ) → parts_of row ≡ first ∷ parts_of rest → parts_of rest ≡ second ∷ parts_of third
+pub three_parts : (row first rest second third : List ℕ) → parts_of row ≡ first ∷ parts_of rest
+    → parts_of rest ≡ second ∷ parts_of third
     → parts_of third ≡ third ∷ [] → row_of_items (item_of first) (item_of second) (item_of third) ≡ word_row_of row
 unfolding word_row_of
 three_parts row first rest second third e f g =
@@ -66,11 +71,13 @@ too_many_parts : (first second third : List ℕ) (parts : List (List ℕ)) (n : 
 too_many_parts first second third [] n e = absurd (omega arith)
 too_many_parts first second third (part ∷ parts) n e = refl
 
-pub four_parts : (row first rest second last third more : List ℕ) → parts_of row ≡ first ∷ parts_of rest → parts_of rest ≡ second ∷ parts_of last
+pub four_parts : (row first rest second last third more : List ℕ) → parts_of row ≡ first ∷ parts_of rest
+    → parts_of rest ≡ second ∷ parts_of last
     → parts_of last ≡ third ∷ parts_of more → None ≡ word_row_of row
 unfolding word_row_of
 four_parts row first rest second last third more e f g =
-    too_many_parts first second third (parts_of more) (count_by (λ c. c == 32) more) (length-slice_split (λ c. c == 32) more)
+    too_many_parts first second third (parts_of more) (count_by (λ c. c == 32) more)
+    (length-slice_split (λ c. c == 32) more)
     ∙ ap row_of_parts (sym (e ∙ ap (λ (l : List (List ℕ)). first ∷ l) (f ∙ ap (λ (l : List (List ℕ)). second ∷ l) g)))
 
 -- an item has at most six bytes
@@ -91,7 +98,8 @@ no_third None b = refl
 no_third (Some a) None = refl
 no_third (Some a) (Some b) = refl
 
-long_items : (a b c : List ℕ) → (6 < length a) ⊎ ((6 < length b) ⊎ (6 < length c)) → row_of_items (item_of a) (item_of b) (item_of c) ≡ None
+long_items : (a b c : List ℕ) → (6 < length a) ⊎ ((6 < length b) ⊎ (6 < length c))
+    → row_of_items (item_of a) (item_of b) (item_of c) ≡ None
 long_items a b c (inl h) = rw (item_long a h) (no_first (item_of b) (item_of c))
 long_items a b c (inr (inl h)) = rw (item_long b h) (no_second (item_of a) (item_of c))
 long_items a b c (inr (inr h)) = rw (item_long c h) (no_third (item_of a) (item_of b))
@@ -139,7 +147,8 @@ some_after : (front : List ℕ) → IsSome_rows (rows_of (front ++ 10 ∷ []))
 some_after [] = record { first = 10 ∷ []; others = []; whole = refl }
 some_after (c ∷ cs) = some_cond (c == 10) c (rows_of (cs ++ 10 ∷ []))
 
-onto_append : (c : ℕ) (rows more : List (List ℕ)) → IsSome_rows rows → onto_first c (rows ++ more) ≡ onto_first c rows ++ more
+onto_append : (c : ℕ) (rows more : List (List ℕ)) → IsSome_rows rows
+    → onto_first c (rows ++ more) ≡ onto_first c rows ++ more
 onto_append c [] more some = absurd (none_there some.first some.others some.whole)
   where
     none_there : (first : List ℕ) (others : List (List ℕ)) → [] ≡ first ∷ others → ⊥
@@ -154,7 +163,8 @@ cut_cond false c both rows more e some = ap (onto_first c) e ∙ onto_append c r
 cut_after : (front more : List ℕ) → rows_of (front ++ 10 ∷ more) ≡ rows_of (front ++ 10 ∷ []) ++ rows_of more
 cut_after [] more = refl
 cut_after (c ∷ cs) more =
-    cut_cond (c == 10) c (rows_of (cs ++ 10 ∷ more)) (rows_of (cs ++ 10 ∷ [])) (rows_of more) (cut_after cs more) (some_after cs)
+    cut_cond (c == 10) c (rows_of (cs ++ 10 ∷ more)) (rows_of (cs ++ 10 ∷ [])) (rows_of more) (cut_after cs more)
+    (some_after cs)
 
 -- more text adds rows to whole rows
 pub rows_of-append : (text more : List ℕ) → EndsRow text → rows_of (text ++ more) ≡ rows_of text ++ rows_of more
@@ -179,7 +189,8 @@ onto_cond false c first rows e f = ap (onto_first c) f
 pub rows_of-line : (row : List ℕ) → HasNoNewline row → rows_of (row ++ 10 ∷ []) ≡ (row ++ 10 ∷ []) ∷ []
 rows_of-line [] plain = refl
 rows_of-line (c ∷ cs) plain =
-    onto_cond (c == 10) c (cs ++ 10 ∷ []) (rows_of (cs ++ 10 ∷ [])) (plain_first c cs plain) (rows_of-line cs (plain_rest c cs plain))
+    onto_cond (c == 10) c (cs ++ 10 ∷ []) (rows_of (cs ++ 10 ∷ [])) (plain_first c cs plain)
+    (rows_of-line cs (plain_rest c cs plain))
 
 one_cond : (b : Bool) (c : ℕ) → cond b ((c ∷ []) ∷ []) (onto_first c []) ≡ (c ∷ []) ∷ []
 one_cond true c = refl
@@ -198,7 +209,8 @@ pub row_words-line : (row : List ℕ) → HasNoNewline row → row_words (row ++
 row_words-line row plain =
     let at : position_or_len (λ c. c == 10) (row ++ 10 ∷ []) ≡ length row
     = position_or_len_is (λ c. c == 10) (row ++ 10 ∷ []) (length row) 0 (omega (arith, length-append row (10 ∷ [])))
-    (λ k l. ap (λ (c : ℕ). c == 10) (get_or_append_left row (10 ∷ []) 0 k l) ∙ not_newline (get_or row k 0) (plain k 0 l))
+    (λ k l. ap (λ (c : ℕ). c == 10) (get_or_append_left row (10 ∷ []) 0 k l)
+    ∙ not_newline (get_or row k 0) (plain k 0 l))
     (λ l. ap (λ (c : ℕ). c == 10) (get_or_push row 10 0 (length row) refl)) in
     ap (λ (n : ℕ). word_row_of (take n (row ++ 10 ∷ []))) at ∙ ap word_row_of (take_at row (10 ∷ []) (length row) refl)
 

@@ -1,5 +1,6 @@
 -- The texts of code words and of their codes in the report (this project's own), as lists of ASCII codes.
-use Rattle.std.specs.Prelude.{ℕ, ◌+◌, ◌-◌, List, [], ◌∷◌, ◌++◌, length, replicate, nat_lt, if◌then◌else◌, codes, decimal}
+use Rattle.std.specs.Prelude.{ℕ, ◌+◌, ◌-◌, List, [], ◌∷◌, ◌++◌, length, replicate, nat_lt, if◌then◌else◌, codes}
+use Rattle.std.specs.Prelude.{decimal}
 use Rattle.vbi_words.specs.declared.code.Code.{Code}
 use Rattle.vbi_words.specs.declared.code.Code.TheVariants.{Picture, Chapter, Time, ClvPicture, CxOn, CxOff}
 use Rattle.vbi_words.specs.declared.code.Code.TheVariants.{Users, LeadIn, LeadOut, PictureStop, ClvMark, Other}
@@ -20,7 +21,8 @@ hex_text_of word = hex_at word 1 ∷ hex_at word 2 ∷ hex_at word 3 ∷ hex_at 
 -- a number of 16 bits in three hexadecimal digits, or in four where it has more
 abbrev pub hex_number : ℕ → List ℕ
 hex_number number =
-    (if nat_lt number 4096 then [] else hex_at number 3 ∷ []) ++ hex_at number 4 ∷ hex_at number 5 ∷ hex_at number 6 ∷ []
+    (if nat_lt number 4096 then [] else hex_at number 3 ∷ [])
+    ++ hex_at number 4 ∷ hex_at number 5 ∷ hex_at number 6 ∷ []
 
 -- digits with zeros in front of them, up to a number of digits; more digits than that stay as they are
 abbrev pub padded : ℕ → List ℕ → List ℕ
@@ -35,7 +37,8 @@ code_text_of PictureStop = codes "picture stop"
 code_text_of (Chapter number) = codes "chapter " ++ padded 2 (decimal number)
 code_text_of ClvMark = codes "clv"
 code_text_of (Time hours minutes) = codes "time " ++ decimal hours ++ codes ":" ++ padded 2 (decimal minutes)
-code_text_of (ClvPicture seconds picture) = codes "clv picture " ++ padded 2 (decimal seconds) ++ codes " " ++ padded 2 (decimal picture)
+code_text_of (ClvPicture seconds picture) =
+    codes "clv picture " ++ padded 2 (decimal seconds) ++ codes " " ++ padded 2 (decimal picture)
 code_text_of (CxOn number) = codes "cx on " ++ hex_number number
 code_text_of (CxOff number) = codes "cx off " ++ hex_number number
 code_text_of (Users digit number) = codes "users " ++ decimal digit ++ codes " " ++ hex_number number

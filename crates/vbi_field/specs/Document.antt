@@ -1,5 +1,6 @@
--- The document of a stream: JSON after ld-decode's ld-process-vbi, whose `vbi.vbiData` has a whole number per line, three per
--- field. `videoParameters` has ld-decode's names; `version`, `vbiCause`, `vbiPass` and `cutField` are this project's own.
+-- The document of a stream: JSON after ld-decode's ld-process-vbi, whose `vbi.vbiData` has a whole number per line,
+-- three per field. `videoParameters` has ld-decode's names; `version`, `vbiCause`, `vbiPass` and `cutField` are this
+-- project's own.
 use Rattle.std.specs.Prelude.{ℕ, ◌+◌, List, ◌++◌, ◌==◌, if◌then◌else◌, codes, decimal}
 use Rattle.vbi_words.specs.Geometry.{width_of, height_of, name_of}
 use Rattle.vbi_words.specs.declared.outcome.Outcome.{Outcome}
@@ -56,4 +57,5 @@ record_of number readings =
 unfoldable pub tail_of : ℕ → ℕ → List ℕ
 tail_of fields rest =
     if rest == 0 then codes "\n],\"cutField\":null}\n"
-    else codes "\n],\"cutField\":{\"seqNo\":" ++ decimal (fields + 1) ++ codes ",\"bytes\":" ++ decimal rest ++ codes "}}\n"
+    else codes "\n],\"cutField\":{\"seqNo\":" ++ decimal (fields + 1) ++ codes ",\"bytes\":" ++ decimal rest
+    ++ codes "}}\n"

@@ -37,9 +37,11 @@ drawn_readings words = record {
 abbrev pub no_words : WordRow
 no_words = record { first = None; second = None; third = None }
 
--- the text of a stream that is drawn of these rows: an entry for each, with its words in the first pass and blanks, and no cut field
+-- the text of a stream that is drawn of these rows: an entry for each, with its words in the first pass and blanks, and
+-- no cut field
 abbrev pub drawn_text : Texts → ConfigView → List WordRow → List ℕ
 drawn_text t c rows =
     t.head c
-    ++ join_by (λ i. t.entry (i + 1) (drawn_readings (slice_index_or rows i no_words))) t.joint (range_with_len 0 (length rows))
+    ++ join_by (λ i. t.entry (i + 1) (drawn_readings (slice_index_or rows i no_words))) t.joint
+    (range_with_len 0 (length rows))
     ++ t.tail (length rows) 0

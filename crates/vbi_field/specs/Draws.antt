@@ -1,4 +1,5 @@
--- What `draw` does, by its answer: z are the bytes fetched, a text of words, text is what was written, and n what was counted.
+-- What `draw` does, by its answer: z are the bytes fetched, a text of words, text is what was written, and n what was
+-- counted.
 use Rattle.std.specs.Prelude.{◌≡◌, ℕ, ◌+◌, ◌≤◌, ◌⊎◌, List, [], ◌∷◌, ◌++◌, length, Option, None, Result, Ok, Err}
 use Rattle.std.specs.Io.KnownBytes.{IsAtEnd}
 use Rattle.vbi_field.specs.ConfigView.{ConfigView}
@@ -29,8 +30,8 @@ module _ (c : ConfigView) (input : Option (List ℕ)) (n : Counts) (z text : Lis
     pub drawn : text ≡ draw_out c rows
     pub calm : IsCalm n
 
-  -- `Row`: the row of this number, which is allowed, is malformed, all before it are well formed, and their fields were written; the row
-  -- was read up to its newline, the reader's end or its 21st byte
+  -- `Row`: the row of this number, which is allowed, is malformed, all before it are well formed, and their fields were
+  -- written; the row was read up to its newline, the reader's end or its 21st byte
   pub record StopsAtRow (number : ℕ) : Type 0 where
     pub before : List ℕ
     pub row : List ℕ
@@ -45,8 +46,8 @@ module _ (c : ConfigView) (input : Option (List ℕ)) (n : Counts) (z text : Lis
     pub drawn : text ≡ draw_out c rows
     pub calm : IsCalm n
 
-  -- `Read`: the reader failed before the row of this number was read whole, all before it are well formed, and their fields were written;
-  -- the row is allowed, or it is the first that isn't and none of its bytes was fetched
+  -- `Read`: the reader failed before the row of this number was read whole, all before it are well formed, and their
+  -- fields were written; the row is allowed, or it is the first that isn't and none of its bytes was fetched
   pub record StopsAtRead (number : ℕ) : Type 0 where
     pub before : List ℕ
     pub part : List ℕ
@@ -61,7 +62,8 @@ module _ (c : ConfigView) (input : Option (List ℕ)) (n : Counts) (z text : Lis
     pub failed : HasFailed n.reader
     pub calm : n.writer.errors ≡ 0
 
-  -- `TooManyFields`: a byte followed the last row that is allowed, all these are well formed, and their fields were written
+  -- `TooManyFields`: a byte followed the last row that is allowed, all these are well formed, and their fields were
+  -- written
   pub record StopsAtLimit : Type 0 where
     pub before : List ℕ
     pub byte : ℕ
@@ -106,5 +108,6 @@ counts_of i o = record {
 abbrev pub RunsDrawing : {R W : Type 0} → (R → Option (List ℕ)) → (W → Option (List ℕ)) → ConfigView
     → RowIntake R → RowIntake R → Outlet W → Outlet W → Result ℕ DrawFault → Type 0
 RunsDrawing remaining contents c i0 i o0 o result =
-    Ran (remaining (intakes.device_of i0)) (remaining (intakes.device_of i)) (contents (outlets.device_of o0)) (contents (outlets.device_of o))
+    Ran (remaining (intakes.device_of i0)) (remaining (intakes.device_of i)) (contents (outlets.device_of o0))
+    (contents (outlets.device_of o))
     (counts_of i o) (Draws c (remaining (intakes.device_of i)) (counts_of i o) result)

@@ -1,5 +1,5 @@
--- What `extract` and `show` do, by their answer, for a kind t of text: z are the bytes fetched, text is what was written, and n what
--- was counted.
+-- What `extract` and `show` do, by their answer, for a kind t of text: z are the bytes fetched, text is what was
+-- written, and n what was counted.
 use Rattle.std.specs.Prelude.{◌≡◌, ℕ, ◌+◌, ◌<◌, ◌≤◌, ◌⊎◌, List, [], ◌++◌, length, take, Option, Result, Ok, Err}
 use Rattle.std.specs.Io.KnownBytes.{IsAtEnd}
 use Rattle.vbi_words.specs.Geometry.{line_bytes, field_bytes}
@@ -9,7 +9,7 @@ use Rattle.vbi_field.specs.ConfigView.{ConfigView, allowed_bytes}
 use Rattle.vbi_field.specs.Outlet as outlets
 use Rattle.vbi_field.specs.Ran.{Counts, HasFailed, IsCalm, Ran, EndsInside}
 use Rattle.vbi_field.specs.Stream.{fields_of, rest_of, cut_of, looks_of}
-use Rattle.vbi_field.specs.Texts.{Texts, begun_of, document_of}
+use Rattle.vbi_field.specs.Texts.{Texts, text_before_tail, whole_text}
 use Rattle.vbi_field.specs.declared.outlet.Outlet.{Outlet}
 use Rattle.vbi_field.specs.declared.summary.Summary.{Summary}
 use Rattle.vbi_field.specs.declared.summary.RunFault.{RunFault}
@@ -19,7 +19,7 @@ module _ (t : Texts) (c : ConfigView) (input : Option (List ℕ)) (z text : List
   -- the head is due before the first read
   pub record EndsInHead : Type 0 where
     pub none : z ≡ []
-    pub ends : EndsInside [] (begun_of t c []) text
+    pub ends : EndsInside [] (text_before_tail t c []) text
 
   -- the entry of a field is due as soon as the field's last byte was fetched
   pub record EndsInEntry : Type 0 where
@@ -28,21 +28,22 @@ module _ (t : Texts) (c : ConfigView) (input : Option (List ℕ)) (z text : List
     pub both : before ++ last ≡ z
     pub fields : rest_of c before ≡ 0
     pub field : length last ≡ field_bytes c.system
-    pub ends : EndsInside (begun_of t c before) (begun_of t c z) text
+    pub ends : EndsInside (text_before_tail t c before) (text_before_tail t c z) text
 
   -- the tail is due as soon as the reader has ended
   pub record EndsInTail : Type 0 where
     pub ended : IsAtEnd input
-    pub ends : EndsInside (begun_of t c z) (document_of t c z) text
+    pub ends : EndsInside (text_before_tail t c z) (whole_text t c z) text
 
   -- the text ends inside one of the three
   abbrev pub EndsWithin : Type 0
   EndsWithin = EndsInHead ⊎ (EndsInEntry ⊎ EndsInTail)
 
 module _ (t : Texts) (c : ConfigView) (input : Option (List ℕ)) (n : Counts) (z text : List ℕ) where
-  -- Ok: the reader ended within the limit, the whole text was written, and the summary has the fields, the cut and the looks
+  -- Ok: the reader ended within the limit, the whole text was written, and the summary has the fields, the cut and the
+  -- looks
   pub record ExtractsAll (s : Summary) : Type 0 where
-    pub document : text ≡ document_of t c z
+    pub document : text ≡ whole_text t c z
     pub ended : IsAtEnd input
     pub within : length z ≤ allowed_bytes c
     pub fields : s.fields ≡ fields_of c z
@@ -51,18 +52,19 @@ module _ (t : Texts) (c : ConfigView) (input : Option (List ℕ)) (n : Counts) (
     pub looks : n.looked ≡ looks_of c z
     pub calm : IsCalm n
 
-  -- `Read`: the reader failed where the next byte would have been this one of this field, less than a line past the limit at most, and
-  -- the text of the whole fields was written, without the tail
+  -- `Read`: the reader failed where the next byte would have been this one of this field, less than a line past the
+  -- limit at most, and the text of the whole fields was written, without the tail
   pub record StopsAtRead (field offset : ℕ) : Type 0 where
     pub failed : HasFailed n.reader
     pub calm : n.writer.errors ≡ 0
     pub field_of : field ≡ fields_of c z + 1
     pub offset_of : offset ≡ rest_of c z
     pub within : length z < allowed_bytes c + line_bytes c.system
-    pub begun : text ≡ begun_of t c z
+    pub begun : text ≡ text_before_tail t c z
     pub looks : n.looked ≡ looks_of c z
 
-  -- `Write`: the writer failed after this many bytes, inside the head, inside the entry of the last field, or inside the tail
+  -- `Write`: the writer failed after this many bytes, inside the head, inside the entry of the last field, or inside
+  -- the tail
   pub record StopsAtWrite (written : ℕ) : Type 0 where
     pub failed : HasFailed n.writer
     pub calm : n.reader.errors ≡ 0
@@ -71,13 +73,13 @@ module _ (t : Texts) (c : ConfigView) (input : Option (List ℕ)) (n : Counts) (
     pub inside : EndsWithin t c input z text
     pub looks : n.looked ≡ looks_of c z
 
-  -- `TooManyFields`: the reader gave more bytes than the fields that are allowed have, by a line at most, and the text of these fields
-  -- was written, without the tail
+  -- `TooManyFields`: the reader gave more bytes than the fields that are allowed have, by a line at most, and the text
+  -- of these fields was written, without the tail
   pub record StopsAtLimit : Type 0 where
     pub calm : IsCalm n
     pub more : allowed_bytes c < length z
     pub within : length z ≤ allowed_bytes c + line_bytes c.system
-    pub begun : text ≡ begun_of t c (take (allowed_bytes c) z)
+    pub begun : text ≡ text_before_tail t c (take (allowed_bytes c) z)
     pub looks : n.looked ≡ looks_of c z
 
 -- what was done, by the answer; `Failed` isn't one
@@ -102,5 +104,6 @@ counts_of i o = record {
 abbrev pub Runs : {R W : Type 0} → Texts → (R → Option (List ℕ)) → (W → Option (List ℕ)) → ConfigView
     → Intake R → Intake R → Outlet W → Outlet W → Result Summary RunFault → Type 0
 Runs t remaining contents c i0 i o0 o result =
-    Ran (remaining (intakes.device_of i0)) (remaining (intakes.device_of i)) (contents (outlets.device_of o0)) (contents (outlets.device_of o))
+    Ran (remaining (intakes.device_of i0)) (remaining (intakes.device_of i)) (contents (outlets.device_of o0))
+    (contents (outlets.device_of o))
     (counts_of i o) (Extracts t c (remaining (intakes.device_of i)) (counts_of i o) result)

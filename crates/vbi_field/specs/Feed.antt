@@ -5,7 +5,7 @@ use Rattle.vbi_field.specs.Outlet.{errors_of, written_of, HasCause, Wrote, Wrote
 use Rattle.vbi_field.specs.Position.{Position, position_of}
 use Rattle.vbi_field.specs.ConfigView.{ConfigView, allowed_bytes}
 use Rattle.vbi_field.specs.Stream.{fields_of, rest_of, cut_of, looks_of}
-use Rattle.vbi_field.specs.Texts.{Completes}
+use Rattle.vbi_field.specs.Texts.{IsTextBetween}
 use Rattle.vbi_field.specs.Feeding.{Feeding}
 use Rattle.vbi_field.specs.declared.outlet.Outlet.{Outlet}
 use Rattle.vbi_field.specs.declared.summary.Summary.{Summary}
@@ -25,17 +25,18 @@ pub record StandsAt (f : Feeding) (z : List ℕ) : Type 0 where
 module _ {W : Type 0} (contents : W → Option (List ℕ)) (c : ConfigView) (o o' : Outlet W) (z : List ℕ) where
   -- the bytes by which the text of the longer stream is longer were written
   abbrev pub Extends : List ℕ → Type 0
-  Extends longer = (text : List ℕ) × Completes document c z longer text × Wrote contents o o' text
+  Extends longer = (text : List ℕ) × IsTextBetween document c z longer text × Wrote contents o o' text
 
   -- the first of these bytes were written, and not all of them
   abbrev pub ExtendsInPart : List ℕ → Type 0
-  ExtendsInPart longer = (text : List ℕ) × Completes document c z longer text × WrotePart contents o o' text
+  ExtendsInPart longer = (text : List ℕ) × IsTextBetween document c z longer text × WrotePart contents o o' text
 
   -- what a piece did, where the feeder stood at z, and the place at which it stands now
   abbrev pub IsFed : List ℕ → Position → Result (Unit {0}) RunFault → Type 0
   IsFed piece now (Ok u) = IsAt c (z ++ piece) now × Extends (z ++ piece)
   IsFed piece now (Err (Write written)) = ExtendsInPart (take (allowed_bytes c) (z ++ piece))
-  IsFed piece now (Err TooManyFields) = (allowed_bytes c < length (z ++ piece)) × Extends (take (allowed_bytes c) (z ++ piece))
+  IsFed piece now (Err TooManyFields) = (allowed_bytes c < length (z ++ piece))
+      × Extends (take (allowed_bytes c) (z ++ piece))
   IsFed piece now (Err (Read field offset)) = ⊥
   IsFed piece now (Err Failed) = ⊥
 

@@ -10,4 +10,5 @@ document = record { head = head_of; joint = codes ",\n"; entry = record_of; tail
 
 -- the report of `show`: nothing stands between two fields
 abbrev pub report : Texts
-report = record { head = λ c. report_head_of c.system c.levels; joint = []; entry = report_entry_of; tail = report_tail_of }
+report =
+    record { head = λ c. report_head_of c.system c.levels; joint = []; entry = report_entry_of; tail = report_tail_of }

@@ -9,6 +9,7 @@ pub mod Draws
 pub mod Extracts
 pub mod Feed
 pub mod FeedView
+pub mod FeederState
 pub mod Feeding
 pub mod Kinds
 pub mod NextLine
@@ -18,7 +19,6 @@ pub mod Progress
 pub mod Ran
 pub mod Report
 pub mod RowIntake
-pub mod Stand
 pub mod Stream
 pub mod Texts
 pub mod WordRows

@@ -10,7 +10,8 @@ use Rattle.vbi_line.specs.declared.intake.Intake.{Intake}
 use Rattle.vbi_field.specs.declared.run.NextLine.{NextLine}
 use Rattle.vbi_field.specs.declared.run.NextLine.TheVariants.{Whole, Ended, Failed}
 
-module _ {R : Type 0} (remaining : R → Option (List ℕ)) (levels : LevelsView) (selected : Bool) (old new : Intake R) (bytes : List ℕ)
+module _ {R : Type 0} (remaining : R → Option (List ℕ)) (levels : LevelsView) (selected : Bool) (old new : Intake R)
+    (bytes : List ℕ)
   where
     -- a whole line, of which each sample was looked at once if its reading was asked for
     pub record GotWhole (reading : Reading) : Type 0 where
@@ -43,13 +44,14 @@ module _ {R : Type 0} (remaining : R → Option (List ℕ)) (levels : LevelsView
     Got (Ended count) = GotRest count
     Got Failed = GotPart
 
-module _ {R : Type 0} (remaining : R → Option (List ℕ)) (levels : LevelsView) (selected : Bool) (old new : Intake R) where
-  -- some bytes of the reader were got, and the counts rose by their number
-  pub record TakesLine (result : NextLine) : Type 0 where
-    pub bytes : List ℕ
-    pub consumed : Consumes (remaining (device_of old)) (remaining (device_of new)) bytes
-    pub fetched : fetched_of new ≡ fetched_of old + length bytes
-    pub least : failures_of old ≤ failures_of new
-    pub most : failures_of new ≤ failures_of old + 17 * (length bytes + 1)
-    pub system : (line_of new).system ≡ (line_of old).system
-    pub got : Got remaining levels selected old new bytes result
+module _ {R : Type 0} (remaining : R → Option (List ℕ)) (levels : LevelsView) (selected : Bool) (old new : Intake R)
+  where
+    -- some bytes of the reader were got, and the counts rose by their number
+    pub record TakesLine (result : NextLine) : Type 0 where
+      pub bytes : List ℕ
+      pub consumed : Consumes (remaining (device_of old)) (remaining (device_of new)) bytes
+      pub fetched : fetched_of new ≡ fetched_of old + length bytes
+      pub least : failures_of old ≤ failures_of new
+      pub most : failures_of new ≤ failures_of old + 17 * (length bytes + 1)
+      pub system : (line_of new).system ≡ (line_of old).system
+      pub got : Got remaining levels selected old new bytes result

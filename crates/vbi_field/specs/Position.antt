@@ -3,10 +3,10 @@ use Rattle.std.specs.Prelude.{ℕ, ◌-◌, ◌/◌, ◌%◌, List, [], ◌∷�
 use Rattle.vbi_words.specs.Geometry.{line_bytes}
 use Rattle.vbi_words.specs.declared.outcome.Reading.{Reading}
 use Rattle.vbi_field.specs.ConfigView.{ConfigView}
-use Rattle.vbi_field.specs.Stream.{fields_of, rest_of, row_reading}
+use Rattle.vbi_field.specs.Stream.{fields_of, rest_of, reading_at}
 
--- the number of whole fields, the bytes past them, the bytes of the unfinished row, and the readings of those of rows 15, 16
--- and 17 of the unfinished field that are whole, in this order
+-- the number of whole fields, the bytes past them, the bytes of the unfinished row, and the readings of those of rows
+-- 15, 16 and 17 of the unfinished field that are whole, in this order
 pub record Position : Type 0 where
   pub fields : ℕ
   pub rest : ℕ
@@ -19,7 +19,7 @@ held_of c z = drop (length z - rest_of c z % line_bytes c.system) z
 
 -- the readings of rows 15, 16 and 17 of field i, as a list
 abbrev pub readings_of : ConfigView → List ℕ → ℕ → List Reading
-readings_of c z i = row_reading c z i 15 ∷ row_reading c z i 16 ∷ row_reading c z i 17 ∷ []
+readings_of c z i = reading_at c z i 15 ∷ reading_at c z i 16 ∷ reading_at c z i 17 ∷ []
 
 -- where a stream stands that has come so far
 abbrev pub position_of : ConfigView → List ℕ → Position

@@ -8,29 +8,30 @@ use Rattle.vbi_field.specs.declared.readings.FieldReadings.{FieldReadings}
 use Rattle.vbi_field.specs.declared.progress.Progress.{Progress}
 use Rattle.vbi_field.specs.ConfigView.{ConfigView}
 use Rattle.vbi_field.specs.Outlet.{Wrote, WrotePart}
-use Rattle.vbi_field.specs.Stream.{row_reading, field_readings}
-use Rattle.vbi_field.specs.Texts.{Texts, Completes}
+use Rattle.vbi_field.specs.Stream.{reading_at, readings_at}
+use Rattle.vbi_field.specs.Texts.{Texts, IsTextBetween}
 use Rattle.vbi_field.specs.declared.outlet.Outlet.{Outlet}
 use Rattle.vbi_field.specs.declared.summary.RunFault.{RunFault}
 
--- the rows of z are whole, and these are the number of its whole fields, the rows past them and those of their readings that are due
-pub record IsPosition (c : ConfigView) (z : List ℕ) (p : Progress) : Type 0 where
+-- the rows of z are whole, and these are the number of its whole fields, the rows past them and those of their readings
+-- that are due
+pub record IsProgress (c : ConfigView) (z : List ℕ) (p : Progress) : Type 0 where
   pub whole : length z ≡ (p.fields * height_of c.system + p.row) * line_bytes c.system
   pub inside : p.row < height_of c.system
-  pub first : 15 < p.row → p.readings.first ≡ row_reading c z p.fields 15
-  pub second : 16 < p.row → p.readings.second ≡ row_reading c z p.fields 16
-  pub third : 17 < p.row → p.readings.third ≡ row_reading c z p.fields 17
+  pub first : 15 < p.row → p.readings.first ≡ reading_at c z p.fields 15
+  pub second : 16 < p.row → p.readings.second ≡ reading_at c z p.fields 16
+  pub third : 17 < p.row → p.readings.third ≡ reading_at c z p.fields 17
 
 -- b is a whole row, with this reading if its number in the field is 15, 16 or 17
-pub record IsRowOf (c : ConfigView) (b : List ℕ) (row : ℕ) (reading : Reading) : Type 0 where
+pub record IsLineOf (c : ConfigView) (b : List ℕ) (row : ℕ) (reading : Reading) : Type 0 where
   pub whole : length b ≡ line_bytes c.system
   pub shows : 15 ≤ row → row ≤ 17 → reading ≡ reading_of c.system (row_levels c.levels b)
 
 -- one row b more behind z: inside a field, or at its end with the field's readings
 abbrev pub AdvancesOver : ConfigView → List ℕ → List ℕ → Progress → Option FieldReadings → Progress → Type 0
-AdvancesOver c z b old None new = IsPosition c (z ++ b) new
+AdvancesOver c z b old None new = IsProgress c (z ++ b) new
 AdvancesOver c z b old (Some readings) new =
-    IsPosition c (z ++ b) new × (old.row + 1 ≡ height_of c.system) × (readings ≡ field_readings c (z ++ b) old.fields)
+    IsProgress c (z ++ b) new × (old.row + 1 ≡ height_of c.system) × (readings ≡ readings_at c (z ++ b) old.fields)
 
 -- a reading that is kept once its row r has passed, and is the one of this row if its turn has come
 abbrev pub Kept : ℕ → ℕ → Reading → Reading → Reading → Type 0
@@ -43,8 +44,8 @@ pub record Keeps (row : ℕ) (reading : Reading) (was now : FieldReadings) : Typ
   pub third : Kept 17 row reading was.third now.third
 
 -- one row further: inside the field, or at its end
-abbrev pub IsNextRow : ConfigView → Progress → Progress → Type 0
-IsNextRow c old new =
+abbrev pub MovesOneRow : ConfigView → Progress → Progress → Type 0
+MovesOneRow c old new =
     ((new.fields ≡ old.fields) × (new.row ≡ old.row + 1))
     ⊎ ((new.fields ≡ old.fields + 1) × (new.row ≡ 0) × (old.row + 1 ≡ height_of c.system))
 
@@ -54,16 +55,16 @@ module _ (t : Texts) {W : Type 0} (contents : W → Option (List ℕ)) (c : Conf
     (now : Progress) where
   -- the text that is due with the row was written
   pub record SettlesWhole : Type 0 where
-    pub position : IsPosition c (z ++ b) now
+    pub position : IsProgress c (z ++ b) now
     pub text : List ℕ
-    pub due : Completes t c z (z ++ b) text
+    pub due : IsTextBetween t c z (z ++ b) text
     pub wrote : Wrote contents o o' text
 
   -- only the first of it was
   pub record SettlesInPart : Type 0 where
-    pub position : IsPosition c (z ++ b) now
+    pub position : IsProgress c (z ++ b) now
     pub text : List ℕ
-    pub due : Completes t c z (z ++ b) text
+    pub due : IsTextBetween t c z (z ++ b) text
     pub wrote : WrotePart contents o o' text
 
   -- what the row leads to, by the answer

@@ -1,15 +1,18 @@
--- What a run did, for any command: some bytes were fetched, some text was written, and its answer says how the two belong together.
--- The reader is seen by the bytes that it has yet to give and the writer by those that it has taken, where they tell them.
+-- What a run did, for any command: some bytes were fetched, some text was written, and its answer says how the two
+-- belong together. The reader is seen by the bytes that it has yet to give and the writer by those that it has taken,
+-- where they tell them.
 use Rattle.std.specs.Prelude.{◌≡◌, ℕ, ◌<◌, ◌≤◌, ◌⊎◌, List, ◌++◌, length, take, Option}
 use Rattle.std.specs.Io.KnownBytes.{Consumes, Appends}
 
--- how often a device failed in a run, how often of these it wasn't interrupted, and how many interruptions were its last answers
+-- how often a device failed in a run, how often of these it wasn't interrupted, and how many interruptions were its
+-- last answers
 pub record Failures : Type 0 where
   pub all : ℕ
   pub errors : ℕ
   pub streak : ℕ
 
--- a device that failed for good: its one error was its last answer, or its last seventeen answers or more were interruptions
+-- a device that failed for good: its one error was its last answer, or its last seventeen answers or more were
+-- interruptions
 pub record HasFailed (f : Failures) : Type 0 where
   pub rose : 0 < f.all
   pub cause : ((f.errors ≡ 1) × (f.streak ≡ 0)) ⊎ ((f.errors ≡ 0) × (17 ≤ f.streak))
@@ -27,14 +30,15 @@ abbrev pub IsCalm : Counts → Type 0
 IsCalm n = (n.reader.errors ≡ 0) × (n.writer.errors ≡ 0)
 
 -- a run that fetched z and wrote text, of which this holds
-pub record Ran (input0 input output0 output : Option (List ℕ)) (n : Counts) (Says : List ℕ → List ℕ → Type 0) : Type 0 where
-  pub z : List ℕ
-  pub text : List ℕ
-  pub consumed : Consumes input0 input z
-  pub appended : Appends output0 output text
-  pub fetched : n.fetched ≡ length z
-  pub written : n.written ≡ length text
-  pub says : Says z text
+pub record Ran (input0 input output0 output : Option (List ℕ)) (n : Counts) (Says : List ℕ → List ℕ → Type 0) : Type 0
+  where
+    pub z : List ℕ
+    pub text : List ℕ
+    pub consumed : Consumes input0 input z
+    pub appended : Appends output0 output text
+    pub fetched : n.fetched ≡ length z
+    pub written : n.written ≡ length text
+    pub says : Says z text
 
 -- the text has all that was due before its last part, and not all of what is due with that part
 pub record EndsInside (before due text : List ℕ) : Type 0 where

@@ -1,4 +1,5 @@
--- The report of `show` (this project's own): a head line, four lines a whole field, and a last line; lists of ASCII codes.
+-- The report of `show` (this project's own): a head line, four lines a whole field, and a last line; lists of ASCII
+-- codes.
 use Rattle.std.specs.Prelude.{ℕ, ◌+◌, List, [], ◌∷◌, ◌++◌, ◌==◌, if◌then◌else◌, codes, decimal, Option, Some, None}
 use Rattle.vbi_words.specs.declared.system.System.{System}
 use Rattle.vbi_words.specs.declared.outcome.Outcome.{Outcome}
@@ -16,7 +17,8 @@ use Rattle.vbi_field.specs.CauseTexts.{cause_text_of}
 -- the first line
 unfoldable pub report_head_of : System → LevelsView → List ℕ
 report_head_of system slicing =
-    codes "system " ++ name_of system ++ codes " " ++ decimal (width_of system) ++ codes "x" ++ decimal (height_of system)
+    codes "system " ++ name_of system ++ codes " " ++ decimal (width_of system) ++ codes "x"
+    ++ decimal (height_of system)
     ++ codes " black " ++ decimal slicing.black ++ codes " white " ++ decimal slicing.white ++ codes "\n"
 
 -- the word of a line, if it has one
@@ -26,7 +28,8 @@ word_of _ = None
 
 -- a field's words
 abbrev pub field_words_of : FieldReadings → List (Option ℕ)
-field_words_of readings = word_of readings.first.outcome ∷ word_of readings.second.outcome ∷ word_of readings.third.outcome ∷ []
+field_words_of readings =
+    word_of readings.first.outcome ∷ word_of readings.second.outcome ∷ word_of readings.third.outcome ∷ []
 
 -- what a format is called
 abbrev pub format_text_of : Format → List ℕ

@@ -1,6 +1,8 @@
--- Fields and rows of a TBC stream (ld-decode's TBC format: samples of 16 bits, low byte first, line after line and field after
--- field), and the readings of its fields. Fields and rows are counted from 0; a stream is the list of its bytes.
-use Rattle.std.specs.Prelude.{ℕ, ◌+◌, ◌-◌, ◌*◌, ◌/◌, ◌%◌, ◌==◌, min, if◌then◌else◌, List, length, take, drop, Option, Some, None}
+-- Fields and rows of a TBC stream (ld-decode's TBC format: samples of 16 bits, low byte first, line after line and
+-- field after field), and the readings of its fields. Fields and rows are counted from 0; a stream is the list of its
+-- bytes.
+use Rattle.std.specs.Prelude.{ℕ, ◌+◌, ◌-◌, ◌*◌, ◌/◌, ◌%◌, ◌==◌, min, if◌then◌else◌, List, length, take, drop, Option}
+use Rattle.std.specs.Prelude.{Some, None}
 use Rattle.vbi_words.specs.Geometry.{width_of, line_bytes, field_bytes}
 use Rattle.vbi_words.specs.Levels.{row_levels}
 use Rattle.vbi_words.specs.declared.system.System.{System}
@@ -10,8 +12,8 @@ use Rattle.vbi_field.specs.ConfigView.{ConfigView}
 use Rattle.vbi_field.specs.declared.readings.FieldReadings.{FieldReadings}
 
 -- the bytes of row r of field i
-abbrev pub row_of : System → List ℕ → ℕ → ℕ → List ℕ
-row_of system z i r = take (line_bytes system) (drop (i * field_bytes system + line_bytes system * r) z)
+abbrev pub line_at : System → List ℕ → ℕ → ℕ → List ℕ
+line_at system z i r = take (line_bytes system) (drop (i * field_bytes system + line_bytes system * r) z)
 
 -- how many whole fields so many bytes are
 abbrev pub fields_in : ConfigView → ℕ → ℕ
@@ -34,12 +36,13 @@ abbrev pub cut_of : ℕ → Option ℕ
 cut_of rest = if rest == 0 then None else Some rest
 
 -- the reading of row r of field i
-abbrev pub row_reading : ConfigView → List ℕ → ℕ → ℕ → Reading
-row_reading c z i r = reading_of c.system (row_levels c.levels (row_of c.system z i r))
+abbrev pub reading_at : ConfigView → List ℕ → ℕ → ℕ → Reading
+reading_at c z i r = reading_of c.system (row_levels c.levels (line_at c.system z i r))
 
 -- the readings of field i: those of its rows 15, 16 and 17, which are lines 16, 17 and 18
-abbrev pub field_readings : ConfigView → List ℕ → ℕ → FieldReadings
-field_readings c z i = record { first = row_reading c z i 15; second = row_reading c z i 16; third = row_reading c z i 17 }
+abbrev pub readings_at : ConfigView → List ℕ → ℕ → FieldReadings
+readings_at c z i =
+    record { first = reading_at c z i 15; second = reading_at c z i 16; third = reading_at c z i 17 }
 
 -- how many of the rows 15, 16 and 17 are among the rows of f fields and r rows more
 abbrev pub selected : ℕ → ℕ → ℕ

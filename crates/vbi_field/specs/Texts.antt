@@ -1,12 +1,13 @@
--- The text that is written for a TBC stream, for any kind of text: its head, an entry for each whole field, and its tail.
+-- The text that is written for a TBC stream, for any kind of text: its head, an entry for each whole field, and its
+-- tail.
 use Rattle.std.specs.Prelude.{◌≡◌, ℕ, ◌+◌, ◌==◌, if◌then◌else◌, List, [], ◌++◌}
 use Rattle.std.specs.List.{join_by, range_with_len}
 use Rattle.vbi_field.specs.ConfigView.{ConfigView}
-use Rattle.vbi_field.specs.Stream.{fields_of, rest_of, field_readings}
+use Rattle.vbi_field.specs.Stream.{fields_of, rest_of, readings_at}
 use Rattle.vbi_field.specs.declared.readings.FieldReadings.{FieldReadings}
 
--- A kind of text: what stands first; what stands between two entries; the entry of a field, by its number from 1 and its
--- readings; what stands last, by the number of whole fields and the bytes past them.
+-- A kind of text: what stands first; what stands between two entries; the entry of a field, by its number from 1 and
+-- its readings; what stands last, by the number of whole fields and the bytes past them.
 pub record Texts : Type 0 where
   pub head : ConfigView → List ℕ
   pub joint : List ℕ
@@ -15,20 +16,21 @@ pub record Texts : Type 0 where
 
 -- the entry of field i of a stream, i from 0
 abbrev pub entry_of : Texts → ConfigView → List ℕ → ℕ → List ℕ
-entry_of t c z i = t.entry (i + 1) (field_readings c z i)
+entry_of t c z i = t.entry (i + 1) (readings_at c z i)
 
 -- the head, and the entries of the whole fields in order, joined
-unfoldable pub begun_of : Texts → ConfigView → List ℕ → List ℕ
-begun_of t c z = t.head c ++ join_by (entry_of t c z) t.joint (range_with_len 0 (fields_of c z))
+unfoldable pub text_before_tail : Texts → ConfigView → List ℕ → List ℕ
+text_before_tail t c z = t.head c ++ join_by (entry_of t c z) t.joint (range_with_len 0 (fields_of c z))
 
 -- the whole text of a stream that ended
-abbrev pub document_of : Texts → ConfigView → List ℕ → List ℕ
-document_of t c z = begun_of t c z ++ t.tail (fields_of c z) (rest_of c z)
+abbrev pub whole_text : Texts → ConfigView → List ℕ → List ℕ
+whole_text t c z = text_before_tail t c z ++ t.tail (fields_of c z) (rest_of c z)
 
 -- the text of a longer stream is longer by these bytes
-abbrev pub Completes : Texts → ConfigView → List ℕ → List ℕ → List ℕ → Type 0
-Completes t c z longer text = begun_of t c z ++ text ≡ begun_of t c longer
+abbrev pub IsTextBetween : Texts → ConfigView → List ℕ → List ℕ → List ℕ → Type 0
+IsTextBetween t c z longer text = text_before_tail t c z ++ text ≡ text_before_tail t c longer
 
--- what is written for a field when it is whole, where so many fields came before it: the joint, if there is an entry before, and the entry
+-- what is written for a field when it is whole, where so many fields came before it: the joint, if there is an entry
+-- before, and the entry
 abbrev pub joined_entry_of : Texts → ℕ → FieldReadings → List ℕ
 joined_entry_of t before readings = (if before == 0 then [] else t.joint) ++ t.entry (before + 1) readings

@@ -2,11 +2,13 @@
 ghost use Rattle.std.specs.Prelude.{◌≡◌, ◌*◌, ◌<◌, ◌≤◌, ◌↔◌, ◌⊎◌, IfOk, Err};
 ghost use Rattle.vbi_words.specs.Geometry.{height_of, line_bytes};
 
+use std::error::Error;
+use std::fmt;
 use std::marker::Model;
 use vbi_words::{Levels, System};
 
-/// The greatest number of fields that can be allowed.
-const FIELDS_LIMIT: u32 = 1_000_000;
+/// The greatest number of fields that can be allowed in a run: some ten times those of a disc's side.
+pub const MAX_FIELDS_LIMIT: u32 = 1_000_000;
 
 /// Why there is no `Config`.
 #[derive(Clone, Copy, Debug, PartialEq, Eq)]
@@ -14,6 +16,16 @@ pub enum ConfigFault {
     /// The number of fields isn't from 1 to 1,000,000.
     BadMaxFields,
 }
+
+impl fmt::Display for ConfigFault {
+    fn fmt<W: fmt::Write>(&self, f: &mut fmt::Formatter<W>) -> fmt::Result {
+        match self {
+            ConfigFault::BadMaxFields => write!(f, "max fields is not from 1 to 1000000"),
+        }
+    }
+}
+
+impl Error for ConfigFault {}
 
 /// A system, its levels, and how many fields a run may have.
 #[derive(Clone, Copy, Debug)]
@@ -42,7 +54,7 @@ impl Config {
         ensures ok { IfOk result (λ c. c ≡ record { system = system; levels = levels; max_fields = max_fields }) }
         ensures bad_max_fields { (result ≡ Err ConfigFault.BadMaxFields) ↔ ((max_fields < 1) ⊎ (1000000 < max_fields)) }
     {
-        if max_fields < 1 || FIELDS_LIMIT < max_fields {
+        if max_fields < 1 || MAX_FIELDS_LIMIT < max_fields {
             return Err(ConfigFault::BadMaxFields);
         }
         Ok(Config {

@@ -1,8 +1,8 @@
 //! Fields drawn from rows of words.
 ghost use Rattle.std.specs.Prelude.{◌≡◌, ℕ, ◌+◌, ◌-◌, ◌*◌, ◌^◌, ◌<◌, ◌≤◌, None, length, IfOk, OnOk, OnErr, IfErr};
 ghost use Rattle.vbi_words.specs.Geometry.{line_bytes, height_of};
-ghost use Rattle.vbi_field.specs.Outlet.{failures_of as outlet_failures, errors_of, written_of, HasCause, Wrote, WrotePart};
-ghost use Rattle.vbi_field.specs.Outlet.{IsFresh as IsFreshOutlet, IsSameDevice as IsSameOutlet};
+ghost use Rattle.vbi_field.specs.Outlet.{failures_of as outlet_failures, errors_of, written_of, HasCause, Wrote};
+ghost use Rattle.vbi_field.specs.Outlet.{WrotePart, IsFresh as IsFreshOutlet, IsSameDevice as IsSameOutlet};
 ghost use Rattle.vbi_field.specs.RowIntake.{IsFresh, IsSameDevice};
 ghost use Rattle.vbi_field.specs.Drawing.{drawn_line_of, drawn_field_of, word_at};
 ghost use Rattle.vbi_field.specs.Draws.{RunsDrawing};
@@ -11,6 +11,8 @@ use crate::config::Config;
 use crate::outlet::Outlet;
 use crate::row_intake::{NextByte, NextRow, RowIntake};
 use crate::word_row::WordRow;
+use std::error::Error;
+use std::fmt;
 use std::io::{Read, Write};
 use vbi_words::{LONGEST_LINE, Word24, drawn_sample};
 
@@ -35,6 +37,19 @@ pub enum DrawFault {
     /// A byte followed the last row that is allowed.
     TooManyFields,
 }
+
+impl fmt::Display for DrawFault {
+    fn fmt<W: fmt::Write>(&self, f: &mut fmt::Formatter<W>) -> fmt::Result {
+        match self {
+            DrawFault::Row { number } => write!(f, "row {number} is malformed"),
+            DrawFault::Read { number } => write!(f, "read failed in row {number}"),
+            DrawFault::Write { written } => write!(f, "write failed after {written} bytes"),
+            DrawFault::TooManyFields => write!(f, "too many fields"),
+        }
+    }
+}
+
+impl Error for DrawFault {}
 
 /// The word that a row of a field has.
 fn word_of_row(words: &WordRow, row: usize) -> Option<Word24>
@@ -107,8 +122,8 @@ fn put_field<W: Write>(
     Ok(())
 }
 
-/// Writes the TBC stream of a text of words: a field for each row, as soon as the row was fetched. It answers the number of
-/// fields. The bytes fetched, those written and the answer belong together as `Draws` says. It doesn't flush.
+/// Writes the TBC stream of a text of words: a field for each row, as soon as the row was fetched. It answers the
+/// number of fields. The bytes fetched, those written and the answer belong together as `Draws` says. It doesn't flush.
 pub fn draw<R: Read, W: Write>(
     config: &Config,
     rows: &mut RowIntake<R>,

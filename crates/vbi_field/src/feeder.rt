@@ -7,8 +7,9 @@ ghost use Rattle.vbi_line.specs.Line.{IsFull, Keeps};
 ghost use Rattle.vbi_line.specs.OneReading.{reading_of};
 ghost use Rattle.vbi_field.specs.Document.{head_of};
 ghost use Rattle.vbi_field.specs.Feed.{IsAt, IsFeedFault};
-ghost use Rattle.vbi_field.specs.Outlet.{failures_of, errors_of, written_of, HasCause, IsFresh, IsSameDevice, Rises, Wrote, WrotePart};
-ghost use Rattle.vbi_field.specs.Stand.{IsStand, IsStep, place_of};
+ghost use Rattle.vbi_field.specs.Outlet.{failures_of, errors_of, written_of, HasCause, IsFresh, IsSameDevice, Rises};
+ghost use Rattle.vbi_field.specs.Outlet.{Wrote, WrotePart};
+ghost use Rattle.vbi_field.specs.FeederState.{IsFeederState, IsStep, position_in};
 
 use crate::config::Config;
 use crate::document::Document;
@@ -67,8 +68,8 @@ fn read_held(line: &mut LineBuf, config: &Config, is_selected: bool) -> Reading
     reading
 }
 
-/// Takes the first bytes of a piece, up to the end of a row, and writes the record of a field that is whole now. It answers
-/// how many bytes it took.
+/// Takes the first bytes of a piece, up to the end of a row, and writes the record of a field that is whole now. It
+/// answers how many bytes it took.
 fn take_bytes<W: Write>(
     config: &Config,
     line: &mut LineBuf,
@@ -76,19 +77,20 @@ fn take_bytes<W: Write>(
     bytes: &[u8],
     outlet: &mut Outlet<W>,
 ) -> Result<usize, RunFault>
-    requires stand { IsStand config.now line.old progress.old }
+    requires stand { IsFeederState config.now line.old progress.old }
     requires some { 0 < length bytes.now }
     requires written { written_of outlet.old ≤ 2 ^ 62 }
     requires failures { failures_of outlet.old ≤ 2 ^ 62 }
     ensures same { IsSameDevice outlet.old outlet.new }
-    ensures stand { IsStand config.now line.new progress.new }
+    ensures stand { IsFeederState config.now line.new progress.new }
     ensures some { IfOk result (λ n. (0 < n) × (n ≤ length bytes.now)) }
     ensures rises { Rises outlet.old outlet.new progress.old.fields progress.new.fields }
     ensures no_error { OnOk result (errors_of outlet.new ≡ errors_of outlet.old) }
     ensures fault { IfErr result (IsFeedFault outlet.old outlet.new) }
     ensures calm { result ≢ Err RunFault.Failed }
-    ensures step { (z : List ℕ) → IsAt config.now z (place_of config.now line.old progress.old)
-        → IsStep W.contents config.now outlet.old outlet.new z bytes.now (place_of config.now line.new progress.new) result }
+    ensures step { (z : List ℕ) → IsAt config.now z (position_in config.now line.old progress.old)
+        → IsStep W.contents config.now outlet.old outlet.new z bytes.now
+        (position_in config.now line.new progress.new) result }
 {
     if progress.fields == config.max_fields() {
         return Err(RunFault::TooManyFields);
@@ -101,8 +103,8 @@ fn take_bytes<W: Write>(
     Ok(count)
 }
 
-/// A stream that is pushed in pieces: its config, the bytes of the unfinished row, the readings of the unfinished field, and
-/// whether a piece failed. The records of whole fields are written as they come.
+/// A stream that is pushed in pieces: its config, the bytes of the unfinished row, the readings of the unfinished
+/// field, and whether a piece failed. The records of whole fields are written as they come.
 #[derive(Drop)]
 pub struct Feeder {
     config: Config,
@@ -148,12 +150,13 @@ impl Feeder {
         })
     }
 
-    /// Takes the next piece of the stream, of any length, and writes the record of each field that is whole now. `Write` comes
-    /// where the writer fails, and `TooManyFields` where a byte follows the last field that is allowed, whose records are
-    /// written first. After a fault the feeder answers `Failed` to every call and writes nothing more.
+    /// Takes the next piece of the stream, of any length, and writes the record of each field that is whole now.
+    /// `Write` comes where the writer fails, and `TooManyFields` where a byte follows the last field that is allowed,
+    /// whose records are written first. After a fault the feeder answers `Failed` to every call and writes nothing
+    /// more.
     ///
-    /// One stream goes to one outlet. The clauses speak of any list z of bytes that has come to the feeder's place, as the
-    /// pieces before have; what is written depends on it and the piece alone.
+    /// One stream goes to one outlet. The clauses speak of any list z of bytes that has come to the feeder's place, as
+    /// the pieces before have; what is written depends on it and the piece alone.
     pub fn feed<W: Write>(&mut self, piece: &[u8], outlet: &mut Outlet<W>) -> Result<(), RunFault>
         requires written { written_of outlet.old ≤ 2 ^ 61 }
         requires failures { failures_of outlet.old ≤ 2 ^ 61 }
@@ -206,7 +209,8 @@ impl Feeder {
         ensures few_looks { IfOk result (λ s. s.looked ≤ 6 * width_of self.config.system * (s.fields + 1)) }
         ensures no_error { OnOk result (errors_of outlet.new ≡ errors_of outlet.old) }
         ensures fault { IfErr result (IsEndFault outlet.old outlet.new) }
-        ensures finished { (z : List ℕ) → StandsAt self z → IsFinished W.contents self.config outlet.old outlet.new z result }
+        ensures finished { (z : List ℕ) → StandsAt self z
+            → IsFinished W.contents self.config outlet.old outlet.new z result }
     {
         if self.has_failed {
             return Err(RunFault::Failed);

@@ -3,20 +3,21 @@
 ghost use Rattle.std.specs.Prelude.{◌≡◌, ◌↔◌, ℕ, ◌+◌, ◌*◌, ◌<◌, ◌≤◌, ◌⊎◌, List, length, take, Option, Some, slice_get};
 ghost use Rattle.std.specs.Io.KnownBytes.{Consumes, IsAtEnd};
 ghost use Rattle.vbi_words.specs.Geometry.{width_of, field_bytes};
-ghost use Rattle.vbi_field.specs.ByLines.{FieldReads, IsDocument};
+ghost use Rattle.vbi_field.specs.ByLines.{FieldReads, IsWholeText};
 ghost use Rattle.vbi_field.specs.Extracts.{EndsWithin};
 ghost use Rattle.vbi_field.specs.Ran.{IsFirstOf};
 ghost use Rattle.vbi_field.specs.ConfigView.{ConfigView};
 ghost use Rattle.vbi_field.specs.Stream.{fields_of, rest_of, looks_of};
-ghost use Rattle.vbi_field.specs.Texts.{Texts, begun_of, document_of};
+ghost use Rattle.vbi_field.specs.Texts.{Texts, text_before_tail, whole_text};
 ghost use Rattle.vbi_field.specs.WordRows.{IsWordRow, AreRows, word_row_of};
 ghost use Rattle.vbi_field.specs.Drawing.{draw_out};
 ghost use Rattle.vbi_field.specs.DrawnReadings.{AreDrawable, drawn_readings, drawn_text};
 ghost use Rattle.vbi_field.specs.declared.word_row.WordRow.{WordRow};
 
-/// A stream has one document and one report, fixed by the config and the bytes alone: those that its lines' readings give.
+/// A stream has one document and one report, fixed by the config and the bytes alone: those that its lines' readings
+/// give.
 pub fn one_document()
-    ensures { (t : Texts) (c : ConfigView) (z text : List ℕ) → (IsDocument t c z text ↔ (text ≡ document_of t c z)) }
+    ensures { (t : Texts) (c : ConfigView) (z text : List ℕ) → (IsWholeText t c z text ↔ (text ≡ whole_text t c z)) }
 {}
 
 /// A row stands for these words exactly where it is their three items with one space between two of them.
@@ -24,7 +25,8 @@ pub fn one_word_row()
     ensures { (row : List ℕ) (words : WordRow) → (word_row_of row ≡ Some words) ↔ IsWordRow row words }
 {}
 
-/// Field i of a drawn stream, counted from 0, is read as the words of its row in the first pass, and as blank where there is none.
+/// Field i of a drawn stream, counted from 0, is read as the words of its row in the first pass, and as blank where
+/// there is none.
 pub fn drawn_field()
     ensures { (c : ConfigView) (rows : List WordRow) (i : ℕ) (words : WordRow) → c.levels.black < c.levels.white
         → slice_get rows i ≡ Some words → AreDrawable words → FieldReads c (draw_out c rows) i (drawn_readings words) }
@@ -32,7 +34,8 @@ pub fn drawn_field()
 
 /// The rows of a text stand for words or none, so they are read again from the stream that is drawn of them.
 pub fn drawn_rows()
-    ensures { (c : ConfigView) (text : List ℕ) (rows : List WordRow) (i : ℕ) (words : WordRow) → c.levels.black < c.levels.white
+    ensures { (c : ConfigView) (text : List ℕ) (rows : List WordRow) (i : ℕ) (words : WordRow)
+        → c.levels.black < c.levels.white
         → AreRows text rows → slice_get rows i ≡ Some words → FieldReads c (draw_out c rows) i (drawn_readings words) }
 {}
 
@@ -41,16 +44,17 @@ pub fn drawn_length()
     ensures { (c : ConfigView) (rows : List WordRow) → length (draw_out c rows) ≡ length rows * field_bytes c.system }
 {}
 
-/// The document or the report of the stream that is drawn of a text's rows has an entry for each row, with its words in the first
-/// pass and blank where it has none, and no cut field.
+/// The document or the report of the stream that is drawn of a text's rows has an entry for each row, with its words in
+/// the first pass and blank where it has none, and no cut field.
 pub fn drawn_document()
     ensures { (t : Texts) (c : ConfigView) (text : List ℕ) (rows : List WordRow) → c.levels.black < c.levels.white
-        → AreRows text rows → document_of t c (draw_out c rows) ≡ drawn_text t c rows }
+        → AreRows text rows → whole_text t c (draw_out c rows) ≡ drawn_text t c rows }
 {}
 
-/// The bytes that came are the first of those that the reader had, and all of them where it is at its end.
+/// The bytes fetched are the first of those that the reader had, and all of them where it is at its end.
 pub fn whole_stream()
-    ensures first { (all z : List ℕ) (input : Option (List ℕ)) → Consumes (Some all) input z → (length z ≤ length all) × (z ≡ take (length z) all) }
+    ensures first { (all z : List ℕ) (input : Option (List ℕ)) → Consumes (Some all) input z
+        → (length z ≤ length all) × (z ≡ take (length z) all) }
     ensures whole { (all z : List ℕ) (input : Option (List ℕ)) → Consumes (Some all) input z → IsAtEnd input → z ≡ all }
 {}
 
@@ -59,15 +63,16 @@ pub fn few_looks()
     ensures { (c : ConfigView) (z : List ℕ) → looks_of c z ≤ 3 * width_of c.system * (fields_of c z + 1) }
 {}
 
-/// A text that ends inside a piece is the first of the text of the whole fields, or of the whole text where the reader ended.
+/// A text that a failed writer cut inside the head, an entry or the tail is a first part of the text of the whole fields,
+/// or, where the reader ended, of the whole text.
 pub fn first_of_text()
     ensures { (t : Texts) (c : ConfigView) (input : Option (List ℕ)) (z text : List ℕ) → EndsWithin t c input z text
-        → IsFirstOf text (begun_of t c z) ⊎ (IsAtEnd input × IsFirstOf text (document_of t c z)) }
+        → IsFirstOf text (text_before_tail t c z) ⊎ (IsAtEnd input × IsFirstOf text (whole_text t c z)) }
 {}
 
-/// A text that ends inside a piece has all that was due before: no byte had come past the whole fields, or the reader had ended and
-/// the texts of all whole fields were written.
+/// A text that a failed writer cut inside the head, an entry or the tail has all that was due before: no byte past the
+/// whole fields was fetched yet, or the reader had ended and the texts of all whole fields were written.
 pub fn prompt()
     ensures { (t : Texts) (c : ConfigView) (input : Option (List ℕ)) (z text : List ℕ) → EndsWithin t c input z text
-        → (rest_of c z ≡ 0) ⊎ (IsAtEnd input × (length (begun_of t c z) ≤ length text)) }
+        → (rest_of c z ≡ 0) ⊎ (IsAtEnd input × (length (text_before_tail t c z) ≤ length text)) }
 {}

@@ -1,7 +1,8 @@
-//! The fields of a TBC stream: the document and the report that are written for it, pulled from a reader or pushed in pieces,
-//! and test fields drawn from a text of words. Stands on `vbi_words`, `vbi_line`, `itoa` and `arrayvec`. What is written is
-//! exactly the text of `specs/` for the bytes that came, however they were cut; a fault comes only where a device failed or the
-//! input is at fault, and says what was written. One line is held at a time, each byte is fetched once, and nothing allocates.
+//! The fields of a TBC stream: the document and the report that are written for it, pulled from a reader or pushed in
+//! pieces, and test fields drawn from a text of words. Stands on `vbi_words`, `vbi_line`, `itoa` and `arrayvec`. What
+//! is written is exactly the text of `specs/` for the bytes that came, however they were cut; a fault comes only where
+//! a device failed or the input is at fault, and says what was written. One line is held at a time, each byte is
+//! fetched once, and nothing allocates.
 #![tactic(auto)]
 
 mod cause_texts;
@@ -24,7 +25,7 @@ mod word_row;
 
 pub use cause_texts::cause_text;
 pub use code_texts::{code_text, hex_text};
-pub use config::{Config, ConfigFault};
+pub use config::{Config, ConfigFault, MAX_FIELDS_LIMIT};
 pub use drawing::{DrawFault, draw};
 pub use feeder::Feeder;
 pub use outlet::{Outlet, OutletFault};

@@ -1,5 +1,6 @@
 //! How far a stream has come in whole rows. A stream that is pulled and one that is pushed both advance by this.
-ghost use Rattle.std.specs.Prelude.{◌≡◌, ◌+◌, ◌*◌, ◌^◌, ◌↔◌, IsTrue, ◌<◌, ◌≤◌, List, ℕ, length, MatchOption, OnOk, OnErr, IfErr};
+ghost use Rattle.std.specs.Prelude.{◌≡◌, ◌+◌, ◌*◌, ◌^◌, ◌↔◌, IsTrue, ◌<◌, ◌≤◌, List, ℕ, length, MatchOption, OnOk};
+ghost use Rattle.std.specs.Prelude.{OnErr, IfErr};
 ghost use Rattle.vbi_words.specs.Geometry.{height_of, line_bytes};
 ghost use Rattle.vbi_field.specs.Outlet.{failures_of, errors_of, written_of, HasCause, IsSameDevice, Rises};
 ghost use Rattle.vbi_field.specs.Progress.{Keeps};
@@ -41,7 +42,7 @@ fn keep_reading(readings: &mut FieldReadings, row: usize, reading: Reading)
 }
 
 impl Progress {
-    ghost use Rattle.vbi_field.specs.Progress.{IsPosition, IsRowOf, IsNextRow, AdvancesOver, Settles};
+    ghost use Rattle.vbi_field.specs.Progress.{IsProgress, IsLineOf, MovesOneRow, AdvancesOver, Settles};
 
     /// Before the first row.
     pub(crate) fn new() -> Self
@@ -82,9 +83,10 @@ impl Progress {
         ensures inside { self.new.row < height_of config.now.system }
         ensures counts { MatchOption result
             ((self.new.fields ≡ self.old.fields) × (self.new.row ≡ self.old.row + 1))
-            (λ _. (self.new.fields ≡ self.old.fields + 1) × (self.new.row ≡ 0) × (self.old.row + 1 ≡ height_of config.now.system)) }
-        ensures over { (z b : List ℕ) → IsPosition config.now z self.old
-            → IsRowOf config.now b self.old.row reading
+            (λ _. (self.new.fields ≡ self.old.fields + 1) × (self.new.row ≡ 0)
+            × (self.old.row + 1 ≡ height_of config.now.system)) }
+        ensures over { (z b : List ℕ) → IsProgress config.now z self.old
+            → IsLineOf config.now b self.old.row reading
             → AdvancesOver config.now z b self.old result self.new }
     {
         keep_reading(&mut self.readings, self.row, reading);
@@ -110,14 +112,14 @@ impl Progress {
         requires failures { failures_of outlet.old ≤ 2 ^ 62 }
         ensures same { IsSameDevice outlet.old outlet.new }
         ensures inside { self.new.row < height_of config.now.system }
-        ensures next { IsNextRow config.now self.old self.new }
+        ensures next { MovesOneRow config.now self.old self.new }
         ensures rises { Rises outlet.old outlet.new self.old.fields self.new.fields }
         ensures no_error { OnOk result (errors_of outlet.new ≡ errors_of outlet.old) }
         ensures failed { OnErr result (HasCause outlet.old outlet.new) }
         ensures field { OnErr result (self.new.row ≡ 0) }
         ensures fault { IfErr result (λ e. e ≡ RunFault.Write (written_of outlet.new)) }
-        ensures settles { (z b : List ℕ) → IsPosition config.now z self.old
-            → IsRowOf config.now b self.old.row reading
+        ensures settles { (z b : List ℕ) → IsProgress config.now z self.old
+            → IsLineOf config.now b self.old.row reading
             → Settles F.texts W.contents config.now outlet.old outlet.new z b self.new result }
     {
         if let Some(readings) = self.advance(config, reading) {

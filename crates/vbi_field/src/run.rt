@@ -100,9 +100,10 @@ fn run<F: Form, R: Read, W: Write>(
     }
 }
 
-/// Writes the document of the stream that the intake reads: the head before the first read, the record of each field as soon as
-/// it is whole, and the tail at the end. The bytes fetched, the text and the answer belong together as `Extracts` says; where
-/// the reader tells its bytes, those fetched are the first of them, and after Ok all of them. It doesn't flush.
+/// Writes the document of the stream that the intake reads: the head before the first read, the record of each field as
+/// soon as it is whole, and the tail at the end. The bytes fetched, the text and the answer belong together as
+/// `Extracts` says; where the reader tells its bytes, those fetched are the first of them, and after Ok all of them. It
+/// doesn't flush.
 pub fn extract<R: Read, W: Write>(
     config: &Config,
     intake: &mut Intake<R>,
@@ -117,8 +118,9 @@ pub fn extract<R: Read, W: Write>(
     run::<Document, R, W>(config, intake, outlet)
 }
 
-/// Writes the report of the stream that the intake reads: the first line before the first read, the four lines of each field as
-/// soon as it is whole, and the last line at the end. The clauses are those of `extract` with the report's texts.
+/// Writes the report of the stream that the intake reads: the first line before the first read, the four lines of each
+/// field as soon as it is whole, and the last line at the end. The clauses are those of `extract` with the report's
+/// texts.
 pub fn show<R: Read, W: Write>(
     config: &Config,
     intake: &mut Intake<R>,

@@ -1,5 +1,8 @@
 //! How a run ends.
 
+use std::error::Error;
+use std::fmt;
+
 /// What a run did that went to the end of its stream.
 #[derive(Clone, Copy, Debug, PartialEq, Eq)]
 pub struct Summary {
@@ -31,3 +34,19 @@ pub enum RunFault {
     /// A feeder was used after a fault. No other call answers it.
     Failed,
 }
+
+impl fmt::Display for RunFault {
+    fn fmt<W: fmt::Write>(&self, f: &mut fmt::Formatter<W>) -> fmt::Result {
+        match self {
+            RunFault::Read { field, offset } => write!(
+                f,
+                "read failed in field {field} at byte {offset}"
+            ),
+            RunFault::Write { written } => write!(f, "write failed after {written} bytes"),
+            RunFault::TooManyFields => write!(f, "too many fields"),
+            RunFault::Failed => write!(f, "feeder failed before"),
+        }
+    }
+}
+
+impl Error for RunFault {}

@@ -1,6 +1,6 @@
-//! How often the devices of a run are asked. A reader that gives one byte a read is asked once for each, and once more for its end
-//! or for an error; a writer of one byte a write once for each, and once more where it fails. No run asks again after these, past
-//! the last field that is allowed neither.
+//! How often the devices of a run are asked. A reader that gives one byte a read is asked once for each, and once more
+//! for its end or for an error; a writer of one byte a write once for each, and once more where it fails. No run asks
+//! again after these, past the last field that is allowed neither.
 
 use crate::feeding::pushed;
 use crate::fields::{NONE, config, field, front, two_fields};
@@ -35,7 +35,8 @@ const FIELD: usize = 478660;
 /// The bytes of two fields.
 const ALL: usize = 957320;
 
-/// The limit of fields, the bytes of the stream, after how many of them the reader fails, the answer, and how often it is asked.
+/// The limit of fields, the bytes of the stream, after how many of them the reader fails, the answer, and how often it
+/// is asked.
 const READERS: [(u32, usize, Option<usize>, Ended, u64); 11] = [
     (5, 0, None, EMPTY, 1),
     (5, 1, None, CUT, 2),

@@ -17,8 +17,8 @@ const FIRST: Ended = Err(DrawFault::Row { number: 1 });
 
 const SECOND: Ended = Err(DrawFault::Row { number: 2 });
 
-/// A text, the limit of fields, the answer, the bytes fetched, how often the reader was asked (for each byte, and where the end is
-/// met once more), and the bytes written, of NTSC.
+/// A text, the limit of fields, the answer, the bytes fetched, how often the reader was asked (for each byte, and where
+/// the end is met once more), and the bytes written, of NTSC.
 const ROWS: [(&[u8], u32, Ended, u64, u64, u64); 16] = [
     (b"", 9, Ok(0), 0, 1, 0),
     (b"82CFFF - -", 9, Ok(1), 10, 11, FIELD),
@@ -45,7 +45,8 @@ const ROWS: [(&[u8], u32, Ended, u64, u64, u64); 16] = [
     (b"- - -\n\n", 9, SECOND, 7, 7, FIELD),
 ];
 
-/// Asserts that drawing a text of words answers so, and that the writer took the bytes that were counted and wasn't flushed.
+/// Asserts that drawing a text of words answers so, and that the writer took the bytes that were counted and wasn't
+/// flushed.
 fn draws(rt: &impl Abort, config: &Config, words: Tape, mut paper: Paper, answer: Drawn) {
     assert_eq!(rt; drew(config, words, &mut paper), answer);
     assert!(rt; paper.taken.len() as u64 == answer.written, "{answer:?}");
@@ -115,7 +116,8 @@ fn a_writer_that_cuts_and_interrupts_gets_the_same_field(rt: HostRuntime) -> Res
     Ok(())
 }
 
-/// The bytes of two good rows that come before the fault, the limit of fields, the row of the fault and the bytes written.
+/// The bytes of two good rows that come before the fault, the limit of fields, the row of the fault and the bytes
+/// written.
 const READ_FAULTS: [(usize, u32, u32, u64); 5] = [
     (0, 9, 1, 0),
     (20, 9, 1, 0),
@@ -141,8 +143,8 @@ fn a_read_fault_leaves_whole_fields(rt: HostRuntime) -> Result<(), Fail> {
     Ok(())
 }
 
-/// How a writer is set that takes 1,000 bytes of a field: the most of a write, the interruptions before each, and how often it is
-/// asked until it fails.
+/// How a writer is set that takes 1,000 bytes of a field: the most of a write, the interruptions before each, and how
+/// often it is asked until it fails.
 const WRITE_FAULTS: [(usize, usize, u64); 3] = [(1_000_000, 0, 2), (1, 0, 1001), (8, 2, 378)];
 
 #[test]
@@ -283,7 +285,8 @@ const PAL_SAMPLES: [Point; 7] = [
     (16, 207, BLACK),
 ];
 
-// The boundaries of half cells of one microsecond from column 150 or 190 on: floor(j * 315 / 22) and floor(j * 709379 / 40000).
+// The boundaries of half cells of one microsecond from column 150 or 190 on: floor(j * 315 / 22) and floor(j * 709379 /
+// 40000).
 #[test]
 fn half_cells_are_drawn_from_boundary_to_boundary(rt: HostRuntime) -> Result<(), Fail> {
     draws_samples(

@@ -10,7 +10,8 @@ use vbi_words::System;
 
 type Ended = Result<Summary, RunFault>;
 
-/// Bytes of two black fields that come before the fault, its field and offset, and the bytes written of a document and of a report.
+/// Bytes of two black fields that come before the fault, its field and offset, and the bytes written of a document and
+/// of a report.
 const READ_FAULTS: [(usize, u32, u32, u64, u64); 7] = [
     (0, 1, 0, 135, 44),
     (1, 1, 1, 135, 44),
@@ -67,7 +68,8 @@ fn a_read_fault_has_its_field_and_offset(rt: HostRuntime) -> Result<(), Fail> {
     Ok(())
 }
 
-/// How the run over black fields ends where the writer takes so many bytes, and then fails; the head has `head` of them.
+/// How the run over black fields ends where the writer takes so many bytes, and then fails; the head has `head` of
+/// them.
 fn unwritten(room: u32, head: u32) -> Done {
     let written = u64::from(room);
     Done {
@@ -178,8 +180,8 @@ const READ_FAULT: Ended = Err(RunFault::Read {
 
 const WRITE_FAULT: Ended = Err(RunFault::Write { written: 0 });
 
-/// The interruptions before the first read and before the first write, each of which is a failure, the most bytes of a write, and
-/// how the run over a black field then ends: its result, the bytes fetched and those written.
+/// The interruptions before the first read and before the first write, each of which is a failure, the most bytes of a
+/// write, and how the run over a black field then ends: its result, the bytes fetched and those written.
 const INTERRUPTIONS: [(usize, usize, usize, Ended, u64, u64); 5] = [
     (16, 0, 1_000_000, BLACK_FIELD, 478660, 247),
     (17, 0, 1_000_000, READ_FAULT, 0, 135),

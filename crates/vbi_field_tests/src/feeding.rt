@@ -185,8 +185,8 @@ fn after_a_fault(
     })
 }
 
-/// The bytes that come beside a black field, those after which the writer fails, the fault, the bytes written one by one, and how
-/// often the writer was asked for these, in all calls.
+/// The bytes that come beside a black field, those after which the writer fails, the fault, the bytes written one by
+/// one, and how often the writer was asked for these, in all calls.
 const FAULTS: [(usize, Option<usize>, RunFault, u64, u64); 2] = [
     (0, Some(150), RunFault::Write { written: 150 }, 150, 151),
     (1, None, RunFault::TooManyFields, 227, 227),

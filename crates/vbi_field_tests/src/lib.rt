@@ -1,6 +1,6 @@
-//! Tests of `vbi_field` through its public calls: the texts of words, causes and codes, documents and reports of known streams,
-//! pulled and pushed, drawn fields, and what stands after a device failed. The expected values are those of tables and of
-//! arithmetic. It is a crate of its own, since a crate with tests is proved twice.
+//! Tests of `vbi_field` through its public calls: the texts of words, causes and codes, documents and reports of known
+//! streams, pulled and pushed, drawn fields, and what stands after a device failed. The expected values are those of
+//! tables and of arithmetic. It is a crate of its own, since a crate with tests is proved twice.
 #![tactic(auto)]
 
 #[cfg(test)]

@@ -7,11 +7,12 @@ type Answer = Result<(), OutletFault>;
 
 const WRITE: Answer = Err(OutletFault::Write);
 
-/// What a call of `put_all` answers, how many bytes are then written and failures counted, and how often the writer was asked.
+/// What a call of `put_all` answers, how many bytes are then written and failures counted, and how often the writer was
+/// asked.
 type Told = (Answer, u64, u64, u64);
 
-/// How a writer is set: the most of a write, the interruptions before the first and before each other, and the bytes after which it
-/// fails; and what six bytes tell.
+/// How a writer is set: the most of a write, the interruptions before the first and before each other, and the bytes
+/// after which it fails; and what six bytes tell.
 const WRITERS: [(usize, usize, usize, Option<usize>, Told); 8] = [
     (6, 0, 0, None, (Ok(()), 6, 0, 1)),
     (1, 0, 0, None, (Ok(()), 6, 0, 6)),

@@ -23,8 +23,8 @@ fn read(rt: &impl Abort, counted: &mut Counted<Tape>, room: &mut [u8]) -> Told {
     told(counted.read_once(room), counted)
 }
 
-/// How a writer is set: its interruptions, the bytes before it fails, and whether it then takes none in place of an error; what it
-/// tells of three bytes and of three more, and what it took.
+/// How a writer is set: its interruptions, the bytes before it fails, and whether it then takes none in place of an
+/// error; what it tells of three bytes and of three more, and what it took.
 const WRITERS: [(usize, Option<usize>, bool, [Told; 2], &[u8]); 4] = [
     (0, None, false, [(Ok(3), 0, 0), (Ok(3), 0, 0)], b"abcabc"),
     (

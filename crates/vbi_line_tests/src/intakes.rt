@@ -35,8 +35,8 @@ fn the_stored_line_is_text(rt: HostRuntime) {
     }
 }
 
-/// How a reader of the stored line is set: the bytes that it has of it, the most of a read, the interruptions before the first
-/// read and before each other one, and after how many bytes it fails once.
+/// How a reader of the stored line is set: the bytes that it has of it, the most of a read, the interruptions before
+/// the first read and before each other one, and after how many bytes it fails once.
 #[derive(Clone, Copy)]
 struct Setting {
     bytes: usize,
@@ -60,7 +60,8 @@ const FULL: Answer = Ok(Filled::Full);
 
 const READ: Answer = Err(IntakeFault::Read);
 
-/// What a call of `fill_line` answers, how many bytes are then held and fetched, and how many failures and errors are counted.
+/// What a call of `fill_line` answers, how many bytes are then held and fetched, and how many failures and errors are
+/// counted.
 type Told = (Answer, usize, u64, u64);
 
 /// A reader, what the first call tells and what a second one does, and how often the reader was asked in all.

@@ -1,6 +1,6 @@
-//! Tests of `vbi_words` and `vbi_line` through their public calls: codes and boundaries of known words, lines with what they show,
-//! and how a line is filled from devices that cut, interrupt, fail and end. The expected values are those of tables and of
-//! arithmetic. It is a crate of its own, since a crate with tests is proved twice.
+//! Tests of `vbi_words` and `vbi_line` through their public calls: codes and boundaries of known words, lines with what
+//! they show, and how a line is filled from devices that cut, interrupt, fail and end. The expected values are those of
+//! tables and of arithmetic. It is a crate of its own, since a crate with tests is proved twice.
 #![tactic(auto)]
 
 #[cfg(test)]

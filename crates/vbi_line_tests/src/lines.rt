@@ -204,7 +204,8 @@ fn a_sample_midway_is_low(rt: HostRuntime) {
     );
 }
 
-/// The passes and looks of a line with a high sample in column 0, after `read_line` and, on another, after `read_twice`.
+/// The passes and looks of a line with a high sample in column 0, after `read_line` and, on another, after
+/// `read_twice`.
 fn looks_of(system: System) -> [(usize, usize); 2] {
     let levels = levels_of(system);
     let mut samples = [levels.black(); 1135];

@@ -19,8 +19,8 @@ use Rattle.vbi_words.specs.declared.system.System.TheVariants.{Ntsc, Pal}
 use Rattle.vbi_words.specs.Geometry.{field_bytes}
 use Rattle.vbi_field.specs.ConfigView.{ConfigView}
 use Rattle.vbi_field.specs.Kinds.{document}
-use Rattle.vbi_field.specs.Stream.{fields_of, rest_of, field_readings}
-use Rattle.vbi_field.specs.Texts.{begun_of, document_of}
+use Rattle.vbi_field.specs.Stream.{fields_of, rest_of, readings_at}
+use Rattle.vbi_field.specs.Texts.{text_before_tail, whole_text}
 use Rattle.vbi_meta.specs.DocumentValue.{IsOfRun, document_value}
 use Rattle.vbi_meta.specs.Metadata.{most_bytes, IsMetadata}
 use Rattle.vbi_meta.specs.ReadBack.{IsReadAs}
@@ -87,10 +87,10 @@ small_rest Pal bytes = omega arith
 -- ---- the document
 
 pub document_is_read : (c : ConfigView) (z : List ℕ) → IsOfRun c z
-    → IsReadAs (document_of document c z) (document_value c z)
-unfolding begun_of
+    → IsReadAs (whole_text document c z) (document_value c z)
+unfolding text_before_tail
 document_is_read c z run =
-    let readings = field_readings c z in
+    let readings = readings_at c z in
     let fields = fields_of c z in
     let rest = rest_of c z in
     let is = range_with_len 0 fields in

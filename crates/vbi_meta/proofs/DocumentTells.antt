@@ -21,8 +21,8 @@ use Rattle.vbi_field.specs.CauseTexts.{cause_text_of}
 use Rattle.vbi_field.specs.ConfigView.{ConfigView}
 use Rattle.vbi_field.specs.Document.{value_of}
 use Rattle.vbi_field.specs.Kinds.{document}
-use Rattle.vbi_field.specs.Stream.{fields_of, rest_of, row_of, row_reading, field_readings}
-use Rattle.vbi_field.specs.Texts.{document_of}
+use Rattle.vbi_field.specs.Stream.{fields_of, rest_of, line_at, reading_at, readings_at}
+use Rattle.vbi_field.specs.Texts.{whole_text}
 use Rattle.vbi_meta.specs.DocumentValue.{IsOfRun, document_value, field_value, cut_field_value, cut_value}
 use Rattle.vbi_meta.specs.Metadata.{most_bytes, IsMetadata, IsUnread}
 use Rattle.vbi_meta.specs.ReadBack.{IsReadAs, field_in, word_in, cut_in, TellsLine, TellsCut, ShowsWord, Tells}
@@ -67,10 +67,10 @@ pass_of_field k field = option_and_then whole (option_and_then (at k) (member_of
 module _ (c : ConfigView) (z : List ℕ) where
   -- field i as a value
   abbrev field : ℕ → Data
-  field i = field_value (i + 1) (field_readings c z i)
+  field i = field_value (i + 1) (readings_at c z i)
 
   abbrev told : ℕ → ℕ → Reading
-  told i k = row_reading c z i (15 + k)
+  told i k = reading_at c z i (15 + k)
 
   word_there : (i k : ℕ) → k < 3 → word_of_field k (Some (field i)) ≡ Some (value_of (told i k).outcome)
   word_there i zero h = refl
@@ -164,7 +164,7 @@ module _ (c : ConfigView) (z text : List ℕ) (is : read text ≡ Some (document
       → TellsLine text i k reading
   tells_line i k reading inside line reads =
       let same : reading ≡ told c z i k = only_reading c.system
-      (row_levels c.levels (row_of c.system z i (15 + k))) reading reads in
+      (row_levels c.levels (line_at c.system z i (15 + k))) reading reads in
       subst (TellsLine text i k) (sym same) (tells_told i k inside line)
 
   shows_word : (i k word : ℕ) → word_in text i k ≡ Some word → 0 < word → ShowsWord c z i k word
@@ -178,7 +178,7 @@ module _ (c : ConfigView) (z text : List ℕ) (is : read text ≡ Some (document
           ∙ e) in
           absurd (omega arith)
       go (inl inside) (inl line) =
-          let levels = row_levels c.levels (row_of c.system z i (15 + k)) in
+          let levels = row_levels c.levels (line_at c.system z i (15 + k)) in
           let reading = told c z i k in
           let same : value_of reading.outcome ≡ word = ap value_or (sym (word_found i k inside line) ∙ e) in
           record {
@@ -210,7 +210,7 @@ module _ (c : ConfigView) (z text : List ℕ) (is : read text ≡ Some (document
 
 -- ---- a text that is the document of a stream
 
-pub extracted : (c : ConfigView) (z text : List ℕ) → IsOfRun c z → text ≡ document_of document c z → ReadsBack c z text
+pub extracted : (c : ConfigView) (z text : List ℕ) → IsOfRun c z → text ≡ whole_text document c z → ReadsBack c z text
 extracted c z text run e =
     let is : IsReadAs text (document_value c z) = subst (λ t. IsReadAs t (document_value c z)) (sym e)
     (document_is_read c z run) in
@@ -220,7 +220,7 @@ extracted c z text run e =
       metadata = is_metadata text (document_value c z) is;
     }
 
-pub document_is_metadata : (c : ConfigView) (z text : List ℕ) → IsOfRun c z → text ≡ document_of document c z
+pub document_is_metadata : (c : ConfigView) (z text : List ℕ) → IsOfRun c z → text ≡ whole_text document c z
     → length text ≤ most_bytes
     → IsMetadata text (document_value c z)
 document_is_metadata c z text run e short = (extracted c z text run e).metadata short
@@ -228,13 +228,13 @@ document_is_metadata c z text run e short = (extracted c z text run e).metadata 
 same_some : (a b : Data) → Some a ≡ Some b → a ≡ b
 same_some a b e = cc
 
-pub only_value : (c : ConfigView) (z text : List ℕ) (value : Data) → IsOfRun c z → text ≡ document_of document c z
+pub only_value : (c : ConfigView) (z text : List ℕ) (value : Data) → IsOfRun c z → text ≡ whole_text document c z
     → IsMetadata text value → value ≡ document_value c z
 only_value c z text value run e is =
     same_some value (document_value c z) (sym is.reading ∙ (extracted c z text run e).is_read.value_of_text)
 
 -- the reasons for which a document that is short enough isn't read
-pub only_memory : (c : ConfigView) (z text : List ℕ) (fault : MetaFault) → IsOfRun c z → text ≡ document_of document c z
+pub only_memory : (c : ConfigView) (z text : List ℕ) (fault : MetaFault) → IsOfRun c z → text ≡ whole_text document c z
     → length text ≤ most_bytes → IsUnread text fault → fault ≡ OutOfMemory
 only_memory c z text TooLarge run e short unread = absurd (omega arith)
 only_memory c z text NotJson run e short unread =

@@ -23,7 +23,7 @@ use Rattle.vbi_line.proofs.OneReading.{is_reading}
 use Rattle.vbi_field.specs.CauseTexts.{cause_text_of}
 use Rattle.vbi_field.specs.ConfigView.{ConfigView}
 use Rattle.vbi_field.specs.Document.{value_of}
-use Rattle.vbi_field.specs.Stream.{row_of, row_reading, field_readings}
+use Rattle.vbi_field.specs.Stream.{line_at, reading_at, readings_at}
 use Rattle.vbi_field.specs.declared.readings.FieldReadings.{FieldReadings}
 
 -- a reading that a line of a stream can have
@@ -109,16 +109,16 @@ short_line : (system : System) → line_bytes system < 2 ^ 64
 short_line Ntsc = lit< tt
 short_line Pal = lit< tt
 
-short_levels : (c : ConfigView) (z : List ℕ) (i r : ℕ) → length (row_levels c.levels (row_of c.system z i r)) < 2 ^ 64
+short_levels : (c : ConfigView) (z : List ℕ) (i r : ℕ) → length (row_levels c.levels (line_at c.system z i r)) < 2 ^ 64
 short_levels c z i r =
-    let row = row_of c.system z i r in
+    let row = line_at c.system z i r in
     let long : length row ≤ line_bytes c.system =
     omega (arith, length-take (line_bytes c.system) (drop (i * field_bytes c.system + line_bytes c.system * r) z)) in
     omega (arith, length-map (samples_of row) (is_high_of c.levels), samples_below row, short_line c.system)
 
-row_shown : (c : ConfigView) (z : List ℕ) (i r : ℕ) → IsShown (row_reading c z i r)
+row_shown : (c : ConfigView) (z : List ℕ) (i r : ℕ) → IsShown (reading_at c z i r)
 row_shown c z i r =
-    is_shown c.system _ (short_levels c z i r) _ _ (is_reading c.system (row_levels c.levels (row_of c.system z i r)))
+    is_shown c.system _ (short_levels c z i r) _ _ (is_reading c.system (row_levels c.levels (line_at c.system z i r)))
 
-pub field_shown : (c : ConfigView) (z : List ℕ) (i : ℕ) → AreShown (field_readings c z i)
+pub field_shown : (c : ConfigView) (z : List ℕ) (i : ℕ) → AreShown (readings_at c z i)
 field_shown c z i = record { first = row_shown c z i 15; second = row_shown c z i 16; third = row_shown c z i 17 }

@@ -10,7 +10,7 @@ use Rattle.vbi_words.specs.Geometry.{width_of, height_of, name_of}
 use Rattle.vbi_field.specs.CauseTexts.{cause_text_of}
 use Rattle.vbi_field.specs.ConfigView.{ConfigView, allowed_bytes}
 use Rattle.vbi_field.specs.Document.{value_of}
-use Rattle.vbi_field.specs.Stream.{fields_of, rest_of, field_readings}
+use Rattle.vbi_field.specs.Stream.{fields_of, rest_of, readings_at}
 use Rattle.vbi_field.specs.declared.readings.FieldReadings.{FieldReadings}
 
 -- ---- which streams
@@ -72,7 +72,7 @@ parameters_value c = object_of (
 
 -- the whole fields of a stream, in order
 abbrev pub fields_value : ConfigView → List ℕ → Data
-fields_value c z = array_of (map (λ i. field_value (i + 1) (field_readings c z i)) (range_with_len 0 (fields_of c z)))
+fields_value c z = array_of (map (λ i. field_value (i + 1) (readings_at c z i)) (range_with_len 0 (fields_of c z)))
 
 -- a cut field, by its number from 1 and its bytes
 abbrev pub cut_field_value : ℕ → ℕ → Data

@@ -28,8 +28,6 @@ pub struct Overrides {
     pub max_fields: Option<u32>,
 }
 
-const DEFAULT_MAX_FIELDS: u32 = 1_000_000;
-
 /// The settings of a run: system, levels and the most fields. `value` is the metadata document, where there is one. An
 /// option stands before its member, which then isn't looked at; other members than those named in `Overrides`,
 /// `fieldWidth` and `fieldHeight` are never looked at.
@@ -232,7 +230,7 @@ fn config(system: System, levels: Levels, limit: Option<u32>) -> Result<Config, 
     ensures few { IfOk result (λ c. c.max_fields ≤ 1000000) }
     ensures err { IfErr result (λ e. first_refusal (limit_refusals limit) ≡ Some e) }
 {
-    match Config::new(system, levels, limit.unwrap_or(DEFAULT_MAX_FIELDS)) {
+    match Config::new(system, levels, limit.unwrap_or(MAX_FIELDS_LIMIT)) {
         Ok(config) => Ok(config),
         Err(_) => Err(MetaFault::BadMaxFields),
     }

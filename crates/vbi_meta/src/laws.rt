@@ -6,7 +6,7 @@ ghost use Rattle.vbi_field.specs.ConfigView.{ConfigView};
 ghost use Rattle.vbi_field.specs.Extracts.{ExtractsAll};
 ghost use Rattle.vbi_field.specs.Kinds.{document};
 ghost use Rattle.vbi_field.specs.Ran.{Counts};
-ghost use Rattle.vbi_field.specs.Texts.{document_of};
+ghost use Rattle.vbi_field.specs.Texts.{whole_text};
 ghost use Rattle.vbi_field.specs.declared.summary.Summary.{Summary};
 ghost use Rattle.vbi_meta.specs.DocumentValue.{IsConfig, IsOfRun, document_value};
 ghost use Rattle.vbi_meta.specs.Metadata.{most_bytes, IsMetadata, IsUnread};
@@ -17,13 +17,13 @@ ghost use Rattle.vbi_meta.specs.declared.fault.MetaFault.TheVariants.{OutOfMemor
 /// The document of a stream is JSON in UTF-8, its value is the one that `specs/DocumentValue` names member by member,
 /// and no object in it has a key twice.
 pub fn document_reads()
-    ensures { (c : ConfigView) (z : List ℕ) → IsOfRun c z → IsReadAs (document_of document c z) (document_value c z) }
+    ensures { (c : ConfigView) (z : List ℕ) → IsOfRun c z → IsReadAs (whole_text document c z) (document_value c z) }
 {}
 
 /// What a reader of JSON finds in the document of a stream is what its lines show: words, causes, passes, the fields'
 /// numbers and the cut field.
 pub fn document_words()
-    ensures { (c : ConfigView) (z : List ℕ) → IsOfRun c z → Tells c z (document_of document c z) }
+    ensures { (c : ConfigView) (z : List ℕ) → IsOfRun c z → Tells c z (whole_text document c z) }
 {}
 
 /// The bytes that `extract` wrote when it answered Ok are read as the document of the bytes that it fetched, and tell
@@ -36,10 +36,10 @@ pub fn extracted_words()
 /// Our own reader takes the document of a stream, where it is no longer than metadata may be, with the same value: by
 /// its clauses `read_meta` answers that value, or was refused memory.
 pub fn document_is_metadata()
-    ensures value { (c : ConfigView) (z text : List ℕ) → IsOfRun c z → text ≡ document_of document c z
+    ensures value { (c : ConfigView) (z text : List ℕ) → IsOfRun c z → text ≡ whole_text document c z
         → length text ≤ most_bytes → IsMetadata text (document_value c z) }
-    ensures only { (c : ConfigView) (z text : List ℕ) (value : Data) → IsOfRun c z → text ≡ document_of document c z
+    ensures only { (c : ConfigView) (z text : List ℕ) (value : Data) → IsOfRun c z → text ≡ whole_text document c z
         → IsMetadata text value → value ≡ document_value c z }
     ensures fault { (c : ConfigView) (z text : List ℕ) (fault : MetaFault) → IsOfRun c z
-        → text ≡ document_of document c z → length text ≤ most_bytes → IsUnread text fault → fault ≡ OutOfMemory }
+        → text ≡ whole_text document c z → length text ≤ most_bytes → IsUnread text fault → fault ≡ OutOfMemory }
 {}

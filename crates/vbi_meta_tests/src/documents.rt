@@ -113,8 +113,8 @@ fn faults_have_their_texts(rt: HostRuntime) -> Result<(), Fail> {
 #[test]
 fn want_of_memory_is_answered_as_such(rt: HostRuntime) -> Result<(), Fail> {
     let alloc = rt.alloc();
-    let text =
-        b"{\"videoParameters\":{\"system\":\"NTSC\",\"fieldWidth\":910,\"fieldHeight\":263,\"black16bIre\":16384,\"white16bIre\":51200,\"sampleRate\":14318181.5},\"fields\":[]}";
+    let text = b"{\"videoParameters\":{\"system\":\"NTSC\",\"fieldWidth\":910,\"fieldHeight\":263,\
+          \"black16bIre\":16384,\"white16bIre\":51200,\"sampleRate\":14318181.5},\"fields\":[]}";
     match read_meta(alloc, text) {
         Ok(value) => assert!(rt; settings(Some(&value), &NONE).is_ok()),
         Err(fault) => assert_eq!(rt; fault, MetaFault::OutOfMemory),

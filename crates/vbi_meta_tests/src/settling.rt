@@ -80,7 +80,8 @@ fn full(
     white: &str,
 ) -> Result<String, AllocError> {
     format!(in alloc;
-        "{{\"videoParameters\":{{\"system\":\"NTSC\",\"fieldWidth\":{width},\"fieldHeight\":{height},\"black16bIre\":{black},\"white16bIre\":{white},\"sampleRate\":14318181.5}},\"fields\":[]}}"
+        "{{\"videoParameters\":{{\"system\":\"NTSC\",\"fieldWidth\":{width},\"fieldHeight\":{height},\
+         \"black16bIre\":{black},\"white16bIre\":{white},\"sampleRate\":14318181.5}},\"fields\":[]}}"
     )
 }
 

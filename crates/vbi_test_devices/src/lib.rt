@@ -1,5 +1,5 @@
-//! Devices over memory for the tests of the other crates: readers and a writer that cut, interrupt and fail at set counts, and
-//! count how often they are asked. Stands on std alone, and no program uses it.
+//! Devices over memory for the tests of the other crates: readers and a writer that cut, interrupt and fail at set
+//! counts, and count how often they are asked. Stands on std alone, and no program uses it.
 #![tactic(auto)]
 
 mod paper;

@@ -4,8 +4,8 @@ ghost use Rattle.std.specs.Prelude.{◌≡◌, [], None, Some};
 use std::alloc::Global;
 use std::io::{self, Error, ErrorKind, Write};
 
-/// Keeps what it takes, in writes of at most `piece`. Interruptions and one fault come as in a `Tape`, and a caller that goes on
-/// after the fault is seen, since the writer then takes bytes again.
+/// Keeps what it takes, in writes of at most `piece`. Interruptions and one fault come as in a `Tape`, and a caller
+/// that goes on after the fault is seen, since the writer then takes bytes again.
 #[derive(Drop)]
 pub struct Paper {
     /// The bytes that it took.

@@ -2,7 +2,8 @@
 
 use std::io::{self, Read};
 
-/// Gives its first bytes, says its end once, and then has more, as a terminal does. A contract can't speak of its bytes.
+/// Gives its first bytes, says its end once, and then has more, as a terminal does. A contract can't speak of its
+/// bytes.
 #[derive(Drop)]
 pub struct Resumed<'a> {
     /// The bytes before the end.

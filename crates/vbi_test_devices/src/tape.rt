@@ -3,9 +3,9 @@ ghost use Rattle.std.specs.Prelude.{◌≡◌, None, Some};
 
 use std::io::{self, Error, ErrorKind, Read};
 
-/// Gives its bytes in reads of at most `piece`, and then says its end. So many interruptions come before the next read that isn't
-/// interrupted, and `again` before each after it. It fails once at most, and then has the rest of its bytes: a caller that asks
-/// again after the fault is seen.
+/// Gives its bytes in reads of at most `piece`, and then says its end. So many interruptions come before the next read
+/// that isn't interrupted, and `again` before each after it. It fails once at most, and then has the rest of its bytes:
+/// a caller that asks again after the fault is seen.
 #[derive(Drop)]
 pub struct Tape<'a> {
     /// The bytes that it has left.

@@ -23,7 +23,8 @@ pub returns-in_err-put_field-in-LastRow-clause-run : goal.returns-in_err-put_fie
 returns-in_err-put_field-in-LastRow-clause-run g c =
     let e = c.in_err-put_field-in-LastRow.ensures in
     last_row_failed _ _ _ _ _ _ _ _ _ c.loop-done.invariant c.next_row.new.self c.in-LastRow.words c.in-LastRow.ensures
-    (omega (arith, c.max_fields-done-end.ensures.value)) c.put_field-in-LastRow.new.outlet _ e.part e.failed (search rules)
+    (omega (arith, c.max_fields-done-end.ensures.value)) c.put_field-in-LastRow.new.outlet _ e.part e.failed
+    (search rules)
 
 pub returns-in-LastRow-clause-run : goal.returns-in-LastRow-clause-run
 returns-in-LastRow-clause-run g c =
@@ -60,5 +61,6 @@ returns-in-Byte-clause-run g c =
 pub returns-in-Failed-next_byte-clause-run : goal.returns-in-Failed-next_byte-clause-run
 returns-in-Failed-next_byte-clause-run g c =
     let max = c.max_fields-in-Failed-next_byte.ensures in
-    byte_read_failed _ _ _ _ _ _ _ _ _ c.loop-done.invariant c.next_byte.new.self c.in-Failed-next_byte.ensures _ max.value
+    byte_read_failed _ _ _ _ _ _ _ _ _ c.loop-done.invariant c.next_byte.new.self c.in-Failed-next_byte.ensures _
+    max.value
     (omega (arith, c.max_fields-done-end.ensures.value, max.value))

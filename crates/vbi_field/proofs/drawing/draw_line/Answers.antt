@@ -10,7 +10,8 @@ pub loop-column-preserved : goal.loop-column-preserved
 loop-column-preserved c =
     Drawn-more _ _ _ c.loop-column.column c.drawn_sample-sample.result c.loop-column.invariant
     (omega (arith, ap width_of c.system-system.ensures))
-    (drawn_sample_as c.args.config.now c.system-system.result c.levels-levels.result c.args.word.now c.loop-column.column c.drawn_sample-sample.result
+    (drawn_sample_as c.args.config.now c.system-system.result c.levels-levels.result c.args.word.now
+    c.loop-column.column c.drawn_sample-sample.result
     c.system-system.ensures c.levels-levels.ensures c.drawn_sample-sample.ensures)
 
 pub returns : goal.returns

@@ -12,7 +12,8 @@ loop-row-init g c = Putting-none _ _ _ _ _ c.requires.black
 
 pub put_all-requires-clause-few : goal.put_all-requires-clause-few
 put_all-requires-clause-few g c =
-    let long = ap length c.next_line.ensures ∙ length-drawn_line_of c.args.config.now (word_at c.args.words.now c.loop-row.row) in
+    let long = ap length c.next_line.ensures
+    ∙ length-drawn_line_of c.args.config.now (word_at c.args.words.now c.loop-row.row) in
     let sizes = sizes_of c.args.config.now.system in
     omega arith
 
@@ -29,16 +30,19 @@ returns-in-Err-clause-most g c =
 pub returns-in-Err-clause-failed : goal.returns-in-Err-clause-failed
 returns-in-Err-clause-failed g c =
     let v = c.loop-row.invariant in
-    cause_later c.args.outlet.now.device c.loop-row.outlet.device c.put_all.new.self.device v.errors v.least c.in-Err.ensures.failed
+    cause_later c.args.outlet.now.device c.loop-row.outlet.device c.put_all.new.self.device v.errors v.least
+    c.in-Err.ensures.failed
 
 pub loop-row-preserved : goal.loop-row-preserved
 loop-row-preserved g c =
-    Putting-more _ _ _ _ _ _ _ _ c.loop-row.row c.loop-row.invariant c.next_line.ensures c.put_all.ensures.puts c.in-Ok.ensures.ok
+    Putting-more _ _ _ _ _ _ _ _ c.loop-row.row c.loop-row.invariant c.next_line.ensures c.put_all.ensures.puts
+    c.in-Ok.ensures.ok
     c.in-Ok.ensures.no_error c.put_all.ensures.same
 
 pub returns : goal.returns
 returns g c =
-    let whole = put_whole _ _ _ _ _ _ c.loop-row.row c.loop-row.invariant (omega (arith, ap height_of c.system.ensures)) in
+    let whole =
+    put_whole _ _ _ _ _ _ c.loop-row.row c.loop-row.invariant (omega (arith, ap height_of c.system.ensures)) in
     let v = c.loop-row.invariant in
     record {
       black = whole.1;

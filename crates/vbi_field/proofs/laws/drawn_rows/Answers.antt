@@ -1,7 +1,7 @@
-use Rattle.vbi_field.proofs.DrawnReadsLemmas
+use Rattle.vbi_field.proofs.DrawnReads
 use Rattle.vbi_field.proofs.WordRowLaw.{rows_drawable}
 use Rattle.vbi_field.proofs.laws.drawn_rows.Goals as goal
 
 pub returns : goal.returns
 returns c = λ setup text rows i words order are e.
-    DrawnReadsLemmas.drawn_field setup rows i words order e (rows_drawable text rows i words are e)
+    DrawnReads.drawn_field setup rows i words order e (rows_drawable text rows i words are e)

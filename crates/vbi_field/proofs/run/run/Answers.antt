@@ -2,21 +2,25 @@ use Rattle.std.proofs.Common.{◌≡◌, ◌<◌, ◌≤◌, ◌+◌, ◌*◌, r
 use Rattle.std.proofs.Math.Nat.{zero-mul, le_of_eq, le_of_lt}
 use Rattle.vbi_words.specs.Geometry.{height_of, line_bytes, field_bytes}
 use Rattle.vbi_field.proofs.Counts.{sizes_of, all_fields, rows_fit, row_fits}
-use Rattle.vbi_field.proofs.Pulling.{start, head_fault, row_came, step, entry_fault, ended, read_fault, too_many, runs_fault}
+use Rattle.vbi_field.proofs.Pulling.{start, head_fault, row_came, step, entry_fault, ended, read_fault, too_many}
+use Rattle.vbi_field.proofs.Pulling.{runs_fault}
 use Rattle.vbi_field.proofs.run.run.Goals as goal
 
 pub loop-row-init : goal.loop-row-init
 loop-row-init g c =
     start _ _ _ _ _ _ c.put.new.outlet c.new-progress.result c.as_str.result.now c.requires.intake c.requires.outlet
     (c.as_str.ensures.value ∙ c.head.ensures) c.as_str.ensures.fits c.in_ok-put.ensures.puts
-    c.in_ok-put.ensures.ok c.in_ok-put.ensures.no_error c.in_ok-put.ensures.same c.new-progress.ensures.fields c.new-progress.ensures.row
+    c.in_ok-put.ensures.ok c.in_ok-put.ensures.no_error c.in_ok-put.ensures.same c.new-progress.ensures.fields
+    c.new-progress.ensures.row
 
 pub returns-in_err-put-clause-run : goal.returns-in_err-put-clause-run
 returns-in_err-put-clause-run g c =
-    runs_fault g.F.Form.texts g.R.Read.remaining g.W.Write.contents c.args.config.now c.args.intake.now c.args.outlet.now
+    runs_fault g.F.Form.texts g.R.Read.remaining g.W.Write.contents c.args.config.now c.args.intake.now
+    c.args.outlet.now
     c.args.intake.now c.put.new.outlet _ c.from_residual.result (search rules) (λ fault fails.
     head_fault _ g.R.Read.remaining _ _ _ _ _ c.as_str.result.now fault c.requires.intake c.requires.outlet
-    (c.as_str.ensures.value ∙ c.head.ensures) c.in_err-put.ensures.puts c.in_err-put.ensures.failed c.in_err-put.ensures.short fails)
+    (c.as_str.ensures.value ∙ c.head.ensures) c.in_err-put.ensures.puts c.in_err-put.ensures.failed
+    c.in_err-put.ensures.short fails)
 
 pub loop-row-preserved : goal.loop-row-preserved
 loop-row-preserved g c =
@@ -26,7 +30,8 @@ loop-row-preserved g c =
     let last : c.loop-row.row + 1 ≤ c.args.config.now.max_fields * height_of c.args.config.now.system =
     omega (arith, c.row_limit-row-end.ensures.value) in
     step _ _ _ _ _ _ _ _ _ _ _ v _ (search rules) _ c.levels.result c.levels.ensures t
-    c.settle.new.outlet c.settle.new.self c.in-Whole.ensures.same c.in_ok-settle-in-Whole.ensures.next c.in_ok-settle-in-Whole.ensures.rises
+    c.settle.new.outlet c.settle.new.self c.in-Whole.ensures.same c.in_ok-settle-in-Whole.ensures.next
+    c.in_ok-settle-in-Whole.ensures.rises
     (c.in_ok-settle-in-Whole.ensures.settles v.z t.bytes v.at came) c.in_ok-settle-in-Whole.ensures.no_error
     c.in_ok-settle-in-Whole.ensures.same last
 
@@ -38,8 +43,10 @@ returns-in_err-settle-in-Whole-clause-run g c =
     let last : c.loop-row.row + 1 ≤ c.args.config.now.max_fields * height_of c.args.config.now.system =
     omega (arith, c.row_limit-row-end.ensures.value) in
     let e = c.in_err-settle-in-Whole.ensures in
-    runs_fault g.F.Form.texts g.R.Read.remaining g.W.Write.contents c.args.config.now c.args.intake.now c.args.outlet.now
-    c.take_line.new.intake c.settle.new.outlet _ c.from_residual-in_err-settle-in-Whole.result (search rules) (λ fault fails.
+    runs_fault g.F.Form.texts g.R.Read.remaining g.W.Write.contents c.args.config.now c.args.intake.now
+    c.args.outlet.now
+    c.take_line.new.intake c.settle.new.outlet _ c.from_residual-in_err-settle-in-Whole.result (search rules)
+    (λ fault fails.
     entry_fault _ _ _ _ _ _ _ _ _ _ _ v _ (search rules) _ c.levels.result c.levels.ensures t
     c.settle.new.outlet c.settle.new.self fault e.next e.field (e.settles v.z t.bytes v.at came) e.failed fails last)
 
@@ -54,14 +61,16 @@ returns-in-Ended-clause-run g c =
     let within = row_fits c.args.config.now.system c.loop-row.row c.args.config.now.max_fields c.in-Ended.bytes before
     (le_of_lt short) in
     let e = c.end.ensures in
-    ended _ _ _ _ _ _ _ _ _ _ _ _ v _ c.levels.result c.in-Ended.bytes t _ _ _ refl c.rest-rest.ensures within c.looked.ensures e.puts _
+    ended _ _ _ _ _ _ _ _ _ _ _ _ v _ c.levels.result c.in-Ended.bytes t _ _ _ refl c.rest-rest.ensures within
+    c.looked.ensures e.puts _
     e.written e.no_error e.ok e.failed e.short e.fault
 
 pub returns-in-Failed-clause-run : goal.returns-in-Failed-clause-run
 returns-in-Failed-clause-run g c =
     let last : c.loop-row.row ≤ c.args.config.now.max_fields * height_of c.args.config.now.system =
     omega (arith, c.row_limit-row-end.ensures.value) in
-    read_fault _ _ _ _ _ _ _ _ _ _ _ c.loop-row.invariant _ c.levels.result c.in-Failed.ensures.takes _ last c.read_fault.ensures
+    read_fault _ _ _ _ _ _ _ _ _ _ _ c.loop-row.invariant _ c.levels.result c.in-Failed.ensures.takes _ last
+    c.read_fault.ensures
 
 pub returns-in-Ended-eq0-clause-run : goal.returns-in-Ended-eq0-clause-run
 returns-in-Ended-eq0-clause-run g c =
@@ -69,14 +78,18 @@ returns-in-Ended-eq0-clause-run g c =
     let at = v.at in
     let last : c.loop-row.row ≡ c.args.config.now.max_fields * height_of c.args.config.now.system =
     omega (arith, c.row_limit-row-end.ensures.value) in
-    let none = (all_fields c.args.config.now.system c.loop-row.progress.fields c.loop-row.progress.row c.args.config.now.max_fields at.inside
+    let none =
+    (all_fields c.args.config.now.system c.loop-row.progress.fields c.loop-row.progress.row
+    c.args.config.now.max_fields at.inside
     (v.place ∙ last)).1 in
     let rows = rows_fit c.args.config.now.system c.loop-row.row c.args.config.now.max_fields (le_of_eq last) in
     let within : c.loop-row.row * line_bytes c.args.config.now.system + c.in-Ended-eq0.field-0
-    ≤ c.args.config.now.max_fields * field_bytes c.args.config.now.system = omega (arith, c.in-Ended-eq0.field-0-test) in
+    ≤ c.args.config.now.max_fields * field_bytes c.args.config.now.system =
+    omega (arith, c.in-Ended-eq0.field-0-test) in
     let e = c.end-in-Ended-eq0.ensures in
     ended _ _ _ _ _ _ _ _ _ _ _ _ v _ c.levels-2.result c.in-Ended-eq0.field-0 c.in-Ended-eq0.ensures.takes _ _ _
-    refl (rw none (omega (arith, zero-mul (line_bytes c.args.config.now.system), c.in-Ended-eq0.field-0-test))) within c.looked-in-Ended-eq0.ensures e.puts _
+    refl (rw none (omega (arith, zero-mul (line_bytes c.args.config.now.system), c.in-Ended-eq0.field-0-test))) within
+    c.looked-in-Ended-eq0.ensures e.puts _
     e.written e.no_error e.ok e.failed e.short e.fault
 
 pub returns-in-Failed-take_line-clause-run : goal.returns-in-Failed-take_line-clause-run
@@ -92,7 +105,8 @@ returns-in-Ended-take_line-clause-run g c =
     let got = t.got in
     let last : c.loop-row.row ≡ c.args.config.now.max_fields * height_of c.args.config.now.system =
     omega (arith, c.row_limit-row-end.ensures.value) in
-    too_many _ _ _ _ _ _ _ _ _ _ _ c.loop-row.invariant _ _ _ t last (omega (arith, got.count_of)) (omega (arith, got.short)) got.looked got.no_error
+    too_many _ _ _ _ _ _ _ _ _ _ _ c.loop-row.invariant _ _ _ t last (omega (arith, got.count_of))
+    (omega (arith, got.short)) got.looked got.no_error
 
 pub returns-in-Whole-take_line-clause-run : goal.returns-in-Whole-take_line-clause-run
 returns-in-Whole-take_line-clause-run g c =

@@ -11,7 +11,8 @@ pub returns-in_ok-put-clause-settles : goal.returns-in_ok-put-clause-settles
 returns-in_ok-put-clause-settles g c = λ z b at row.
     let over = c.in-Some.ensures.over z b at row in
     let counts = c.in-Some.ensures.counts in
-    settled_whole _ _ _ _ _ _ _ _ _ at over.0 counts.0 _ over.2 (c.advance.new.self.fields - 1) (omega (arith, counts.0)) _
+    settled_whole _ _ _ _ _ _ _ _ _ at over.0 counts.0 _ over.2 (c.advance.new.self.fields - 1)
+    (omega (arith, counts.0)) _
     (c.as_str.ensures.value ∙ c.entry.ensures) c.in_ok-put.ensures.puts c.in_ok-put.ensures.ok
 
 pub returns-in_err-put-clause-settles : goal.returns-in_err-put-clause-settles
@@ -19,5 +20,6 @@ returns-in_err-put-clause-settles g c = λ z b at row.
     let over = c.in-Some.ensures.over z b at row in
     let counts = c.in-Some.ensures.counts in
     settles_fault _ _ _ _ _ _ _ _ _ c.from_residual.ensures.0
-    (settled_in_part _ _ _ _ _ _ _ _ _ at over.0 counts.0 _ over.2 (c.advance.new.self.fields - 1) (omega (arith, counts.0)) _
+    (settled_in_part _ _ _ _ _ _ _ _ _ at over.0 counts.0 _ over.2 (c.advance.new.self.fields - 1)
+    (omega (arith, counts.0)) _
     (c.as_str.ensures.value ∙ c.entry.ensures) c.in_err-put.ensures.puts c.in_err-put.ensures.short)

@@ -11,16 +11,17 @@ use Rattle.vbi_field.specs.declared.progress.Progress.{Progress}
 use Rattle.vbi_field.specs.declared.summary.RunFault.{RunFault}
 
 -- the place that the whole rows and the bytes of the unfinished one make
-abbrev pub place_of : ConfigView → Line → Progress → Position
-place_of c l p = record {
+abbrev pub position_in : ConfigView → Line → Progress → Position
+position_in c l p = record {
   fields = p.fields;
   rest = p.row * line_bytes c.system + length l.held;
   held = l.held;
   readings = take (p.row - 15) (p.readings.first ∷ p.readings.second ∷ p.readings.third ∷ []);
 }
 
--- less than a line is held and no pass was started, no more fields came than are allowed, and the samples of the selected rows were looked at once each
-pub record IsStand (c : ConfigView) (l : Line) (p : Progress) : Type 0 where
+-- less than a line is held and no pass was started, no more fields came than are allowed, and the samples of the
+-- selected rows were looked at once each
+pub record IsFeederState (c : ConfigView) (l : Line) (p : Progress) : Type 0 where
   pub system : l.system ≡ c.system
   pub cursors : l.cursors ≡ []
   pub short : length l.held < line_bytes c.system

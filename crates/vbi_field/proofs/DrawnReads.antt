@@ -14,7 +14,7 @@ use Rattle.vbi_words.proofs.DrawnShows.{drawn_shows, none_low}
 use Rattle.vbi_words.proofs.Outcomes.{blank_outcome}
 use Rattle.vbi_words.proofs.Shown.{low_lead}
 use Rattle.vbi_field.specs.ConfigView.{ConfigView}
-use Rattle.vbi_field.specs.Stream.{row_of}
+use Rattle.vbi_field.specs.Stream.{line_at}
 use Rattle.vbi_field.specs.declared.word_row.WordRow.{WordRow}
 use Rattle.vbi_field.specs.Drawing.{drawn_sample_of, sample_bytes, drawn_line_of, word_at, drawn_field_of, draw_out}
 use Rattle.vbi_field.specs.DrawnReadings.{IsDrawable, AreDrawable, drawn_reading, drawn_readings}
@@ -30,7 +30,8 @@ samples_back : (f : ℕ → ℕ) (columns : List ℕ) → samples_of (flat_map (
 samples_back f [] = refl
 samples_back f (k ∷ columns) =
     let whole : f k % 256 + 256 * (f k / 256) ≡ f k = omega arith in
-    ap (λ (s : ℕ). s ∷ samples_of (flat_map (λ j. sample_bytes (f j)) columns)) whole ∙ ap (λ (l : List ℕ). f k ∷ l) (samples_back f columns)
+    ap (λ (s : ℕ). s ∷ samples_of (flat_map (λ j. sample_bytes (f j)) columns)) whole
+    ∙ ap (λ (l : List ℕ). f k ∷ l) (samples_back f columns)
 
 -- the samples of a drawn line
 drawn_samples : ConfigView → Option ℕ → List ℕ
@@ -46,7 +47,10 @@ is_drawn_row c word = record {
   whole = length-map-range_with_len (drawn_sample_of c word) 0 (width_of c.system);
   each = λ column inside.
       let P : ℕ → Type 0 = λ s. IsDrawn c.system c.levels word column s in
-      subst P (sym (get_or-map-range_with_len (drawn_sample_of c word) 0 (width_of c.system) column column 0 inside (omega arith)))
+      subst P
+      (sym
+      (get_or-map-range_with_len (drawn_sample_of c word) 0 (width_of c.system) column column 0 inside
+      (omega arith)))
       (IsDrawn-drawn_sample_of c word column);
 }
 
@@ -56,7 +60,8 @@ line_reads : (c : ConfigView) (word : Option ℕ) → c.levels.black < c.levels.
 line_reads c None order is = (
   refl,
   blank_outcome c.system (levels_of c.levels (drawn_samples c None))
-      (low_lead c.system (levels_of c.levels (drawn_samples c None)) (none_low c.system c.levels order (drawn_samples c None) (is_drawn_row c None))),
+      (low_lead c.system (levels_of c.levels (drawn_samples c None))
+      (none_low c.system c.levels order (drawn_samples c None) (is_drawn_row c None))),
 )
 line_reads c (Some word) order is =
     inl (refl, drawn_shows c.system c.levels word order (drawn_samples c (Some word)) (is_drawn_row c (Some word)) is)
@@ -76,18 +81,21 @@ field_at c (row ∷ rows) zero words e =
     )
 field_at c (row ∷ rows) (suc i) words e =
     let later = field_at c rows i words e in
-    let size : suc i * field_bytes c.system ≡ field_bytes c.system + i * field_bytes c.system = omega (arith, suc-mul i (field_bytes c.system)) in
+    let size : suc i * field_bytes c.system ≡ field_bytes c.system + i * field_bytes c.system =
+    omega (arith, suc-mul i (field_bytes c.system)) in
     let field = drawn_field_of c row in (
       later.0,
       ap (λ (n : ℕ). drop n (field ++ draw_out c rows)) size
           ∙ sym (drop-drop (i * field_bytes c.system) (field_bytes c.system) (field ++ draw_out c rows))
-          ∙ ap (drop (i * field_bytes c.system)) (drop_at field (draw_out c rows) (field_bytes c.system) (length-drawn_field_of c row))
+          ∙ ap (drop (i * field_bytes c.system))
+          (drop_at field (draw_out c rows) (field_bytes c.system) (length-drawn_field_of c row))
           ∙ later.1,
     )
 
-row_of-draw_out : (c : ConfigView) (rows : List WordRow) (i r : ℕ) (words : WordRow) → slice_get rows i ≡ Some words → r < height_of c.system
-    → row_of c.system (draw_out c rows) i r ≡ drawn_line_of c (word_at words r)
-row_of-draw_out c rows i r words e inside =
+line_at-draw_out : (c : ConfigView) (rows : List WordRow) (i r : ℕ) (words : WordRow) → slice_get rows i ≡ Some words
+    → r < height_of c.system
+    → line_at c.system (draw_out c rows) i r ≡ drawn_line_of c (word_at words r)
+line_at-draw_out c rows i r words e inside =
     let field = field_at c rows i words e in
     let line = drawn_line_of c (word_at words r) in
     let split = lines_of-split c words (r + 1) (omega arith) in
@@ -105,10 +113,12 @@ row_of-draw_out c rows i r words e inside =
 
 -- the row is read as its word
 row_reads : (c : ConfigView) (rows : List WordRow) (i r : ℕ) (words : WordRow) → c.levels.black < c.levels.white
-    → slice_get rows i ≡ Some words → r < height_of c.system → IsDrawable (word_at words r) → RowReads c (draw_out c rows) i r (drawn_reading (word_at words r))
+    → slice_get rows i ≡ Some words → r < height_of c.system → IsDrawable (word_at words r)
+    → RowReads c (draw_out c rows) i r (drawn_reading (word_at words r))
 row_reads c rows i r words order e inside is =
     let P : List ℕ → Type 0 = λ l. IsReading c.system (levels_of c.levels l) (drawn_reading (word_at words r)) in
-    let same = ap samples_of (row_of-draw_out c rows i r words e inside) ∙ samples_of-drawn_line_of c (word_at words r) in
+    let same = ap samples_of (line_at-draw_out c rows i r words e inside)
+    ∙ samples_of-drawn_line_of c (word_at words r) in
     subst P (sym same) (line_reads c (word_at words r) order is)
 
 pub drawn_field : (c : ConfigView) (rows : List WordRow) (i : ℕ) (words : WordRow) → c.levels.black < c.levels.white

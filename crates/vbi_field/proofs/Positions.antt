@@ -10,13 +10,13 @@ use Rattle.vbi_words.specs.declared.outcome.Reading.{Reading}
 use Rattle.vbi_line.specs.Line.{Line}
 use Rattle.vbi_field.specs.Feed.{IsAt}
 use Rattle.vbi_field.specs.Position.{readings_of}
-use Rattle.vbi_field.specs.Progress.{IsPosition}
+use Rattle.vbi_field.specs.Progress.{IsProgress}
 use Rattle.vbi_field.specs.ConfigView.{ConfigView, allowed_bytes}
-use Rattle.vbi_field.specs.Stand.{place_of}
-use Rattle.vbi_field.specs.Stream.{fields_of, rest_of, row_reading}
+use Rattle.vbi_field.specs.FeederState.{position_in}
+use Rattle.vbi_field.specs.Stream.{fields_of, rest_of, reading_at}
 use Rattle.vbi_field.specs.declared.progress.Progress.{Progress}
 use Rattle.vbi_field.proofs.Counts.{bytes_of_rows, whole_fields, past_fields}
-use Rattle.vbi_field.proofs.Growing.{row_reading-more}
+use Rattle.vbi_field.proofs.Growing.{reading_at-more}
 
 -- the first of three readings
 firsts : (k : ℕ) (a b d x y w : Reading) → take k (a ∷ b ∷ d ∷ []) ≡ take k (x ∷ y ∷ w ∷ [])
@@ -38,7 +38,7 @@ same_firsts (suc (suc (suc k))) a b d x y w f g h =
 pub record Split (c : ConfigView) (z held : List ℕ) (p : Progress) : Type 0 where
   pub rows : List ℕ
   pub split : z ≡ rows ++ held
-  pub position : IsPosition c rows p
+  pub position : IsProgress c rows p
   pub short : length held < line_bytes c.system
 
 module _ (c : ConfigView) (z held : List ℕ) (p : Progress) (s : Split c z held p) where
@@ -59,7 +59,8 @@ module _ (c : ConfigView) (z held : List ℕ) (p : Progress) (s : Split c z held
       past_fields c.system (length z) p.fields p.row (length held) at.inside s.short split_long
 
   pub split_rows : rest_of c z / line_bytes c.system ≡ p.row
-  split_rows = ap (λ m. m / line_bytes c.system) split_rest ∙ div-mul-add p.row (line_bytes c.system) (length held) s.short
+  split_rows = ap (λ m. m / line_bytes c.system) split_rest
+      ∙ div-mul-add p.row (line_bytes c.system) (length held) s.short
 
   split_held : held ≡ drop (length z - rest_of c z % line_bytes c.system) z
   split_held =
@@ -71,11 +72,11 @@ module _ (c : ConfigView) (z held : List ℕ) (p : Progress) (s : Split c z held
       sym (ap (λ m. drop m z) at ∙ ap (drop (length s.rows)) s.split ∙ drop_at s.rows held (length s.rows) refl)
 
   -- the reading of a row that has come
-  stays : (r : ℕ) → r < p.row → row_reading c z p.fields r ≡ row_reading c s.rows p.fields r
+  stays : (r : ℕ) → r < p.row → reading_at c z p.fields r ≡ reading_at c s.rows p.fields r
   stays r lt =
       let at = s.position in
-      ap (λ l. row_reading c l p.fields r) s.split
-      ∙ row_reading-more c s.rows held p.fields r
+      ap (λ l. reading_at c l p.fields r) s.split
+      ∙ reading_at-more c s.rows held p.fields r
       (le_trans (mul-le-mul_right {m = p.fields * height_of c.system + r + 1} (line_bytes c.system) (omega arith))
       (le_of_eq (sym at.whole)))
 
@@ -91,7 +92,7 @@ module _ (c : ConfigView) (z held : List ℕ) (p : Progress) (s : Split c z held
       ∙ ap (λ n. take (rest_of c z / line_bytes c.system - 15) (readings_of c z n)) (sym split_fields)
 
   -- so it has come to that place
-  pub at_of : (l : Line) → l.held ≡ held → length z ≤ allowed_bytes c → IsAt c z (place_of c l p)
+  pub at_of : (l : Line) → l.held ≡ held → length z ≤ allowed_bytes c → IsAt c z (position_in c l p)
   at_of l e le =
       record {
         allowed = le;
@@ -104,8 +105,9 @@ module _ (c : ConfigView) (z held : List ℕ) (p : Progress) (s : Split c z held
       }
 
 -- what has come to a place is whole rows and the bytes that are held
-pub split_of : (c : ConfigView) (z : List ℕ) (l : Line) (p : Progress) → length l.held < line_bytes c.system → p.row < height_of c.system
-    → IsAt c z (place_of c l p) → Split c z l.held p
+pub split_of : (c : ConfigView) (z : List ℕ) (l : Line) (p : Progress) → length l.held < line_bytes c.system
+    → p.row < height_of c.system
+    → IsAt c z (position_in c l p) → Split c z l.held p
 split_of c z l p short inside at =
     let n = length z - rest_of c z % line_bytes c.system in
     let rows : List ℕ = take n z in
@@ -118,14 +120,15 @@ split_of c z l p short inside at =
     bytes_of_rows c.system (length z) (length rows) p.fields p.row (length l.held) fields rest long in
     let past : rest_of c z / line_bytes c.system ≡ p.row =
     ap (λ m. m / line_bytes c.system) (sym rest) ∙ div-mul-add p.row (line_bytes c.system) (length l.held) short in
-    let same : take (p.row - 15) (p.readings.first ∷ p.readings.second ∷ p.readings.third ∷ []) ≡ take (p.row - 15) (readings_of c z p.fields) =
+    let same : take (p.row - 15) (p.readings.first ∷ p.readings.second ∷ p.readings.third ∷ []) ≡ take (p.row - 15)
+    (readings_of c z p.fields) =
     ap (λ q. q.readings) at.position
     ∙ ap (λ m. take (m - 15) (readings_of c z (fields_of c z))) past
     ∙ ap (λ m. take (p.row - 15) (readings_of c z m)) (sym fields) in
     let reads = firsts (p.row - 15) _ _ _ _ _ _ same in
-    let stays : (r : ℕ) → r < p.row → row_reading c z p.fields r ≡ row_reading c rows p.fields r = λ r lt.
-    (ap (λ h. row_reading c h p.fields r) split
-    ∙ row_reading-more c rows l.held p.fields r
+    let stays : (r : ℕ) → r < p.row → reading_at c z p.fields r ≡ reading_at c rows p.fields r = λ r lt.
+    (ap (λ h. reading_at c h p.fields r) split
+    ∙ reading_at-more c rows l.held p.fields r
     (le_trans (mul-le-mul_right {m = p.fields * height_of c.system + r + 1} (line_bytes c.system) (omega arith))
     (le_of_eq (sym whole)))) in
     record {
