@@ -12,7 +12,7 @@ ghost use Rattle.vbi_meta.specs.Settings.{IsRefused, IsSettled};
 
 use crate::fault::MetaFault;
 use serde_json::Value;
-use vbi_field::Config;
+use vbi_field::{Config, MAX_FIELDS_LIMIT};
 use vbi_words::{Levels, System};
 
 /// What the options of the command line put in place of metadata; None where an option isn't given.
