@@ -1,6 +1,7 @@
 #!/bin/sh
-# The whole gate, at the top of the repository: every proof, must-fail edit, test and stored run by `rt ci`, then the built
-# program on its own. The last line is that of `rt ci`, 'N passed, M failed'; the status is 0 only where all of it passed.
+# The whole gate, at the top of the repository: every proof, must-fail edit, test and stored run by `rt ci`, then the program
+# that `rt ci` built, on its own. The last line is that of `rt ci`, 'N passed, M failed'; the status is 0 only where all of it
+# passed.
 set -eu
 
 work=$(mktemp -d)
@@ -10,7 +11,7 @@ trap 'rm -rf "$work"' EXIT
 if [ "$(cat "$work/status")" != 0 ]; then
     exit 1
 fi
-make ldvbi
+cp crates/vbi_cli/out/vbi_cli ldvbi
 for script in lines program words settings device_faults line_and_draw_faults read_back want_of_memory; do
     sh tests/$script.sh ./ldvbi
 done
