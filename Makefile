@@ -1,7 +1,7 @@
-# ldvbi: `make` proves and builds the program, `make test` is the whole gate, `make setup` installs what the gate needs and the
-# machine lacks, `make install PREFIX=DIR` copies the program to DIR/bin, and `make bench` measures it beside plain readers in
-# Rust, for which it needs rustc and python3.
-# The toolchain's command `rt` has to be on the PATH; `make test` needs a C compiler (cc, or CC=..), python3 and jq as well.
+# ldvbi: `make` proves and builds the program, `make test` is the whole gate, `make setup` installs what the gate needs
+# and the machine lacks, `make install PREFIX=DIR` copies the program to DIR/bin, and `make bench` measures it beside
+# plain readers in Rust, for which it needs rustc and python3. The toolchain's command `rt` has to be on the PATH;
+# `make test` needs a C compiler (cc, or CC=..), python3 and jq as well.
 
 PREFIX ?= /usr/local
 SOURCES := $(shell find crates -name out -prune -o \( -name '*.rt' -o -name '*.antt' \) -print)

@@ -1,5 +1,6 @@
 #!/bin/sh
-# Nanoseconds per line of `read_line` beside a plain reader in Rust on the same lines, in one run. Works in a folder of its own.
+# Nanoseconds per line of `read_line` beside a plain reader in Rust on the same lines, in one run. Works in a folder of
+# its own.
 set -eu
 here=$(cd "$(dirname "$0")" && pwd)
 for tool in rt rustc; do
@@ -20,6 +21,7 @@ for turn in 1 2 3; do
         NR == 1 { lines = $1; ours = $2; sum = $3 }
         NR == 2 {
             if ($3 != sum) { print "bench: the readers differ"; exit 1 }
-            printf "read_line %.0f ns a line, plain reader %.0f ns a line, ratio %.2f\n", ours * 1e6 / lines, $2 * 1e6 / lines, ours / $2
+            printf "read_line %.0f ns a line, plain reader %.0f ns a line, ratio %.2f\n",
+                ours * 1e6 / lines, $2 * 1e6 / lines, ours / $2
         }'
 done

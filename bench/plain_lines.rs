@@ -1,5 +1,5 @@
-//! The plain reader that `read_line` is measured beside: sample by sample, a run machine with the same tolerances, in Rust.
-//! Prints the lines read, the milliseconds, and a sum of the words.
+//! The plain reader that `read_line` is measured beside: sample by sample, a run machine with the same tolerances, in
+//! Rust. Prints the lines read, the milliseconds, and a sum of the words.
 use std::hint::black_box;
 use std::time::Instant;
 

@@ -1,5 +1,5 @@
-//! The plain reader that a run of `ldvbi extract` is measured beside: it reads a stream in reads of one NTSC line's bytes, and
-//! does nothing with them. Prints how many bytes came.
+//! The plain reader that a run of `ldvbi extract` is measured beside: it reads a stream in reads of one NTSC line's
+//! bytes, and does nothing with them. Prints how many bytes came.
 use std::fs::File;
 use std::io::Read;
 

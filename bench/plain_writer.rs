@@ -1,4 +1,5 @@
-//! The plain writer that a run of `ldvbi draw` is measured beside: it writes so many lines of zeros, in writes of one NTSC line's bytes.
+//! The plain writer that a run of `ldvbi draw` is measured beside: it writes so many lines of zeros, in writes of one
+//! NTSC line's bytes.
 use std::fs::File;
 use std::io::Write;
 use std::os::fd::FromRawFd;

@@ -1,7 +1,7 @@
 #!/usr/bin/env python3
-"""Time and peak memory of `ldvbi extract` beside a plain reader of the same stream in reads of one line's bytes, from a file
-and from a pipe, and of `ldvbi draw` beside `head -c` of zeros and a plain writer of as many lines into the same sink, all in one
-run. Works in a folder of its own.
+"""Time and peak memory of `ldvbi extract` beside a plain reader of the same stream in reads of one line's bytes, from a
+file and from a pipe, and of `ldvbi draw` beside `head -c` of zeros and a plain writer of as many lines into the same
+sink, all in one run. Works in a folder of its own.
 
 usage: stream.py PROGRAM [FIELDS]"""
 
@@ -71,8 +71,9 @@ def peak_memory(command):
 
 
 def compared(name, ours, theirs, size):
-    """Runs both in turn, now the one first and now the other, so that both see the same machine, and prints how their times
-    compare. What to go by is the median of the rounds' ratios: a machine that others share is fast for one run by chance."""
+    """Runs both in turn, now the one first and now the other, so that both see the same machine, and prints how their
+    times compare. What to go by is the median of the rounds' ratios: a machine that others share is fast for one run by
+    chance."""
     rounds = []
     for number in range(ROUNDS):
         if number % 2 == 0:
@@ -109,8 +110,8 @@ def main():
         extract = [program, "extract", *LEVELS]
         compared("extract from a file", lambda: timed([*extract, stream]), lambda: timed([plain, stream]), size)
         compared("extract from a pipe", lambda: piped(extract, stream), lambda: piped([plain], stream), size)
-        print(f"peak memory of extract: {peak_memory([*extract, stream])}; of the plain reader: {peak_memory([plain, stream])}",
-              flush=True)
+        held = peak_memory([*extract, stream]), peak_memory([plain, stream])
+        print(f"peak memory of extract: {held[0]}; of the plain reader: {held[1]}", flush=True)
         draw = [program, "draw", *LEVELS, words]
         zeros = ["head", "-c", str(size), "/dev/zero"]
         lines = [writer, str(size // LINE)]

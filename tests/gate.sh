@@ -1,7 +1,7 @@
 #!/bin/sh
-# The whole gate, at the top of the repository: every proof, must-fail edit, test and stored run by `rt ci`, then the program
-# that `rt ci` built, on its own. The last line is that of `rt ci`, 'N passed, M failed'; the status is 0 only where all of it
-# passed.
+# The whole gate, at the top of the repository: every proof, must-fail edit, test and stored run by `rt ci`, then the
+# program that `rt ci` built, on its own. The last line is that of `rt ci`, 'N passed, M failed'; the status is 0 only
+# where all of it passed.
 set -eu
 
 work=$(mktemp -d)

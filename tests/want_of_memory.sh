@@ -1,6 +1,6 @@
 #!/bin/sh
-# Refuses each allocation of the built program in turn. Each answer has to be the whole one, or `ldvbi: out of memory` with
-# status 1, nothing written, and nothing read from the input.
+# Refuses each allocation of the built program in turn. Each answer has to be the whole one, or `ldvbi: out of memory`
+# with status 1, nothing written, and nothing read from the input.
 # usage: sh tests/want_of_memory.sh PROGRAM
 set -u
 
@@ -10,7 +10,10 @@ stored=$here/../crates/vbi_cli
 compiler=${CC:-cc}
 failed=0
 
-command -v "$compiler" > /dev/null || { echo "want of memory: there is no C compiler $compiler to build tests/refuse.c" >&2; exit 1; }
+if ! command -v "$compiler" > /dev/null; then
+    echo "want of memory: there is no C compiler $compiler to build tests/refuse.c" >&2
+    exit 1
+fi
 work=$(mktemp -d)
 trap 'rm -rf "$work"' EXIT
 "$compiler" -shared -fPIC -O2 -Wall -o "$work/refuse.so" "$here/refuse.c" -ldl || exit 1
@@ -27,14 +30,16 @@ each() {
     while :; do
         rm -f "$work/mark"
         {
-            REFUSE_AT=$number REFUSE_MARK=$work/mark LD_PRELOAD=$work/refuse.so "$program" "$@" > "$work/out" 2> "$work/err"
+            REFUSE_AT=$number REFUSE_MARK=$work/mark LD_PRELOAD=$work/refuse.so \
+                "$program" "$@" > "$work/out" 2> "$work/err"
             status=$?
             cat > "$work/rest"
         } < "$input"
         [ -e "$work/mark" ] || break
         if [ $status = $whole ] && cmp -s "$work/out" "$work/whole.out" && cmp -s "$work/err" "$work/whole.err"; then
             :
-        elif [ $status = 1 ] && [ ! -s "$work/out" ] && cmp -s "$work/err" "$work/wanting" && cmp -s "$work/rest" "$input"; then
+        elif [ $status = 1 ] && [ ! -s "$work/out" ] && cmp -s "$work/err" "$work/wanting" \
+            && cmp -s "$work/rest" "$input"; then
             :
         else
             echo "want of memory: $name: allocation $number refused: status $status" >&2
@@ -58,15 +63,21 @@ each 'no command' /dev/null
 each 'help' /dev/null line --help
 each 'a refused option' /dev/null line --black 65536
 
+# metadata with these samples of black and white
+metadata() {
+    printf '{"videoParameters":{"system":"NTSC","fieldWidth":910,"fieldHeight":263,"black16bIre":%s,' "$1"
+    printf '"white16bIre":%s,"sampleRate":14318181.5},"fields":[]}' "$2"
+}
+
 # metadata that isn't JSON, and the stored run's line with metadata for it
 printf '{"a":NaN}' > "$work/nan.json"
 each 'metadata that is not JSON' "$stored/stdin" line --meta "$work/nan.json"
-printf '{"videoParameters":{"system":"NTSC","fieldWidth":910,"fieldHeight":263,"black16bIre":8224,"white16bIre":16448,"sampleRate":14318181.5},"fields":[]}' > "$work/line.json"
+metadata 8224 16448 > "$work/line.json"
 each 'the stored run with metadata' "$stored/stdin" line --meta "$work/line.json"
 
 # the joined run: a field of black samples, 239,330 of 16,384, with its metadata
 dd if=/dev/zero bs=239330 count=1 2> /dev/null | tr '\000' '\n' | sed 's/^/@/' | tr '@\n' '\000@' > "$work/black.tbc"
-printf '{"videoParameters":{"system":"NTSC","fieldWidth":910,"fieldHeight":263,"black16bIre":16384,"white16bIre":51200,"sampleRate":14318181.5},"fields":[]}' > "$work/full.json"
+metadata 16384 51200 > "$work/full.json"
 each 'the joined run' "$work/black.tbc" extract --meta "$work/full.json"
 
 exit $failed
