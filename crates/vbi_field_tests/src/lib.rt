@@ -12,6 +12,8 @@ mod documents;
 #[cfg(test)]
 mod drawing;
 #[cfg(test)]
+mod fault_texts;
+#[cfg(test)]
 mod faults;
 #[cfg(test)]
 mod feeding;

@@ -12,6 +12,8 @@ mod classes;
 #[cfg(test)]
 mod devices;
 #[cfg(test)]
+mod fault_texts;
+#[cfg(test)]
 mod intakes;
 #[cfg(test)]
 mod lines;
