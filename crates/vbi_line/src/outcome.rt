@@ -41,7 +41,7 @@ pub fn read_packed(packed: &Packed, system: System) -> Outcome
     read_runs(packed, system)
 }
 
-/// The cause at the first hopeless column, which lies so many columns behind the first column of its run.
+/// The cause at the first hopeless column, which is this number of columns behind the first column of its run.
 fn cause(begin: usize, behind: usize) -> Outcome
     requires { begin + behind < 2 ^ 16 }
     ensures change { behind ≡ 0 → result ≡ Outcome.Change (begin + behind) }
