@@ -298,7 +298,6 @@ class _Row(NamedTuple):
     format: str
     picture: str
     time: str
-    chapter: str
     stop: str
 
 
@@ -315,8 +314,7 @@ def _row(number, readings):
     if Kind.clv_picture in told:
         time.append("%02d.%02d" % told[Kind.clv_picture][1:])
     return _Row(number, format_of(*words).name, str(told[Kind.picture].first) if Kind.picture in told else "",
-                ":".join(time), str(codes[Kind.chapter].first) if Kind.chapter in codes else "",
-                "stop" if Kind.picture_stop in codes else "")
+                ":".join(time), "stop" if Kind.picture_stop in codes else "")
 
 
 def main(words=None):
