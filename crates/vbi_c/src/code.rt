@@ -6,6 +6,7 @@ ghost use Rattle.vbi_words.specs.Words.{IsWord};
 ghost use Rattle.vbi_c.specs.Codes.{code_for_c, TellsCode};
 
 use crate::status::{BAD_WORD, DONE};
+use std::mem::size_of;
 use vbi_words::{Code, Word24, classify};
 
 /// What a word says: its kind, and the numbers that go with it.
@@ -22,6 +23,9 @@ pub struct LdvbiCode {
     /// The minutes, the picture within its second, or the three last digits of a users' code as a number; else 0.
     pub second: u32,
 }
+
+// As include/ldvbi.h has it.
+const _: () = prove!(size_of::<LdvbiCode>() == 12);
 
 /// A code as C sees it.
 fn code_for_c(code: Code) -> LdvbiCode

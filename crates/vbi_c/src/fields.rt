@@ -9,6 +9,7 @@ ghost use Rattle.vbi_c.specs.Statuses.{status_of};
 use crate::reading::{LdvbiReading, read_bytes};
 use crate::setup::{Setup, find_fields_setup};
 use crate::status::DONE;
+use std::mem::size_of;
 use vbi_words::System;
 
 /// The readings of a field's three lines with code words.
@@ -22,6 +23,9 @@ pub struct LdvbiFieldReadings {
     /// Line 18.
     pub third: LdvbiReading,
 }
+
+// As include/ldvbi.h has it.
+const _: () = prove!(size_of::<LdvbiFieldReadings>() == 24);
 
 /// The bytes of a field's row, counted from 0.
 fn row(system: System, field: &[u8], row: usize) -> &[u8]

@@ -5,6 +5,7 @@ ghost use Rattle.vbi_words.specs.Geometry.{line_bytes};
 ghost use Rattle.vbi_c.specs.Readings.{outcome_for_c, line_reading, TellsLine};
 
 use crate::setup::Setup;
+use std::mem::size_of;
 use vbi_line::{LineBuf, read_twice};
 use vbi_words::{Outcome, System};
 
@@ -22,6 +23,9 @@ pub struct LdvbiReading {
     /// The word, from 0x800000 to 0xFFFFFF, or 0 where there is none.
     pub word: u32,
 }
+
+// As include/ldvbi.h has it.
+const _: () = prove!(size_of::<LdvbiReading>() == 8);
 
 /// A line without a word.
 fn wordless(cause: u8, pass: u8, column: u16) -> LdvbiReading
