@@ -10,8 +10,8 @@ trap 'rm -rf "$work"' EXIT
 if [ "$(cat "$work/status")" != 0 ]; then
     exit 1
 fi
-make ldvbi
-for script in lines program words settings device_faults line_and_draw_faults read_back want_of_memory; do
+make ldvbi lib
+for script in lines program words settings device_faults line_and_draw_faults read_back want_of_memory library; do
     sh tests/$script.sh ./ldvbi
 done
 tail -n 1 "$work/log"
