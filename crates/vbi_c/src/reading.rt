@@ -1,13 +1,13 @@
 //! The reading of a line as C sees it.
 
-ghost use Rattle.std.specs.Prelude.{◌≡◌, ◌*◌, [], length};
+ghost use Rattle.std.specs.Prelude.{◌≡◌, length};
 ghost use Rattle.vbi_words.specs.Geometry.{line_bytes};
 ghost use Rattle.vbi_c.specs.Readings.{outcome_for_c, line_reading, TellsLine};
 
 use crate::setup::Setup;
 use std::mem::size_of;
-use vbi_line::{LineBuf, read_twice};
-use vbi_words::{Outcome, System};
+use vbi_line::{read_packed_twice, slice_bytes};
+use vbi_words::Outcome;
 
 /// What a line shows: its word, or the cause for which it has none.
 #[derive(Clone, Copy, Debug, PartialEq, Eq)]
@@ -57,27 +57,13 @@ fn outcome_for_c(outcome: Outcome, pass: u8) -> LdvbiReading
     }
 }
 
-/// A buffer that holds a line's bytes.
-fn held_line(system: System, bytes: &[u8]) -> LineBuf
-    requires { length bytes.now ≡ line_bytes system }
-    ensures system { result.system ≡ system }
-    ensures held { result.held ≡ bytes.now }
-    ensures cursors { result.cursors ≡ [] }
-    ensures looked { result.looked ≡ 0 }
-{
-    let mut line = LineBuf::new(system);
-    line.room().copy_from_slice(bytes);
-    line.commit(bytes.len());
-    line
-}
-
 /// The reading of a line's bytes.
 pub(crate) fn read_bytes(setup: &Setup, bytes: &[u8]) -> LdvbiReading
     requires { length bytes.now ≡ line_bytes setup.now.system }
     ensures value { result ≡ line_reading setup.now bytes.now }
     ensures tells { TellsLine setup.now bytes.now result }
 {
-    let mut line = held_line(setup.system, bytes);
-    let reading = read_twice(&mut line, setup.system, setup.levels);
+    let packed = slice_bytes(bytes, setup.system, setup.levels);
+    let reading = read_packed_twice(&packed, setup.system);
     outcome_for_c(reading.outcome, reading.pass)
 }
