@@ -19,8 +19,8 @@ mod reading;
 mod store;
 
 pub use counted::{Counted, Fail, RETRIES};
-pub use intake::{Filled, Intake, IntakeFault};
 pub use in_place::slice_bytes;
+pub use intake::{Filled, Intake, IntakeFault};
 pub use lanes::slice_lanes;
 pub use line::LineBuf;
 pub use outcome::{read_line, read_packed};

@@ -1,56 +1,65 @@
-use Rattle.std.proofs.Common.{◌≡◌, ◌+◌, ℕ, arith, sym, ap, ◌∙◌, length, subst}
+use Rattle.std.proofs.Common.{◌≡◌, ◌+◌, ◌-◌, ℕ, ◌++◌, Bool, List, arith, sym, ap, ◌∙◌, length, length-append, subst}
+use Rattle.std.proofs.lemmas.List.FromFn.{length-map-range_with_len}
 use Rattle.vbi_words.specs.Geometry.{width_of}
-use Rattle.vbi_line.specs.Line.{sample_at}
-use Rattle.vbi_line.proofs.InPlace.{Block, length_with_block, sliced_with_block}
+use Rattle.vbi_line.specs.Packing.{level_of_bit, levels_in, TellsAbove}
+use Rattle.vbi_line.proofs.InPlace.{word_sliced}
 use Rattle.vbi_line.proofs.Sizes.{line_bytes-twice}
 use Rattle.vbi_line.proofs.Slicing.{Sliced, sliced_all}
 use Rattle.vbi_line.proofs.in_place.slice_bytes.Goals as goal
 
-pub loop-block-preserved : goal.loop-block-preserved
-loop-block-preserved c =
-    let old = c.loop-block in
+-- the bits that were found are those of the samples behind the levels
+from_here : (low : ℕ) (bytes : List ℕ) (levels : List Bool) (column count word : ℕ) → length levels ≡ column
+    → TellsAbove low bytes column count word → TellsAbove low bytes (length levels) count word
+from_here low bytes levels column count word here tells =
+    let P : ℕ → Type 0 = λ k. TellsAbove low bytes k count word in
+    subst P (sym here) tells
+
+-- how many levels there are then
+longer : (levels : List Bool) (column count word : ℕ) → length levels ≡ column
+    → length (levels ++ levels_in count word) ≡ column + count
+longer levels column count word here =
+    omega (arith, length-append levels (levels_in count word), length-map-range_with_len (level_of_bit word) 0 count, here)
+
+pub loop-column-preserved : goal.loop-column-preserved
+loop-column-preserved c =
+    let old = c.loop-column in
     let bytes = c.args.bytes.now in
     let low = c.greatest_low-low.result in
-    let block : Block bytes old.packed c.block_at-samples.result = record {
-      long = c.block_at-samples.ensures.long;
-      each = λ k inside. c.block_at-samples.ensures.each k inside
-          ∙ ap (λ (n : ℕ). sample_at bytes (n + k)) (sym old.invariant.count);
-    } in
-    let are = c.bits_above.ensures.levels in
-    let long = length_with_block c.args.slicing bytes old.packed low block are in
-    let sliced = sliced_with_block c.args.slicing bytes old.packed low block are old.invariant.sliced
-        c.greatest_low-low.ensures in
+    let word = c.bits_at.result in
+    let tells = from_here low bytes old.packed old.column 64 word old.invariant.count c.bits_at.ensures.levels in
     record {
-      count = omega (arith, ap length c.push.ensures, long, old.invariant.count);
-      sliced = subst (Sliced c.args.slicing bytes) (sym c.push.ensures) sliced;
+      count = ap length c.push.ensures ∙ longer old.packed old.column 64 word old.invariant.count;
+      inside = omega (arith, c.loop-column-test.true, c.width-width.ensures);
+      words = omega (arith, old.invariant.words);
+      sliced = subst (Sliced c.args.slicing bytes) (sym c.push.ensures)
+          (word_sliced c.args.slicing bytes old.packed low 64 word old.invariant.sliced c.greatest_low-low.ensures tells);
     }
 
-pub rest-preserved : goal.rest-preserved
-rest-preserved c =
-    let old = c.rest in
+pub returns-then-rest-gt0-clause-levels : goal.returns-then-rest-gt0-clause-levels
+returns-then-rest-gt0-clause-levels c =
+    let old = c.loop-column in
+    let system = c.args.system in
     let bytes = c.args.bytes.now in
     let low = c.greatest_low-low.result in
-    let block : Block bytes old.packed c.block_at-samples-in-rest.result = record {
-      long = c.block_at-samples-in-rest.ensures.long;
-      each = λ k inside. c.block_at-samples-in-rest.ensures.each k inside
-          ∙ ap (λ (n : ℕ). sample_at bytes (n + k)) (sym old.invariant.count);
-    } in
-    let are = c.bits_above-in-rest.ensures.levels in
-    let long = length_with_block c.args.slicing bytes old.packed low block are in
-    let sliced = sliced_with_block c.args.slicing bytes old.packed low block are old.invariant.sliced
-        c.greatest_low-low.ensures in
-    record {
-      count = omega (arith, ap length c.push-in-rest.ensures, long, old.invariant.count);
-      inside = omega (arith, c.rest-test.true, c.width-width.ensures);
-      blocks = omega (arith, old.invariant.blocks);
-      sliced = subst (Sliced c.args.slicing bytes) (sym c.push-in-rest.ensures) sliced;
-    }
+    let rest = c.width-width.result - old.column in
+    let word = c.bits_at-then-rest-gt0.result in
+    let all = c.push-then-rest-gt0.new.self in
+    let is = c.push-then-rest-gt0.ensures in
+    let tells
+    = from_here low bytes old.packed old.column rest word old.invariant.count c.bits_at-then-rest-gt0.ensures.levels in
+    let sliced : Sliced c.args.slicing bytes all
+    = subst (Sliced c.args.slicing bytes) (sym is)
+    (word_sliced c.args.slicing bytes old.packed low rest word old.invariant.sliced c.greatest_low-low.ensures tells) in
+    let count : length all ≡ old.column + rest
+    = ap length is ∙ longer old.packed old.column rest word old.invariant.count in
+    let long : length all ≡ width_of system = omega (arith, count, old.invariant.inside, c.width-width.ensures) in
+    sliced_all c.args.slicing bytes all (width_of system) (c.requires ∙ line_bytes-twice system) long sliced
 
-pub returns-clause-levels : goal.returns-clause-levels
-returns-clause-levels c =
-    let now = c.samples in
+pub returns-else-rest-gt0-clause-levels : goal.returns-else-rest-gt0-clause-levels
+returns-else-rest-gt0-clause-levels c =
+    let now = c.loop-column in
     let system = c.args.system in
     let long : length now.packed ≡ width_of system
-    = omega (arith, now.invariant.count, now.invariant.inside, c.samples-test.false, c.width-width.ensures) in
+    = omega (arith, now.invariant.count, now.invariant.inside, c.if-rest-gt0.false, c.width-width.ensures) in
     sliced_all c.args.slicing c.args.bytes.now now.packed (width_of system) (c.requires ∙ line_bytes-twice system) long
     now.invariant.sliced
