@@ -53,8 +53,9 @@ uninstall:
 	    $(DESTDIR)$(PREFIX)/lib/libldvbi.so $(DESTDIR)$(PREFIX)/lib/libldvbi.so.$(ABI) \
 	    $(DESTDIR)$(PREFIX)/lib/pkgconfig/ldvbi.pc
 
-bench: ldvbi
+bench: ldvbi lib
 	sh bench/lines.sh
+	sh bench/library.sh
 	python3 bench/stream.py ./ldvbi
 
 clean:
