@@ -12,7 +12,8 @@ if [ "$(cat "$work/status")" != 0 ]; then
     exit 1
 fi
 cp crates/vbi_cli/out/vbi_cli ldvbi
-for script in lines program words settings device_faults line_and_draw_faults read_back want_of_memory; do
+make lib
+for script in lines program words settings device_faults line_and_draw_faults read_back want_of_memory library; do
     sh tests/$script.sh ./ldvbi
 done
 tail -n 1 "$work/log"

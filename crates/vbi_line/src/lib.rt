@@ -8,6 +8,7 @@
 
 mod counted;
 mod decoder;
+mod in_place;
 mod intake;
 mod lanes;
 pub mod laws;
@@ -18,9 +19,10 @@ mod reading;
 mod store;
 
 pub use counted::{Counted, Fail, RETRIES};
+pub use in_place::slice_bytes;
 pub use intake::{Filled, Intake, IntakeFault};
 pub use lanes::slice_lanes;
 pub use line::LineBuf;
 pub use outcome::{read_line, read_packed};
 pub use packed::Packed;
-pub use reading::read_twice;
+pub use reading::{read_packed_twice, read_twice};
