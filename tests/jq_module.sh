@@ -130,8 +130,8 @@ told 'chapters' '{"0":3,"79":8}' chapters
 told 'stops' '[5,8]' stops
 told 'the format of a CAV disc' '"cav"' format
 told 'the codes of a field where a line has no word' \
-    '{"seqNo":4,"format":"cav","codes":[null,null,{"kind":"picture","number":2}],"agreed":{"kind":"picture","number":2}}' \
-    'codes | select(.seqNo == 4)'
+    '[4,"cav",[null,null,{"kind":"picture","number":2}],{"kind":"picture","number":2}]' \
+    'codes | select(.seqNo == 4) | [.seqNo, .format, .codes, .agreed]'
 told 'no agreed code where lines 17 and 18 differ' 'null' 'codes | select(.seqNo == 5) | .agreed'
 told 'no agreed code of line 16' 'null' 'codes | select(.seqNo == 9) | .agreed'
 

@@ -67,7 +67,10 @@ L1 H1|L1133 H1|L14 H14
 L14 H45|L1090 H45|800000
 END
 run extract $pal fields.tbc
-echo '["unfinished","change 220","change 0"] ["change 1","change 1134","hold 50"] ["hold 58","hold 1134","word"]' > columns
+{
+    printf '["unfinished","change 220","change 0"] ["change 1","change 1134","hold 50"] '
+    echo '["hold 58","hold 1134","word"]'
+} > columns
 jq -c '.fields[1, 2, 3].vbiCause' out | paste -d ' ' - - - > out.columns
 check 'the least and the greatest columns, PAL' cmp out.columns columns
 validated 'every cause, PAL' valid

@@ -1,6 +1,6 @@
 #!/bin/sh
-# The tools that the tests need besides the toolchain: a C compiler, python3 and jq; and what the documents' commands and
-# their tests need. Names those that are missing and fails, or installs them from Debian's packages, as root or by sudo.
+# The tools that the tests need besides the toolchain: a C compiler, python3 and jq; and what the commands in the
+# documents need. Names those that are missing and fails, or installs them from Debian's packages, as root or by sudo.
 # usage: sh tests/tools.sh [install]
 set -eu
 
