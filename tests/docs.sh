@@ -1,6 +1,6 @@
 #!/bin/sh
-# Runs the command blocks of the documents, in their order, and the examples of the help texts, and compares what they
-# print with what stands there.
+# Runs the command blocks of the documents, in their order, and the examples of the manual page and of the help texts,
+# and compares what they print with what stands there.
 #
 # A block marked ```sh or ```bash is run by that shell and has to succeed, each of its commands in turn. A block marked
 # ```text that comes next is what it prints, on standard output and standard error. A block with 'Not run by the tests'
@@ -112,6 +112,18 @@ folder trial
 sides trial
 document README.md trial
 document docs/FORMATS.md trial
+
+# The examples of the manual page, one script; the last line that it prints is of the drawn field
+mandoc -T ascii -O width=200 "$top/docs/ldvbi.1" | sed 's/.'"$(printf '\010')"'//g' |
+    sed -n '/^EXAMPLES/,/^DIAGNOSTICS/s/^           //p' > page.sh
+check 'the manual page has examples' [ "$(grep -c ldvbi page.sh)" = 6 ]
+folder page
+sides page
+in_folder page sh -e ../page.sh
+check 'the examples of the manual page' prints absent
+tail -n 1 out > last
+echo '[8572927,15803205,15803205]' > last.wanted
+check 'the words of the drawn field of the manual page' cmp last last.wanted
 
 # The examples of the help texts; one of them has a disc of PAL
 for command in '' line extract show draw; do

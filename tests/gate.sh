@@ -15,7 +15,7 @@ cp crates/vbi_cli/out/vbi_cli ldvbi
 for script in lines program words settings device_faults line_and_draw_faults read_back want_of_memory; do
     sh tests/$script.sh ./ldvbi
 done
-for script in jq_module schema docs; do
+for script in jq_module schema docs manual; do
     sh tests/$script.sh ./ldvbi
 done
 tail -n 1 "$work/log"
