@@ -1,14 +1,24 @@
 # ldvbi: `make` proves and builds the program, `make lib` proves and builds the library for C, libldvbi.a and libldvbi.so,
-# `make test` is the whole gate, `make setup` installs what the gate needs and the machine lacks, `make install PREFIX=DIR`
-# copies program and library to DIR, without the toolchain where they are built, `make uninstall` removes them, and
-# `make bench` measures both beside plain readers, for which it needs rustc, a C compiler and python3.
-# The toolchain's command `rt` has to be on the PATH.
+# `make test` is the whole gate, `make setup` installs what the gate needs and the machine lacks, and `make bench` measures
+# program and library beside plain readers, for which it needs rustc, a C compiler and python3.
+# The toolchain's command `rt` has to be on the PATH; `make test` needs the tools of tests/tools.sh as well.
+#
+# Once the program is built, these need no toolchain: `make install PREFIX=DIR` copies it to DIR/bin, the manual page,
+# completions, schema and contrib's files to DIR/share, and the library with its header to DIR/lib and DIR/include where
+# it is built, too; `make uninstall PREFIX=DIR` takes all of it away; `make check PROGRAM=./ldvbi` runs the gate's scripts
+# on it; `make dist` packs source and what is built, with checksums.
 
 PREFIX ?= /usr/local
-SOURCES := $(shell find crates -name out -prune -o \( -name '*.rt' -o -name '*.antt' \) -print)
-
+PROGRAM ?= ./ldvbi
+VERSION := 0.1.0
 # The interface of the library, as include/ldvbi.h has it
 ABI := 1
+ROOT := $(DESTDIR)$(PREFIX)
+MANUAL := $(ROOT)/share/man/man1/ldvbi.1
+BASH_COMPLETION := $(ROOT)/share/bash-completion/completions/ldvbi
+ZSH_COMPLETION := $(ROOT)/share/zsh/site-functions/_ldvbi
+SHARED := docs/ldvbi.schema.json contrib/ldvbi.jq
+SOURCES := $(shell find crates -name out -prune -o \( -name '*.rt' -o -name '*.antt' \) -print)
 LIBRARY_SOURCES := $(filter crates/vbi_words/% crates/vbi_line/% crates/vbi_c/%,$(SOURCES))
 
 ldvbi: crates.txt $(SOURCES)
@@ -38,19 +48,48 @@ test: toolchain
 setup:
 	sh tests/tools.sh install
 
-install: ldvbi lib
-	install -D -m 755 ldvbi $(DESTDIR)$(PREFIX)/bin/ldvbi
-	install -D -m 644 include/ldvbi.h $(DESTDIR)$(PREFIX)/include/ldvbi.h
-	install -D -m 644 libldvbi.a $(DESTDIR)$(PREFIX)/lib/libldvbi.a
-	install -D -m 755 libldvbi.so.$(ABI) $(DESTDIR)$(PREFIX)/lib/libldvbi.so.$(ABI)
-	ln -sf libldvbi.so.$(ABI) $(DESTDIR)$(PREFIX)/lib/libldvbi.so
-	install -d $(DESTDIR)$(PREFIX)/lib/pkgconfig
-	sed 's|@PREFIX@|$(PREFIX)|' include/ldvbi.pc.in > $(DESTDIR)$(PREFIX)/lib/pkgconfig/ldvbi.pc
+install: ldvbi $(if $(wildcard libldvbi.a),install-lib)
+	install -D -m 755 ldvbi $(ROOT)/bin/ldvbi
+	install -D -m 644 docs/ldvbi.1 $(MANUAL)
+	install -D -m 644 contrib/completions/ldvbi.bash $(BASH_COMPLETION)
+	install -D -m 644 contrib/completions/_ldvbi $(ZSH_COMPLETION)
+	install -d $(ROOT)/share/ldvbi
+	install -m 644 $(SHARED) $(ROOT)/share/ldvbi
+
+install-lib: lib
+	install -D -m 644 include/ldvbi.h $(ROOT)/include/ldvbi.h
+	install -D -m 644 libldvbi.a $(ROOT)/lib/libldvbi.a
+	install -D -m 755 libldvbi.so.$(ABI) $(ROOT)/lib/libldvbi.so.$(ABI)
+	ln -sf libldvbi.so.$(ABI) $(ROOT)/lib/libldvbi.so
+	install -d $(ROOT)/lib/pkgconfig
+	sed 's|@PREFIX@|$(PREFIX)|' include/ldvbi.pc.in > $(ROOT)/lib/pkgconfig/ldvbi.pc
 
 uninstall:
-	rm -f $(DESTDIR)$(PREFIX)/bin/ldvbi $(DESTDIR)$(PREFIX)/include/ldvbi.h $(DESTDIR)$(PREFIX)/lib/libldvbi.a \
-	    $(DESTDIR)$(PREFIX)/lib/libldvbi.so $(DESTDIR)$(PREFIX)/lib/libldvbi.so.$(ABI) \
-	    $(DESTDIR)$(PREFIX)/lib/pkgconfig/ldvbi.pc
+	rm -f $(ROOT)/bin/ldvbi $(MANUAL) $(BASH_COMPLETION) $(ZSH_COMPLETION)
+	rm -rf $(ROOT)/share/ldvbi
+	rm -f $(ROOT)/include/ldvbi.h $(ROOT)/lib/libldvbi.a $(ROOT)/lib/libldvbi.so $(ROOT)/lib/libldvbi.so.$(ABI) \
+	    $(ROOT)/lib/pkgconfig/ldvbi.pc
+
+check:
+	@sh tests/tools.sh
+	sh tests/gate.sh $(PROGRAM)
+
+# Archives of one commit and one program are the same byte for byte, whenever they are made. Uncommitted changes aren't
+# in them.
+PACK := gzip -9n
+dist:
+	rm -rf dist
+	mkdir dist
+	git archive --prefix=ldvbi-$(VERSION)/ HEAD | $(PACK) > dist/ldvbi-$(VERSION).tar.gz
+	if $(MAKE) -q ldvbi 2> /dev/null; then \
+		$(MAKE) -s install DESTDIR=dist/ PREFIX=ldvbi-$(VERSION)-x86_64-linux && \
+		tar -C dist --sort=name --mtime="@$$(git log -1 --format=%ct)" --owner=0 --group=0 --numeric-owner \
+			-cf - ldvbi-$(VERSION)-x86_64-linux | $(PACK) > dist/ldvbi-$(VERSION)-x86_64-linux.tar.gz && \
+		rm -r dist/ldvbi-$(VERSION)-x86_64-linux; \
+	else \
+		echo "the program isn't built, or is older than its source: source alone is packed"; \
+	fi
+	cd dist && sha256sum *.tar.gz > SHA256SUMS
 
 bench: ldvbi lib
 	sh bench/lines.sh
@@ -58,10 +97,10 @@ bench: ldvbi lib
 	python3 bench/stream.py ./ldvbi
 
 clean:
-	rm -f ldvbi libldvbi.a libldvbi.so libldvbi.so.$(ABI)
+	rm -rf ldvbi libldvbi.a libldvbi.so libldvbi.so.$(ABI) dist
 	rm -rf crates/*/out
 
 toolchain:
 	@command -v rt > /dev/null || { echo "make: the command rt of the Rattle toolchain is not on the PATH" >&2; exit 1; }
 
-.PHONY: lib test setup install uninstall bench clean toolchain
+.PHONY: lib test setup install install-lib uninstall check dist bench clean toolchain

@@ -1,6 +1,7 @@
 #!/bin/sh
 # The tools that the tests need besides the toolchain: a C compiler with its sanitizers, a C++ compiler, binutils,
-# python3 and jq. Names those that are missing and fails, or installs them from Debian's packages, as root or by sudo.
+# python3 and jq; and what the commands in the documents need. Names those that are missing and fails, or installs them
+# from Debian's packages, as root or by sudo.
 # usage: sh tests/tools.sh [install]
 set -eu
 
@@ -8,6 +9,11 @@ missing=
 for pair in "${CC:-cc}:gcc libc6-dev" "${CXX:-c++}:g++" nm:binutils python3:python3 jq:jq; do
     command -v "${pair%%:*}" > /dev/null || missing="$missing ${pair#*:}"
 done
+for tool in less mandoc parallel pv zsh; do
+    command -v $tool > /dev/null || missing="$missing $tool"
+done
+python3 -c 'import jsonschema' 2> /dev/null || /usr/bin/python3 -c 'import jsonschema' 2> /dev/null ||
+    missing="$missing python3-jsonschema"
 [ -n "$missing" ] || exit 0
 if [ "${1:-}" != install ]; then
     echo "tests: missing on this machine, as Debian's packages:$missing (make setup installs them)" >&2

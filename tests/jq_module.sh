@@ -1,0 +1,162 @@
+#!/bin/sh
+# Compares what contrib/ldvbi.jq says of words with what the built program's `show` says of them: words at the corners
+# of each pattern, and 20,000 drawn ones. Then its tables, on a document whose words are chosen here.
+# usage: sh tests/jq_module.sh PROGRAM
+# shellcheck disable=SC2086
+
+# shellcheck source=tests/helpers.sh
+. "$(dirname "$0")/helpers.sh"
+
+# The patterns of codes, as the definitions have them: the least and the greatest digit at each place
+grep -o 'IsBetween 0x[0-9A-F]* 0x[0-9A-F]*' "$here/../crates/vbi_words/specs/Codes.antt" | sed 's/0x//g' > patterns
+check 'there are eleven patterns' [ "$(wc -l < patterns)" = 11 ]
+
+# The corners: at each place of a pattern the digits at its bounds and one beyond, all other digits at either bound.
+# Then the drawn words: by thirds any word, one of a pattern, and one of a pattern with a digit that is replaced.
+cat > words.awk << 'END'
+function digit_at(text, place) {
+    return index("0123456789ABCDEF", substr(text, place, 1)) - 1
+}
+function with_digit(text, place, digit) {
+    return substr(text, 1, place - 1) substr("0123456789ABCDEF", digit + 1, 1) substr(text, place + 1)
+}
+# A whole number from 0 to `count` - 1 (Park and Miller's generator: exact in any awk)
+function random(count) {
+    seed = seed * 16807 % 2147483647
+    return int(seed / 2147483647 * count)
+}
+function tell(word) {
+    if (word ~ /^[89A-F]/)
+        print word
+}
+function of_pattern(number,    word, place, lowest) {
+    word = least[number]
+    for (place = 1; place <= 6; place++) {
+        lowest = digit_at(least[number], place)
+        word = with_digit(word, place, lowest + random(digit_at(greatest[number], place) - lowest + 1))
+    }
+    return word
+}
+{
+    least[NR] = $2
+    greatest[NR] = $3
+    for (place = 1; place <= 6; place++)
+        for (digit = 0; digit < 16; digit++)
+            if (digit - digit_at($2, place) ~ /^(-1|0|1)$/ || digit - digit_at($3, place) ~ /^(-1|0|1)$/) {
+                tell(with_digit($2, place, digit))
+                tell(with_digit($3, place, digit))
+            }
+}
+END {
+    seed = 20857
+    for (drawn = 0; drawn < 20000; drawn++) {
+        if (drawn % 3 == 0) {
+            word = with_digit("000000", 1, 8 + random(8))
+            for (place = 2; place <= 6; place++)
+                word = with_digit(word, place, random(16))
+        } else {
+            word = of_pattern(1 + random(NR))
+            if (drawn % 3 == 2) {
+                place = 1 + random(6)
+                word = with_digit(word, place, place == 1 ? 8 + random(8) : random(16))
+            }
+        }
+        tell(word)
+    }
+}
+END
+awk -f words.awk patterns > items
+check 'there are 20,000 words and those of the corners' [ "$(wc -l < items)" -gt 20300 ]
+{ cat items; echo -; echo -; } | paste -d ' ' - - - | sed -n '/[^ ] [^ ]* [^ ]/p' > words
+
+# The report of `show`, said by the module: its kinds are the report's, and a kind's numbers follow it.
+cat > report.jq << 'END'
+include "ldvbi";
+def padded($width): tostring | "0" * ($width - length) + .;
+def text:
+  [.kind,
+   if .kind == "picture" then .number | padded(5)
+   elif .kind == "chapter" then .number | padded(2)
+   elif .kind == "time" then "\(.hours):\(.minutes | padded(2))"
+   elif .kind == "clv picture" then (.seconds, .picture | padded(2))
+   elif .kind == "users" then .digit, (.number | hex[3:])
+   elif .number then .number | hex[3:]
+   else empty end]
+  | map(tostring) | join(" ");
+.fields as $fields
+| codes
+| $fields[.seqNo - 1].vbi.vbiData as $words
+| "field \(.seqNo) \(.format)",
+  (range(3) as $line
+   | "\(16 + $line) " + if .codes[$line] then "\($words[$line] | hex) \(.codes[$line] | text)" else "none blank" end)
+END
+"$program" draw $ntsc words | "$program" extract $ntsc > document.json
+"$program" draw $ntsc words | "$program" show $ntsc | sed '1d;$d' > wanted
+status=0
+jq -r -L "$here/../contrib" -f report.jq document.json > out 2> err || status=$?
+check 'each word as show has it' cmp out wanted
+for kind in lead-in lead-out 'picture stop' picture chapter clv time 'clv picture' 'cx on' 'cx off' users other; do
+    check "some word is $kind" grep -q "^1[678] [0-9A-F]\{6\} $kind" wanted
+done
+
+# told NAME ANSWER PROGRAM: checks what the module answers to this on the document
+told() {
+    echo "$2" > wanted
+    status=0
+    jq -c -L "$here/../contrib" "include \"ldvbi\"; $3" document.json > out 2> err || status=$?
+    check "$1" cmp out wanted
+}
+# of_words OPTIONS < WORDS: makes the document of these words
+of_words() {
+    cat > words
+    "$program" draw $1 words | "$program" extract $1 > document.json
+}
+
+# A CAV disc: a picture that comes again, one of line 18 alone, one on which the lines differ, one with the top bit of
+# its second digit, a picture stop, and chapters
+of_words "$ntsc" << 'END'
+88FFFF 88FFFF 88FFFF
+- F00001 F00001
+- 800DDD 800DDD
+- - F00002
+82CFFF F00003 F00004
+- F80005 F80005
+- F00001 F00001
+82CFFF 8F9DDD 8F9DDD
+F00006 - -
+END
+told 'pictures' '{"1":2,"2":4,"5":6}' pictures
+told 'chapters' '{"0":3,"79":8}' chapters
+told 'stops' '[5,8]' stops
+told 'the format of a CAV disc' '"cav"' format
+told 'the codes of a field where a line has no word' \
+    '[4,"cav",[null,null,{"kind":"picture","number":2}],{"kind":"picture","number":2}]' \
+    'codes | select(.seqNo == 4) | [.seqNo, .format, .codes, .agreed]'
+told 'no agreed code where lines 17 and 18 differ' 'null' 'codes | select(.seqNo == 5) | .agreed'
+told 'no agreed code of line 16' 'null' 'codes | select(.seqNo == 9) | .agreed'
+
+# A CLV disc, one with codes of both formats, and one with none
+of_words "$pal" << 'END'
+8AE012 87FFFF 87FFFF
+- F0DD01 F0DD01
+- 801DDD 801DDD
+END
+told 'the format of a CLV disc' '"clv"' format
+told 'no pictures on a CLV disc' '{}' pictures
+told 'its agreed codes' \
+    '[{"kind":"clv"},{"kind":"time","hours":0,"minutes":1},{"kind":"chapter","number":1}]' '[codes.agreed]'
+printf '%s\n' '87FFFF - -' '- F00001 -' | of_words "$ntsc"
+told 'the format of CAV codes and CLV codes in two fields' '"both"' format
+printf '%s\n' '87FFFF F00001 -' '- - -' | of_words "$ntsc"
+told 'the format of CAV codes and CLV codes in one field' '"both"' format
+printf '%s\n' '88FFFF - -' '- - -' | of_words "$ntsc"
+told 'the format of neither' '"neither"' format
+told 'no stops' '[]' stops
+
+# What it refuses: a number that is no word, and what isn't a document of version 2
+for number in 1 8388607 16777216 -1 8572927.5 null '"82CFFF"'; do
+    told "$number is no word" '"refused"' "try ($number | code) catch \"refused\""
+done
+told 'the least and the greatest word' '[{"kind":"other"},{"kind":"other"}]' '[8388608, 16777215 | code]'
+told 'a document of another version' '"no document of version 2"' 'try (.version = 3 | [codes]) catch .'
+finish

@@ -1,0 +1,135 @@
+#!/bin/sh
+# Validates documents of every kind that the built program writes by docs/ldvbi.schema.json, and broken ones, which have
+# to be refused.
+# usage: sh tests/schema.sh PROGRAM
+# shellcheck disable=SC2086
+
+# shellcheck source=tests/helpers.sh
+. "$(dirname "$0")/helpers.sh"
+
+for python in python3 /usr/bin/python3; do
+    "$python" -c 'import jsonschema' 2> /dev/null && break
+done
+
+# Says `valid` or `refused` of each document that is named.
+cat > validate.py << 'END'
+import json
+import sys
+
+import jsonschema
+
+with open(sys.argv[1], encoding="ascii") as file:
+    schema = json.load(file)
+jsonschema.Draft202012Validator.check_schema(schema)
+validator = jsonschema.Draft202012Validator(schema)
+for path in sys.argv[2:]:
+    with open(path, encoding="ascii") as file:
+        document = json.load(file)
+    print("valid" if validator.is_valid(document) else "refused")
+END
+
+# validated NAME ANSWER: checks what is said of the document in `out`
+validated() {
+    echo "$2" > answer
+    status=0
+    "$python" validate.py "$here/../docs/ldvbi.schema.json" out > said 2> err || status=$?
+    check "$1" cmp said answer
+}
+
+# Documents of every kind: no field, each cause with the least and the greatest columns, both passes, a cut field
+run extract $ntsc empty
+validated 'no field' valid
+run extract --system PAL --black 0 --white 65535 empty
+validated 'the least black and the greatest white' valid
+signal NTSC 1 << 'END' | ntsc_samples > fields.tbc
+82CFFF|82CFFF @170-171L|-
+L900 H10|82CFFF @170-174L|L164 H746
+H1|L1 H1|L908 H1
+L11 H11|L11 H37|L873 H37
+800000|FFFFFF|F12345
+END
+run extract $ntsc fields.tbc
+echo '["change 0","change 1","change 909"] ["hold 40","hold 47","hold 909"]' > columns
+jq -c '.fields[2, 3].vbiCause' out | paste -d ' ' - - > out.columns
+check 'the least and the greatest columns, NTSC' cmp out.columns columns
+validated 'every cause, NTSC' valid
+jq -c . out > whole.json
+head -c 957319 fields.tbc > cut.tbc
+run extract $ntsc cut.tbc
+validated 'the longest cut field, NTSC' valid
+jq -c . out > cut.json
+printf x | run extract $ntsc
+validated 'the shortest cut field' valid
+signal PAL 1 << 'END' | pal_samples > fields.tbc
+8AE012|8AE012 @200-201L|-
+L1130 H5|8AE012 @220-224L|H1
+L1 H1|L1133 H1|L14 H14
+L14 H45|L1090 H45|800000
+END
+run extract $pal fields.tbc
+{
+    printf '["unfinished","change 220","change 0"] ["change 1","change 1134","hold 50"] '
+    echo '["hold 58","hold 1134","word"]'
+} > columns
+jq -c '.fields[1, 2, 3].vbiCause' out | paste -d ' ' - - - > out.columns
+check 'the least and the greatest columns, PAL' cmp out.columns columns
+validated 'every cause, PAL' valid
+jq -c . out > pal.json
+head -c 710509 fields.tbc > cut.tbc
+run extract $pal cut.tbc
+validated 'the longest cut field, PAL' valid
+
+# differs FILE FILE: whether the two files differ
+# shellcheck disable=SC2317
+differs() {
+    ! cmp -s "$1" "$2"
+}
+
+# Broken ones, each made of a good one by a change
+while IFS='|' read -r document change; do
+    jq -c "$change" $document.json > out
+    check "$document with $change is another document" differs out $document.json
+    validated "$document with $change" refused
+done << 'END'
+whole|.version = 3
+whole|del(.cutField)
+whole|del(.fields[0].vbiPass)
+whole|.note = "more"
+whole|.fields[0].note = "more"
+whole|.fields[0].vbi.note = "more"
+whole|.videoParameters.note = "more"
+whole|.videoParameters.system = "PAL"
+pal|.videoParameters.fieldHeight = 263
+whole|.videoParameters.black16bIre = -1
+whole|.videoParameters.black16bIre = 65535
+whole|.videoParameters.white16bIre = 65536
+whole|.videoParameters.white16bIre = "51200"
+whole|.fields[0].seqNo = 0
+whole|.fields[0].seqNo = 1000001
+whole|.fields[0].vbi.vbiData[0] = 8388607
+whole|.fields[0].vbi.vbiData[0] = 16777216
+whole|.fields[0].vbi.vbiData[0] = 8572927.5
+whole|.fields[0].vbi.vbiData[2] = 8572927
+whole|.fields[0].vbi.vbiData |= .[:2]
+whole|.fields[0].vbiCause[0] = "blank"
+whole|.fields[0].vbiCause[2] = "word"
+whole|.fields[0].vbiCause += ["blank"]
+whole|.fields[0].vbiPass[0] = 0
+whole|.fields[0].vbiPass[1] = 0
+whole|.fields[0].vbiPass[1] = 3
+whole|.fields[0].vbiPass[2] = 1
+whole|.fields[1].vbiCause[0] = "Blank"
+whole|.fields[1].vbiCause[1] = "change"
+whole|.fields[1].vbiCause[1] = "change 017"
+whole|.fields[1].vbiCause[1] = "change 910"
+whole|.fields[1].vbiCause[2] = "hold 39"
+whole|.fields[1].vbiCause[2] = "hold 910"
+pal|.fields[1].vbiCause[1] = "change 1135"
+pal|.fields[3].vbiCause[0] = "hold 49"
+whole|.cutField = {}
+cut|.cutField.bytes = 0
+cut|.cutField.bytes = 478660
+cut|.cutField.seqNo = 0
+cut|.cutField.videoParameters = null
+END
+finish
