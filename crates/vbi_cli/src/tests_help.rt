@@ -1,6 +1,7 @@
 //! The texts of help, each whole.
 
 use crate::command_line::WordsFault;
+use crate::tests_asserts::{holds, same};
 use crate::tests_runs::joined;
 use crate::tests_words::read;
 use std::alloc::AllocError;
@@ -118,16 +119,14 @@ fn helps(
 ) -> Result<(), AllocError> {
     match read(rt.alloc(), words) {
         Err(fault) => {
-            assert_eq!(rt; fault.status(), 0, "{words:?}");
-            assert!(rt; matches!(fault, WordsFault::Help(_)), "{words:?}");
+            same(rt, fault.status(), 0, words);
+            holds(rt, matches!(fault, WordsFault::Help(_)), words);
             let printed = fault.to_string(rt.alloc())?;
             let wanted = joined(rt.alloc(), texts)?;
-            assert!(rt;
-                printed.as_str().as_bytes() == wanted.as_slice(),
-                "{words:?} print {printed}"
-            );
+            let is_same = printed.as_str().as_bytes() == wanted.as_slice();
+            holds(rt, is_same, (words, printed));
         }
-        Ok(_) => assert!(rt; false, "{words:?}"),
+        Ok(_) => holds(rt, false, words),
     }
     Ok(())
 }

@@ -78,26 +78,25 @@ fn each_text_has_its_answer(rt: HostRuntime) -> Result<(), Fail> {
 }
 
 /// Texts of words that draw the same field.
-const ALIKE: [(&str, &str); 2] = [
-    ("82cfff - -\n", "82CFFF - -\n"),
-    ("82cfff aBcDeF -", "82CFFF ABCDEF -"),
+const ALIKE: [(&[u8], &[u8]); 2] = [
+    (b"82cfff - -\n", b"82CFFF - -\n"),
+    (b"82cfff aBcDeF -", b"82CFFF ABCDEF -"),
 ];
+
+/// The field that a text of words draws, which has to be one row.
+fn drawn(rt: &impl Abort, config: &Config, text: &[u8], mut paper: Paper) -> Vec<u8> {
+    let run = drew(config, Tape::new(text), &mut paper);
+    same(rt, run.result, Ok(1), text);
+    paper.taken
+}
 
 #[test]
 fn lower_case_draws_the_same_field(rt: HostRuntime) -> Result<(), Fail> {
     let config = config(System::Ntsc, 9)?;
     for (lower, upper) in ALIKE {
-        let mut first = Paper::new(rt.alloc());
-        let run = drew(&config, Tape::new(lower.as_bytes()), &mut first);
-        same(&rt, run.result, Ok(1), lower);
-        let mut second = Paper::new(rt.alloc());
-        let run = drew(&config, Tape::new(upper.as_bytes()), &mut second);
-        same(&rt, run.result, Ok(1), upper);
-        holds(
-            &rt,
-            first.taken.as_slice() == second.taken.as_slice(),
-            lower,
-        );
+        let first = drawn(&rt, &config, lower, Paper::new(rt.alloc()));
+        let second = drawn(&rt, &config, upper, Paper::new(rt.alloc()));
+        holds(&rt, first.as_slice() == second.as_slice(), lower);
     }
     Ok(())
 }
@@ -105,17 +104,20 @@ fn lower_case_draws_the_same_field(rt: HostRuntime) -> Result<(), Fail> {
 #[test]
 fn a_writer_that_cuts_and_interrupts_gets_the_same_field(rt: HostRuntime) -> Result<(), Fail> {
     let config = config(System::Ntsc, 9)?;
-    let mut plain = Paper::new(rt.alloc());
-    drew(&config, Tape::new(b"82CFFF ABCDEF -"), &mut plain);
-    let mut cut = Paper {
+    let text = b"82CFFF ABCDEF -";
+    let plain = drawn(&rt, &config, text, Paper::new(rt.alloc()));
+    let cut = Paper {
         piece: 1000,
         interrupts: 16,
         again: 16,
         ..Paper::new(rt.alloc())
     };
-    let run = drew(&config, Tape::new(b"82CFFF ABCDEF -"), &mut cut);
-    same(&rt, run.result, Ok(1), "cut and interrupted");
-    holds(&rt, plain.taken.as_slice() == cut.taken.as_slice(), "alike");
+    let cut = drawn(&rt, &config, text, cut);
+    holds(
+        &rt,
+        plain.as_slice() == cut.as_slice(),
+        "cut and interrupted",
+    );
     Ok(())
 }
 
