@@ -13,7 +13,7 @@ SHARE := $(DESTDIR)$(PREFIX)/share
 MANUAL := $(SHARE)/man/man1/ldvbi.1
 BASH_COMPLETION := $(SHARE)/bash-completion/completions/ldvbi
 ZSH_COMPLETION := $(SHARE)/zsh/site-functions/_ldvbi
-SHARED := docs/ldvbi.schema.json contrib/ldvbi.jq
+SHARED := docs/ldvbi.schema.json contrib/ldvbi.jq contrib/plot_line.py
 SOURCES := $(shell find crates -name out -prune -o \( -name '*.rt' -o -name '*.antt' \) -print)
 
 ldvbi: crates.txt $(SOURCES)
