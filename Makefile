@@ -17,7 +17,7 @@ ROOT := $(DESTDIR)$(PREFIX)
 MANUAL := $(ROOT)/share/man/man1/ldvbi.1
 BASH_COMPLETION := $(ROOT)/share/bash-completion/completions/ldvbi
 ZSH_COMPLETION := $(ROOT)/share/zsh/site-functions/_ldvbi
-SHARED := docs/ldvbi.schema.json contrib/ldvbi.jq
+SHARED := docs/ldvbi.schema.json contrib/ldvbi.jq contrib/plot_line.py
 SOURCES := $(shell find crates -name out -prune -o \( -name '*.rt' -o -name '*.antt' \) -print)
 LIBRARY_SOURCES := $(filter crates/vbi_words/% crates/vbi_line/% crates/vbi_c/%,$(SOURCES))
 

@@ -113,6 +113,19 @@ sides trial
 document README.md trial
 document docs/FORMATS.md trial
 
+# What the documents link to, and what CONTRIBUTING.md names of the crates, is there.
+for path in README.md CONTRIBUTING.md CHANGELOG.md docs/DECISIONS.md docs/FORMATS.md docs/PROMISES.md docs/RECIPES.md \
+    docs/SIGNAL.md; do
+    for link in $(grep -o '](\([^)#]*\))' "$top/$path" | sed 's/^](//; s/)$//'); do
+        check "$path: $link" [ -e "$(dirname "$top/$path")/$link" ]
+    done
+done
+grep -o '[a-z_]*/\(specs\|src\)/[A-Za-z_]*[.][a-z]*' "$top/CONTRIBUTING.md" > named
+check 'CONTRIBUTING.md names files' [ -s named ]
+while read -r path; do
+    check "CONTRIBUTING.md: $path" [ -e "$top/crates/$path" ]
+done < named
+
 # The examples of the manual page, one script; the last line that it prints is of the drawn field
 mandoc -T ascii -O width=200 "$top/docs/ldvbi.1" | sed 's/.'"$(printf '\010')"'//g' |
     sed -n '/^EXAMPLES/,/^DIAGNOSTICS/s/^           //p' > page.sh

@@ -22,7 +22,7 @@ fi
 for script in lines program words settings device_faults line_and_draw_faults read_back want_of_memory; do
     sh tests/$script.sh "$program"
 done
-for script in jq_module schema docs manual packaging; do
+for script in jq_module schema docs manual packaging plots; do
     sh tests/$script.sh "$program"
 done
 if [ -e libldvbi.so.1 ]; then

@@ -30,6 +30,7 @@ usr/bin/ldvbi
 usr/share/bash-completion/completions/ldvbi
 usr/share/ldvbi/ldvbi.jq
 usr/share/ldvbi/ldvbi.schema.json
+usr/share/ldvbi/plot_line.py
 usr/share/man/man1/ldvbi.1
 usr/share/zsh/site-functions/_ldvbi
 END
@@ -69,7 +70,7 @@ made dist
 check 'archives made again are the same' cmp first/SHA256SUMS tree/dist/SHA256SUMS
 touch tree/crates.txt
 made dist
-check 'no archive of a program older than its source' [ "$(ls tree/dist)" = "$(printf 'SHA256SUMS\nldvbi-0.1.0.tar.gz')" ]
+check 'no archive of a program older than its source' [ ! -e tree/dist/ldvbi-0.1.0-x86_64-linux.tar.gz ]
 made install PREFIX="$work/usr"
 check 'no such program is installed' [ $status != 0 ]
 check 'the toolchain is asked for' grep -q '^make: the command rt of the Rattle toolchain is not on the PATH' err

@@ -102,6 +102,21 @@ for command in $commands; do
     run $command $levels --meta height.json line.raw
     judge "$command: a field height, where the options say all else" 1 empty 'ldvbi: field height differs'
 done
+# What the JSON library doesn't read, also in members that are never looked at: a number too large for it, a byte order
+# mark, UTF-16
+printf '{"videoParameters":{}}' > plain.json
+run line $levels --meta plain.json line.raw
+judge 'metadata that says nothing' 0 "$stored/stdout" ''
+printf '{"videoParameters":{},"fields":[1e999]}' > odd.json
+run line $levels --meta odd.json line.raw
+judge 'metadata with a number that is too large' 1 empty 'ldvbi: metadata is not JSON'
+{ printf '\357\273\277'; cat plain.json; } > odd.json
+run line $levels --meta odd.json line.raw
+judge 'metadata behind a byte order mark' 1 empty 'ldvbi: metadata is not JSON'
+{ printf '\377\376'; sed 's/./&@/g' plain.json | tr '@' '\000'; } > odd.json
+run line $levels --meta odd.json line.raw
+judge 'metadata in UTF-16' 1 empty 'ldvbi: metadata is not JSON'
+
 # nested DEPTH: brackets that open so often, and then close
 nested() {
     { printf "%${1}s" '' | tr ' ' '['; printf "%${1}s" '' | tr ' ' ']'; } > nested.json

@@ -9,7 +9,7 @@ missing=
 for pair in "${CC:-cc}:gcc libc6-dev" "${CXX:-c++}:g++" nm:binutils python3:python3 jq:jq; do
     command -v "${pair%%:*}" > /dev/null || missing="$missing ${pair#*:}"
 done
-for tool in less mandoc parallel pv zsh; do
+for tool in git less mandoc parallel pv zsh; do
     command -v $tool > /dev/null || missing="$missing $tool"
 done
 python3 -c 'import jsonschema' 2> /dev/null || /usr/bin/python3 -c 'import jsonschema' 2> /dev/null ||

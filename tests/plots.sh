@@ -1,0 +1,112 @@
+#!/bin/sh
+# Makes the pictures of docs/SIGNAL.md again and compares them with those that stand there; and has contrib/plot_line.py
+# draw lines of each kind, and compares what it marks with what the lines are made of.
+# usage: sh tests/plots.sh PROGRAM
+# shellcheck disable=SC2086
+
+# shellcheck source=tests/helpers.sh
+. "$(dirname "$0")/helpers.sh"
+
+pictures=$here/../docs/pictures
+status=0
+mkdir made
+sh "$pictures/make.sh" "$program" made > out 2> err || status=$?
+for name in word second-reading change-170; do
+    check "the picture $name" cmp "made/$name.svg" "$pictures/$name.svg"
+    check "SIGNAL.md shows $name" grep -q "(pictures/$name.svg)" "$here/../docs/SIGNAL.md"
+done
+
+# What a picture of a whole line has: its title, digits and bits, the columns at which cells begin and end, and the
+# columns that are marked. It is read as XML.
+cat > found.py << 'END'
+import sys
+import xml.etree.ElementTree as xml
+
+picture, columns = xml.parse(sys.argv[1]).getroot(), int(sys.argv[2])
+
+
+def of_class(name):
+    return [part for part in picture.iter() if part.get("class") == name]
+
+
+def column_of(x):
+    return round((float(x) - 70) * columns / 1000)
+
+
+print(*[part.text for part in of_class("title")])
+print(*[part.text for part in of_class("digit")], sep="")
+print(*[part.text for part in of_class("bit")], sep="")
+print("cells", *sorted({column_of(part.get("x1")) for part in of_class("cell")}))
+print("marked", *[column_of(part.get("x")) for part in of_class("marked")])
+END
+# plotted COLUMNS OPTION..: draws the line in the file `line.raw`, and finds what is in its picture
+plotted() {
+    columns=$1
+    shift
+    status=0
+    {
+        python3 "$here/../contrib/plot_line.py" --program "$program" "$@" line.raw > out &&
+            python3 found.py out "$columns" > found
+    } 2> err || status=$?
+}
+
+# The cells of the drawn line, where the table of SIGNAL.md has them; or a column off, where two half cells of one level
+# meet
+echo 82CFFF | signal NTSC 0 | ntsc_samples > line.raw
+plotted 910 $ntsc
+sed -n 's/^| [0-9]* | [01] | [a-z]* \([0-9]*\) to .* to \([0-9]*\) (.*/\1 \2/p' "$here/../docs/SIGNAL.md" |
+    awk '{ print $1; last = $2 } END { print last + 1 }' > starts
+check 'the table has 24 cells and an end' [ "$(wc -l < starts)" = 25 ]
+sed -n 's/^cells //p' found | tr ' ' '\n' > cells
+paste -d ' ' starts cells | awk '{ off = $1 - $2 } off < -1 || 1 < off || NF != 2 { print }' > off
+check 'cells where SIGNAL.md has them' cmp off empty
+check 'their bits' grep -qx 100000101100111111111111 found
+check 'the digits' grep -qx 82CFFF found
+
+# What lines of each kind give: a title that begins so, the digits of a word, and what is marked. The half cells are the
+# shortest and the longest ones; a word that these samples wouldn't show by the script's own reading is a fault.
+while IFS='|' read -r system description title digits marked; do
+    echo "$description" | signal $system 0 > line.text
+    case $system in
+        NTSC) ntsc_samples < line.text > line.raw; plotted 910 $ntsc ;;
+        PAL) pal_samples < line.text > line.raw; plotted 1135 $pal ;;
+    esac
+    check "$system: $description: drawn" [ $status = 0 ]
+    check "$system: $description: title" [ "$(head -n 1 found | cut -c 1-${#title})" = "$title" ]
+    check "$system: $description: digits" [ "$(sed -n 2p found)" = "$digits" ]
+    check "$system: $description: marked" [ "$(sed -n '/^marked/s/^marked *//p' found)" = "$marked" ]
+done << 'END'
+NTSC|82CFFF|82CFFF, by the samples as they are (pass 1)|82CFFF|
+NTSC|82CFFF @170-171L|82CFFF, by the smoothed levels (pass 2)|82CFFF|170 171
+NTSC|82CFFF @0-0H|82CFFF, by the smoothed levels (pass 2)|82CFFF|0
+NTSC|82CFFF @226-228H|82CFFF, by the smoothed levels (pass 2)|82CFFF|226 227 228
+NTSC|FFFFFF/11/48|FFFFFF, by the samples|FFFFFF|
+NTSC|FFFFFF/18/48|FFFFFF, by the samples|FFFFFF|
+NTSC|AAAAAA/18/48|AAAAAA, by the samples|AAAAAA|
+NTSC|L382 FFFFFE/11/47|FFFFFE, by the samples|FFFFFE|
+NTSC|L382 FFFFFF/11/48|FFFFFF, by the samples|FFFFFF|
+NTSC|FFFFFF/11/47 H18|FFFFFF, by the samples|FFFFFF|
+NTSC|82CFFF @170-174L|no word: change 170||170
+NTSC|L164 H746|no word: hold 200||200
+NTSC|H1|no word: change 0||0
+NTSC|L873 H37|no word: hold 909||909
+NTSC|-|no word: blank||
+NTSC|L900 H10|no word: unfinished||
+PAL|8AE012|8AE012, by the samples|8AE012|
+PAL|8AE012 @50-52H|8AE012, by the smoothed levels (pass 2)|8AE012|50 51 52
+PAL|800000/22/48|800000, by the samples|800000|
+PAL|L207 H928|no word: hold 251||251
+END
+
+# What it refuses
+echo 82CFFF | signal NTSC 0 | ntsc_samples > line.raw
+for columns in '--first -1' '--first 910' '--last 910' '--first 20 --last 19'; do
+    plotted 910 $ntsc $columns
+    check "$columns" [ $status = 2 ]
+done
+head -c 1819 line.raw > short.raw
+cp short.raw line.raw
+plotted 910 $ntsc
+check 'a short line' grep -qx 'ldvbi: short line: 1819 of 1820 bytes' err
+check 'its status' [ $status = 1 ]
+finish
