@@ -1,5 +1,5 @@
-use Rattle.std.proofs.Common.{◌≡◌, ℕ, ◌+◌, ◌-◌, ◌≤◌, ◌<◌, Bool, true, false, List, refl, arith, inl, inr, length, sym, ap, ◌∙◌}
-use Rattle.std.proofs.Common.{take, subst}
+use Rattle.std.proofs.Common.{◌≡◌, ℕ, ◌+◌, ◌-◌, ◌≤◌, ◌<◌, Bool, true, false, List, refl, arith, inl, inr, length, sym}
+use Rattle.std.proofs.Common.{ap, ◌∙◌, take, subst}
 use Rattle.std.specs.Prelude.{not}
 use Rattle.std.proofs.lemmas.Bool.{cases_eq}
 use Rattle.vbi_words.specs.declared.outcome.Outcome.{Outcome}
