@@ -9,7 +9,7 @@
  * above the middle of the two is high.
  *
  * Threads: no call allocates, takes a lock, prints, or keeps anything between two calls, so that any thread may call at
- * any time, and in a signal handler too.
+ * any time.
  *
  * Ownership: the library keeps no pointer. What a call writes is the caller's.
  *

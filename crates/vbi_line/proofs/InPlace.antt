@@ -1,6 +1,6 @@
 -- The bits of samples that lie in a row's bytes, and the levels that they are.
 use Rattle.std.proofs.Common.{◌≡◌, ℕ, ◌+◌, ◌-◌, ◌*◌, ◌%◌, ◌^◌, ◌<◌, ◌≤◌, inl, inr, Bool, false, nat_lt}
-use Rattle.std.proofs.Common.{List, ◌++◌, length, get_or, ap, sym, ◌∙◌, arith, lit<}
+use Rattle.std.proofs.Common.{List, ◌++◌, length, length-append, get_or, ap, sym, ◌∙◌, arith, lit<}
 use Rattle.std.proofs.Math.Nat.{mod-eq_of_lt, mul-lt-mul_of_pos_right, pow-le-pow_right}
 use Rattle.std.proofs.lemmas.Bool.{cases_lt}
 use Rattle.std.proofs.lemmas.List.{get_or-map}
@@ -15,7 +15,8 @@ use Rattle.vbi_line.proofs.Slicing.{Sliced, above, sliced_more}
 
 -- ---- more bits behind those of the first samples
 
-module _ (word bits place count : ℕ) (fits : place + count ≤ 64) (small : word < 2 ^ place) (few : bits < 2 ^ count) where
+module _ (word bits place count : ℕ) (fits : place + count ≤ 64) (small : word < 2 ^ place)
+    (few : bits < 2 ^ count) where
   pub joined-lt : joined word bits place < 2 ^ (place + count)
   joined-lt =
       let moved : bits * 2 ^ place < 2 ^ count * 2 ^ place = mul-lt-mul_of_pos_right few (pow_pos place) in
@@ -63,13 +64,20 @@ bit_tells low bytes column bit is i l =
     let here : column ≡ column + i = omega arith in
     ap (level_of_bit bit) first ∙ is ∙ ap (λ (k : ℕ). nat_lt low (sample_at bytes k)) here
 
--- ---- levels of a word behind those of the first samples
+-- ---- levels of a word behind those of the samples before a column
 
-pub word_sliced : (slicing : LevelsView) (bytes : List ℕ) (levels : List Bool) (low count word : ℕ)
-    → Sliced slicing bytes levels → ((sample : ℕ) → is_high_of slicing sample ≡ nat_lt low sample)
-    → TellsAbove low bytes (length levels) count word → Sliced slicing bytes (levels ++ levels_in count word)
-word_sliced slicing bytes levels low count word sliced test tells =
-    sliced_more slicing bytes levels (levels_in count word) sliced (λ k l.
-    let inside : k < count = omega (arith, length-map-range_with_len (level_of_bit word) 0 count) in
-    get_or-map-range_with_len (level_of_bit word) 0 count k k false inside (omega arith) ∙ tells k inside
-    ∙ sym (test (sample_at bytes (length levels + k))))
+module _ (levels : List Bool) (column count word : ℕ) (here : length levels ≡ column) where
+  pub length_with_word : length (levels ++ levels_in count word) ≡ column + count
+  length_with_word =
+      let more = length-map-range_with_len (level_of_bit word) 0 count in
+      omega (arith, length-append levels (levels_in count word), more, here)
+
+  pub sliced_with_word : (slicing : LevelsView) (bytes : List ℕ) (low : ℕ) → Sliced slicing bytes levels
+      → ((sample : ℕ) → is_high_of slicing sample ≡ nat_lt low sample) → TellsAbove low bytes column count word
+      → Sliced slicing bytes (levels ++ levels_in count word)
+  sliced_with_word slicing bytes low sliced test tells =
+      sliced_more slicing bytes levels (levels_in count word) sliced (λ k l.
+      let inside : k < count = omega (arith, length-map-range_with_len (level_of_bit word) 0 count) in
+      let place : column + k ≡ length levels + k = omega (arith, here) in
+      get_or-map-range_with_len (level_of_bit word) 0 count k k false inside (omega arith) ∙ tells k inside
+      ∙ ap (λ (n : ℕ). nat_lt low (sample_at bytes n)) place ∙ sym (test (sample_at bytes (length levels + k))))
