@@ -98,6 +98,12 @@ check 'pictures of a CLV disc' prints 0 'field,format,picture,time,stop
 7,clv,,0:00:59.29,
 9,clv,,0:01:00.00,' python3 -m ldvbi clv.tbc --system PAL --black 16384 --white 54016
 
+# The program in README.md
+sed -n '/^```c$/,/^```$/{/^```/d;p;}' "$top/README.md" > say.c
+check 'the program in README is built' does $cc -std=c99 $strict -o say say.c $linked
+echo '- F12345 -' | "$program" draw $ntsc | tail -c +29121 | head -c 1820 > line.raw
+check 'the program in README' prints 0 'picture 12345' sh -c './say < line.raw'
+
 # Installed without the toolchain, linked from there, and removed
 installs() {
     does env PATH=/usr/bin:/bin make -C "$top" "$1" DESTDIR="$work/root" PREFIX=/usr
