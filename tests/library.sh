@@ -101,7 +101,8 @@ check 'pictures of a CLV disc' prints 0 'field,format,picture,time,stop
 # The program in README.md
 sed -n '/^```c$/,/^```$/{/^```/d;p;}' "$top/README.md" > say.c
 check 'the program in README is built' does $cc -std=c99 $strict -o say say.c $linked
-echo '- F12345 -' | "$program" draw $ntsc | tail -c +29121 | head -c 1820 > line.raw
+echo '- F12345 -' | "$program" draw $ntsc > said.tbc
+tail -c +29121 said.tbc | head -c 1820 > line.raw
 check 'the program in README' prints 0 'picture 12345' sh -c './say < line.raw'
 
 # Installed without the toolchain, linked from there, and removed
