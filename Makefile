@@ -4,7 +4,8 @@
 #
 # Once the program is built, these need no toolchain: `make install PREFIX=DIR` copies it to DIR/bin, and the manual page,
 # completions, schema and contrib's files to DIR/share; `make uninstall PREFIX=DIR` takes all of it away; `make check
-# PROGRAM=./ldvbi` runs the gate's scripts on it; `make dist` packs source and program, with checksums.
+# PROGRAM=./ldvbi` runs the gate's scripts on it; `make dist` packs source and program, with checksums; `make peers` has
+# other programs read what it reads, and needs mame-tools and libzvbi-dev.
 
 PREFIX ?= /usr/local
 PROGRAM ?= ./ldvbi
@@ -65,6 +66,9 @@ bench: ldvbi
 	sh bench/lines.sh
 	python3 bench/stream.py ./ldvbi
 
+peers:
+	sh peers/compare.sh $(PROGRAM)
+
 clean:
 	rm -rf ldvbi dist
 	rm -rf crates/*/out
@@ -72,4 +76,4 @@ clean:
 toolchain:
 	@command -v rt > /dev/null || { echo "make: the command rt of the Rattle toolchain is not on the PATH" >&2; exit 1; }
 
-.PHONY: test setup install uninstall check dist bench clean toolchain
+.PHONY: test setup install uninstall check dist bench peers clean toolchain
