@@ -6,7 +6,8 @@
 # Once the program is built, these need no toolchain: `make install PREFIX=DIR` copies it to DIR/bin, the manual page,
 # completions, schema and contrib's files to DIR/share, and the library with its header to DIR/lib and DIR/include where
 # it is built, too; `make uninstall PREFIX=DIR` takes all of it away; `make check PROGRAM=./ldvbi` runs the gate's scripts
-# on it; `make dist` packs source and what is built, with checksums.
+# on it; `make dist` packs source and what is built, with checksums; `make peers` has other programs read what it reads,
+# and needs mame-tools and libzvbi-dev.
 
 PREFIX ?= /usr/local
 PROGRAM ?= ./ldvbi
@@ -96,6 +97,9 @@ bench: ldvbi lib
 	sh bench/library.sh
 	python3 bench/stream.py ./ldvbi
 
+peers:
+	sh peers/compare.sh $(PROGRAM)
+
 clean:
 	rm -rf ldvbi libldvbi.a libldvbi.so libldvbi.so.$(ABI) dist
 	rm -rf crates/*/out
@@ -103,4 +107,4 @@ clean:
 toolchain:
 	@command -v rt > /dev/null || { echo "make: the command rt of the Rattle toolchain is not on the PATH" >&2; exit 1; }
 
-.PHONY: lib test setup install install-lib uninstall check dist bench clean toolchain
+.PHONY: lib test setup install install-lib uninstall check dist bench peers clean toolchain

@@ -118,8 +118,7 @@ document README.md trial
 document docs/FORMATS.md trial
 
 # What the documents link to, and what CONTRIBUTING.md names of the crates, is there.
-for path in README.md CONTRIBUTING.md CHANGELOG.md docs/DECISIONS.md docs/FORMATS.md docs/PROMISES.md docs/RECIPES.md \
-    docs/SIGNAL.md; do
+for path in README.md CONTRIBUTING.md CHANGELOG.md $(cd "$top" && echo docs/*.md); do
     for link in $(grep -o '](\([^)#]*\))' "$top/$path" | sed 's/^](//; s/)$//'); do
         check "$path: $link" [ -e "$(dirname "$top/$path")/$link" ]
     done

@@ -1,0 +1,186 @@
+#!/usr/bin/env python3
+"""Has three readers read the same lines, drawn by `ldvbi draw` and then made worse in ways that are seeded: `ldvbi
+extract`, MAME's decoder (by `chdman`, of mame-tools), and libzvbi's bit slicer (by peers/zvbi.c). Prints a table of the
+words that each read right, read wrong, and didn't read.
+
+usage: compare.py PROGRAM ZVBI FIELDS
+
+The status is 1 where lines as they were drawn aren't read alike, word for word."""
+
+import array
+import json
+import os
+import random
+import subprocess
+import sys
+import tempfile
+
+import avi
+
+BLACK, WHITE = 16384, 51200
+WIDTH, HEIGHT = 910, 263
+OPTIONS = ["--system=NTSC", f"--black={BLACK}", f"--white={WHITE}"]
+SEED = 60857
+
+
+def drawn_words(fields, chance):
+    """Three words a field: half of them any word, half codes of a disc."""
+    words = []
+    for _ in range(3 * fields):
+        code = chance.choice([
+            int(f"F{chance.randrange(80000):05d}", 16), int(f"8{chance.randrange(80):02d}DDD", 16),
+            int(f"F0DD{chance.randrange(60):02d}", 16), int(f"8AE{chance.randrange(300):03d}", 16),
+            0x88FFFF, 0x80EEEE, 0x82CFFF, 0x87FFFF, chance.randrange(0xFFF800, 0x1000000),
+        ])
+        words.append(chance.choice([code, chance.randrange(0x800000, 0x1000000)]))
+    return words
+
+
+def drawn_lines(program, words):
+    """The lines that `ldvbi draw` makes of the words."""
+    rows = "".join("%06X %06X %06X\n" % tuple(words[field:field + 3]) for field in range(0, len(words), 3))
+    stream = subprocess.run([program, "draw", *OPTIONS], input=rows.encode(), capture_output=True, check=True).stdout
+    lines = []
+    for field in range(len(words) // 3):
+        for row in (15, 16, 17):
+            start = 2 * WIDTH * (HEIGHT * field + row)
+            lines.append(array.array("H", stream[start:start + 2 * WIDTH]))
+    return lines
+
+
+# ---- what can be wrong with a line: each takes a line, an amount and a source of chance, and answers another line
+
+def as_drawn(line, _amount, _chance):
+    return line
+
+
+def with_noise(line, percent, chance):
+    """Noise with a standard deviation of so many percent of the way from black to white."""
+    deviation = percent / 100 * (WHITE - BLACK)
+    return array.array("H", (min(max(round(chance.gauss(sample, deviation)), 0), 65535) for sample in line))
+
+
+def with_jitter(line, columns, chance):
+    """Each edge moved by up to so many columns."""
+    moved = array.array("H", line)
+    for column in range(1, WIDTH):
+        if line[column] != line[column - 1]:
+            by = chance.randint(-columns, columns)
+            for other in range(column, column + by):
+                moved[other] = line[column - 1]
+            for other in range(column + by, column):
+                moved[other] = line[column]
+    return moved
+
+
+def with_glitch(line, columns, chance):
+    """So many columns turned over, at one place within the word."""
+    start = chance.randrange(150, 837 - columns)
+    turned = [BLACK + WHITE - sample for sample in line[start:start + columns]]
+    return line[:start] + array.array("H", turned) + line[start + columns:]
+
+
+def rounded(line, columns, _chance):
+    """Edges rounded: each sample is the mean of so many around it."""
+    half = columns // 2
+    padded = array.array("H", [line[0]] * half) + line + array.array("H", [line[-1]] * half)
+    return array.array("H", (round(sum(padded[column:column + columns]) / columns) for column in range(WIDTH)))
+
+
+def noisy_and_rounded(line, percent, chance):
+    """Noise, and then edges rounded over five columns, which takes most of its high frequencies."""
+    return rounded(with_noise(line, percent, chance), 5, chance)
+
+
+TRIALS = [
+    ("as drawn", as_drawn, 0),
+    ("edges rounded over 7 columns", rounded, 7),
+    ("edges rounded over 11 columns", rounded, 11),
+    ("noise, 10 % of black to white", with_noise, 10),
+    ("noise, 15 %", with_noise, 15),
+    ("noise, 20 %", with_noise, 20),
+    ("noise of 30 %, rounded over 5 columns", noisy_and_rounded, 30),
+    ("noise of 50 %, rounded over 5 columns", noisy_and_rounded, 50),
+    ("edges moved by up to 1 column", with_jitter, 1),
+    ("edges moved by up to 2 columns", with_jitter, 2),
+    ("edges moved by up to 3 columns", with_jitter, 3),
+    ("a glitch of 1 column", with_glitch, 1),
+    ("a glitch of 3 columns", with_glitch, 3),
+    ("a glitch of 4 columns", with_glitch, 4),
+    ("a glitch of 6 columns", with_glitch, 6),
+]
+
+
+# ---- the readers: each answers a word for each line, or 0
+
+def by_ldvbi(program, lines):
+    black = array.array("H", [BLACK]) * WIDTH
+    with subprocess.Popen([program, "extract", *OPTIONS], stdin=subprocess.PIPE, stdout=subprocess.PIPE) as run, \
+            tempfile.TemporaryFile() as stream:
+        for field in range(0, len(lines), 3):
+            rows = [black] * 15 + lines[field:field + 3] + [black] * (HEIGHT - 18)
+            stream.write(b"".join(row.tobytes() for row in rows))
+        stream.seek(0)
+        while piece := stream.read(1 << 20):
+            run.stdin.write(piece)
+        run.stdin.close()
+        document = json.loads(run.stdout.read())
+    return [word for record in document["fields"] for word in record["vbi"]["vbiData"]]
+
+
+def in_eight_bits(lines):
+    """Black as 16 and white as 235."""
+    return [bytes(min(max(round(16 + (sample - BLACK) * 219 / (WHITE - BLACK)), 0), 255) for sample in line)
+            for line in lines]
+
+
+def by_mame(folder, lines):
+    """The words in the AVLD metadata that chdman writes: 16 bytes a field, with the words of lines 16, 17 and 18 behind
+    the field's number and its white flag."""
+    paths = {name: os.path.join(folder, "side." + name) for name in ("avi", "chd", "meta")}
+    avi.write(paths["avi"], [lines[field:field + 3] for field in range(0, len(lines), 3)], 16)
+    subprocess.run(["chdman", "createld", "-f", "-np", "1", "-i", paths["avi"], "-o", paths["chd"]],
+                   check=True, capture_output=True)
+    subprocess.run(["chdman", "dumpmeta", "-f", "-t", "AVLD", "-i", paths["chd"], "-o", paths["meta"]],
+                   check=True, capture_output=True)
+    with open(paths["meta"], "rb") as file:
+        packed = file.read()
+    return [int.from_bytes(packed[start:start + 3], "big")
+            for field in range(len(lines) // 3) for start in range(16 * field + 4, 16 * field + 13, 3)]
+
+
+def by_zvbi(zvbi, lines):
+    said = subprocess.run([zvbi], input=b"".join(lines), capture_output=True, check=True).stdout.decode().split()
+    return [0 if word == "none" else int(word, 16) for word in said]
+
+
+def score(words, read):
+    """How many of a thousand words were read right, read wrong, and not read."""
+    assert len(words) == len(read)
+    right = sum(word == other for word, other in zip(words, read))
+    none = sum(other == 0 for other in read)
+    return "/".join(str(round(1000 * count / len(words))) for count in (right, len(words) - right - none, none))
+
+
+def main():
+    program, zvbi = os.path.abspath(sys.argv[1]), os.path.abspath(sys.argv[2])
+    fields = int(sys.argv[3])
+    chance = random.Random(SEED)
+    alike = True
+    print("| Lines | `ldvbi` | MAME | libzvbi |")
+    print("|---|---|---|---|")
+    for name, worsened, amount in TRIALS:
+        words = drawn_words(fields, chance)
+        lines = [worsened(line, amount, chance) for line in drawn_lines(program, words)]
+        eight = in_eight_bits(lines)
+        with tempfile.TemporaryDirectory() as folder:
+            answers = [by_ldvbi(program, lines), by_mame(folder, eight), by_zvbi(zvbi, eight)]
+        print(f"| {name} | " + " | ".join(score(words, answer) for answer in answers) + " |", flush=True)
+        if worsened is as_drawn:
+            alike = all(answer == words for answer in answers)
+    if not alike:
+        sys.exit("the words of lines as they were drawn are not read alike")
+
+
+if __name__ == "__main__":
+    main()
