@@ -1,26 +1,46 @@
-# ldvbi: `make` proves and builds the program, `make test` is the whole gate, `make setup` installs what the gate needs
-# and the machine lacks, and `make bench` measures it beside plain readers in Rust, for which it needs rustc and python3.
+# ldvbi: `make` proves and builds the program, `make lib` proves and builds the library for C, libldvbi.a and
+# libldvbi.so, `make test` is the whole gate, `make setup` installs what the gate needs and the machine lacks, and `make
+# bench` measures program and library beside plain readers, for which it needs rustc, a C compiler and python3.
 # The toolchain's command `rt` has to be on the PATH; `make test` needs the tools of tests/tools.sh as well.
 #
-# Once the program is built, these need no toolchain: `make install PREFIX=DIR` copies it to DIR/bin, and the manual page,
-# completions, schema and contrib's files to DIR/share; `make uninstall PREFIX=DIR` takes all of it away; `make check
-# PROGRAM=./ldvbi` runs the gate's scripts on it; `make dist` packs source and program, with checksums; `make peers` has
-# other programs read what it reads, and needs mame-tools and libzvbi-dev.
+# Once the program is built, these need no toolchain: `make install PREFIX=DIR` copies it to DIR/bin, the manual page,
+# completions, schema and contrib's files to DIR/share, and the library with its header to DIR/lib and DIR/include where
+# it is built, too; `make uninstall PREFIX=DIR` takes all of it away; `make check PROGRAM=./ldvbi` runs the gate's
+# scripts on it; `make dist` packs source and what is built, with checksums; `make peers` has other programs read what
+# it reads, and needs mame-tools and libzvbi-dev.
 
 PREFIX ?= /usr/local
 PROGRAM ?= ./ldvbi
 VERSION := 0.1.0
-SHARE := $(DESTDIR)$(PREFIX)/share
-MANUAL := $(SHARE)/man/man1/ldvbi.1
-BASH_COMPLETION := $(SHARE)/bash-completion/completions/ldvbi
-ZSH_COMPLETION := $(SHARE)/zsh/site-functions/_ldvbi
+# The interface of the library, as include/ldvbi.h has it
+ABI := 1
+ROOT := $(DESTDIR)$(PREFIX)
+MANUAL := $(ROOT)/share/man/man1/ldvbi.1
+BASH_COMPLETION := $(ROOT)/share/bash-completion/completions/ldvbi
+ZSH_COMPLETION := $(ROOT)/share/zsh/site-functions/_ldvbi
 SHARED := docs/ldvbi.schema.json contrib/ldvbi.jq contrib/plot_line.py
 SOURCES := $(shell find crates -name out -prune -o \( -name '*.rt' -o -name '*.antt' \) -print)
+LIBRARY_SOURCES := $(filter crates/vbi_words/% crates/vbi_line/% crates/vbi_c/%,$(SOURCES))
 
 ldvbi: crates.txt $(SOURCES)
 	@$(MAKE) -s toolchain
 	cd crates/vbi_cli && rt run -- --help > /dev/null
 	cp crates/vbi_cli/out/vbi_cli ldvbi
+
+lib: libldvbi.a libldvbi.so
+
+libldvbi.a: crates.txt $(LIBRARY_SOURCES)
+	@$(MAKE) -s toolchain
+	cd crates/vbi_c && rt lib > /dev/null
+	cp crates/vbi_c/out/libvbi_c.a libldvbi.a
+
+# No start files, which have undefined symbols of their own
+libldvbi.so.$(ABI): libldvbi.a
+	$(CC) -shared -nostartfiles -Wl,-soname,$@ -Wl,-z,defs -Wl,-z,now -o $@ \
+	    -Wl,--whole-archive libldvbi.a -Wl,--no-whole-archive
+
+libldvbi.so: libldvbi.so.$(ABI)
+	ln -sf libldvbi.so.$(ABI) libldvbi.so
 
 test: toolchain
 	@sh tests/tools.sh
@@ -29,17 +49,27 @@ test: toolchain
 setup:
 	sh tests/tools.sh install
 
-install: ldvbi
-	install -D -m 755 ldvbi $(DESTDIR)$(PREFIX)/bin/ldvbi
+install: ldvbi $(if $(wildcard libldvbi.a),install-lib)
+	install -D -m 755 ldvbi $(ROOT)/bin/ldvbi
 	install -D -m 644 docs/ldvbi.1 $(MANUAL)
 	install -D -m 644 contrib/completions/ldvbi.bash $(BASH_COMPLETION)
 	install -D -m 644 contrib/completions/_ldvbi $(ZSH_COMPLETION)
-	install -d $(SHARE)/ldvbi
-	install -m 644 $(SHARED) $(SHARE)/ldvbi
+	install -d $(ROOT)/share/ldvbi
+	install -m 644 $(SHARED) $(ROOT)/share/ldvbi
+
+install-lib: lib
+	install -D -m 644 include/ldvbi.h $(ROOT)/include/ldvbi.h
+	install -D -m 644 libldvbi.a $(ROOT)/lib/libldvbi.a
+	install -D -m 755 libldvbi.so.$(ABI) $(ROOT)/lib/libldvbi.so.$(ABI)
+	ln -sf libldvbi.so.$(ABI) $(ROOT)/lib/libldvbi.so
+	install -d $(ROOT)/lib/pkgconfig
+	sed 's|@PREFIX@|$(PREFIX)|' include/ldvbi.pc.in > $(ROOT)/lib/pkgconfig/ldvbi.pc
 
 uninstall:
-	rm -f $(DESTDIR)$(PREFIX)/bin/ldvbi $(MANUAL) $(BASH_COMPLETION) $(ZSH_COMPLETION)
-	rm -rf $(SHARE)/ldvbi
+	rm -f $(ROOT)/bin/ldvbi $(MANUAL) $(BASH_COMPLETION) $(ZSH_COMPLETION)
+	rm -rf $(ROOT)/share/ldvbi
+	rm -f $(ROOT)/include/ldvbi.h $(ROOT)/lib/libldvbi.a $(ROOT)/lib/libldvbi.so $(ROOT)/lib/libldvbi.so.$(ABI) \
+	    $(ROOT)/lib/pkgconfig/ldvbi.pc
 
 check:
 	@sh tests/tools.sh
@@ -62,18 +92,19 @@ dist:
 	fi
 	cd dist && sha256sum *.tar.gz > SHA256SUMS
 
-bench: ldvbi
+bench: ldvbi lib
 	sh bench/lines.sh
+	sh bench/library.sh
 	python3 bench/stream.py ./ldvbi
 
 peers:
 	sh peers/compare.sh $(PROGRAM)
 
 clean:
-	rm -rf ldvbi dist
+	rm -rf ldvbi libldvbi.a libldvbi.so libldvbi.so.$(ABI) dist
 	rm -rf crates/*/out
 
 toolchain:
 	@command -v rt > /dev/null || { echo "make: the command rt of the Rattle toolchain is not on the PATH" >&2; exit 1; }
 
-.PHONY: test setup install uninstall check dist bench peers clean toolchain
+.PHONY: lib test setup install install-lib uninstall check dist bench peers clean toolchain

@@ -4,7 +4,7 @@
 #
 # A block marked ```sh or ```bash is run by that shell and has to succeed, each of its commands in turn. A block marked
 # ```text that comes next is what it prints, on standard output and standard error. A block with 'Not run by the tests'
-# in the paragraph before it is left out.
+# in the paragraph before it is left out, and one with 'After `make lib`' where the library isn't built.
 # usage: sh tests/docs.sh PROGRAM
 # shellcheck disable=SC2086
 
@@ -15,7 +15,10 @@ top=$here/..
 mkdir bin
 ln -s "$program" bin/ldvbi
 PATH=$work/bin:$PATH
-export PATH
+PYTHONDONTWRITEBYTECODE=1
+export PATH PYTHONDONTWRITEBYTECODE
+library=
+[ ! -e "$top/libldvbi.so.1" ] || library=libldvbi.so.1
 
 # Cuts a document into files: NAME.NUMBER.sh or .bash, and NAME.NUMBER.text for what is printed.
 cat > cut.awk << 'END'
@@ -45,7 +48,7 @@ inside { print > file; next }
     if (ended)
         left_out = 0
     ended = 0
-    if ($0 ~ /Not run by the tests/)
+    if ($0 ~ /Not run by the tests/ || !library && $0 ~ /After `make lib`/)
         left_out = 1
 }
 END
@@ -59,7 +62,7 @@ prints() {
 # folder NAME: makes a folder in which commands of documents run, with what they name of the repository
 folder() {
     mkdir "$1"
-    for part in contrib docs examples; do
+    for part in contrib docs examples python $library; do
         ln -s "$(cd "$top" && pwd)/$part" "$1/$part"
     done
     ln -s "$program" "$1/ldvbi"
@@ -89,11 +92,12 @@ END
 # document PATH FOLDER: runs the blocks of this document in this folder
 document() {
     document_name=$(basename "$1" .md)
-    awk -v name="$document_name" -f cut.awk "$top/$1" > blocks 2> cut.err
+    awk -v name="$document_name" -v library=$library -f cut.awk "$top/$1" > blocks 2> cut.err
     cp cut.err err
     status=0
     check "$1: each text has its command" [ ! -s cut.err ]
     left=$(grep -c 'Not run by the tests' "$top/$1")
+    [ "$library" ] || left=$((left + $(grep -c 'After `make lib`' "$top/$1")))
     check "$1: each block is run or said not to be" \
         [ "$(grep -c '^```\(sh\|bash\)$' "$top/$1")" = $(($(wc -l < blocks) + left)) ]
     while read -r block; do

@@ -15,6 +15,7 @@ if [ $# = 0 ]; then
         exit 1
     fi
     cp crates/vbi_cli/out/vbi_cli ldvbi
+    make lib
 else
     echo "the scripts passed on $program" > "$work/log"
 fi
@@ -24,4 +25,9 @@ done
 for script in jq_module schema docs manual packaging plots; do
     sh tests/$script.sh "$program"
 done
+if [ -e libldvbi.so.1 ]; then
+    sh tests/library.sh "$program"
+else
+    echo "library: left out, since it isn't built"
+fi
 tail -n 1 "$work/log"

@@ -1,11 +1,12 @@
 #!/bin/sh
-# The tools that the tests need besides the toolchain: a C compiler, python3 and jq; and what the commands in the
-# documents need. Names those that are missing and fails, or installs them from Debian's packages, as root or by sudo.
+# The tools that the tests need besides the toolchain: a C compiler with its sanitizers, a C++ compiler, binutils,
+# python3 and jq; and what the commands in the documents need. Names those that are missing and fails, or installs them
+# from Debian's packages, as root or by sudo.
 # usage: sh tests/tools.sh [install]
 set -eu
 
 missing=
-for pair in "${CC:-cc}:gcc libc6-dev" python3:python3 jq:jq; do
+for pair in "${CC:-cc}:gcc libc6-dev" "${CXX:-c++}:g++" nm:binutils python3:python3 jq:jq; do
     command -v "${pair%%:*}" > /dev/null || missing="$missing ${pair#*:}"
 done
 for tool in git less mandoc parallel pv zsh; do

@@ -155,7 +155,8 @@ judge 'the help by its command' 0 program.help ''
 sed 's/^[.]$/          /' > options << 'END'
 Options:
       --meta <PATH>
-          ld-decode's .tbc.json of the capture, whose videoParameters give system and levels
+          ld-decode's .tbc.json of the capture, whose videoParameters give system and levels.
+          Levels with decimals are refused; docs/RECIPES.md has a command that rounds them
 
       --system <NAME>
           NTSC (fields of 910x263 samples) or PAL (1135x313), in place of the metadata's system
@@ -169,7 +170,8 @@ Options:
           The sample of white, 0 to 65535 and above black, in place of the metadata's white16bIre
 
       --max-fields <N>
-          The most fields of a run, 1 to 1000000; 1000000 where it isn't given
+          The most fields of a run, 1 to 1000000; 1000000 where it isn't given.
+          A stream with more is refused
 
   -h, --help
           Print help (see a summary with '-h')
@@ -235,9 +237,9 @@ Exit status:
   3  done, and the last field was cut
 END
 help_of draw 'The rows of words; standard input where there is none, or for -' << 'END'
-Writes a TBC stream with one field for each row of text. A row has three items with one space between
-them, for lines 16, 17 and 18: six hexadecimal digits (a word, 800000 to FFFFFF), or - for a line
-without a word. Every other line is black; sync and colour burst aren't drawn.
+Writes a TBC stream with one field for each row of text. A row has three items with one space
+between them, for lines 16, 17 and 18: six hexadecimal digits (a word, 800000 to FFFFFF), or -
+for a line without a word. Every other line is black; sync and colour burst aren't drawn.
 --------
 Example:
   echo '82CFFF F12345 F12345' | ldvbi draw --system NTSC --black 16384 --white 51200 > test.tbc

@@ -1,8 +1,11 @@
 //! The words of the command line: what they mean, and the texts of refusals and help.
 
 use crate::command_line::{Job, Verb, WordsFault, read_words};
+use crate::tests_asserts::{holds, same};
 use std::alloc::Global;
+use std::process::Abort;
 use std::test::Fail;
+use vbi_meta::Overrides;
 use vbi_words::System;
 
 /// The words as the program gets them.
@@ -22,13 +25,20 @@ const STORED: [&str; 8] = [
 #[test]
 fn reads_a_line_job(rt: HostRuntime) -> Result<(), Fail> {
     let job = read(rt.alloc(), &STORED)?;
-    assert_eq!(rt; job.verb, Verb::Line);
-    assert_eq!(rt; job.overrides.system, Some(System::Ntsc));
-    assert_eq!(rt; job.overrides.black, Some(8224));
-    assert_eq!(rt; job.overrides.white, Some(16448));
-    assert_eq!(rt; job.overrides.max_fields, None);
-    assert!(rt; job.meta.is_none());
-    assert!(rt; job.input.is_none());
+    let overrides = Overrides {
+        system: Some(System::Ntsc),
+        black: Some(8224),
+        white: Some(16448),
+        max_fields: None,
+    };
+    same(
+        &rt,
+        (job.verb, job.overrides),
+        (Verb::Line, overrides),
+        "stored",
+    );
+    let paths = (job.meta.is_none(), job.input.is_none());
+    same(&rt, paths, (true, true), "no paths");
     Ok(())
 }
 
@@ -49,13 +59,20 @@ fn reads_every_option(rt: HostRuntime) -> Result<(), Fail> {
         "a.tbc",
     ];
     let job = read(rt.alloc(), &words)?;
-    assert_eq!(rt; job.verb, Verb::Extract);
-    assert_eq!(rt; job.overrides.system, Some(System::Pal));
-    assert_eq!(rt; job.overrides.black, Some(0));
-    assert_eq!(rt; job.overrides.white, Some(65535));
-    assert_eq!(rt; job.overrides.max_fields, Some(4_294_967_295));
-    assert_eq!(rt; job.meta.ok_or("a path")?.as_str(), "a.json");
-    assert_eq!(rt; job.input.ok_or("a path")?.as_str(), "a.tbc");
+    let overrides = Overrides {
+        system: Some(System::Pal),
+        black: Some(0),
+        white: Some(65535),
+        max_fields: Some(4_294_967_295),
+    };
+    same(
+        &rt,
+        (job.verb, job.overrides),
+        (Verb::Extract, overrides),
+        "all",
+    );
+    same(&rt, job.meta.ok_or("a path")?.as_str(), "a.json", "--meta");
+    same(&rt, job.input.ok_or("a path")?.as_str(), "a.tbc", "input");
     Ok(())
 }
 
@@ -69,10 +86,9 @@ fn reads_each_command_alone(rt: HostRuntime) -> Result<(), Fail> {
     ];
     for (name, verb) in commands {
         let job = read(rt.alloc(), &["ldvbi", name])?;
-        assert_eq!(rt; job.verb, verb);
-        assert_eq!(rt; job.overrides.system, None);
+        same(&rt, (job.verb, job.overrides.system), (verb, None), name);
         let job = read(rt.alloc(), &["ldvbi", name, "-"])?;
-        assert!(rt; job.input.is_none());
+        holds(&rt, job.input.is_none(), name);
     }
     Ok(())
 }
@@ -98,10 +114,10 @@ fn refuses_other_words(rt: HostRuntime) {
     for words in &REFUSED {
         match read(rt.alloc(), words) {
             Err(fault) => {
-                assert!(rt; matches!(fault, WordsFault::Refused(_)), "{fault}");
-                assert_eq!(rt; fault.status(), 2);
+                same(&rt, fault.status(), 2, *words);
+                holds(&rt, matches!(fault, WordsFault::Refused(_)), fault);
             }
-            Ok(_) => assert!(rt; false, "{words:?}"),
+            Ok(_) => holds(&rt, false, *words),
         }
     }
 }
@@ -116,22 +132,22 @@ fn told(alloc: Global, words: &[&str]) -> Result<String, WordsFault> {
     }
 }
 
+/// Asserts that this is all that is printed for these words.
+fn prints(rt: &(impl Abort + AllocGlobal), words: &[&str], text: &str) -> Result<(), WordsFault> {
+    same(rt, told(rt.alloc(), words)?.as_str(), text, words);
+    Ok(())
+}
+
 #[test]
 fn says_why(rt: HostRuntime) -> Result<(), Fail> {
     let no_command = "error: 'ldvbi' requires a subcommand but one was not provided\n\
         \x20 [subcommands: line, extract, show, draw, help]\n\n\
         Usage: ldvbi <COMMAND>\n\nFor more information, try '--help'.\n";
-    assert_eq!(rt; told(rt.alloc(), &["ldvbi"])?.as_str(), no_command);
+    prints(&rt, &["ldvbi"], no_command)?;
     let too_large = "error: invalid value '65536' for '--black <N>': 65536 is not in 0..=65535\n\n\
         For more information, try '--help'.\n";
-    assert_eq!(rt;
-        told(rt.alloc(), &["ldvbi", "line", "--black", "65536"])?.as_str(),
-        too_large
-    );
-    assert_eq!(rt;
-        told(rt.alloc(), &["ldvbi", "--version"])?.as_str(),
-        "ldvbi 0.1.0\n"
-    );
+    prints(&rt, &["ldvbi", "line", "--black", "65536"], too_large)?;
+    prints(&rt, &["ldvbi", "--version"], "ldvbi 0.1.0\n")?;
     Ok(())
 }
 
@@ -152,10 +168,10 @@ fn answers_help(rt: HostRuntime) {
     for words in &HELP {
         match read(rt.alloc(), words) {
             Err(fault) => {
-                assert!(rt; matches!(fault, WordsFault::Help(_)), "{fault}");
-                assert_eq!(rt; fault.status(), 0);
+                same(&rt, fault.status(), 0, *words);
+                holds(&rt, matches!(fault, WordsFault::Help(_)), fault);
             }
-            Ok(_) => assert!(rt; false, "{words:?}"),
+            Ok(_) => holds(&rt, false, *words),
         }
     }
 }
@@ -178,7 +194,7 @@ fn help_names_each_option_and_its_range(rt: HostRuntime) -> Result<(), Fail> {
             "Example",
             "Exit status",
         ] {
-            assert!(rt; text.contains(part), "{part} in {text}");
+            holds(&rt, text.contains(part), (part, text));
         }
     }
     Ok(())
@@ -187,8 +203,9 @@ fn help_names_each_option_and_its_range(rt: HostRuntime) -> Result<(), Fail> {
 #[test]
 fn want_of_memory_is_named(rt: HostRuntime) -> Result<(), Fail> {
     let fault = WordsFault::OutOfMemory;
-    assert_eq!(rt; fault.to_string(rt.alloc())?.as_str(), "out of memory");
-    assert_eq!(rt; fault.status(), 1);
+    let said = fault.to_string(rt.alloc())?;
+    same(&rt, said.as_str(), "out of memory", "want of memory");
+    same(&rt, fault.status(), 1, "want of memory");
     Ok(())
 }
 
@@ -196,7 +213,7 @@ fn want_of_memory_is_named(rt: HostRuntime) -> Result<(), Fail> {
 #[test]
 fn answers_want_of_memory_as_such(rt: HostRuntime) {
     match read(rt.alloc(), &STORED) {
-        Ok(job) => assert_eq!(rt; job.verb, Verb::Line),
-        Err(fault) => assert!(rt; matches!(fault, WordsFault::OutOfMemory), "{fault}"),
+        Ok(job) => same(&rt, job.verb, Verb::Line, "the job"),
+        Err(fault) => holds(&rt, matches!(fault, WordsFault::OutOfMemory), fault),
     }
 }

@@ -87,9 +87,9 @@ const SHOW: Texts = Texts {
 const DRAW: Texts = Texts {
     name: "draw",
     about: "Turns rows of words into a TBC stream",
-    details: "Writes a TBC stream with one field for each row of text. A row has three items with one space between\n\
-        them, for lines 16, 17 and 18: six hexadecimal digits (a word, 800000 to FFFFFF), or - for a line\n\
-        without a word. Every other line is black; sync and colour burst aren't drawn.",
+    details: "Writes a TBC stream with one field for each row of text. A row has three items with one space\n\
+        between them, for lines 16, 17 and 18: six hexadecimal digits (a word, 800000 to FFFFFF), or -\n\
+        for a line without a word. Every other line is black; sync and colour burst aren't drawn.",
     input: "The rows of words; standard input where there is none, or for -",
     example: "Example:\n\
         \x20 echo '82CFFF F12345 F12345' | ldvbi draw --system NTSC --black 16384 --white 51200 > test.tbc\n\n\
@@ -128,8 +128,8 @@ fn command<'a>(alloc: Global, texts: &Texts) -> Result<Command<'a>, AllocError>
         .after_help(texts.example);
     let command = with(command, meta(alloc))?;
     let command = with(command, system(alloc))?;
-    let command = with(command, level(alloc, "black", BLACK))?;
-    let command = with(command, level(alloc, "white", WHITE))?;
+    let command = with(command, level(alloc, "black", BLACK, LONG_BLACK))?;
+    let command = with(command, level(alloc, "white", WHITE, LONG_WHITE))?;
     let command = with(command, max_fields(alloc))?;
     with(command, input(alloc, texts.input))
 }
@@ -146,9 +146,14 @@ fn with<'a>(command: Command<'a>, arg: Arg<'a>) -> Result<Command<'a>, AllocErro
 fn meta<'a>(alloc: Global) -> Arg<'a>
     ensures { result.global ≡ false }
 {
-    Arg::new(alloc, "meta").long("meta").value_name("PATH").help(
-        "ld-decode's .tbc.json of the capture, whose videoParameters give system and levels",
-    )
+    Arg::new(alloc, "meta")
+        .long("meta")
+        .value_name("PATH")
+        .help("ld-decode's .tbc.json of the capture, for system and levels")
+        .long_help(
+            "ld-decode's .tbc.json of the capture, whose videoParameters give system and levels.\n\
+             Levels with decimals are refused; docs/RECIPES.md has a command that rounds them",
+        )
 }
 
 fn system<'a>(alloc: Global) -> Arg<'a>
@@ -158,17 +163,22 @@ fn system<'a>(alloc: Global) -> Arg<'a>
         .long("system")
         .value_name("NAME")
         .value_parser(SYSTEMS.as_slice())
-        .help(
+        .help("In place of the metadata's system")
+        .long_help(
             "NTSC (fields of 910x263 samples) or PAL (1135x313), in place of the metadata's system",
         )
 }
 
-const BLACK: &str = "The sample of black, 0 to 65535, in place of the metadata's black16bIre";
+const BLACK: &str = "The sample of black, in place of the metadata's black16bIre";
 
-const WHITE: &str =
+const LONG_BLACK: &str = "The sample of black, 0 to 65535, in place of the metadata's black16bIre";
+
+const WHITE: &str = "The sample of white, in place of the metadata's white16bIre";
+
+const LONG_WHITE: &str =
     "The sample of white, 0 to 65535 and above black, in place of the metadata's white16bIre";
 
-fn level<'a>(alloc: Global, name: &'a str, help: &'a str) -> Arg<'a>
+fn level<'a>(alloc: Global, name: &'a str, help: &'a str, long_help: &'a str) -> Arg<'a>
     ensures { result.global ≡ false }
 {
     Arg::new(alloc, name)
@@ -176,6 +186,7 @@ fn level<'a>(alloc: Global, name: &'a str, help: &'a str) -> Arg<'a>
         .value_name("N")
         .value_parser(value_parser!(u16))
         .help(help)
+        .long_help(long_help)
 }
 
 fn max_fields<'a>(alloc: Global) -> Arg<'a>
@@ -185,7 +196,11 @@ fn max_fields<'a>(alloc: Global) -> Arg<'a>
         .long("max-fields")
         .value_name("N")
         .value_parser(value_parser!(u32))
-        .help("The most fields of a run, 1 to 1000000; 1000000 where it isn't given")
+        .help("The most fields of a run, 1 to 1000000; a stream with more is refused")
+        .long_help(
+            "The most fields of a run, 1 to 1000000; 1000000 where it isn't given.\n\
+             A stream with more is refused",
+        )
 }
 
 fn input<'a>(alloc: Global, help: &'a str) -> Arg<'a>

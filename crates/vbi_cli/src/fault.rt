@@ -12,7 +12,7 @@ pub enum AppFault {
     /// The reader failed within a TBC stream.
     #[error("read failed in field {field} at byte {offset}")]
     ReadField {
-        /// The field in which the next byte would stand, from 1.
+        /// The field that the next byte would belong to, from 1.
         field: u32,
         /// How many bytes of that field were read.
         offset: u32,

@@ -1,12 +1,14 @@
 //! Jobs over memory: what is written, how they end, and the texts of their faults.
 
-use crate::command_line::Verb;
+use crate::command_line::{Job, Verb};
 use crate::fault::AppFault;
 use crate::job::{Ended, status};
+use crate::tests_asserts::{same, says, writes};
 use crate::tests_runs::{
-    NONE, PAL, STORED, alike, black_stream, drawn_line, job, run_broken, run_full, run_over,
-    stored_line,
+    NONE, NTSC, PAL, Ran, STORED, alike, black_stream, drawn_line, front, job, run_broken,
+    run_full, run_over, stored_line,
 };
+use std::process::Abort;
 use std::test::Fail;
 use vbi_meta::{MetaFault, Overrides};
 use vbi_words::System;
@@ -39,28 +41,35 @@ const DRAWN_FIELD: &str =
 const REPORT: &str = "system NTSC 910x263 black 16384 white 51200\nfield 1 cav\n\
         16 82CFFF picture stop\n17 F12345 picture 12345\n18 F12345 picture 12345\nfields 1 cut none\n";
 
+/// Asserts that `line` prints this of some bytes, and leaves so many of them unread.
+fn prints(
+    rt: &(impl Abort + AllocGlobal),
+    overrides: Overrides,
+    bytes: &[u8],
+    text: &[u8],
+    left: usize,
+) {
+    let ran = run_over(rt.alloc(), &job(Verb::Line, overrides), None, bytes);
+    writes(rt, &ran, Ok(Ended::Whole), text, overrides);
+    same(rt, ran.left, left, text);
+}
+
 #[test]
 fn answers_a_line(rt: HostRuntime) -> Result<(), Fail> {
     let alloc = rt.alloc();
-    let stored = job(Verb::Line, STORED);
     let line = stored_line(alloc)?;
-    let ran_line = run_over(alloc, &stored, None, line.as_slice());
-    assert_eq!(rt; ran_line.ended, Ok(Ended::Whole));
-    assert_eq!(rt; ran_line.written.as_slice(), b"82CFFF\n".as_slice());
-    assert_eq!(rt; ran_line.left, 0);
-
+    prints(&rt, STORED, line.as_slice(), b"82CFFF\n", 0);
     // One byte more than a line's is left unread.
     let spaces = alike(alloc, b' ', 1821)?;
-    let ran_line = run_over(alloc, &stored, None, spaces.as_slice());
-    assert_eq!(rt; ran_line.ended, Ok(Ended::Whole));
-    assert_eq!(rt; ran_line.written.as_slice(), b"blank\n".as_slice());
-    assert_eq!(rt; ran_line.left, 1);
-
+    prints(&rt, STORED, spaces.as_slice(), b"blank\n", 1);
     let line = drawn_line(alloc, System::Pal, 16384, 54016, 0x8A_E012)?;
-    let ran_line = run_over(alloc, &job(Verb::Line, PAL), None, line.as_slice());
-    assert_eq!(rt; ran_line.ended, Ok(Ended::Whole));
-    assert_eq!(rt; ran_line.written.as_slice(), b"8AE012\n".as_slice());
+    prints(&rt, PAL, line.as_slice(), b"8AE012\n", 0);
     Ok(())
+}
+
+/// Asserts that a run failed so, after it wrote these bytes.
+fn fails(rt: &impl Abort, ran: Ran, fault: AppFault, written: &[u8]) {
+    writes(rt, &ran, Err(fault), written, fault);
 }
 
 #[test]
@@ -68,22 +77,17 @@ fn names_the_faults_of_a_line(rt: HostRuntime) -> Result<(), Fail> {
     let alloc = rt.alloc();
     let stored = job(Verb::Line, STORED);
     let spaces = alike(alloc, b' ', 1819)?;
-    let ran_line = run_over(alloc, &stored, None, spaces.as_slice());
     let short = AppFault::Short {
         bytes: 1819,
         wanted: 1820,
     };
-    assert_eq!(rt; ran_line.ended, Err(short));
-    assert!(rt; ran_line.written.is_empty());
-
-    let ran_line = run_broken(alloc, &stored, b"7 bytes");
-    assert_eq!(rt; ran_line.ended, Err(AppFault::ReadLine { offset: 7 }));
-    assert!(rt; ran_line.written.is_empty());
-
+    let ran = run_over(alloc, &stored, None, spaces.as_slice());
+    fails(&rt, ran, short, b"");
+    let ran = run_broken(alloc, &stored, b"7 bytes");
+    fails(&rt, ran, AppFault::ReadLine { offset: 7 }, b"");
     let line = stored_line(alloc)?;
-    let ran_line = run_full(alloc, &stored, line.as_slice(), 3);
-    assert_eq!(rt; ran_line.ended, Err(AppFault::Write { written: 3 }));
-    assert_eq!(rt; ran_line.written.as_slice(), b"82C".as_slice());
+    let ran = run_full(alloc, &stored, line.as_slice(), 3);
+    fails(&rt, ran, AppFault::Write { written: 3 }, b"82C");
     Ok(())
 }
 
@@ -115,12 +119,18 @@ const UNSETTLED: [(Overrides, Option<&[u8]>, MetaFault); 8] = [
 fn settles_before_it_reads(rt: HostRuntime) {
     for (overrides, meta, fault) in &UNSETTLED {
         for verb in [Verb::Line, Verb::Extract, Verb::Show, Verb::Draw] {
-            let refused = run_over(rt.alloc(), &job(verb, *overrides), *meta, b"some bytes");
-            assert_eq!(rt; refused.ended, Err(AppFault::Meta(*fault)));
-            assert_eq!(rt; refused.left, 10);
-            assert!(rt; refused.written.is_empty());
+            let ran = run_over(rt.alloc(), &job(verb, *overrides), *meta, b"some bytes");
+            writes(&rt, &ran, Err(AppFault::Meta(*fault)), b"", verb);
+            same(&rt, ran.left, 10, (verb, *fault));
         }
     }
+}
+
+/// Asserts that a job with the metadata of the NTSC capture writes this of an input, all of which it reads.
+fn gives(rt: &(impl Abort + AllocGlobal), job: &Job, input: &[u8], text: &[u8]) {
+    let ran = run_over(rt.alloc(), job, Some(FULL), input);
+    writes(rt, &ran, Ok(Ended::Whole), text, job.verb);
+    same(rt, ran.left, 0, job.verb);
 }
 
 #[test]
@@ -128,114 +138,100 @@ fn extracts_with_metadata(rt: HostRuntime) -> Result<(), Fail> {
     let alloc = rt.alloc();
     let extract = job(Verb::Extract, NONE);
     let field = black_stream(alloc, 478_660)?;
-    let whole = run_over(alloc, &extract, Some(FULL), field.as_slice());
-    assert_eq!(rt; whole.ended, Ok(Ended::Whole));
-    assert_eq!(rt; whole.written.as_slice(), BLACK_FIELD.as_bytes());
+    gives(&rt, &extract, field.as_slice(), BLACK_FIELD.as_bytes());
 
     let field = black_stream(alloc, 478_659)?;
     let cut = run_over(alloc, &extract, Some(FULL), field.as_slice());
-    assert_eq!(rt; cut.ended, Ok(Ended::CutField));
+    same(&rt, cut.ended, Ok(Ended::CutField), "one byte short");
     Ok(())
 }
 
 #[test]
 fn an_option_stands_before_metadata(rt: HostRuntime) -> Result<(), Fail> {
-    let alloc = rt.alloc();
     let brighter = Overrides {
         white: Some(60000),
         ..NONE
     };
-    let report = run_over(alloc, &job(Verb::Show, brighter), Some(FULL), b"");
-    assert_eq!(rt; report.ended, Ok(Ended::Whole));
     let wanted = b"system NTSC 910x263 black 16384 white 60000\nfields 0 cut none\n";
-    assert_eq!(rt; report.written.as_slice(), wanted.as_slice());
+    gives(&rt, &job(Verb::Show, brighter), b"", wanted);
 
     // The metadata's levels aren't those of the line.
-    let line = stored_line(alloc)?;
-    let word = run_over(alloc, &job(Verb::Line, STORED), Some(FULL), line.as_slice());
-    assert_eq!(rt; word.written.as_slice(), b"82CFFF\n".as_slice());
-    let blank = run_over(alloc, &job(Verb::Line, NONE), Some(FULL), line.as_slice());
-    assert_eq!(rt; blank.written.as_slice(), b"blank\n".as_slice());
+    let line = stored_line(rt.alloc())?;
+    let line = line.as_slice();
+    gives(&rt, &job(Verb::Line, STORED), line, b"82CFFF\n");
+    gives(&rt, &job(Verb::Line, NONE), line, b"blank\n");
     Ok(())
+}
+
+/// Asserts that a run failed so, after it wrote so many bytes.
+fn fails_after(rt: &impl Abort, ran: Ran, fault: AppFault, written: usize) {
+    let found = (ran.ended, ran.written.len());
+    same(rt, found, (Err(fault), written), fault);
 }
 
 #[test]
 fn names_the_faults_of_a_stream(rt: HostRuntime) -> Result<(), Fail> {
     let alloc = rt.alloc();
     let few = Overrides {
-        system: Some(System::Ntsc),
-        black: Some(16384),
-        white: Some(51200),
         max_fields: Some(1),
+        ..NTSC
     };
     let extract = job(Verb::Extract, few);
-    let field = black_stream(alloc, 478_661)?;
-    let too_many = run_over(alloc, &extract, None, field.as_slice());
-    assert_eq!(rt; too_many.ended, Err(AppFault::TooManyFields));
-    assert_eq!(rt; too_many.written.len(), 227);
-
-    let field = black_stream(alloc, 1819)?;
-    let broken = run_broken(alloc, &extract, field.as_slice());
+    let stream = black_stream(alloc, 478_661)?;
+    let stream = stream.as_slice();
+    let ran = run_over(alloc, &extract, None, stream);
+    fails_after(&rt, ran, AppFault::TooManyFields, 227);
+    let ran = run_broken(alloc, &extract, front(stream, 1819));
     let read = AppFault::ReadField {
         field: 1,
         offset: 1819,
     };
-    assert_eq!(rt; broken.ended, Err(read));
-    assert_eq!(rt; broken.written.len(), 135);
-
-    let field = black_stream(alloc, 478_660)?;
-    let full = run_full(alloc, &extract, field.as_slice(), 150);
-    assert_eq!(rt; full.ended, Err(AppFault::Write { written: 150 }));
-    assert_eq!(rt; full.written.len(), 150);
+    fails_after(&rt, ran, read, 135);
+    let ran = run_full(alloc, &extract, front(stream, 478_660), 150);
+    fails_after(&rt, ran, AppFault::Write { written: 150 }, 150);
     Ok(())
 }
 
 #[test]
 fn shows_what_was_drawn(rt: HostRuntime) -> Result<(), Fail> {
-    let alloc = rt.alloc();
-    let field = run_over(
-        alloc,
-        &job(Verb::Draw, NONE),
-        Some(FULL),
-        b"82CFFF F12345 F12345\n",
-    );
-    assert_eq!(rt; field.ended, Ok(Ended::Whole));
-    assert_eq!(rt; field.written.len(), 478_660);
+    let draw = job(Verb::Draw, NONE);
+    let rows = b"82CFFF F12345 F12345\n";
+    let field = run_over(rt.alloc(), &draw, Some(FULL), rows);
+    let found = (field.ended, field.written.len());
+    same(&rt, found, (Ok(Ended::Whole), 478_660), "a field");
     let field = field.written.as_slice();
-
-    let document = run_over(alloc, &job(Verb::Extract, NONE), Some(FULL), field);
-    assert_eq!(rt; document.ended, Ok(Ended::Whole));
-    assert_eq!(rt; document.written.as_slice(), DRAWN_FIELD.as_bytes());
-    let report = run_over(alloc, &job(Verb::Show, NONE), Some(FULL), field);
-    assert_eq!(rt; report.ended, Ok(Ended::Whole));
-    assert_eq!(rt; report.written.as_slice(), REPORT.as_bytes());
+    let extract = job(Verb::Extract, NONE);
+    gives(&rt, &extract, field, DRAWN_FIELD.as_bytes());
+    gives(&rt, &job(Verb::Show, NONE), field, REPORT.as_bytes());
     Ok(())
 }
 
 #[test]
 fn names_the_faults_of_drawing(rt: HostRuntime) {
     let alloc = rt.alloc();
-    let malformed = run_over(
+    let draw = job(Verb::Draw, STORED);
+    let ran = run_over(
         alloc,
         &job(Verb::Draw, NONE),
         Some(FULL),
         b"82CFFF  F12345 -",
     );
-    assert_eq!(rt; malformed.ended, Err(AppFault::Row { number: 1 }));
-    assert!(rt; malformed.written.is_empty());
-    let broken = run_broken(alloc, &job(Verb::Draw, STORED), b"82CFFF - -\n");
-    assert_eq!(rt; broken.ended, Err(AppFault::ReadRow { number: 2 }));
-    assert_eq!(rt; broken.written.len(), 478_660);
-    let full = run_full(alloc, &job(Verb::Draw, STORED), b"82CFFF - -", 1000);
-    assert_eq!(rt; full.ended, Err(AppFault::Write { written: 1000 }));
-    assert_eq!(rt; full.written.len(), 1000);
+    fails_after(&rt, ran, AppFault::Row { number: 1 }, 0);
+    let ran = run_broken(alloc, &draw, b"82CFFF - -\n");
+    fails_after(&rt, ran, AppFault::ReadRow { number: 2 }, 478_660);
+    let ran = run_full(alloc, &draw, b"82CFFF - -", 1000);
+    fails_after(&rt, ran, AppFault::Write { written: 1000 }, 1000);
 }
 
 #[test]
 fn gives_the_statuses(rt: HostRuntime) {
-    assert_eq!(rt; status(&Ok(Ended::Whole)), 0);
-    assert_eq!(rt; status(&Ok(Ended::CutField)), 3);
-    assert_eq!(rt; status(&Err(AppFault::TooManyFields)), 1);
+    for (ended, code) in [
+        (Ok(Ended::Whole), 0),
+        (Ok(Ended::CutField), 3),
+        (Err(AppFault::TooManyFields), 1),
+    ] {
+        same(&rt, status(&ended), code, ended);
+    }
 }
 
 const TEXTS: [(AppFault, &str); 22] = [
@@ -304,8 +300,8 @@ const TEXTS: [(AppFault, &str); 22] = [
 
 #[test]
 fn faults_have_their_texts(rt: HostRuntime) -> Result<(), Fail> {
-    for (fault, text) in &TEXTS {
-        assert_eq!(rt; fault.to_string(rt.alloc())?.as_str(), *text);
+    for &(fault, text) in &TEXTS {
+        says(&rt, fault, text)?;
     }
     Ok(())
 }

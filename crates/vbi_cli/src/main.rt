@@ -147,6 +147,8 @@ mod command_line_tests;
 #[cfg(test)]
 mod job_tests;
 #[cfg(test)]
+mod tests_asserts;
+#[cfg(test)]
 mod tests_devices;
 #[cfg(test)]
 mod tests_drawing;

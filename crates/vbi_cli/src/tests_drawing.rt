@@ -2,7 +2,8 @@
 
 use crate::command_line::Verb;
 use crate::fault::AppFault;
-use crate::job::{Ended, status};
+use crate::job::Ended;
+use crate::tests_asserts::{ends, holds, same, says};
 use crate::tests_devices::{Feed, Sink, feed_of, slow_sink, wide_sink};
 use crate::tests_runs::{Asked, NTSC, Ran, drawn_fields, front, job, run_between};
 use std::alloc::{AllocError, Global};
@@ -34,14 +35,14 @@ fn drew(
     reads: u32,
     fields: &[[u32; 3]],
 ) -> Result<(), AllocError> {
-    assert_eq!(rt; ran.ended, ended);
-    assert_eq!(rt; ran.asked.reads, reads, "after {ended:?}");
-    assert_eq!(rt; ran.asked.flushes, 0);
+    let code = match ended {
+        Ok(_) => 0,
+        Err(_) => 1,
+    };
+    ends(rt, ran, ended, code, fields);
+    same(rt, (ran.asked.reads, ran.asked.flushes), (reads, 0), ended);
     let stream = drawn_fields(rt.alloc(), fields)?;
-    assert!(rt;
-        ran.written.as_slice() == stream.as_slice(),
-        "after {ended:?}"
-    );
+    holds(rt, ran.written.as_slice() == stream.as_slice(), ended);
     Ok(())
 }
 
@@ -71,7 +72,6 @@ fn draws_each_row_and_asks_for_the_end_once(rt: HostRuntime) -> Result<(), Fail>
     for &(limit, text, fields, reads) in &DRAWN {
         let ran = run_draw(alloc, limit, feed_of(text), wide_sink(alloc));
         drew(&rt, &ran, Ok(Ended::Whole), reads, fields)?;
-        assert_eq!(rt; status(&ran.ended), 0);
     }
     Ok(())
 }
@@ -106,16 +106,15 @@ const READ_FAULTS: [(Option<u32>, &[u8], u32, &str, &[[u32; 3]], u32); 6] = [
 #[test]
 fn ends_at_a_read_fault_and_asks_no_more(rt: HostRuntime) -> Result<(), Fail> {
     let alloc = rt.alloc();
-    for &(limit, text, number, says, fields, reads) in &READ_FAULTS {
+    for &(limit, rows, number, text, fields, reads) in &READ_FAULTS {
         let feed = Feed {
             behind: Some(b"\n- - -\n"),
-            ..feed_of(text)
+            ..feed_of(rows)
         };
         let ran = run_draw(alloc, limit, feed, wide_sink(alloc));
         let fault = AppFault::ReadRow { number };
         drew(&rt, &ran, Err(fault), reads, fields)?;
-        assert_eq!(rt; status(&ran.ended), 1);
-        assert_eq!(rt; fault.to_string(alloc)?.as_str(), says);
+        says(&rt, fault, text)?;
     }
     Ok(())
 }
@@ -144,13 +143,12 @@ const MALFORMED: [(&[u8], u32, &[[u32; 3]], u32); 16] = [
 #[test]
 fn ends_at_a_malformed_row_and_reads_no_more(rt: HostRuntime) -> Result<(), Fail> {
     let alloc = rt.alloc();
-    for &(text, number, fields, reads) in &MALFORMED {
-        let ran = run_draw(alloc, None, feed_of(text), wide_sink(alloc));
+    for &(rows, number, fields, reads) in &MALFORMED {
+        let ran = run_draw(alloc, None, feed_of(rows), wide_sink(alloc));
         let fault = AppFault::Row { number };
         drew(&rt, &ran, Err(fault), reads, fields)?;
-        assert_eq!(rt; status(&ran.ended), 1);
-        let says = format!(in alloc; "row {number} is malformed")?;
-        assert_eq!(rt; fault.to_string(alloc)?.as_str(), says.as_str());
+        let text = format!(in alloc; "row {number} is malformed")?;
+        says(&rt, fault, text.as_str())?;
     }
     Ok(())
 }
@@ -169,7 +167,6 @@ fn names_a_byte_past_the_limit_and_draws_the_rows_before(rt: HostRuntime) -> Res
     for &(limit, text, fields, reads) in &TOO_MANY {
         let ran = run_draw(alloc, Some(limit), feed_of(text), wide_sink(alloc));
         drew(&rt, &ran, Err(AppFault::TooManyFields), reads, fields)?;
-        assert_eq!(rt; status(&ran.ended), 1);
     }
     Ok(())
 }
@@ -196,20 +193,16 @@ fn ends_at_a_write_fault_and_asks_no_more(rt: HostRuntime) -> Result<(), Fail> {
         let fault = AppFault::Write {
             written: u64::from(room),
         };
-        assert_eq!(rt; ran.ended, Err(fault));
-        assert_eq!(rt; status(&ran.ended), 1);
+        ends(&rt, &ran, Err(fault), 1, (text, room));
         let asked = Asked {
             reads,
             writes: room.saturating_add(1),
             flushes: 0,
         };
-        assert_eq!(rt; ran.asked, asked, "{text:?} and room for {room} bytes");
+        same(&rt, ran.asked, asked, (text, room));
         let stream = drawn_fields(alloc, fields)?;
         let taken = front(stream.as_slice(), room as usize);
-        assert!(rt;
-            ran.written.as_slice() == taken,
-            "{text:?} and room for {room} bytes"
-        );
+        holds(&rt, ran.written.as_slice() == taken, (text, room));
     }
     Ok(())
 }

@@ -1,6 +1,7 @@
 //! The texts of help, each whole.
 
 use crate::command_line::WordsFault;
+use crate::tests_asserts::{holds, same};
 use crate::tests_runs::joined;
 use crate::tests_words::read;
 use std::alloc::AllocError;
@@ -69,9 +70,9 @@ const TEXTS: [Texts; 4] = [
         name: "draw",
         about: "Turns rows of words into a TBC stream",
         details: "\
-            Writes a TBC stream with one field for each row of text. A row has three items with one space between\n\
-            them, for lines 16, 17 and 18: six hexadecimal digits (a word, 800000 to FFFFFF), or - for a line\n\
-            without a word. Every other line is black; sync and colour burst aren't drawn.",
+            Writes a TBC stream with one field for each row of text. A row has three items with one space\n\
+            between them, for lines 16, 17 and 18: six hexadecimal digits (a word, 800000 to FFFFFF), or -\n\
+            for a line without a word. Every other line is black; sync and colour burst aren't drawn.",
         input: "The rows of words; standard input where there is none, or for -",
         example: "Example:\n\
             \x20 echo '82CFFF F12345 F12345' | ldvbi draw --system NTSC --black 16384 --white 51200 > test.tbc\n\n\
@@ -85,7 +86,8 @@ const TEXTS: [Texts; 4] = [
 /// The options of each command in its long help: each help stands in a line of its own, with ten blanks before it.
 const LONG_OPTIONS: &str = "\
     \x20     --meta <PATH>\n\
-    \x20         ld-decode's .tbc.json of the capture, whose videoParameters give system and levels\n\n\
+    \x20         ld-decode's .tbc.json of the capture, whose videoParameters give system and levels.\n\
+    \x20         Levels with decimals are refused; docs/RECIPES.md has a command that rounds them\n\n\
     \x20     --system <NAME>\n\
     \x20         NTSC (fields of 910x263 samples) or PAL (1135x313), in place of the metadata's system\n\
     \x20         \n\
@@ -95,19 +97,18 @@ const LONG_OPTIONS: &str = "\
     \x20     --white <N>\n\
     \x20         The sample of white, 0 to 65535 and above black, in place of the metadata's white16bIre\n\n\
     \x20     --max-fields <N>\n\
-    \x20         The most fields of a run, 1 to 1000000; 1000000 where it isn't given\n\n\
+    \x20         The most fields of a run, 1 to 1000000; 1000000 where it isn't given.\n\
+    \x20         A stream with more is refused\n\n\
     \x20 -h, --help\n\
     \x20         Print help (see a summary with '-h')\n";
 
 /// The same in the short help: each help stands behind its option, two columns behind the longest of them.
 const SHORT_OPTIONS: &str = "\
-    \x20     --meta <PATH>     ld-decode's .tbc.json of the capture, whose videoParameters give system and levels\n\
-    \x20     --system <NAME>   NTSC (fields of 910x263 samples) or PAL (1135x313), in place of the metadata's \
-    system [possible values: NTSC, PAL]\n\
-    \x20     --black <N>       The sample of black, 0 to 65535, in place of the metadata's black16bIre\n\
-    \x20     --white <N>       The sample of white, 0 to 65535 and above black, in place of the metadata's \
-    white16bIre\n\
-    \x20     --max-fields <N>  The most fields of a run, 1 to 1000000; 1000000 where it isn't given\n\
+    \x20     --meta <PATH>     ld-decode's .tbc.json of the capture, for system and levels\n\
+    \x20     --system <NAME>   In place of the metadata's system [possible values: NTSC, PAL]\n\
+    \x20     --black <N>       The sample of black, in place of the metadata's black16bIre\n\
+    \x20     --white <N>       The sample of white, in place of the metadata's white16bIre\n\
+    \x20     --max-fields <N>  The most fields of a run, 1 to 1000000; a stream with more is refused\n\
     \x20 -h, --help            Print help (see more with '--help')\n";
 
 /// Asserts that words ask for help, and that these texts, one behind another, are all that is printed.
@@ -118,16 +119,14 @@ fn helps(
 ) -> Result<(), AllocError> {
     match read(rt.alloc(), words) {
         Err(fault) => {
-            assert_eq!(rt; fault.status(), 0, "{words:?}");
-            assert!(rt; matches!(fault, WordsFault::Help(_)), "{words:?}");
+            same(rt, fault.status(), 0, words);
+            holds(rt, matches!(fault, WordsFault::Help(_)), words);
             let printed = fault.to_string(rt.alloc())?;
             let wanted = joined(rt.alloc(), texts)?;
-            assert!(rt;
-                printed.as_str().as_bytes() == wanted.as_slice(),
-                "{words:?} print {printed}"
-            );
+            let is_same = printed.as_str().as_bytes() == wanted.as_slice();
+            holds(rt, is_same, (words, printed));
         }
-        Ok(_) => assert!(rt; false, "{words:?}"),
+        Ok(_) => holds(rt, false, words),
     }
     Ok(())
 }

@@ -4,6 +4,7 @@ use crate::command_line::Verb;
 use crate::fault::AppFault;
 use crate::input::Input;
 use crate::job::{Ended, run_job};
+use crate::tests_asserts::{holds, same};
 use crate::tests_devices::{Feed, feed_of, torn, wide_sink};
 use crate::tests_runs::{NTSC, VERBS, job, known_run};
 use std::io::{ErrorKind, Read};
@@ -41,13 +42,13 @@ fn passes_on_each_answer_of_the_reader_that_is_meant(rt: HostRuntime) {
                 Ok(count) => Ok(&buf[..count]),
                 Err(error) => Err(error.kind()),
             };
-            assert_eq!(rt; came, *answer);
+            same(&rt, came, *answer, "an answer");
         }
         // One question for each answer.
         let asks = match input {
             Input::File(feed) | Input::Standard(feed) => feed.asks,
         };
-        assert_eq!(rt; asks, 8);
+        same(&rt, asks, 8, "the questions");
     }
 }
 
@@ -70,8 +71,8 @@ fn a_run_over_an_interrupted_input_is_whole(rt: HostRuntime) -> Result<(), Fail>
         ] {
             let mut sink = wide_sink(alloc);
             let ended = run_job(alloc, &job(verb, NTSC), None, &mut input, &mut sink);
-            assert_eq!(rt; ended, Ok(Ended::Whole), "{verb:?}");
-            assert!(rt; sink.taken.as_slice() == wanted.as_slice(), "{verb:?}");
+            same(&rt, ended, Ok(Ended::Whole), verb);
+            holds(&rt, sink.taken.as_slice() == wanted.as_slice(), verb);
         }
     }
     Ok(())
@@ -104,7 +105,7 @@ fn a_run_over_an_input_that_fails_says_so(rt: HostRuntime) {
         for mut input in [Input::File(torn(b"", 0)), Input::Standard(torn(b"", 0))] {
             let mut sink = wide_sink(alloc);
             let ended = run_job(alloc, &job(verb, NTSC), None, &mut input, &mut sink);
-            assert_eq!(rt; ended, Err(fault));
+            same(&rt, ended, Err(fault), verb);
         }
     }
 }

@@ -3,6 +3,7 @@
 use crate::command_line::Verb;
 use crate::fault::AppFault;
 use crate::job::Ended;
+use crate::tests_asserts::{holds, same, writes};
 use crate::tests_devices::{Feed, Sink, feed_of, slow_sink};
 use crate::tests_runs::{Asked, NTSC, Ran, front, job, known_run, run_between};
 use std::alloc::{AllocError, Global};
@@ -45,14 +46,15 @@ fn sixteen_interruptions_in_a_row_change_nothing(rt: HostRuntime) -> Result<(), 
     for (verb, reads, writes) in ASKED {
         for (more_reads, more_writes) in [(0, 0), (16, 0), (0, 16), (16, 16)] {
             let (ran, wanted) = interrupted(rt.alloc(), verb, more_reads, more_writes)?;
-            assert_eq!(rt; ran.ended, Ok(Ended::Whole), "{verb:?}");
-            assert!(rt; ran.written.as_slice() == wanted.as_slice(), "{verb:?}");
+            let taken = ran.written.as_slice();
+            holds(&rt, taken == wanted.as_slice(), verb);
             let asked = Asked {
                 reads: reads.saturating_add(more_reads),
                 writes: writes.saturating_add(more_writes),
                 flushes: 0,
             };
-            assert_eq!(rt; ran.asked, asked, "{verb:?}");
+            let expected = (Ok(Ended::Whole), asked);
+            same(&rt, (ran.ended, ran.asked), expected, verb);
         }
     }
     Ok(())
@@ -85,15 +87,14 @@ const READ_FAULTS: [(Verb, AppFault, u32); 4] = [
 fn the_seventeenth_interruption_of_a_read_is_a_fault(rt: HostRuntime) -> Result<(), Fail> {
     for (verb, fault, written) in READ_FAULTS {
         let (ran, wanted) = interrupted(rt.alloc(), verb, 17, 0)?;
-        assert_eq!(rt; ran.ended, Err(fault));
         let taken = front(wanted.as_slice(), written as usize);
-        assert_eq!(rt; ran.written.as_slice(), taken);
+        writes(&rt, &ran, Err(fault), taken, verb);
         let asked = Asked {
             reads: 17,
             writes: written,
             flushes: 0,
         };
-        assert_eq!(rt; ran.asked, asked, "{verb:?}");
+        same(&rt, ran.asked, asked, verb);
     }
     Ok(())
 }
@@ -110,14 +111,14 @@ const READS: [(Verb, u32); 4] = [
 fn the_seventeenth_interruption_of_a_write_is_a_fault(rt: HostRuntime) -> Result<(), Fail> {
     for (verb, reads) in READS {
         let (ran, _) = interrupted(rt.alloc(), verb, 0, 17)?;
-        assert_eq!(rt; ran.ended, Err(AppFault::Write { written: 0 }), "{verb:?}");
-        assert!(rt; ran.written.is_empty());
+        let fault = AppFault::Write { written: 0 };
+        writes(&rt, &ran, Err(fault), b"", verb);
         let asked = Asked {
             reads,
             writes: 17,
             flushes: 0,
         };
-        assert_eq!(rt; ran.asked, asked, "{verb:?}");
+        same(&rt, ran.asked, asked, verb);
     }
     Ok(())
 }

@@ -2,7 +2,8 @@
 
 use crate::command_line::Verb;
 use crate::fault::AppFault;
-use crate::job::{Ended, status};
+use crate::job::Ended;
+use crate::tests_asserts::{ends, same, says, writes};
 use crate::tests_devices::{Feed, Sink, feed_of, slow_sink, torn, wide_sink};
 use crate::tests_runs::{
     Asked, NTSC, PAL, Ran, STORED, alike, drawn_line, front, job, push_samples, run_between,
@@ -74,12 +75,10 @@ fn prints(
         feed,
         wide_sink(rt.alloc()),
     );
-    assert_eq!(rt; ran.ended, Ok(Ended::Whole), "{answer}");
-    assert_eq!(rt; status(&ran.ended), 0);
-    assert_eq!(rt; ran.written.as_slice(), answer.as_bytes());
-    assert_eq!(rt; ran.left, 4);
-    assert_eq!(rt; ran.asked.reads, 1);
-    assert_eq!(rt; ran.asked.flushes, 0);
+    ends(rt, &ran, Ok(Ended::Whole), 0, answer);
+    same(rt, ran.written.as_slice(), answer.as_bytes(), answer);
+    let counts = (ran.left, ran.asked.reads, ran.asked.flushes);
+    same(rt, counts, (4, 1, 0), answer);
     Ok(())
 }
 
@@ -132,11 +131,9 @@ fn prints_blank_for_just_a_line_of_spaces(rt: HostRuntime) -> Result<(), Fail> {
     let alloc = rt.alloc();
     let spaces = alike(alloc, b' ', 1820)?;
     let ran = run_stored(alloc, feed_of(spaces.as_slice()), wide_sink(alloc));
-    assert_eq!(rt; ran.ended, Ok(Ended::Whole));
-    assert_eq!(rt; ran.written.as_slice(), b"blank\n".as_slice());
-    assert_eq!(rt; ran.left, 0);
+    writes(&rt, &ran, Ok(Ended::Whole), b"blank\n", "spaces");
     // The line is whole, so nothing is read behind it.
-    assert_eq!(rt; ran.asked.reads, 1);
+    same(&rt, (ran.left, ran.asked.reads), (0, 1), "spaces");
     Ok(())
 }
 
@@ -153,23 +150,21 @@ const SHORT: [(u16, u32, &str); 4] = [
 fn says_how_short_a_line_is_and_asks_no_more(rt: HostRuntime) -> Result<(), Fail> {
     let alloc = rt.alloc();
     let spaces = alike(alloc, b' ', 1819)?;
-    for &(bytes, reads, says) in &SHORT {
+    for &(bytes, reads, text) in &SHORT {
         let feed = feed_of(front(spaces.as_slice(), bytes as usize));
         let ran = run_stored(alloc, feed, wide_sink(alloc));
         let fault = AppFault::Short {
             bytes,
             wanted: 1820,
         };
-        assert_eq!(rt; ran.ended, Err(fault));
-        assert_eq!(rt; status(&ran.ended), 1);
-        assert_eq!(rt; fault.to_string(alloc)?.as_str(), says);
+        ends(&rt, &ran, Err(fault), 1, text);
+        says(&rt, fault, text)?;
         let asked = Asked {
             reads,
             writes: 0,
             flushes: 0,
         };
-        assert_eq!(rt; ran.asked, asked, "{says}");
-        assert!(rt; ran.written.is_empty());
+        same(&rt, (ran.asked, ran.written.len()), (asked, 0), text);
     }
     Ok(())
 }
@@ -184,11 +179,8 @@ fn says_how_short_a_pal_line_is(rt: HostRuntime) -> Result<(), Fail> {
         bytes: 2269,
         wanted: 2270,
     };
-    assert_eq!(rt; ran.ended, Err(fault));
-    assert_eq!(rt;
-        fault.to_string(alloc)?.as_str(),
-        "short line: 2269 of 2270 bytes"
-    );
+    same(&rt, ran.ended, Err(fault), "PAL");
+    says(&rt, fault, "short line: 2269 of 2270 bytes")?;
     Ok(())
 }
 
@@ -204,25 +196,23 @@ const READ_FAULTS: [(u16, u32, &str); 3] = [
 fn ends_at_a_read_fault_and_asks_no_more(rt: HostRuntime) -> Result<(), Fail> {
     let alloc = rt.alloc();
     let line = stored_line(alloc)?;
-    for &(offset, reads, says) in &READ_FAULTS {
+    for &(offset, reads, text) in &READ_FAULTS {
         let feed = torn(line.as_slice(), offset as usize);
         let ran = run_stored(alloc, feed, wide_sink(alloc));
         let fault = AppFault::ReadLine { offset };
-        assert_eq!(rt; ran.ended, Err(fault));
-        assert_eq!(rt; status(&ran.ended), 1);
-        assert_eq!(rt; fault.to_string(alloc)?.as_str(), says);
+        ends(&rt, &ran, Err(fault), 1, text);
+        says(&rt, fault, text)?;
         let asked = Asked {
             reads,
             writes: 0,
             flushes: 0,
         };
-        assert_eq!(rt; ran.asked, asked, "{says}");
-        assert!(rt; ran.written.is_empty());
+        same(&rt, (ran.asked, ran.written.len()), (asked, 0), text);
     }
     // A fault right behind the line isn't met.
     let ran = run_stored(alloc, torn(line.as_slice(), 1820), wide_sink(alloc));
-    assert_eq!(rt; ran.ended, Ok(Ended::Whole));
-    assert_eq!(rt; ran.asked.reads, 1);
+    let found = (ran.ended, ran.asked.reads);
+    same(&rt, found, (Ok(Ended::Whole), 1), "a fault behind the line");
     Ok(())
 }
 
@@ -242,7 +232,7 @@ fn ends_at_a_write_fault_and_asks_no_more(rt: HostRuntime) -> Result<(), Fail> {
     let alloc = rt.alloc();
     let line = stored_line(alloc)?;
     let mut room = 0u32;
-    for says in WRITE_FAULTS {
+    for text in WRITE_FAULTS {
         let sink = Sink {
             room: room as usize,
             ..slow_sink(alloc)
@@ -251,17 +241,17 @@ fn ends_at_a_write_fault_and_asks_no_more(rt: HostRuntime) -> Result<(), Fail> {
         let fault = AppFault::Write {
             written: u64::from(room),
         };
-        assert_eq!(rt; ran.ended, Err(fault));
-        assert_eq!(rt; status(&ran.ended), 1);
-        assert_eq!(rt; fault.to_string(alloc)?.as_str(), says);
-        assert_eq!(rt; ran.written.as_slice(), front(b"82CFFF\n", room as usize));
+        ends(&rt, &ran, Err(fault), 1, text);
+        says(&rt, fault, text)?;
+        let taken = front(b"82CFFF\n", room as usize);
+        same(&rt, ran.written.as_slice(), taken, text);
         room = room.saturating_add(1);
         let asked = Asked {
             reads: 1,
             writes: room,
             flushes: 0,
         };
-        assert_eq!(rt; ran.asked, asked, "{says}");
+        same(&rt, ran.asked, asked, text);
     }
     Ok(())
 }

@@ -4,6 +4,7 @@ use crate::command_line::Verb;
 use crate::fault::AppFault;
 use crate::job::{Ended, run_job};
 use crate::job_tests::{BLACK_FIELD, FULL};
+use crate::tests_asserts::{holds, same};
 use crate::tests_runs::{NONE, STORED, job};
 use std::io::{self, Read, Write};
 use vbi_meta::MetaFault;
@@ -67,14 +68,13 @@ fn the_joined_run_answers_want_of_memory_as_such(rt: HostRuntime) {
     let joined = job(Verb::Extract, NONE);
     match run_job(rt.alloc(), &joined, Some(FULL), &mut tape, &mut stencil) {
         Ok(ended) => {
-            assert_eq!(rt; ended, Ended::Whole);
-            assert!(rt; stencil.rest.is_empty());
-            assert_eq!(rt; tape.left, 0);
+            same(&rt, ended, Ended::Whole, "the run");
+            same(&rt, (stencil.rest.len(), tape.left), (0, 0), "what is left");
         }
         Err(fault) => {
-            assert_eq!(rt; fault, AppFault::Meta(MetaFault::OutOfMemory));
-            assert_eq!(rt; tape.asks, 0);
-            assert_eq!(rt; stencil.asks, 0);
+            let wanted = AppFault::Meta(MetaFault::OutOfMemory);
+            same(&rt, fault, wanted, "the run");
+            same(&rt, (tape.asks, stencil.asks), (0, 0), "the questions");
         }
     }
 }
@@ -96,13 +96,10 @@ fn bytes_that_are_no_json_are_called_so_or_memory_is_wanted(rt: HostRuntime) {
         &mut tape,
         &mut stencil,
     );
-    assert!(rt;
-        matches!(
-            ended,
-            Err(AppFault::Meta(MetaFault::NotJson | MetaFault::OutOfMemory))
-        ),
-        "{ended:?}"
+    let is_named = matches!(
+        ended,
+        Err(AppFault::Meta(MetaFault::NotJson | MetaFault::OutOfMemory))
     );
-    assert_eq!(rt; tape.asks, 0);
-    assert_eq!(rt; stencil.asks, 0);
+    holds(&rt, is_named, ended);
+    same(&rt, (tape.asks, stencil.asks), (0, 0), "the questions");
 }

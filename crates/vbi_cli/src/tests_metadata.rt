@@ -2,7 +2,8 @@
 
 use crate::command_line::Verb;
 use crate::fault::AppFault;
-use crate::job::{Ended, status};
+use crate::job::Ended;
+use crate::tests_asserts::{ends, same, says, writes};
 use crate::tests_devices::{feed_of, wide_sink};
 use crate::tests_runs::{
     Asked, BLACK, HEAD, NONE, NTSC, TAIL, VERBS, alike, black_stream, job, joined, repeated,
@@ -18,14 +19,13 @@ fn refuses(rt: &(impl Abort + AllocGlobal), verb: Verb, meta: &[u8], fault: Meta
     let feed = feed_of(b"some bytes");
     let sink = wide_sink(rt.alloc());
     let ran = run_between(rt.alloc(), &job(verb, NTSC), Some(meta), feed, sink);
-    assert_eq!(rt; ran.ended, Err(AppFault::Meta(fault)), "{verb:?}");
-    assert_eq!(rt; status(&ran.ended), 1);
+    ends(rt, &ran, Err(AppFault::Meta(fault)), 1, verb);
     let none = Asked {
         reads: 0,
         writes: 0,
         flushes: 0,
     };
-    assert_eq!(rt; ran.asked, none, "{verb:?}");
+    same(rt, ran.asked, none, verb);
 }
 
 /// Two million bytes of a part of 64 between two texts.
@@ -68,8 +68,11 @@ fn two_megabytes_that_are_no_json_are_called_so(rt: HostRuntime) -> Result<(), F
         assert!(rt; meta.len() >= 2_000_000);
         refuses(&rt, Verb::Extract, meta.as_slice(), MetaFault::NotJson);
     }
-    let text = AppFault::Meta(MetaFault::NotJson).to_string(alloc)?;
-    assert_eq!(rt; text.as_str(), "metadata is not JSON");
+    says(
+        &rt,
+        AppFault::Meta(MetaFault::NotJson),
+        "metadata is not JSON",
+    )?;
     Ok(())
 }
 
@@ -91,9 +94,9 @@ fn two_megabytes_of_metadata_are_read(rt: HostRuntime) -> Result<(), Fail> {
         feed_of(field.as_slice()),
         wide_sink(alloc),
     );
-    assert_eq!(rt; ran.ended, Ok(Ended::Whole));
     let document = joined(alloc, &[HEAD, BLACK, TAIL])?;
-    assert_eq!(rt; ran.written.as_slice(), document.as_slice());
+    let document = document.as_slice();
+    writes(&rt, &ran, Ok(Ended::Whole), document, "two megabytes");
     Ok(())
 }
 
@@ -103,11 +106,14 @@ fn metadata_over_its_limit_is_too_large(rt: HostRuntime) -> Result<(), Fail> {
     let megabyte = alike(rt.alloc(), 0, 1_048_576)?;
     let mut meta = repeated(rt.alloc(), megabyte.as_slice(), 256)?;
     meta.push(0)?;
-    assert_eq!(rt; meta.len(), 268_435_457);
+    same(&rt, meta.len(), 268_435_457, "bytes of metadata");
     for verb in VERBS {
         refuses(&rt, verb, meta.as_slice(), MetaFault::TooLarge);
     }
-    let text = AppFault::Meta(MetaFault::TooLarge).to_string(rt.alloc())?;
-    assert_eq!(rt; text.as_str(), "metadata too large");
+    says(
+        &rt,
+        AppFault::Meta(MetaFault::TooLarge),
+        "metadata too large",
+    )?;
     Ok(())
 }

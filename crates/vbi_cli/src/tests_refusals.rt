@@ -1,6 +1,7 @@
 //! Words of the command line that are refused, and the texts that say why, each whole.
 
 use crate::command_line::{Job, WordsFault};
+use crate::tests_asserts::{holds, same};
 use crate::tests_runs::joined;
 use crate::tests_words::{COMMANDS, read, read_behind};
 use std::alloc::AllocError;
@@ -71,13 +72,11 @@ const NO_LEVELS: [&str; 9] = [
 fn refused(rt: &impl Abort, outcome: Result<Job, WordsFault>, words: &[&str]) {
     match outcome {
         Err(fault) => {
-            assert!(rt;
-                matches!(fault, WordsFault::Refused(_)),
-                "{words:?}: {fault}"
-            );
-            assert_eq!(rt; fault.status(), 2, "{words:?}");
+            same(rt, fault.status(), 2, words);
+            let is_refused = matches!(fault, WordsFault::Refused(_));
+            holds(rt, is_refused, (words, fault));
         }
-        Ok(job) => assert!(rt; false, "{words:?} give {job:?}"),
+        Ok(job) => holds(rt, false, (words, job)),
     }
 }
 
@@ -213,15 +212,13 @@ fn is_told(
 ) -> Result<(), AllocError> {
     match outcome {
         Err(fault) => {
-            assert_eq!(rt; fault.status(), 2, "{texts:?}");
+            same(rt, fault.status(), 2, texts);
             let printed = fault.to_string(rt.alloc())?;
             let wanted = joined(rt.alloc(), texts)?;
-            assert!(rt;
-                printed.as_str().as_bytes() == wanted.as_slice(),
-                "{texts:?}: {printed}"
-            );
+            let is_same = printed.as_str().as_bytes() == wanted.as_slice();
+            holds(rt, is_same, (texts, printed));
         }
-        Ok(_) => assert!(rt; false, "{texts:?}"),
+        Ok(_) => holds(rt, false, texts),
     }
     Ok(())
 }

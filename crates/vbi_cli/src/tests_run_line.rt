@@ -1,9 +1,10 @@
 //! `run_line` alone: its outcomes and faults, what was written by then, and the counts of its intake and outlet.
 
 use crate::one_line::{LineFault, run_line};
+use crate::tests_asserts::same;
 use crate::tests_devices::{Feed, Sink, feed_of, slow_sink};
 use crate::tests_runs::{alike, drawn_line, front, stored_line};
-use std::alloc::Global;
+use std::process::Abort;
 use std::test::Fail;
 use vbi_field::{Config, Outlet};
 use vbi_line::Intake;
@@ -134,9 +135,9 @@ fn names_its_fault_and_counts_what_came_and_went(rt: HostRuntime) -> Result<(), 
             write_failures,
             flushes: 0,
         };
-        assert_eq!(rt; run_counted(&config, feed, &mut sink), wanted);
+        same(&rt, run_counted(&config, feed, &mut sink), wanted, fault);
         let taken = front(b"82CFFF\n", written as usize);
-        assert_eq!(rt; sink.taken.as_slice(), taken, "after {fault:?}");
+        same(&rt, sink.taken.as_slice(), taken, fault);
     }
     Ok(())
 }
@@ -169,36 +170,45 @@ fn answers_the_word_of_the_stored_line_however_it_comes(rt: HostRuntime) -> Resu
             write_failures: u64::from(writes),
             flushes: 0,
         };
-        assert_eq!(rt; run_counted(&config, feed, &mut sink), wanted);
-        assert_eq!(rt; sink.taken.as_slice(), b"82CFFF\n".as_slice());
+        same(&rt, run_counted(&config, feed, &mut sink), wanted, piece);
+        same(&rt, sink.taken.as_slice(), b"82CFFF\n", piece);
     }
     Ok(())
+}
+
+/// Asserts that a whole line has this outcome, that all of it was fetched, and that this is written.
+fn answers(
+    rt: &(impl Abort + AllocGlobal),
+    config: &Config,
+    line: &[u8],
+    outcome: Outcome,
+    text: &[u8],
+) {
+    let mut sink = slow_sink(rt.alloc());
+    let done = run_counted(config, feed_of(line), &mut sink);
+    same(rt, sink.taken.as_slice(), text, "printed");
+    let found = (done.answer, done.fetched);
+    same(rt, found, (Ok(outcome), line.len() as u64), text);
 }
 
 #[test]
 fn answers_the_outcome_that_it_prints(rt: HostRuntime) -> Result<(), Fail> {
     let alloc = rt.alloc();
+    let config = stored_config()?;
     let spaces = alike(alloc, b' ', 1820)?;
-    let mut sink = slow_sink(alloc);
-    let blank = run_counted(&stored_config()?, feed_of(spaces.as_slice()), &mut sink);
-    assert_eq!(rt; blank.answer, Ok(Outcome::Blank));
-    assert_eq!(rt; sink.taken.as_slice(), b"blank\n".as_slice());
+    let spaces = spaces.as_slice();
+    answers(&rt, &config, spaces, Outcome::Blank, b"blank\n");
 
     // Behind the first column, which is high, no word can come.
     let mut bytes = Vec::new(alloc);
     bytes.extend_from_slice(b"@@")?;
-    bytes.extend_from_slice(front(spaces.as_slice(), 1818))?;
-    let mut sink = slow_sink(alloc);
-    let change = run_counted(&stored_config()?, feed_of(bytes.as_slice()), &mut sink);
-    assert_eq!(rt; change.answer, Ok(Outcome::Change(0)));
-    assert_eq!(rt; sink.taken.as_slice(), b"change 0\n".as_slice());
+    bytes.extend_from_slice(front(spaces, 1818))?;
+    let change = Outcome::Change(0);
+    answers(&rt, &config, bytes.as_slice(), change, b"change 0\n");
 
     let config = Config::new(System::Pal, Levels::new(16384, 54016)?, 1)?;
     let line = drawn_line(alloc, System::Pal, 16384, 54016, 0x8A_E012)?;
-    let mut sink = slow_sink(alloc);
-    let word = run_counted(&config, feed_of(line.as_slice()), &mut sink);
-    assert_eq!(rt; word.answer, Ok(Outcome::Word(Word24::new(0x8A_E012)?)));
-    assert_eq!(rt; word.fetched, 2270);
-    assert_eq!(rt; sink.taken.as_slice(), b"8AE012\n".as_slice());
+    let word = Outcome::Word(Word24::new(0x8A_E012)?);
+    answers(&rt, &config, line.as_slice(), word, b"8AE012\n");
     Ok(())
 }

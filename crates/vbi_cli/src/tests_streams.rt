@@ -3,13 +3,15 @@
 
 use crate::command_line::Verb;
 use crate::fault::AppFault;
-use crate::job::{Ended, status};
+use crate::job::Ended;
+use crate::tests_asserts::{ends, same, says};
 use crate::tests_devices::{Feed, Sink, feed_of, slow_sink, torn, wide_sink};
 use crate::tests_runs::{
     Asked, BLACK, HEAD, NTSC, REPORT_BLACK, REPORT_HEAD, REPORT_TAIL, Ran, SECOND_BLACK,
     SECOND_REPORT_BLACK, TAIL, black_stream, front, job, joined, run_between,
 };
 use std::alloc::{AllocError, Global};
+use std::process::Abort;
 use std::test::Fail;
 use vbi_meta::Overrides;
 
@@ -22,6 +24,11 @@ fn run_stream(alloc: Global, verb: Verb, limit: Option<u32>, feed: Feed, sink: S
         ..NTSC
     };
     run_between(alloc, &job(verb, overrides), None, feed, sink)
+}
+
+/// Asserts that a run asked its reader so often, and that its writer wasn't flushed.
+fn asks(rt: &impl Abort, ran: &Ran, reads: u32, row: (Verb, usize)) {
+    same(rt, (ran.asked.reads, ran.asked.flushes), (reads, 0), row);
 }
 
 /// What is written of a stream that begins with so many whole black fields, two at most, and then this text.
@@ -112,16 +119,15 @@ fn writes_a_stream_whole_and_asks_for_its_end_once(rt: HostRuntime) -> Result<()
             };
             let feed = feed_of(front(stream.as_slice(), bytes));
             let ran = run_stream(alloc, verb, limit, feed, wide_sink(alloc));
-            assert_eq!(rt; ran.ended, Ok(ended), "{verb:?} of {bytes} bytes");
             let code = match ended {
                 Ended::Whole => 0,
                 Ended::CutField => 3,
             };
-            assert_eq!(rt; status(&ran.ended), code);
-            assert_eq!(rt; ran.asked.reads, reads, "{verb:?} of {bytes} bytes");
-            assert_eq!(rt; ran.asked.flushes, 0);
+            ends(&rt, &ran, Ok(ended), code, (verb, bytes));
+            asks(&rt, &ran, reads, (verb, bytes));
             let wanted = wanted(alloc, verb, fields, tail)?;
-            assert_eq!(rt; ran.written.as_slice(), wanted.as_slice());
+            let written = ran.written.as_slice();
+            same(&rt, written, wanted.as_slice(), (verb, bytes));
         }
     }
     Ok(())
@@ -192,13 +198,12 @@ fn ends_at_a_read_fault_and_asks_no_more(rt: HostRuntime) -> Result<(), Fail> {
             let feed = torn(stream.as_slice(), bytes);
             let ran = run_stream(alloc, verb, limit, feed, wide_sink(alloc));
             let fault = AppFault::ReadField { field, offset };
-            assert_eq!(rt; ran.ended, Err(fault), "{verb:?} of {bytes} bytes");
-            assert_eq!(rt; status(&ran.ended), 1);
-            assert_eq!(rt; fault.to_string(alloc)?.as_str(), text);
-            assert_eq!(rt; ran.asked.reads, reads, "{verb:?} of {bytes} bytes");
-            assert_eq!(rt; ran.asked.flushes, 0);
+            ends(&rt, &ran, Err(fault), 1, (verb, bytes));
+            says(&rt, fault, text)?;
+            asks(&rt, &ran, reads, (verb, bytes));
             let begun = wanted(alloc, verb, field.saturating_sub(1), "")?;
-            assert_eq!(rt; ran.written.as_slice(), begun.as_slice());
+            let written = ran.written.as_slice();
+            same(&rt, written, begun.as_slice(), (verb, bytes));
         }
     }
     Ok(())
@@ -220,22 +225,15 @@ fn names_a_byte_past_the_limit_and_writes_the_fields_before(rt: HostRuntime) -> 
         for verb in STREAMERS {
             let feed = feed_of(front(stream.as_slice(), bytes));
             let ran = run_stream(alloc, verb, Some(limit), feed, wide_sink(alloc));
-            assert_eq!(rt;
-                ran.ended,
-                Err(AppFault::TooManyFields),
-                "{verb:?} of {bytes} bytes"
-            );
-            assert_eq!(rt; status(&ran.ended), 1);
-            assert_eq!(rt; ran.asked.reads, reads, "{verb:?} of {bytes} bytes");
-            assert_eq!(rt; ran.asked.flushes, 0);
+            let fault = AppFault::TooManyFields;
+            ends(&rt, &ran, Err(fault), 1, (verb, bytes));
+            asks(&rt, &ran, reads, (verb, bytes));
             let begun = wanted(alloc, verb, limit, "")?;
-            assert_eq!(rt; ran.written.as_slice(), begun.as_slice());
+            let written = ran.written.as_slice();
+            same(&rt, written, begun.as_slice(), (verb, bytes));
         }
     }
-    assert_eq!(rt;
-        AppFault::TooManyFields.to_string(alloc)?.as_str(),
-        "too many fields"
-    );
+    says(&rt, AppFault::TooManyFields, "too many fields")?;
     Ok(())
 }
 
@@ -267,7 +265,7 @@ fn ends_at_a_write_fault_and_asks_no_more(rt: HostRuntime) -> Result<(), Fail> {
             _ => (TAIL, 247),
         };
         let text = wanted(alloc, verb, 1, tail)?;
-        assert_eq!(rt; text.len(), bytes);
+        same(&rt, text.len(), bytes, verb);
         let sink = Sink {
             room: room as usize,
             ..slow_sink(alloc)
@@ -276,16 +274,15 @@ fn ends_at_a_write_fault_and_asks_no_more(rt: HostRuntime) -> Result<(), Fail> {
         let fault = AppFault::Write {
             written: u64::from(room),
         };
-        assert_eq!(rt; ran.ended, Err(fault), "{verb:?}");
-        assert_eq!(rt; status(&ran.ended), 1);
+        ends(&rt, &ran, Err(fault), 1, (verb, room));
         let asked = Asked {
             reads,
             writes: room.saturating_add(1),
             flushes: 0,
         };
-        assert_eq!(rt; ran.asked, asked, "{verb:?} and room for {room} bytes");
+        same(&rt, ran.asked, asked, (verb, room));
         let taken = front(text.as_slice(), room as usize);
-        assert_eq!(rt; ran.written.as_slice(), taken);
+        same(&rt, ran.written.as_slice(), taken, (verb, room));
     }
     Ok(())
 }
@@ -323,13 +320,12 @@ fn asks_for_each_byte_once_and_for_the_end_once(rt: HostRuntime) -> Result<(), F
                 ..feed_of(front(stream.as_slice(), bytes as usize))
             };
             let ran = run_stream(alloc, verb, limit, feed, slow_sink(alloc));
-            assert_eq!(rt; ran.ended, ended, "{verb:?} of {bytes} bytes");
             let asked = Asked {
                 reads: bytes.saturating_add(1),
                 writes,
                 flushes: 0,
             };
-            assert_eq!(rt; ran.asked, asked, "{verb:?} of {bytes} bytes");
+            same(&rt, (ran.ended, ran.asked), (ended, asked), (verb, bytes));
         }
     }
     Ok(())

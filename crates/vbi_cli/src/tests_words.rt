@@ -1,6 +1,7 @@
 //! What the words of the command line put into a job.
 
 use crate::command_line::{Job, Verb, WordsFault, read_words};
+use crate::tests_asserts::same;
 use crate::tests_runs::NONE;
 use std::alloc::{AllocError, Global};
 use std::process::Abort;
@@ -119,7 +120,8 @@ fn each_command_takes_each_set_of_options(rt: HostRuntime) -> Result<(), Fail> {
                     let words = said(rt.alloc(), given, is_joined, input)?;
                     let job = read_behind(rt.alloc(), command, words.as_slice())?;
                     let wanted = wanted(verb, given, input);
-                    assert_eq!(rt; contents_of(&job), wanted, "{command} {words:?}");
+                    let row = (command, words.as_slice());
+                    same(&rt, contents_of(&job), wanted, row);
                 }
             }
         }
@@ -167,7 +169,7 @@ fn paths_are_kept_as_they_are(rt: HostRuntime) -> Result<(), Fail> {
                 meta,
                 input,
             };
-            assert_eq!(rt; contents_of(&job), wanted, "{command} {words:?}");
+            same(&rt, contents_of(&job), wanted, (command, words));
         }
     }
     Ok(())
@@ -188,7 +190,7 @@ fn takes(
             meta: None,
             input: None,
         };
-        assert_eq!(rt; contents_of(&job), wanted, "{command} {option} {value}");
+        same(rt, contents_of(&job), wanted, (command, option, value));
     }
     Ok(())
 }
@@ -227,7 +229,7 @@ fn each_command_takes_values_up_to_their_bounds(rt: HostRuntime) -> Result<(), F
 fn the_program_may_be_called_by_any_name(rt: HostRuntime) -> Result<(), Fail> {
     for name in ["ldvbi", "/usr/local/bin/ldvbi", "./a b", "show", "--help"] {
         let job = read(rt.alloc(), &[name, "line"])?;
-        assert_eq!(rt; job.verb, Verb::Line, "{name}");
+        same(&rt, job.verb, Verb::Line, name);
     }
     Ok(())
 }

@@ -1,4 +1,4 @@
--- Numbers of fields, rows, bytes and samples looked at. What needs the sizes of the two systems stands here: a field is
+-- Numbers of fields, rows, bytes and samples looked at. What needs the sizes of the two systems is here: a field is
 -- `height_of s` rows of `line_bytes s` bytes each.
 use Rattle.std.proofs.Common.{◌≡◌, ℕ, ◌+◌, ◌-◌, ◌*◌, ◌/◌, ◌%◌, ◌≤◌, ◌<◌, ◌⊎◌, inl, inr, Bool, true, false, cond}
 use Rattle.std.proofs.Common.{refl, ap, ◌∙◌, arith, add-one, lit<, lit≤}

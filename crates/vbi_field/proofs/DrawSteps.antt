@@ -210,7 +210,7 @@ module _ {R W : Type 0} (remaining : R → Option (List ℕ)) (contents : W → 
         → RunsDrawing remaining contents c i0 j o0 o (Err (faults.Row (done + 1)))
     bad_row j t few = bad_as j t.bytes t.fetches t.caused few t.got.row t.got.plain t.got.malformed t.got.read_to
 
-    -- ---- a good row came, and its field is written, whole or in part
+    -- ---- a good row was fetched, and its field is written, whole or in part
 
     module _ (j : RowIntake R) (b : List ℕ) (words : WordRow) (f : Fetches remaining i j b)
         (calm : intakes.errors_of j ≡ intakes.errors_of i)

@@ -134,7 +134,7 @@ length-drawn_line_of c word =
     length-flat_range (λ column. sample_bytes (drawn_sample_of c word column)) 0 (width_of c.system) 2 (λ k. refl)
     ∙ omega (arith, (sizes_of c.system).line)
 
--- so many columns of a line are drawn
+-- this number of columns of a line is drawn
 pub record Drawn (c : ConfigView) (word : Option ℕ) (line : List ℕ) (column : ℕ) : Type 0 where
   pub long : length line ≡ 2 * width_of c.system
   pub drawn : take (2 * column) line ≡ columns_of c word column

@@ -1,4 +1,4 @@
--- The text that stands after some whole fields.
+-- The text that is written after some whole fields.
 use Rattle.std.proofs.Common.{◌≡◌, ℕ, zero, suc, ◌+◌, ◌*◌, ◌≤◌, ◌<◌, List, [], ◌∷◌, ◌++◌, length, refl, sym}
 use Rattle.std.proofs.Common.{ap, ◌∙◌, arith, append_assoc, append-nil, add-zero, zero-add, add-one, cond}
 use Rattle.std.specs.Prelude.{◌==◌}
@@ -84,7 +84,7 @@ stood-stays t c z b n rows le long =
     λ i lt. ap (t.entry (i + 1)) (readings_at-more c z b i rows (grind (arith, lt, le)) long) in
     ap (λ l. t.head c ++ l) (joined-same (entry_of t c (z ++ b)) (entry_of t c z) t.joint n same)
 
--- it is the text that stands where the stream has so many whole fields
+-- it is the text written for a stream with this number of whole fields
 pub text_before_tail-stood : (t : Texts) (c : ConfigView) (z : List ℕ) (n : ℕ) → fields_of c z ≡ n
     → text_before_tail t c z ≡ stood t c z n
 unfolding text_before_tail stood

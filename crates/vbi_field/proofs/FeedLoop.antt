@@ -25,7 +25,7 @@ use Rattle.vbi_field.proofs.FeedTexts.{completes_twice}
 use Rattle.vbi_field.proofs.Settling.{wrote_none, wrote_twice, later_part}
 
 module _ {W : Type 0} (contents : W → Option (List ℕ)) (c : ConfigView) where
-  -- nothing came
+  -- no byte was pushed
   pub fed_none : (o : Outlet W) (z piece : List ℕ) (now : Position) → IsAt c z now
       → IsFed contents c o o z (take 0 piece) now (Ok tt)
   fed_none o z piece now at =

@@ -1,4 +1,4 @@
--- What the bytes up to the end of a row do, where a feeder stands.
+-- What the bytes up to the end of a row do to a feeder.
 use Rattle.std.proofs.Common.{◌≡◌, ℕ, ◌+◌, ◌*◌, ◌≤◌, ◌<◌, inl, inr, Bool, false, cond, List, [], ◌++◌, length}
 use Rattle.std.proofs.Common.{take, drop, refl, sym, ap, ◌∙◌, arith, append_assoc, append-nil}
 use Rattle.std.specs.Prelude.{Option, Result, Err, Ok, IsErrAnd, IsTrue, ◌↔◌}

@@ -124,7 +124,7 @@ last_field t c z b p p' at next fields row =
 
 module _ (t : Texts) {R W : Type 0} (remaining : R → Option (List ℕ)) (contents : W → Option (List ℕ)) (c : ConfigView)
     (i0 : Intake R) (o0 : Outlet W) where
-  -- so many rows were taken, and the text that is due with them was written
+  -- this number of rows was taken, and the text that is due with them was written
   pub record Pulled (k : ℕ) (i : Intake R) (o : Outlet W) (p : Progress) : Type 0 where
     pub z : List ℕ
     pub consumed : Consumes (remaining (intakes.device_of i0)) (remaining (intakes.device_of i)) z
@@ -244,7 +244,7 @@ module _ (t : Texts) {R W : Type 0} (remaining : R → Option (List ℕ)) (conte
       w.wrote cause fails (zero-le) looks
       (inl (record { none = refl; ends = inside_of contents o0 o [] text (text_before_tail t c []) w begun }))
 
-  -- ---- a whole row came
+  -- ---- a whole row was fetched
 
   module _ (k : ℕ) (i i' : Intake R) (o : Outlet W) (p : Progress) (g : Pulled k i o p) (sel : Bool)
       (sels : IsTrue sel ↔ ((15 ≤ p.row) × (p.row ≤ 17))) (reading : Reading) (lv : LevelsView) (lvs : lv ≡ c.levels)
@@ -351,7 +351,7 @@ module _ (t : Texts) {R W : Type 0} (remaining : R → Option (List ℕ)) (conte
         next_fields p p' (inl (fields, row)) first = absurd (omega arith)
         next_fields p p' (inr (fields, row, last)) first = fields
 
-  -- ---- less than a row came
+  -- ---- less than a row was fetched
 
   module _ (k : ℕ) (i : Intake R) (o : Outlet W) (p : Progress) (g : Pulled k i o p) (b : List ℕ)
       (short : length b < line_bytes c.system) where
@@ -375,11 +375,11 @@ module _ (t : Texts) {R W : Type 0} (remaining : R → Option (List ℕ)) (conte
         ∙ ap (λ n. width_of c.system * n)
         (sym (selected_is c.system (length (g.z ++ b)) p.fields p.row (length b) at.inside short long))
 
-    -- the text that stands then
+    -- the text that is written by then
     begun_is : text_before_tail t c g.z ≡ text_before_tail t c (g.z ++ b)
     begun_is = begun_same t c g.z b (fields_are ∙ sym (fields_at c g.z p g.at))
 
-    -- how many bytes came
+    -- how many bytes were fetched
     all : length (g.z ++ b) ≡ k * line_bytes c.system + length b
     all = long ∙ ap (λ m. m * line_bytes c.system + length b) g.place
 
@@ -498,7 +498,7 @@ module _ (t : Texts) {R W : Type 0} (remaining : R → Option (List ℕ)) (conte
         });
       }
 
-  -- some bytes came past the last field that is allowed, a line's at most
+  -- some bytes were fetched past the last field that is allowed, a line's at most
   pub too_many : (k : ℕ) (i i' : Intake R) (o : Outlet W) (p : Progress) (g : Pulled k i o p) (sel : Bool)
       (lv : LevelsView) (came : NextLine)
       (row : TakesLine remaining lv sel i i' came)

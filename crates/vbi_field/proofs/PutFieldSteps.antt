@@ -16,7 +16,7 @@ use Rattle.vbi_field.proofs.Settling.{wrote_whole, put_in_part, longer_part, lat
 use Rattle.vbi_field.proofs.DrawnLemmas.{lines_of-none, lines_of-all, lines_of-split, last_word}
 
 module _ {W : Type 0} (contents : W → Option (List ℕ)) (c : ConfigView) (words : WordRow) (old : Outlet W) where
-  -- so many rows are written, and the line has the last of them
+  -- this number of rows is written, and the line has the last of them
   pub record Putting (now : Outlet W) (line : List ℕ) (row : ℕ) : Type 0 where
     pub appended : Appends (contents (device_of old)) (contents (device_of now)) (lines_of c words row)
     pub written : now.written ≡ old.written + length (lines_of c words row)

@@ -17,14 +17,14 @@ all_one byte other zero d inside = other
 all_one byte other (suc k) d inside = absurd (omega arith)
 
 module _ {R : Type 0} (remaining : R → Option (List ℕ)) where
-  -- a byte was asked for so many times, and none came
+  -- a byte was asked for this number of times, and each time the reader was interrupted
   pub record Tried (old now : RowIntake R) (tries : ℕ) : Type 0 where
     pub fetches : Fetches remaining old now []
     pub count : failures_of now ≡ failures_of old + tries
     pub errors : errors_of now ≡ errors_of old
     pub streak : streak_of now ≡ streak_of old + tries
 
-  -- so many bytes of a row are held, none of them a newline
+  -- this number of bytes of a row is held, none of them a newline
   pub record Held (old now : RowIntake R) (row : List ℕ) (held : ℕ) : Type 0 where
     pub fetches : Fetches remaining old now (take held row)
     pub most : failures_of now ≤ failures_of old + 17 * held
@@ -85,7 +85,7 @@ module _ {R : Type 0} (remaining : R → Option (List ℕ)) where
         caused = t.caused ∙ h.errors;
       }
 
-    -- no byte came
+    -- no byte was fetched
     as_held : Fetches remaining now new [] → Fetches remaining old new (take held row)
     as_held f = rw append-nil at (Fetches-more old now new (take held row) [] h.fetches f)
 

@@ -1,4 +1,4 @@
--- What a feeder does with a stream that comes in pieces. The pieces before make the stream z so far.
+-- What a feeder does with a stream in pieces. The pieces before are the stream z so far.
 use Rattle.std.specs.Prelude.{◌≡◌, ℕ, ◌<◌, ◌≤◌, false, List, ◌++◌, length, take, Option, Result, Ok, Err}
 use Rattle.vbi_field.specs.Kinds.{document}
 use Rattle.vbi_field.specs.Outlet.{errors_of, written_of, HasCause, Wrote, WrotePart}
@@ -31,7 +31,7 @@ module _ {W : Type 0} (contents : W → Option (List ℕ)) (c : ConfigView) (o o
   abbrev pub ExtendsInPart : List ℕ → Type 0
   ExtendsInPart longer = (text : List ℕ) × IsTextBetween document c z longer text × WrotePart contents o o' text
 
-  -- what a piece did, where the feeder stood at z, and the place at which it stands now
+  -- what a piece did, where the feeder was at z before, and its position now
   abbrev pub IsFed : List ℕ → Position → Result (Unit {0}) RunFault → Type 0
   IsFed piece now (Ok u) = IsAt c (z ++ piece) now × Extends (z ++ piece)
   IsFed piece now (Err (Write written)) = ExtendsInPart (take (allowed_bytes c) (z ++ piece))
@@ -40,7 +40,7 @@ module _ {W : Type 0} (contents : W → Option (List ℕ)) (c : ConfigView) (o o
   IsFed piece now (Err (Read field offset)) = ⊥
   IsFed piece now (Err Failed) = ⊥
 
-  -- what the end did, where the feeder stood at z
+  -- what the end did, where the feeder was at z before
   abbrev pub IsFinished : Result Summary RunFault → Type 0
   IsFinished (Ok s) =
       Wrote contents o o' (document.tail (fields_of c z) (rest_of c z))

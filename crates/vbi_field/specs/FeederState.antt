@@ -1,4 +1,4 @@
--- Where a feeder stands, by its line and its progress (this project's own).
+-- The state of a feeder: its line and its progress, and the position that they make.
 use Rattle.std.specs.Prelude.{◌≡◌, ℕ, ◌+◌, ◌-◌, ◌*◌, ◌<◌, ◌≤◌, List, [], ◌∷◌, length, take, Option, Result, Ok, Err}
 use Rattle.vbi_words.specs.Geometry.{width_of, height_of, line_bytes}
 use Rattle.vbi_line.specs.Line.{Line}
@@ -19,7 +19,7 @@ position_in c l p = record {
   readings = take (p.row - 15) (p.readings.first ∷ p.readings.second ∷ p.readings.third ∷ []);
 }
 
--- less than a line is held and no pass was started, no more fields came than are allowed, and the samples of the
+-- less than a line is held and no pass was started, no more fields are whole than are allowed, and the samples of the
 -- selected rows were looked at once each
 pub record IsFeederState (c : ConfigView) (l : Line) (p : Progress) : Type 0 where
   pub system : l.system ≡ c.system
@@ -30,7 +30,7 @@ pub record IsFeederState (c : ConfigView) (l : Line) (p : Progress) : Type 0 whe
   pub most : p.fields ≤ 1000000
   pub looked : l.looked ≡ width_of c.system * selected p.fields p.row
 
--- what the first bytes of a piece did, where the line and the progress stood at z
+-- what the first bytes of a piece did, where the line and the progress were those of z before
 abbrev pub IsStep : {W : Type 0} → (W → Option (List ℕ)) → ConfigView → Outlet W → Outlet W → List ℕ → List ℕ → Position
     → Result ℕ RunFault → Type 0
 IsStep contents c o o' z bytes now (Ok n) = IsFed contents c o o' z (take n bytes) now (Ok tt)

@@ -8,7 +8,7 @@ use Rattle.vbi_field.specs.Texts.{Texts}
 abbrev pub document : Texts
 document = record { head = head_of; joint = codes ",\n"; entry = record_of; tail = tail_of }
 
--- the report of `show`: nothing stands between two fields
+-- the report of `show`: there is nothing between two fields
 abbrev pub report : Texts
 report =
     record { head = λ c. report_head_of c.system c.levels; joint = []; entry = report_entry_of; tail = report_tail_of }

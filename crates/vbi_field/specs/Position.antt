@@ -21,7 +21,7 @@ held_of c z = drop (length z - rest_of c z % line_bytes c.system) z
 abbrev pub readings_of : ConfigView → List ℕ → ℕ → List Reading
 readings_of c z i = reading_at c z i 15 ∷ reading_at c z i 16 ∷ reading_at c z i 17 ∷ []
 
--- where a stream stands that has come so far
+-- the position of a stream of these bytes
 abbrev pub position_of : ConfigView → List ℕ → Position
 position_of c z = record {
   fields = fields_of c z;

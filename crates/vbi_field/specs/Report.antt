@@ -38,7 +38,7 @@ format_text_of Clv = codes "clv"
 format_text_of Both = codes "both"
 format_text_of Neither = codes "neither"
 
--- what stands behind the number of a line: its word and what it says, or why it has none
+-- the text behind the number of a line: its word and what it says, or why it has none
 unfoldable pub shown_of : Outcome → List ℕ
 shown_of (Word word) = hex_text_of word ++ codes " " ++ code_text_of (code_of word)
 shown_of outcome = codes "none " ++ cause_text_of outcome

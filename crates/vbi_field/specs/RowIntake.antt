@@ -13,7 +13,7 @@ use Rattle.vbi_field.specs.declared.row_intake.NextRow.TheVariants.{Row, LastRow
 abbrev pub HasNoNewline : List ℕ → Type 0
 HasNoNewline text = All (λ c. c ≢ 10) text
 
--- the bytes that came
+-- the bytes that were fetched
 abbrev pub byte_of : NextByte → List ℕ
 byte_of (bytes.Byte byte) = byte ∷ []
 byte_of bytes.Ended = []
@@ -76,12 +76,12 @@ module _ {R : Type 0} where
   HasByteCause old new bytes.Ended = errors_of new ≡ errors_of old
   HasByteCause old new bytes.Failed = HasCause old new
 
-  pub record TakesByte (remaining : R → Option (List ℕ)) (old new : RowIntake R) (came : NextByte) : Type 0 where
-    pub fetches : Fetches remaining old new (byte_of came)
+  pub record TakesByte (remaining : R → Option (List ℕ)) (old new : RowIntake R) (answer : NextByte) : Type 0 where
+    pub fetches : Fetches remaining old new (byte_of answer)
     pub most : failures_of new ≤ failures_of old + 17
     pub streak : streak_of new ≤ streak_of old + 17
-    pub got : GotByte remaining old new came
-    pub caused : HasByteCause old new came
+    pub got : GotByte remaining old new answer
+    pub caused : HasByteCause old new answer
 
   -- a malformed row was read up to its newline, the reader's end or its 21st byte
   pub record IsMalformed (remaining : R → Option (List ℕ)) (new : RowIntake R) (bytes : List ℕ) : Type 0 where
@@ -110,10 +110,10 @@ module _ {R : Type 0} where
   HasRowCause old new Ended = errors_of new ≡ errors_of old
   HasRowCause old new Failed = HasCause old new
 
-  pub record TakesRow (remaining : R → Option (List ℕ)) (old new : RowIntake R) (came : NextRow) : Type 0 where
+  pub record TakesRow (remaining : R → Option (List ℕ)) (old new : RowIntake R) (answer : NextRow) : Type 0 where
     pub bytes : List ℕ
     pub fetches : Fetches remaining old new bytes
     pub short : length bytes ≤ 21
     pub most : failures_of new ≤ failures_of old + 357
-    pub got : GotRow remaining old new bytes came
-    pub caused : HasRowCause old new came
+    pub got : GotRow remaining old new bytes answer
+    pub caused : HasRowCause old new answer

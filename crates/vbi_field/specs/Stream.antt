@@ -15,21 +15,13 @@ use Rattle.vbi_field.specs.declared.readings.FieldReadings.{FieldReadings}
 abbrev pub line_at : System → List ℕ → ℕ → ℕ → List ℕ
 line_at system z i r = take (line_bytes system) (drop (i * field_bytes system + line_bytes system * r) z)
 
--- how many whole fields so many bytes are
-abbrev pub fields_in : ConfigView → ℕ → ℕ
-fields_in c bytes = bytes / field_bytes c.system
-
--- how many of so many bytes are past the whole fields
-abbrev pub rest_in : ConfigView → ℕ → ℕ
-rest_in c bytes = bytes % field_bytes c.system
-
 -- how many whole fields a stream has
 abbrev pub fields_of : ConfigView → List ℕ → ℕ
-fields_of c z = fields_in c (length z)
+fields_of c z = length z / field_bytes c.system
 
 -- how many bytes a stream has past its whole fields
 abbrev pub rest_of : ConfigView → List ℕ → ℕ
-rest_of c z = rest_in c (length z)
+rest_of c z = length z % field_bytes c.system
 
 -- the bytes of a cut last field, if that many bytes past the whole fields are one
 abbrev pub cut_of : ℕ → Option ℕ
@@ -48,13 +40,9 @@ readings_at c z i =
 abbrev pub selected : ℕ → ℕ → ℕ
 selected f r = 3 * f + min 3 (r - 15)
 
--- how many of the rows 15, 16 and 17 of the fields so many bytes have whole
-abbrev pub selected_in : ConfigView → ℕ → ℕ
-selected_in c bytes = selected (fields_in c bytes) (rest_in c bytes / line_bytes c.system)
-
 -- how many of the rows 15, 16 and 17 of its fields a stream has whole
 abbrev pub selected_rows : ConfigView → List ℕ → ℕ
-selected_rows c z = selected_in c (length z)
+selected_rows c z = selected (fields_of c z) (rest_of c z / line_bytes c.system)
 
 -- how many samples are looked at: all of those rows' samples, once each
 abbrev pub looks_of : ConfigView → List ℕ → ℕ

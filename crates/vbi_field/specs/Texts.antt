@@ -6,8 +6,8 @@ use Rattle.vbi_field.specs.ConfigView.{ConfigView}
 use Rattle.vbi_field.specs.Stream.{fields_of, rest_of, readings_at}
 use Rattle.vbi_field.specs.declared.readings.FieldReadings.{FieldReadings}
 
--- A kind of text: what stands first; what stands between two entries; the entry of a field, by its number from 1 and
--- its readings; what stands last, by the number of whole fields and the bytes past them.
+-- A kind of text: its head; what joins two entries; the entry of a field, by its number from 1 and its readings; its
+-- tail, by the number of whole fields and the bytes past them.
 pub record Texts : Type 0 where
   pub head : ConfigView → List ℕ
   pub joint : List ℕ
@@ -30,7 +30,7 @@ whole_text t c z = text_before_tail t c z ++ t.tail (fields_of c z) (rest_of c z
 abbrev pub IsTextBetween : Texts → ConfigView → List ℕ → List ℕ → List ℕ → Type 0
 IsTextBetween t c z longer text = text_before_tail t c z ++ text ≡ text_before_tail t c longer
 
--- what is written for a field when it is whole, where so many fields came before it: the joint, if there is an entry
+-- what is written for a field when it is whole, behind this number of fields: the joint, if there is an entry
 -- before, and the entry
 abbrev pub joined_entry_of : Texts → ℕ → FieldReadings → List ℕ
 joined_entry_of t before readings = (if before == 0 then [] else t.joint) ++ t.entry (before + 1) readings

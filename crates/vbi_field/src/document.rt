@@ -41,7 +41,7 @@ fn value(outcome: Outcome) -> u32
     }
 }
 
-/// What stands before the first record.
+/// The text before the first record.
 #[tactic(auto, unfolding(crate::specs::Document::head_of))]
 fn head_text(config: &Config) -> ArrayString<TEXT_SIZE>
     ensures { result.bytes ≡ head_of config.now }
@@ -111,7 +111,7 @@ fn passes_text(readings: &FieldReadings) -> ArrayString<24>
     text
 }
 
-/// The record of a field that has so many fields before it, after the joint where there are any.
+/// The record of the field that this many fields come before, behind the joint unless it is the first.
 #[tactic(auto, unfolding(crate::specs::Document::record_of))]
 fn record_text(before: u32, readings: &FieldReadings) -> ArrayString<TEXT_SIZE>
     requires { before < 2 ^ 32 - 1 }
@@ -130,7 +130,7 @@ fn record_text(before: u32, readings: &FieldReadings) -> ArrayString<TEXT_SIZE>
     text
 }
 
-/// What stands after the last record.
+/// The text after the last record.
 #[tactic(auto, unfolding(crate::specs::Document::tail_of))]
 fn tail_text(fields: u32, rest: u32) -> ArrayString<TEXT_SIZE>
     requires { fields < 2 ^ 32 - 1 }

@@ -172,7 +172,7 @@ impl Feeder {
         ensures no_error { OnOk result (errors_of outlet.new ≡ errors_of outlet.old) }
         ensures fault { IfErr result (IsFeedFault outlet.old outlet.new) }
 
-        // What it wrote, and where it stands.
+        // What it wrote, and its position in the stream afterwards.
         ensures fed { (z : List ℕ) → StandsAt self.old z
             → IsFed W.contents self.old.config outlet.old outlet.new z piece.now self.new.position result }
     {
@@ -198,7 +198,7 @@ impl Feeder {
         Ok(())
     }
 
-    /// Writes the tail, and says what came. It hands no feeder back, in a fault too.
+    /// Writes the tail, and answers the number of fields and the cut. The feeder is gone afterwards, in a fault too.
     pub fn finish<W: Write>(self, outlet: &mut Outlet<W>) -> Result<Summary, RunFault>
         requires written { written_of outlet.old ≤ 2 ^ 61 }
         requires failures { failures_of outlet.old ≤ 2 ^ 61 }

@@ -18,7 +18,7 @@ pub(crate) fn push_number<I: Integer, const N: usize>(text: &mut ArrayString<N>,
     text.push_str(buffer.format(number));
 }
 
-/// Appends so many zeros.
+/// Appends this number of zeros.
 fn push_zeros<const N: usize>(text: &mut ArrayString<N>, count: usize)
     requires { array_string_len text.old + count ≤ N }
     ensures { text.new.bytes ≡ text.old.bytes ++ replicate count 48 }
@@ -28,7 +28,7 @@ fn push_zeros<const N: usize>(text: &mut ArrayString<N>, count: usize)
     }
 }
 
-/// Appends a number in decimal, with zeros in front of it up to so many digits.
+/// Appends a number in decimal, with zeros in front of it up to this number of digits.
 pub(crate) fn push_padded<I: Integer, const N: usize>(
     text: &mut ArrayString<N>,
     digits: usize,

@@ -21,7 +21,7 @@ pub(crate) struct Progress {
     pub(crate) readings: FieldReadings,
 }
 
-/// What stands for the reading of a row that hasn't come, or that isn't asked for.
+/// A placeholder for the reading of a row that isn't there yet, or that isn't asked for.
 pub(crate) fn unread() -> Reading {
     Reading {
         outcome: Outcome::Blank,

@@ -77,7 +77,7 @@ fn format_name(format: Format) -> &'static str
     }
 }
 
-/// What stands behind the number of a line.
+/// The text behind the number of a line.
 #[tactic(auto, unfolding(crate::specs::Report::shown_of))]
 fn shown_text(outcome: Outcome) -> ArrayString<31>
     ensures { result.bytes ≡ shown_of outcome }

@@ -19,7 +19,7 @@ pub struct Summary {
 pub enum RunFault {
     /// The reader failed.
     Read {
-        /// The field in which the next byte would stand, from 1.
+        /// The field that the next byte would belong to, from 1.
         field: u32,
         /// How many bytes of that field were fetched.
         offset: u32,

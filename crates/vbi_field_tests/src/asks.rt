@@ -2,11 +2,12 @@
 //! for its end or for an error; a writer of one byte a write once for each, and once more where it fails. No run asks
 //! again after these, past the last field that is allowed neither.
 
+use crate::asserts::{holds, same};
 use crate::feeding::pushed;
 use crate::fields::{NONE, config, field, front, two_fields};
 use crate::runs::{Verb, drew, ran};
 use std::test::Fail;
-use vbi_field::{RunFault, Summary};
+use vbi_field::{Config, RunFault, Summary};
 use vbi_test_devices::{Paper, Tape};
 use vbi_words::System;
 
@@ -109,8 +110,7 @@ fn no_reader_is_asked_again_after_its_end_or_an_error(rt: HostRuntime) -> Result
             };
             let mut paper = Paper::new(rt.alloc());
             let done = ran(verb, &config, &mut tape, &mut paper);
-            assert_eq!(rt; done.result, result, "{verb:?}");
-            assert_eq!(rt; tape.asked, asked, "{verb:?} {result:?}");
+            same(&rt, (done.result, tape.asked), (result, asked), verb);
         }
     }
     Ok(())
@@ -122,23 +122,26 @@ const WRITERS: [(Verb, &[u32], u64); 2] = [
     (Verb::Show, &[0, 43, 44, 101, 102, 119], 120),
 ];
 
+/// How a run ends whose writer takes one byte a write, and how often the writer was asked.
+fn asked_of(verb: Verb, config: &Config, stream: &[u8], mut paper: Paper) -> (Ended, u64) {
+    paper.piece = 1;
+    let done = ran(verb, config, &mut Tape::new(stream), &mut paper);
+    (done.result, paper.asked)
+}
+
 #[test]
 fn no_writer_is_asked_again_after_it_failed(rt: HostRuntime) -> Result<(), Fail> {
     let config = config(System::Ntsc, 5)?;
     let stream = field(rt.alloc(), &config, NONE)?;
     for (verb, counts, _) in WRITERS {
         for &count in counts {
+            let written = u64::from(count);
+            let expected = (Err(RunFault::Write { written }), written + 1);
             for jams in [false, true] {
-                let mut tape = Tape::new(stream.as_slice());
-                let mut paper = Paper {
-                    piece: 1,
-                    jams,
-                    ..Paper::failing(rt.alloc(), count as usize)
-                };
-                let done = ran(verb, &config, &mut tape, &mut paper);
-                let written = u64::from(count);
-                assert_eq!(rt; done.result, Err(RunFault::Write { written }), "{verb:?}");
-                assert_eq!(rt; paper.asked, written + 1, "{verb:?} {count}");
+                let mut paper = Paper::failing(rt.alloc(), count as usize);
+                paper.jams = jams;
+                let found = asked_of(verb, &config, stream.as_slice(), paper);
+                same(&rt, found, expected, (verb, jams));
             }
         }
     }
@@ -156,8 +159,8 @@ fn a_writer_of_one_byte_is_asked_once_for_each(rt: HostRuntime) -> Result<(), Fa
             ..Paper::new(rt.alloc())
         };
         let done = ran(verb, &config, &mut tape, &mut paper);
-        assert_eq!(rt; done.result, ONE, "{verb:?}");
-        assert_eq!(rt; (paper.asked, paper.flushed), (bytes, 0), "{verb:?}");
+        same(&rt, done.result, ONE, verb);
+        same(&rt, (paper.asked, paper.flushed), (bytes, 0), verb);
     }
     Ok(())
 }
@@ -169,11 +172,12 @@ fn no_writer_is_flushed(rt: HostRuntime) -> Result<(), Fail> {
     let mut paper = Paper::new(rt.alloc());
     for verb in [Verb::Extract, Verb::Show] {
         ran(verb, &config, &mut Tape::new(stream.as_slice()), &mut paper);
-        assert_eq!(rt; paper.flushed, 0, "{verb:?}");
+        same(&rt, paper.flushed, 0, verb);
     }
     drew(&config, Tape::new(b"82CFFF - -\n"), &mut paper);
-    assert_eq!(rt; paper.flushed, 0, "draw");
-    assert!(rt; pushed(&rt, config, &[stream.as_slice()], &mut paper).is_ok());
-    assert_eq!(rt; paper.flushed, 0, "a feeder");
+    same(&rt, paper.flushed, 0, "draw");
+    let run = pushed(&rt, config, &[stream.as_slice()], &mut paper);
+    holds(&rt, run.result.is_ok(), "a feeder");
+    same(&rt, paper.flushed, 0, "a feeder");
     Ok(())
 }

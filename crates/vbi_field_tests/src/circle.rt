@@ -1,5 +1,6 @@
 //! The words of drawn fields come back, pulled and pushed.
 
+use crate::asserts::same;
 use crate::feeding::feeds_chunks;
 use crate::fields::config;
 use crate::known::{HEAD, PAL_HEAD, PAL_WORDS, TAIL, WORDS};
@@ -24,7 +25,7 @@ fn drawn_words_come_back(rt: HostRuntime) -> Result<(), Fail> {
         let config = config(system, 5)?;
         let mut stream = Paper::new(rt.alloc());
         let run = drew(&config, Tape::new(words.as_bytes()), &mut stream);
-        assert_eq!(rt; run.result, Ok(1));
+        same(&rt, run.result, Ok(1), system);
         let field = stream.taken.as_slice();
         let ended = whole(1, None, 3 * system.width() as u64);
         writes(&rt, rt.alloc(), Verb::Extract, &config, field, ended, texts);

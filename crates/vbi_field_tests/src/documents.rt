@@ -1,12 +1,13 @@
 //! Documents and reports of known streams.
 
+use crate::asserts::{holds, same};
 use crate::fields::{DRAWN, Line, Lines, NONE, PAL_DRAWN, config, field, front, two_fields};
 use crate::known::{
     BLACK, CAUSES, CUT, CUT_END, HEAD, PAL_HEAD, PAL_REPORT_HEAD, PAL_REPORT_WORDS, PAL_WORDS,
     RECOVERED, REPORT_BLACK, REPORT_CAUSES, REPORT_HEAD, REPORT_RECOVERED, REPORT_SECOND_BLACK,
     REPORT_TAIL, REPORT_WORDS, SECOND_BLACK, SECOND_CUT, TAIL, WORDS,
 };
-use crate::runs::{Done, Verb, answers, total, whole, writes};
+use crate::runs::{Done, NO_FAILURE, Verb, answers, total, whole, writes};
 use std::alloc::Global;
 use std::process::Abort;
 use std::test::Fail;
@@ -103,9 +104,9 @@ fn an_empty_stream_has_a_head_and_a_tail(rt: HostRuntime) -> Result<(), Fail> {
     let done = Done {
         result: whole(0, None, 0),
         fetched: 0,
-        read_failures: 0,
+        read_failures: NO_FAILURE,
         written: 155,
-        write_failures: 0,
+        write_failures: NO_FAILURE,
     };
     let paper = Paper::new(rt.alloc());
     answers(
@@ -127,8 +128,9 @@ fn nothing_is_held_of_an_empty_stream(rt: HostRuntime) -> Result<(), Fail> {
     let mut paper = Paper::new(rt.alloc());
     let mut intake = Intake::new(&mut tape, config.system());
     let mut outlet = Outlet::new(&mut paper);
-    assert!(rt; extract(&config, &mut intake, &mut outlet).is_ok());
-    assert_eq!(rt; intake.held(), 0);
+    let ended = extract(&config, &mut intake, &mut outlet);
+    holds(&rt, ended.is_ok(), "an empty stream");
+    same(&rt, intake.held(), 0, "held");
     Ok(())
 }
 
@@ -184,9 +186,9 @@ fn reads_of_any_length_give_one_document(rt: HostRuntime) -> Result<(), Fail> {
     let done = Done {
         result: whole(1, None, 2730),
         fetched: 478660,
-        read_failures: 0,
+        read_failures: NO_FAILURE,
         written: total(&texts),
-        write_failures: 0,
+        write_failures: NO_FAILURE,
     };
     for piece in [1, 3, 1821] {
         let tape = Tape {

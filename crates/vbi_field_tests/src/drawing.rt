@@ -1,7 +1,8 @@
 //! Texts of words as they are drawn, from readers that interrupt and fail to writers that cut, interrupt and fail.
 
+use crate::asserts::{holds, same};
 use crate::fields::config;
-use crate::runs::{Drawn, drew};
+use crate::runs::{Drawn, Failures, NO_FAILURE, ONE_ERROR, drew, interruptions};
 use std::alloc::Global;
 use std::process::Abort;
 use std::test::Fail;
@@ -48,9 +49,9 @@ const ROWS: [(&[u8], u32, Ended, u64, u64, u64); 16] = [
 /// Asserts that drawing a text of words answers so, and that the writer took the bytes that were counted and wasn't
 /// flushed.
 fn draws(rt: &impl Abort, config: &Config, words: Tape, mut paper: Paper, answer: Drawn) {
-    assert_eq!(rt; drew(config, words, &mut paper), answer);
-    assert!(rt; paper.taken.len() as u64 == answer.written, "{answer:?}");
-    assert_eq!(rt; paper.flushed, 0, "{answer:?}");
+    same(rt, drew(config, words, &mut paper), answer, "drawn");
+    let taken = (paper.taken.len() as u64, paper.flushed);
+    same(rt, taken, (answer.written, 0), answer);
 }
 
 #[test]
@@ -60,9 +61,10 @@ fn each_text_has_its_answer(rt: HostRuntime) -> Result<(), Fail> {
         let answer = Drawn {
             result,
             fetched,
-            failures: 0,
+            read_failures: NO_FAILURE,
             asked,
             written,
+            write_failures: NO_FAILURE,
         };
         draws(
             &rt,
@@ -76,25 +78,25 @@ fn each_text_has_its_answer(rt: HostRuntime) -> Result<(), Fail> {
 }
 
 /// Texts of words that draw the same field.
-const ALIKE: [(&str, &str); 2] = [
-    ("82cfff - -\n", "82CFFF - -\n"),
-    ("82cfff aBcDeF -", "82CFFF ABCDEF -"),
+const ALIKE: [(&[u8], &[u8]); 2] = [
+    (b"82cfff - -\n", b"82CFFF - -\n"),
+    (b"82cfff aBcDeF -", b"82CFFF ABCDEF -"),
 ];
+
+/// The field that a text of words draws, which has to be one row.
+fn drawn(rt: &impl Abort, config: &Config, text: &[u8], mut paper: Paper) -> Vec<u8> {
+    let run = drew(config, Tape::new(text), &mut paper);
+    same(rt, run.result, Ok(1), text);
+    paper.taken
+}
 
 #[test]
 fn lower_case_draws_the_same_field(rt: HostRuntime) -> Result<(), Fail> {
     let config = config(System::Ntsc, 9)?;
     for (lower, upper) in ALIKE {
-        let mut first = Paper::new(rt.alloc());
-        let run = drew(&config, Tape::new(lower.as_bytes()), &mut first);
-        assert_eq!(rt; run.result, Ok(1), "{lower}");
-        let mut second = Paper::new(rt.alloc());
-        let run = drew(&config, Tape::new(upper.as_bytes()), &mut second);
-        assert_eq!(rt; run.result, Ok(1), "{upper}");
-        assert!(rt;
-            first.taken.as_slice() == second.taken.as_slice(),
-            "{lower}"
-        );
+        let first = drawn(&rt, &config, lower, Paper::new(rt.alloc()));
+        let second = drawn(&rt, &config, upper, Paper::new(rt.alloc()));
+        holds(&rt, first.as_slice() == second.as_slice(), lower);
     }
     Ok(())
 }
@@ -102,17 +104,20 @@ fn lower_case_draws_the_same_field(rt: HostRuntime) -> Result<(), Fail> {
 #[test]
 fn a_writer_that_cuts_and_interrupts_gets_the_same_field(rt: HostRuntime) -> Result<(), Fail> {
     let config = config(System::Ntsc, 9)?;
-    let mut plain = Paper::new(rt.alloc());
-    drew(&config, Tape::new(b"82CFFF ABCDEF -"), &mut plain);
-    let mut cut = Paper {
+    let text = b"82CFFF ABCDEF -";
+    let plain = drawn(&rt, &config, text, Paper::new(rt.alloc()));
+    let cut = Paper {
         piece: 1000,
         interrupts: 16,
         again: 16,
         ..Paper::new(rt.alloc())
     };
-    let run = drew(&config, Tape::new(b"82CFFF ABCDEF -"), &mut cut);
-    assert_eq!(rt; run.result, Ok(1));
-    assert!(rt; plain.taken.as_slice() == cut.taken.as_slice());
+    let cut = drawn(&rt, &config, text, cut);
+    holds(
+        &rt,
+        plain.as_slice() == cut.as_slice(),
+        "cut and interrupted",
+    );
     Ok(())
 }
 
@@ -134,23 +139,29 @@ fn a_read_fault_leaves_whole_fields(rt: HostRuntime) -> Result<(), Fail> {
         let answer = Drawn {
             result: Err(DrawFault::Read { number }),
             fetched: count as u64,
-            failures: 1,
+            read_failures: ONE_ERROR,
             asked: count as u64 + 1,
             written,
+            write_failures: NO_FAILURE,
         };
         draws(&rt, &config, words, Paper::new(rt.alloc()), answer);
     }
     Ok(())
 }
 
-/// How a writer is set that takes 1,000 bytes of a field: the most of a write, the interruptions before each, and how
-/// often it is asked until it fails.
-const WRITE_FAULTS: [(usize, usize, u64); 3] = [(1_000_000, 0, 2), (1, 0, 1001), (8, 2, 378)];
+/// How a writer is set that takes 1,000 bytes of a field: the most of a write and the interruptions before each, how
+/// often it is asked until it fails, and how often it fails by then, the last time by an error.
+const WRITE_FAULTS: [(usize, usize, u64, u64); 3] = [
+    (1_000_000, 0, 2, 1),
+    (1, 0, 1001, 1),
+    // 125 writes of 8 bytes and the one that fails.
+    (8, 2, 378, 253),
+];
 
 #[test]
 fn a_write_fault_has_its_count(rt: HostRuntime) -> Result<(), Fail> {
     let config = config(System::Ntsc, 9)?;
-    for &(piece, interrupts, asked) in &WRITE_FAULTS {
+    for &(piece, interrupts, asked, all) in &WRITE_FAULTS {
         let mut paper = Paper {
             piece,
             interrupts,
@@ -158,13 +169,17 @@ fn a_write_fault_has_its_count(rt: HostRuntime) -> Result<(), Fail> {
             ..Paper::failing(rt.alloc(), 1000)
         };
         let words = Tape::new(b"82CFFF F12345 F12345\n");
-        let run = drew(&config, words, &mut paper);
-        assert_eq!(rt; run.result, Err(DrawFault::Write { written: 1000 }));
-        assert_eq!(rt; (run.written, run.fetched, run.asked), (1000, 21, 21));
-        assert_eq!(rt;
-            (paper.taken.len(), paper.asked, paper.flushed),
-            (1000, asked, 0)
-        );
+        let answer = Drawn {
+            result: Err(DrawFault::Write { written: 1000 }),
+            fetched: 21,
+            read_failures: NO_FAILURE,
+            asked: 21,
+            written: 1000,
+            write_failures: Failures { all, errors: 1 },
+        };
+        same(&rt, drew(&config, words, &mut paper), answer, piece);
+        let taken = (paper.taken.len(), paper.asked, paper.flushed);
+        same(&rt, taken, (1000, asked, 0), piece);
     }
     Ok(())
 }
@@ -185,9 +200,10 @@ fn sixteen_interruptions_before_each_byte_are_borne(rt: HostRuntime) -> Result<(
     let borne = Drawn {
         result: Ok(1),
         fetched: 6,
-        failures: 112,
+        read_failures: interruptions(112),
         asked: 119,
         written: FIELD,
+        write_failures: NO_FAILURE,
     };
     draws(
         &rt,
@@ -199,9 +215,10 @@ fn sixteen_interruptions_before_each_byte_are_borne(rt: HostRuntime) -> Result<(
     let refused = Drawn {
         result: Err(DrawFault::Read { number: 1 }),
         fetched: 1,
-        failures: 17,
+        read_failures: interruptions(17),
         asked: 18,
         written: 0,
+        write_failures: NO_FAILURE,
     };
     draws(
         &rt,
@@ -233,7 +250,8 @@ type Point = (usize, usize, Option<u32>);
 /// Asserts that the first field has these samples.
 fn has_samples(rt: &impl Abort, bytes: &[u8], line_bytes: usize, points: &[Point]) {
     for &(row, column, expected) in points {
-        assert_eq!(rt; sample(bytes, line_bytes, row, column), expected);
+        let found = sample(bytes, line_bytes, row, column);
+        same(rt, found, expected, (row, column));
     }
 }
 
@@ -249,7 +267,7 @@ fn draws_samples(
     let config = Config::new(system, Levels::new(16384, 51200)?, 9)?;
     let mut paper = Paper::new(alloc);
     drew(&config, Tape::new(words), &mut paper);
-    assert!(rt; paper.taken.len() == bytes);
+    same(rt, paper.taken.len(), bytes, system);
     has_samples(rt, paper.taken.as_slice(), 2 * system.width(), points);
     Ok(())
 }

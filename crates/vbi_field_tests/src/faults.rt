@@ -2,7 +2,7 @@
 
 use crate::fields::{NONE, config, field, two_fields};
 use crate::known::{BLACK, HEAD, REPORT_BLACK, REPORT_HEAD, REPORT_TAIL, SECOND_BLACK, TAIL};
-use crate::runs::{Done, Verb, answers, whole, writes};
+use crate::runs::{Done, NO_FAILURE, ONE_ERROR, Verb, answers, interruptions, whole, writes};
 use std::test::Fail;
 use vbi_field::{RunFault, Summary};
 use vbi_test_devices::{Paper, Tape, Zeros};
@@ -27,9 +27,9 @@ fn unread(field: u32, offset: u32, fetched: u64, written: u64) -> Done {
     Done {
         result: Err(RunFault::Read { field, offset }),
         fetched,
-        read_failures: 1,
+        read_failures: ONE_ERROR,
         written,
-        write_failures: 0,
+        write_failures: NO_FAILURE,
     }
 }
 
@@ -75,50 +75,34 @@ fn unwritten(room: u32, head: u32) -> Done {
     Done {
         result: Err(RunFault::Write { written }),
         fetched: if room < head { 0 } else { 478660 },
-        read_failures: 0,
+        read_failures: NO_FAILURE,
         written,
-        write_failures: 1,
+        write_failures: ONE_ERROR,
     }
 }
 
-#[test]
-fn a_writer_may_fail_at_each_byte_of_a_document(rt: HostRuntime) -> Result<(), Fail> {
-    let config = config(System::Ntsc, 5)?;
-    let stream = field(rt.alloc(), &config, NONE)?;
-    for room in 0..247_u32 {
-        let tape = Tape::new(stream.as_slice());
-        let paper = Paper::failing(rt.alloc(), room as usize);
-        let done = unwritten(room, 135);
-        answers(
-            &rt,
-            Verb::Extract,
-            &config,
-            tape,
-            paper,
-            done,
-            &[HEAD, BLACK, TAIL],
-        );
-    }
-    Ok(())
-}
+/// The bytes of the head and of all texts of a black field's document and report.
+const WRITERS: [(Verb, u32, u32, &[&str]); 2] = [
+    (Verb::Extract, 135, 247, &[HEAD, BLACK, TAIL]),
+    (
+        Verb::Show,
+        44,
+        120,
+        &[REPORT_HEAD, REPORT_BLACK, REPORT_TAIL],
+    ),
+];
 
 #[test]
-fn a_writer_may_fail_at_each_byte_of_a_report(rt: HostRuntime) -> Result<(), Fail> {
+fn a_writer_may_fail_at_each_byte(rt: HostRuntime) -> Result<(), Fail> {
     let config = config(System::Ntsc, 5)?;
     let stream = field(rt.alloc(), &config, NONE)?;
-    let texts = [REPORT_HEAD, REPORT_BLACK, REPORT_TAIL];
-    for room in 0..120_u32 {
-        let tape = Tape::new(stream.as_slice());
-        let paper = Paper::failing(rt.alloc(), room as usize);
-        answers(
-            &rt,
-            Verb::Show,
-            &config,
-            tape,
-            paper,
-            unwritten(room, 44),
-            &texts,
-        );
+    for (verb, head, bytes, texts) in WRITERS {
+        for room in 0..bytes {
+            let tape = Tape::new(stream.as_slice());
+            let paper = Paper::failing(rt.alloc(), room as usize);
+            let done = unwritten(room, head);
+            answers(&rt, verb, &config, tape, paper, done, texts);
+        }
     }
     Ok(())
 }
@@ -180,8 +164,9 @@ const READ_FAULT: Ended = Err(RunFault::Read {
 
 const WRITE_FAULT: Ended = Err(RunFault::Write { written: 0 });
 
-/// The interruptions before the first read and before the first write, each of which is a failure, the most bytes of a
-/// write, and how the run over a black field then ends: its result, the bytes fetched and those written.
+/// The interruptions before the first read and before the first write, each of which is a failure and no error, the
+/// most bytes of a write, and how the run over a black field then ends: its result, the bytes fetched and those
+/// written.
 const INTERRUPTIONS: [(usize, usize, usize, Ended, u64, u64); 5] = [
     (16, 0, 1_000_000, BLACK_FIELD, 478660, 247),
     (17, 0, 1_000_000, READ_FAULT, 0, 135),
@@ -207,9 +192,9 @@ fn sixteen_interruptions_in_a_row_are_borne(rt: HostRuntime) -> Result<(), Fail>
         let done = Done {
             result,
             fetched,
-            read_failures: reads as u64,
+            read_failures: interruptions(reads),
             written,
-            write_failures: interrupts as u64,
+            write_failures: interruptions(interrupts),
         };
         answers(
             &rt,
@@ -261,9 +246,9 @@ fn an_endless_reader_is_stopped_at_the_limit(rt: HostRuntime) -> Result<(), Fail
     let done = Done {
         result: Err(RunFault::TooManyFields),
         fetched: 480480,
-        read_failures: 0,
+        read_failures: NO_FAILURE,
         written: 227,
-        write_failures: 0,
+        write_failures: NO_FAILURE,
     };
     let paper = Paper::new(rt.alloc());
     answers(

@@ -1,8 +1,9 @@
 //! Known streams that are pushed in pieces.
 
+use crate::asserts::same;
 use crate::fields::{DRAWN, NONE, config, field, front};
 use crate::known::{BLACK, CUT, CUT_END, HEAD, TAIL, WORDS};
-use crate::runs::{total, whole, wrote};
+use crate::runs::{Failures, NO_FAILURE, ONE_ERROR, failures_of_writes, total, whole, wrote};
 use std::alloc::Global;
 use std::process::Abort;
 use std::test::Fail;
@@ -29,38 +30,59 @@ fn end(rt: &impl Abort, feeder: Feeder, outlet: &mut Outlet<Paper>) -> Ended {
     feeder.finish(outlet)
 }
 
+/// How a stream that was pushed ended, and how often the writer had then failed.
+#[derive(Clone, Copy, Debug, PartialEq, Eq)]
+pub(crate) struct PushedRun {
+    pub(crate) result: Ended,
+    pub(crate) failures: Failures,
+}
+
 /// Pushes the pieces of a stream and ends it.
 pub(crate) fn pushed(
     rt: &impl Abort,
     config: Config,
     pieces: &[&[u8]],
     paper: &mut Paper,
-) -> Ended {
+) -> PushedRun {
     let mut outlet = Outlet::new(paper);
-    let mut feeder = Feeder::begin(config, &mut outlet)?;
-    for piece in pieces {
-        push(rt, &mut feeder, piece, &mut outlet)?;
+    let result = match Feeder::begin(config, &mut outlet) {
+        Ok(feeder) => push_pieces(rt, feeder, pieces, &mut outlet),
+        Err(fault) => Err(fault),
+    };
+    PushedRun {
+        result,
+        failures: failures_of_writes(&outlet),
     }
-    end(rt, feeder, &mut outlet)
 }
 
-/// Pushes a stream in pieces of so many bytes and ends it.
-fn chunked(
+/// Pushes these pieces to a feeder that has begun, and ends the stream.
+fn push_pieces(
     rt: &impl Abort,
-    config: Config,
+    mut feeder: Feeder,
+    pieces: &[&[u8]],
+    outlet: &mut Outlet<Paper>,
+) -> Ended {
+    for piece in pieces {
+        push(rt, &mut feeder, piece, outlet)?;
+    }
+    end(rt, feeder, outlet)
+}
+
+/// The same with a stream in pieces of so many bytes.
+fn push_chunks(
+    rt: &impl Abort,
+    mut feeder: Feeder,
     stream: &[u8],
     size: usize,
-    paper: &mut Paper,
+    outlet: &mut Outlet<Paper>,
 ) -> Ended {
-    let mut outlet = Outlet::new(paper);
-    let mut feeder = Feeder::begin(config, &mut outlet)?;
     let mut rest = stream;
     for _ in 0..stream.len() {
         let (piece, more) = rest.split_at(size.min(rest.len()));
-        push(rt, &mut feeder, piece, &mut outlet)?;
+        push(rt, &mut feeder, piece, outlet)?;
         rest = more;
     }
-    end(rt, feeder, &mut outlet)
+    end(rt, feeder, outlet)
 }
 
 /// Asserts that a stream in pieces ends so, and that just these texts were written.
@@ -73,7 +95,12 @@ fn feeds(
     texts: &[&str],
 ) {
     let mut paper = Paper::new(alloc);
-    assert_eq!(rt; pushed(rt, config, pieces, &mut paper), ended);
+    let expected = PushedRun {
+        result: ended,
+        failures: NO_FAILURE,
+    };
+    let found = pushed(rt, config, pieces, &mut paper);
+    same(rt, found, expected, "in pieces");
     wrote(rt, &paper, total(texts), texts);
 }
 
@@ -88,11 +115,13 @@ pub(crate) fn feeds_chunks(
     texts: &[&str],
 ) {
     let mut paper = Paper::new(alloc);
-    assert_eq!(rt;
-        chunked(rt, config, stream, size, &mut paper),
-        ended,
-        "{size}"
-    );
+    let mut outlet = Outlet::new(&mut paper);
+    let result = match Feeder::begin(config, &mut outlet) {
+        Ok(feeder) => push_chunks(rt, feeder, stream, size, &mut outlet),
+        Err(fault) => Err(fault),
+    };
+    same(rt, result, ended, size);
+    same(rt, failures_of_writes(&outlet), NO_FAILURE, size);
     wrote(rt, &paper, total(texts), texts);
 }
 
@@ -152,20 +181,25 @@ fn a_writer_may_fail_at_each_byte(rt: HostRuntime) -> Result<(), Fail> {
             ..Paper::failing(rt.alloc(), room as usize)
         };
         let written = u64::from(room);
-        let ended = pushed(&rt, config, &[stream.as_slice()], &mut paper);
-        assert_eq!(rt; ended, Err(RunFault::Write { written }));
-        assert_eq!(rt; paper.asked, written + 1);
+        let expected = PushedRun {
+            result: Err(RunFault::Write { written }),
+            failures: ONE_ERROR,
+        };
+        let found = pushed(&rt, config, &[stream.as_slice()], &mut paper);
+        same(&rt, found, expected, room);
+        same(&rt, paper.asked, written + 1, room);
         wrote(&rt, &paper, written, &[HEAD, BLACK, TAIL]);
     }
     Ok(())
 }
 
-/// What a piece, a piece of no bytes after it and then the end answer.
+/// What a piece, a piece of no bytes after it and then the end answer, and how often the writer had then failed.
 #[derive(Clone, Copy, Debug, PartialEq, Eq)]
 struct Answers {
     piece: Result<(), RunFault>,
     next: Result<(), RunFault>,
     end: Ended,
+    failures: Failures,
 }
 
 fn after_a_fault(
@@ -182,14 +216,22 @@ fn after_a_fault(
         piece,
         next,
         end: end(rt, feeder, &mut outlet),
+        failures: failures_of_writes(&outlet),
     })
 }
 
-/// The bytes that come beside a black field, those after which the writer fails, the fault, the bytes written one by
-/// one, and how often the writer was asked for these, in all calls.
-const FAULTS: [(usize, Option<usize>, RunFault, u64, u64); 2] = [
-    (0, Some(150), RunFault::Write { written: 150 }, 150, 151),
-    (1, None, RunFault::TooManyFields, 227, 227),
+/// The bytes that come beside a black field, those after which the writer fails, the fault, the writer's failures, the
+/// bytes written one by one, and how often the writer was asked for these, in all calls.
+const FAULTS: [(usize, Option<usize>, RunFault, Failures, u64, u64); 2] = [
+    (
+        0,
+        Some(150),
+        RunFault::Write { written: 150 },
+        ONE_ERROR,
+        150,
+        151,
+    ),
+    (1, None, RunFault::TooManyFields, NO_FAILURE, 227, 227),
 ];
 
 #[test]
@@ -198,7 +240,7 @@ fn a_feeder_that_failed_writes_nothing_more(rt: HostRuntime) -> Result<(), Fail>
     let mut stream = field(rt.alloc(), &config, NONE)?;
     // The field's first byte again.
     stream.push(0)?;
-    for (more, fault, error, written, asked) in FAULTS {
+    for (more, fault, error, failures, written, asked) in FAULTS {
         let mut paper = Paper {
             piece: 1,
             fault,
@@ -210,9 +252,10 @@ fn a_feeder_that_failed_writes_nothing_more(rt: HostRuntime) -> Result<(), Fail>
             piece: Err(error),
             next: Err(RunFault::Failed),
             end: Err(RunFault::Failed),
+            failures,
         };
-        assert_eq!(rt; answers, Ok(expected));
-        assert_eq!(rt; paper.asked, asked, "{error:?}");
+        same(&rt, answers, Ok(expected), error);
+        same(&rt, paper.asked, asked, error);
         wrote(&rt, &paper, written, &[HEAD, BLACK]);
     }
     Ok(())

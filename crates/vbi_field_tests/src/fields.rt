@@ -2,6 +2,7 @@
 ghost use Rattle.std.specs.Prelude.{◌<◌};
 ghost use Rattle.vbi_words.specs.Geometry.{width_of};
 
+use crate::asserts::same;
 use std::alloc::{AllocError, Global};
 use std::test::Fail;
 use vbi_field::{Config, ConfigFault};
@@ -124,20 +125,17 @@ const LIMITS: [(u32, Option<ConfigFault>); 4] = [
 fn a_limit_is_from_one_to_a_million_fields(rt: HostRuntime) -> Result<(), Fail> {
     let levels = Levels::new(16384, 51200)?;
     for (limit, fault) in LIMITS {
-        assert_eq!(rt;
-            Config::new(System::Ntsc, levels, limit).err(),
-            fault,
-            "{limit}"
-        );
+        let found = Config::new(System::Ntsc, levels, limit).err();
+        same(&rt, found, fault, limit);
     }
     Ok(())
 }
 
 #[test]
 fn a_config_keeps_its_values(rt: HostRuntime) -> Result<(), Fail> {
-    let config = Config::new(System::Pal, Levels::new(16384, 54016)?, 7)?;
-    assert_eq!(rt; config.system(), System::Pal);
-    assert_eq!(rt; config.levels(), Levels::new(16384, 54016)?);
-    assert_eq!(rt; config.max_fields(), 7);
+    let levels = Levels::new(16384, 54016)?;
+    let config = Config::new(System::Pal, levels, 7)?;
+    let found = (config.system(), config.levels(), config.max_fields());
+    same(&rt, found, (System::Pal, levels, 7), "a config");
     Ok(())
 }

@@ -6,6 +6,8 @@
 #[cfg(test)]
 mod asks;
 #[cfg(test)]
+mod asserts;
+#[cfg(test)]
 mod circle;
 #[cfg(test)]
 mod documents;

@@ -1,5 +1,6 @@
 //! A writer that takes all of some bytes, or says why not.
 
+use crate::asserts::{holds, same};
 use vbi_field::{Outlet, OutletFault};
 use vbi_test_devices::Paper;
 
@@ -7,22 +8,35 @@ type Answer = Result<(), OutletFault>;
 
 const WRITE: Answer = Err(OutletFault::Write);
 
-/// What a call of `put_all` answers, how many bytes are then written and failures counted, and how often the writer was
-/// asked.
-type Told = (Answer, u64, u64, u64);
+/// What a call of `put_all` answers, how many bytes are then written and failures and errors counted, and how often the
+/// writer was asked.
+type Told = (Answer, u64, u64, u64, u64);
 
 /// How a writer is set: the most of a write, the interruptions before the first and before each other, and the bytes
 /// after which it fails; and what six bytes tell.
 const WRITERS: [(usize, usize, usize, Option<usize>, Told); 8] = [
-    (6, 0, 0, None, (Ok(()), 6, 0, 1)),
-    (1, 0, 0, None, (Ok(()), 6, 0, 6)),
-    (6, 16, 0, None, (Ok(()), 6, 16, 17)),
-    (6, 17, 0, None, (WRITE, 0, 17, 17)),
-    (2, 16, 16, None, (Ok(()), 6, 48, 51)),
-    (2, 0, 17, None, (WRITE, 2, 17, 18)),
-    (6, 0, 0, Some(4), (WRITE, 4, 1, 2)),
-    (6, 3, 0, Some(0), (WRITE, 0, 4, 4)),
+    (6, 0, 0, None, (Ok(()), 6, 0, 0, 1)),
+    (1, 0, 0, None, (Ok(()), 6, 0, 0, 6)),
+    (6, 16, 0, None, (Ok(()), 6, 16, 0, 17)),
+    (6, 17, 0, None, (WRITE, 0, 17, 0, 17)),
+    (2, 16, 16, None, (Ok(()), 6, 48, 0, 51)),
+    (2, 0, 17, None, (WRITE, 2, 17, 0, 18)),
+    (6, 0, 0, Some(4), (WRITE, 4, 1, 1, 2)),
+    (6, 3, 0, Some(0), (WRITE, 0, 4, 1, 4)),
 ];
+
+fn told_by(paper: &mut Paper) -> Told {
+    let mut outlet = Outlet::new(paper);
+    let answer = outlet.put_all(b"abcdef");
+    let (written, failures, errors) = (outlet.written(), outlet.failures(), outlet.errors());
+    (
+        answer,
+        written,
+        failures,
+        errors,
+        outlet.into_writer().asked,
+    )
+}
 
 #[test]
 fn bytes_are_written_whole_or_up_to_a_fault(rt: HostRuntime) {
@@ -36,14 +50,11 @@ fn bytes_are_written_whole_or_up_to_a_fault(rt: HostRuntime) {
                 jams,
                 ..Paper::new(rt.alloc())
             };
-            let mut outlet = Outlet::new(&mut paper);
-            let answer = outlet.put_all(b"abcdef");
-            let (written, failures) = (outlet.written(), outlet.failures());
-            let paper = outlet.into_writer();
-            assert_eq!(rt; (answer, written, failures, paper.asked), told);
-            assert_eq!(rt; paper.flushed, 0, "{told:?}");
-            assert!(rt; b"abcdef".starts_with(paper.taken.as_slice()), "{told:?}");
-            assert!(rt; paper.taken.len() as u64 == written, "{told:?}");
+            same(&rt, told_by(&mut paper), told, (piece, again, jams));
+            let (_, written, _, _, _) = told;
+            let taken = paper.taken.as_slice();
+            holds(&rt, b"abcdef".starts_with(taken), told);
+            same(&rt, (taken.len() as u64, paper.flushed), (written, 0), told);
         }
     }
 }

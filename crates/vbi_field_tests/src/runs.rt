@@ -1,5 +1,6 @@
 //! Runs between a reader and a writer, what they answer, and what was written.
 
+use crate::asserts::{holds, same};
 use std::alloc::Global;
 use std::io::Read;
 use std::process::Abort;
@@ -7,14 +8,47 @@ use vbi_field::{Config, DrawFault, Outlet, RowIntake, RunFault, Summary, draw, e
 use vbi_line::Intake;
 use vbi_test_devices::{Paper, Tape};
 
+/// How often a device failed, and how often of these by an error, which is no interruption.
+#[derive(Clone, Copy, Debug, PartialEq, Eq)]
+pub(crate) struct Failures {
+    pub(crate) all: u64,
+    pub(crate) errors: u64,
+}
+
+pub(crate) const NO_FAILURE: Failures = Failures { all: 0, errors: 0 };
+
+pub(crate) const ONE_ERROR: Failures = Failures { all: 1, errors: 1 };
+
+/// So many interruptions and no error.
+pub(crate) fn interruptions(count: usize) -> Failures {
+    Failures {
+        all: count as u64,
+        errors: 0,
+    }
+}
+
+fn failures_of_reads<R: Read>(intake: &Intake<R>) -> Failures {
+    Failures {
+        all: intake.failures(),
+        errors: intake.errors(),
+    }
+}
+
+pub(crate) fn failures_of_writes(outlet: &Outlet<Paper>) -> Failures {
+    Failures {
+        all: outlet.failures(),
+        errors: outlet.errors(),
+    }
+}
+
 /// How a run ended, and its counts.
 #[derive(Clone, Copy, Debug, PartialEq, Eq)]
 pub(crate) struct Done {
     pub(crate) result: Result<Summary, RunFault>,
     pub(crate) fetched: u64,
-    pub(crate) read_failures: u64,
+    pub(crate) read_failures: Failures,
     pub(crate) written: u64,
-    pub(crate) write_failures: u64,
+    pub(crate) write_failures: Failures,
 }
 
 #[derive(Clone, Copy, Debug)]
@@ -33,9 +67,9 @@ pub(crate) fn ran<R: Read>(verb: Verb, config: &Config, reader: &mut R, paper: &
     Done {
         result,
         fetched: intake.fetched(),
-        read_failures: intake.failures(),
+        read_failures: failures_of_reads(&intake),
         written: outlet.written(),
-        write_failures: outlet.failures(),
+        write_failures: failures_of_writes(&outlet),
     }
 }
 
@@ -44,9 +78,10 @@ pub(crate) fn ran<R: Read>(verb: Verb, config: &Config, reader: &mut R, paper: &
 pub(crate) struct Drawn {
     pub(crate) result: Result<u32, DrawFault>,
     pub(crate) fetched: u64,
-    pub(crate) failures: u64,
+    pub(crate) read_failures: Failures,
     pub(crate) asked: u64,
     pub(crate) written: u64,
+    pub(crate) write_failures: Failures,
 }
 
 /// Draws the fields of a text of words.
@@ -57,8 +92,12 @@ pub(crate) fn drew(config: &Config, mut words: Tape, paper: &mut Paper) -> Drawn
     Drawn {
         result,
         fetched: rows.fetched(),
-        failures: rows.failures(),
+        read_failures: Failures {
+            all: rows.failures(),
+            errors: rows.errors(),
+        },
         written: outlet.written(),
+        write_failures: failures_of_writes(&outlet),
         asked: rows.into_reader().asked,
     }
 }
@@ -87,8 +126,8 @@ fn took(paper: &Paper, count: u64, texts: &[&str]) -> bool {
 
 /// Asserts that a writer took so many bytes of these texts and was never flushed.
 pub(crate) fn wrote(rt: &impl Abort, paper: &Paper, count: u64, texts: &[&str]) {
-    assert!(rt; took(paper, count, texts), "{count} bytes of {texts:?}");
-    assert_eq!(rt; paper.flushed, 0, "flushed");
+    holds(rt, took(paper, count, texts), (count, texts));
+    same(rt, paper.flushed, 0, "flushed");
 }
 
 /// The bytes of some short texts.
@@ -110,7 +149,7 @@ pub(crate) fn answers<R: Read + Drop>(
     done: Done,
     texts: &[&str],
 ) {
-    assert_eq!(rt; ran(verb, config, &mut reader, &mut paper), done);
+    same(rt, ran(verb, config, &mut reader, &mut paper), done, verb);
     wrote(rt, &paper, done.written, texts);
 }
 
@@ -127,9 +166,9 @@ pub(crate) fn writes(
     let done = Done {
         result: ended,
         fetched: stream.len() as u64,
-        read_failures: 0,
+        read_failures: NO_FAILURE,
         written: total(texts),
-        write_failures: 0,
+        write_failures: NO_FAILURE,
     };
     answers(
         rt,

@@ -1,6 +1,6 @@
 //! The texts of known words, codes and causes.
 
-use std::process::Abort;
+use crate::asserts::same;
 use vbi_field::{cause_text, code_text, hex_text};
 use vbi_words::{Code, Outcome, Word24, WordFault, classify};
 
@@ -65,16 +65,12 @@ const CAUSES: [(Outcome, &str); 5] = [
     (Outcome::Hold(65535), "hold 65535"),
 ];
 
-fn is_text(rt: &impl Abort, text: &str, expected: &str) {
-    assert_eq!(rt; text, expected);
-}
-
 #[test]
 fn words_have_their_texts(rt: HostRuntime) -> Result<(), WordFault> {
     for &(value, hex, text) in &WORDS {
         let word = Word24::new(value)?;
-        is_text(&rt, hex_text(word).as_str(), hex);
-        is_text(&rt, code_text(classify(word)).as_str(), text);
+        same(&rt, hex_text(word).as_str(), hex, "hex");
+        same(&rt, code_text(classify(word)).as_str(), text, hex);
     }
     Ok(())
 }
@@ -82,16 +78,16 @@ fn words_have_their_texts(rt: HostRuntime) -> Result<(), WordFault> {
 #[test]
 fn wide_numbers_have_all_digits(rt: HostRuntime) {
     for &(code, text) in &BY_HAND {
-        is_text(&rt, code_text(code).as_str(), text);
+        same(&rt, code_text(code).as_str(), text, code);
     }
 }
 
 #[test]
 fn causes_have_their_texts(rt: HostRuntime) -> Result<(), WordFault> {
     for &(outcome, text) in &CAUSES {
-        is_text(&rt, cause_text(outcome).as_str(), text);
+        same(&rt, cause_text(outcome).as_str(), text, outcome);
     }
     let word = Outcome::Word(Word24::new(0x82CFFF)?);
-    is_text(&rt, cause_text(word).as_str(), "word");
+    same(&rt, cause_text(word).as_str(), "word", word);
     Ok(())
 }

@@ -1,6 +1,7 @@
 pub mod Causes
 pub mod Ending
 pub mod FillSteps
+pub mod InPlace
 pub mod OneOutcome
 pub mod OneReading
 pub mod PackedRuns

@@ -1,7 +1,8 @@
 -- Levels packed into words of 64 bits: the level of column k is bit k mod 64 of word k div 64.
-use Rattle.std.specs.Prelude.{ℕ, ◌≡◌, ◌≢◌, ◌<◌, ◌≤◌, ◌+◌, ◌/◌, ◌%◌, Bool, List, map, nat_eq, slice_index}
+use Rattle.std.specs.Prelude.{ℕ, ◌≡◌, ◌≢◌, ◌<◌, ◌≤◌, ◌+◌, ◌/◌, ◌%◌, Bool, List, map, nat_eq, nat_lt, slice_index}
 use Rattle.std.specs.List.{range_with_len}
 use Rattle.std.specs.Int.{bit_at}
+use Rattle.vbi_line.specs.Line.{sample_at}
 
 -- the level that a bit of a word stands for
 abbrev pub level_of_bit : ℕ → ℕ → Bool
@@ -24,3 +25,9 @@ pub record EqualBits (word place : ℕ) (level : Bool) (count : ℕ) : Type 0 wh
   pub inside : place + count ≤ 64
   pub each : (i : ℕ) → i < count → level_of_bit word (place + i) ≡ level
   pub ends : place + count < 64 → level_of_bit word (place + count) ≢ level
+
+-- each of count bits of the word, the lowest first, tells whether the sample is above this one: those of a row's bytes
+-- from a column on
+abbrev pub TellsAbove : ℕ → List ℕ → ℕ → ℕ → ℕ → Type 0
+TellsAbove low bytes column count word =
+    (i : ℕ) → i < count → level_of_bit word i ≡ nat_lt low (sample_at bytes (column + i))

@@ -12,18 +12,18 @@ use std::simd::prelude::*;
 use vbi_words::Levels;
 
 /// The samples of a block.
-const LANES: usize = 16;
+pub(crate) const LANES: usize = 16;
 
 /// The greatest sample that is low: the middle of black and white, rounded down.
 // It fits in 16 bits, as a lane does. Twice a sample may not.
-fn greatest_low(slicing: Levels) -> u16
+pub(crate) fn greatest_low(slicing: Levels) -> u16
     ensures { (sample : ℕ) → is_high_of slicing sample ≡ nat_lt result sample }
 {
     ((u32::from(slicing.black()) + u32::from(slicing.white())) / 2) as u16
 }
 
 /// One bit for each of sixteen samples, the lowest for the first: set where the sample is above `low`.
-fn bits_above(samples: [u16; 16], low: u16) -> u64
+pub(crate) fn bits_above(samples: [u16; 16], low: u16) -> u64
     ensures levels { levels_in 16 result ≡ map (λ sample. nat_lt low sample) samples }
     ensures range { result < 2 ^ 16 }
 {

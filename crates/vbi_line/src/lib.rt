@@ -3,11 +3,13 @@
 //! An `Intake` reads a line from a reader, and `read_line` and `read_twice` find its outcome and its reading, exactly
 //! as the definitions of `vbi_words` say; where a line shows no word, the outcome names the first hopeless column. The
 //! module `laws` says that each line has exactly one outcome and one reading. Bytes fetched, samples looked at and
-//! failed calls of the reader are counted. No sample of a line is looked at more than twice, and nothing allocates.
+//! failed calls of the reader are counted. No sample of a line is looked at more than twice, and nothing allocates. For
+//! callers that have a line's bytes and need no counts there are `slice_bytes` and `read_packed_twice`.
 #![tactic(auto)]
 
 mod counted;
 mod decoder;
+mod in_place;
 mod intake;
 mod lanes;
 pub mod laws;
@@ -18,9 +20,10 @@ mod reading;
 mod store;
 
 pub use counted::{Counted, Fail, RETRIES};
+pub use in_place::slice_bytes;
 pub use intake::{Filled, Intake, IntakeFault};
 pub use lanes::slice_lanes;
 pub use line::LineBuf;
 pub use outcome::{read_line, read_packed};
 pub use packed::Packed;
-pub use reading::read_twice;
+pub use reading::{read_packed_twice, read_twice};

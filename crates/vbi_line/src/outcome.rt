@@ -41,7 +41,7 @@ pub fn read_packed(packed: &Packed, system: System) -> Outcome
     read_runs(packed, system)
 }
 
-/// The cause at the first hopeless column, which lies so many columns behind the first column of its run.
+/// The cause at the first hopeless column, which is this number of columns behind the first column of its run.
 fn cause(begin: usize, behind: usize) -> Outcome
     requires { begin + behind < 2 ^ 16 }
     ensures change { behind ≡ 0 → result ≡ Outcome.Change (begin + behind) }
@@ -62,13 +62,15 @@ fn read_runs(packed: &Packed, system: System) -> Outcome
 {
     let mut decoder = Decoder::Lead(0);
     let mut column: usize = 0;
+    // A run has the level that the one before it doesn't have.
+    let mut level = packed.width() > 0 && packed.level(0);
     while column < packed.width() {
-        let (level, count) = packed.next_run(column);
-        let count = usize::from(count);
-        match decoder.read_run(system, level, count) {
+        let end = packed.run_end(column, level);
+        match decoder.read_run(system, level, end - column) {
             Ok(next) => {
                 decoder = next;
-                column += count;
+                column = end;
+                level = !level;
             }
             Err(lived) => return cause(column, lived),
         }

@@ -1,6 +1,6 @@
 //! A line's levels as bits.
 
-ghost use Rattle.std.specs.Prelude.{◌≡◌, ◌+◌, ◌^◌, ◌<◌, ◌≤◌, ◌%◌, [], ◌++◌, length};
+ghost use Rattle.std.specs.Prelude.{◌≡◌, ◌+◌, ◌-◌, ◌^◌, ◌<◌, ◌≤◌, ◌%◌, [], ◌++◌, length};
 ghost use Rattle.vbi_words.specs.Levels.{level_at};
 ghost use Rattle.vbi_line.specs.Packing.{levels_in, EqualBits};
 ghost use Rattle.vbi_line.specs.Runs.{IsRun};
@@ -85,15 +85,25 @@ impl Packed {
         ensures { IsRun self.now column result.0 result.1 }
     {
         let level = self.level(column);
+        (level, (self.run_end(column, level) - column) as u16)
+    }
+
+    /// The column behind the run of a level that a column is in.
+    pub(crate) fn run_end(&self, column: usize, level: bool) -> usize
+        requires inside { column < length self.now }
+        requires level { level ≡ level_at self.now column }
+        ensures run { IsRun self.now column level (result - column) }
+        ensures fits { result < 2 ^ 16 }
+    {
         let mut end = column;
         while end < self.width {
             let place = end % 64;
             let equal = equal_bits(self.words[end / 64], place, level);
             end += equal;
             if place + equal < 64 {
-                return (level, (end.min(self.width) - column) as u16);
+                return end.min(self.width);
             }
         }
-        (level, (self.width - column) as u16)
+        self.width
     }
 }

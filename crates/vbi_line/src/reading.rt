@@ -33,11 +33,20 @@ pub fn read_twice(line: &mut LineBuf, system: System, slicing: Levels) -> Readin
     ensures looked { line.new.looked ≡ line.old.looked + width_of system }
 {
     let packed = slice_lanes(line, slicing);
-    read_both(&packed, system)
+    read_packed_twice(&packed, system)
 }
 
-/// The reading of a line's levels. The smoothed levels are read only where the levels show no word and one of them is
-/// high.
+/// The reading of a line's levels. Columns in it are counted from 0. The smoothed levels are read only where the levels
+/// show no word and one of them is high.
+pub fn read_packed_twice(packed: &Packed, system: System) -> Reading
+    requires { length packed.now ≡ width_of system }
+    ensures reading { IsReading system packed.now result }
+    ensures same { result ≡ reading_of system packed.now }
+{
+    read_both(packed, system)
+}
+
+/// The reading, from the outcome of the levels and the word of the smoothed ones.
 fn read_both(packed: &Packed, system: System) -> Reading
     requires { length packed.now ≡ width_of system }
     ensures { IsReading system packed.now result }

@@ -1,5 +1,6 @@
 //! Codes and formats of known words; the expected values are those of the table of classes.
 
+use crate::asserts::same;
 use std::test::Fail;
 use vbi_words::{Code, Format, Word24, WordFault, classify, format_of};
 
@@ -101,7 +102,7 @@ fn line(value: u32) -> Option<Word24> {
 #[test]
 fn known_words_have_their_codes(rt: HostRuntime) -> Result<(), WordFault> {
     for (value, code) in CODES {
-        assert_eq!(rt; classify(Word24::new(value)?), code, "{value:x}");
+        same(&rt, classify(Word24::new(value)?), code, value);
     }
     Ok(())
 }
@@ -110,7 +111,7 @@ fn known_words_have_their_codes(rt: HostRuntime) -> Result<(), WordFault> {
 fn a_field_has_the_format_of_its_codes(rt: HostRuntime) -> Result<(), Fail> {
     for (values, format) in FORMATS {
         let words = [line(values[0]), line(values[1]), line(values[2])];
-        assert_eq!(rt; format_of(&words), format, "{values:?}");
+        same(&rt, format_of(&words), format, values);
     }
     Ok(())
 }

@@ -1,5 +1,6 @@
 //! Devices that are asked once a call.
 
+use crate::asserts::{holds, same};
 use std::process::Abort;
 use vbi_line::{Counted, Fail};
 use vbi_test_devices::{Paper, Tape};
@@ -61,10 +62,10 @@ fn a_writer_is_asked_once_and_its_failures_are_counted(rt: HostRuntime) {
         };
         let mut counted = Counted::new(&mut paper);
         let found = [written(&rt, &mut counted), written(&rt, &mut counted)];
-        assert_eq!(rt; found, expected);
+        same(&rt, found, expected, "what two writes tell");
         let paper = counted.into_inner();
-        assert_eq!(rt; (paper.asked, paper.flushed), (2, 0), "{expected:?}");
-        assert!(rt; paper.taken.as_slice() == taken, "{expected:?}");
+        same(&rt, (paper.asked, paper.flushed), (2, 0), expected);
+        holds(&rt, paper.taken.as_slice() == taken, expected);
     }
 }
 
@@ -73,7 +74,7 @@ fn no_byte_is_owed_of_none(rt: HostRuntime) {
     let mut paper = Paper::new(rt.alloc());
     let mut counted = Counted::new(&mut paper);
     let answer = counted.write_once(b"");
-    assert_eq!(rt; told(answer, &counted), (Ok(0), 0, 0));
+    same(&rt, told(answer, &counted), (Ok(0), 0, 0), "no bytes");
 }
 
 #[test]
@@ -92,8 +93,8 @@ fn a_reader_is_asked_once_and_its_failures_are_counted(rt: HostRuntime) {
         (Ok(1), 2, 1),
         (Ok(0), 2, 1),
     ] {
-        assert_eq!(rt; read(&rt, &mut counted, &mut room), expected);
+        same(&rt, read(&rt, &mut counted, &mut room), expected, "a read");
     }
-    assert!(rt; room.as_slice() == b"cb\0\0".as_slice());
-    assert_eq!(rt; counted.into_inner().asked, 5);
+    holds(&rt, room == *b"cb\0\0", "the bytes read");
+    same(&rt, counted.into_inner().asked, 5, "the reads");
 }

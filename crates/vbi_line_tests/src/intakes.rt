@@ -1,5 +1,6 @@
 //! A line filled from readers that cut, interrupt, fail and end.
 
+use crate::asserts::same;
 use byteorder::{ByteOrder, LittleEndian};
 use std::io::Read;
 use std::test::Fail;
@@ -31,7 +32,7 @@ fn the_stored_line_is_text(rt: HostRuntime) {
         (384, b' '),
         (1819, b' '),
     ] {
-        assert_eq!(rt; bytes.get(at), Some(&byte), "at {at}");
+        same(&rt, bytes.get(at), Some(&byte), at);
     }
 }
 
@@ -200,14 +201,14 @@ fn a_line_is_filled_or_says_why_not(rt: HostRuntime) {
         let mut reader = reader_of(&line, &setting);
         let mut intake = Intake::new(&mut reader, System::Ntsc);
         let answer = intake.fill_line();
-        assert_eq!(rt; told(answer, &intake), first, "{name}");
+        same(&rt, told(answer, &intake), first, name);
         if let Some(second) = second {
-            assert!(rt; intake.held() < 1820, "{name}");
+            assert!(rt; intake.held() < 1820);
             let answer = intake.fill_line();
-            assert_eq!(rt; told(answer, &intake), second, "{name}, again");
+            same(&rt, told(answer, &intake), second, (name, "again"));
         }
-        assert_eq!(rt; intake.fetched(), intake.held() as u64, "{name}");
-        assert_eq!(rt; intake.into_reader().asked, asked, "{name}");
+        same(&rt, intake.fetched(), intake.held() as u64, name);
+        same(&rt, intake.into_reader().asked, asked, name);
     }
 }
 
@@ -217,10 +218,15 @@ fn the_last_byte_may_come_after_the_end(rt: HostRuntime) -> Result<(), Fail> {
     let (first, more) = line.as_slice().split_at_checked(1819).ok_or("short")?;
     let mut reader = Resumed { first, more };
     let mut intake = Intake::new(&mut reader, System::Ntsc);
-    assert_eq!(rt; intake.fill_line(), Ok(Filled::Ended(1819)));
-    assert_eq!(rt; intake.fill_line(), FULL);
-    assert_eq!(rt; intake.fetched(), 1820);
-    assert_eq!(rt; intake.failures(), 0);
+    same(&rt, intake.fill_line(), Ok(Filled::Ended(1819)), "short");
+    assert!(rt; intake.held() < 1820);
+    same(&rt, intake.fill_line(), FULL, "behind the end");
+    same(
+        &rt,
+        (intake.fetched(), intake.failures()),
+        (1820, 0),
+        "then",
+    );
     Ok(())
 }
 
@@ -229,10 +235,8 @@ fn a_cleared_line_holds_nothing(rt: HostRuntime) {
     let line = stored_line();
     let mut reader = Tape::new(&line);
     let mut intake = Intake::new(&mut reader, System::Ntsc);
-    assert_eq!(rt; intake.fill_line(), FULL);
-    assert_eq!(rt; intake.passes(), 0);
-    assert_eq!(rt; intake.looked(), 0);
+    same(&rt, intake.fill_line(), FULL, "a line");
+    same(&rt, (intake.passes(), intake.looked()), (0, 0), "filled");
     intake.clear_line();
-    assert_eq!(rt; intake.held(), 0);
-    assert_eq!(rt; intake.fetched(), 1820);
+    same(&rt, (intake.held(), intake.fetched()), (0, 1820), "cleared");
 }

@@ -3,6 +3,7 @@
 ghost use Rattle.std.specs.Prelude.{◌≡◌, []};
 ghost use Rattle.vbi_line.specs.Line.{IsFull};
 
+use crate::asserts::{holds, same};
 use crate::cases::{Case, RUNS, Shape, TURNED, Told, WORDS};
 use byteorder::{ByteOrder, LittleEndian};
 use vbi_line::{Filled, Intake, LineBuf, read_line, read_packed, read_twice, slice_lanes};
@@ -153,8 +154,7 @@ fn is_told(case: &Case) -> bool {
 #[test]
 fn words_are_read(rt: HostRuntime) {
     for case in &WORDS {
-        let name = case.name;
-        assert!(rt; is_told(case), "{name}");
+        holds(&rt, is_told(case), case.name);
     }
 }
 
@@ -169,15 +169,14 @@ fn causes_have_the_first_hopeless_column(rt: HostRuntime) {
             plain: Some(told),
             reading: (told, 0),
         };
-        assert!(rt; is_told(&case), "{name}");
+        holds(&rt, is_told(&case), name);
     }
 }
 
 #[test]
 fn few_turned_columns_are_smoothed_away(rt: HostRuntime) {
     for case in &TURNED {
-        let name = case.name;
-        assert!(rt; is_told(case), "{name}");
+        holds(&rt, is_told(case), case.name);
     }
 }
 
@@ -197,11 +196,9 @@ fn told_of_high(high: u16) -> Option<(Told, (Told, u8))> {
 
 #[test]
 fn a_sample_midway_is_low(rt: HostRuntime) {
-    assert_eq!(rt; told_of_high(33792), Some((Told::Blank, (Told::Blank, 0))));
-    assert_eq!(rt;
-        told_of_high(33793),
-        Some((Told::Word(0x82CFFF), (Told::Word(0x82CFFF), 1)))
-    );
+    for (high, told, pass) in [(33792, Told::Blank, 0), (33793, Told::Word(0x82CFFF), 1)] {
+        same(&rt, told_of_high(high), Some((told, (told, pass))), high);
+    }
 }
 
 /// The passes and looks of a line with a high sample in column 0, after `read_line` and, on another, after
@@ -222,6 +219,7 @@ fn looks_of(system: System) -> [(usize, usize); 2] {
 
 #[test]
 fn each_reader_makes_one_pass(rt: HostRuntime) {
-    assert_eq!(rt; looks_of(System::Ntsc), [(1, 910), (1, 910)]);
-    assert_eq!(rt; looks_of(System::Pal), [(1, 1135), (1, 1135)]);
+    for (system, width) in [(System::Ntsc, 910), (System::Pal, 1135)] {
+        same(&rt, looks_of(system), [(1, width), (1, width)], system);
+    }
 }

@@ -3,6 +3,7 @@
 ghost use Rattle.std.specs.Prelude.{◌≡◌, length};
 ghost use Rattle.vbi_words.specs.Geometry.{width_of};
 
+use crate::asserts::same;
 use crate::lines::{levels_of, line_of, set};
 use vbi_line::{Packed, slice_lanes};
 use vbi_words::{Levels, System};
@@ -34,8 +35,8 @@ fn the_last_column_alone_is_high(rt: HostRuntime) {
         let mut samples = [levels.black(); 1135];
         samples[last] = levels.white();
         let packed = packed_of(system, levels, &samples);
-        assert_eq!(rt; packed.width(), last + 1, "the width");
-        assert_eq!(rt; highs_of(&packed), (1, Some(last)), "one level at {last}");
+        same(&rt, packed.width(), last + 1, (last, "the width"));
+        same(&rt, highs_of(&packed), (1, Some(last)), (last, "high"));
     }
 }
 
@@ -46,8 +47,8 @@ fn the_comparison_does_not_wrap(rt: HostRuntime) {
         let mut samples = [black; 1135];
         samples[1] = white;
         let packed = packed_of(System::Ntsc, levels, &samples);
-        assert_eq!(rt; packed.level(0), false, "{black} is low");
-        assert_eq!(rt; packed.level(1), true, "{white} is high");
+        same(&rt, packed.level(0), false, (black, "is low"));
+        same(&rt, packed.level(1), true, (white, "is high"));
     }
 }
 
@@ -60,8 +61,8 @@ fn a_block_needs_sixteen_samples(rt: HostRuntime) {
     for _ in 0..56 {
         assert!(rt; line.next_block().is_some());
     }
-    assert_eq!(rt; line.next_block(), None);
-    assert_eq!(rt; line.next_sample(), Some(1896));
+    same(&rt, line.next_block(), None, "a block of 14 samples");
+    same(&rt, line.next_sample(), Some(1896), "sample 897");
 }
 
 #[test]
@@ -77,10 +78,10 @@ fn runs_go_on_across_words(rt: HostRuntime) {
         (70, (false, 840)),
         (909, (false, 1)),
     ] {
-        assert_eq!(rt; packed.next_run(column), run, "at column {column}");
+        same(&rt, packed.next_run(column), run, column);
     }
     let blank = packed_of(System::Pal, levels, &[0; 1135]);
-    assert_eq!(rt; blank.next_run(0), (false, 1135));
+    same(&rt, blank.next_run(0), (false, 1135), "PAL");
 }
 
 #[test]
@@ -88,7 +89,6 @@ fn slicing_is_one_pass_over_all_samples(rt: HostRuntime) {
     for (system, width) in [(System::Ntsc, 910), (System::Pal, 1135)] {
         let mut line = line_of(system, &[0; 1135]);
         slice_lanes(&mut line, levels_of(system));
-        assert_eq!(rt; line.passes(), 1);
-        assert_eq!(rt; line.looks(), width);
+        same(&rt, (line.passes(), line.looks()), (1, width), system);
     }
 }

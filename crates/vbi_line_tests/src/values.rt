@@ -1,4 +1,6 @@
 //! Refusals, and the boundaries of drawn half cells.
+
+use crate::asserts::{holds, same};
 use std::test::Fail;
 use vbi_words::{Levels, LevelsFault, System, Word24, WordFault, drawn_sample};
 
@@ -18,25 +20,40 @@ const PAL: [usize; 49] = [
 
 #[test]
 fn levels_out_of_order_are_refused(rt: HostRuntime) {
-    assert_eq!(rt; Levels::new(5, 5), Err(LevelsFault::Order));
-    assert!(rt; Levels::new(5, 6).is_ok());
+    same(
+        &rt,
+        Levels::new(5, 5),
+        Err(LevelsFault::Order),
+        "equal levels",
+    );
+    holds(&rt, Levels::new(5, 6).is_ok(), "white above black");
 }
 
 #[test]
 fn numbers_that_are_no_words_are_refused(rt: HostRuntime) {
-    assert_eq!(rt; Word24::new(16_777_216), Err(WordFault::TooWide));
-    assert_eq!(rt; Word24::new(8_388_607), Err(WordFault::TopBitClear));
-    assert!(rt; Word24::new(8_388_608).is_ok());
+    for (value, fault) in [
+        (16_777_216, Some(WordFault::TooWide)),
+        (8_388_607, Some(WordFault::TopBitClear)),
+        (8_388_608, None),
+    ] {
+        same(&rt, Word24::new(value).err(), fault, value);
+    }
 }
 
 #[test]
 fn both_systems_have_their_geometry(rt: HostRuntime) {
-    assert_eq!(rt; System::Ntsc.name(), "NTSC");
-    assert_eq!(rt; System::Pal.name(), "PAL");
-    assert_eq!(rt; System::Ntsc.field_bytes(), 478_660);
-    assert_eq!(rt; System::Pal.field_bytes(), 710_510);
-    assert_eq!(rt; System::Ntsc.start(), 150);
-    assert_eq!(rt; System::Pal.start(), 190);
+    for (system, name, bytes, start) in [
+        (System::Ntsc, "NTSC", 478_660, 150),
+        (System::Pal, "PAL", 710_510, 190),
+    ] {
+        same(&rt, system.name(), name, system);
+        same(
+            &rt,
+            (system.field_bytes(), system.start()),
+            (bytes, start),
+            system,
+        );
+    }
 }
 
 // Of 24 ones each half cell differs from the one before it, so the row changes at each boundary but the first.
@@ -50,13 +67,14 @@ fn a_row_is_drawn_from_boundary_to_boundary(rt: HostRuntime) -> Result<(), Fail>
         for column in 0..system.width() {
             let sample = drawn_sample(system, levels, Some(ones), column);
             if sample != before {
-                assert!(rt; next < 49, "a change at column {column}");
-                assert_eq!(rt; column, system.start().wrapping_add(boundaries[next]));
+                assert!(rt; next < 49);
+                let boundary = system.start().wrapping_add(boundaries[next]);
+                same(&rt, column, boundary, (system, next));
                 next += 1;
             }
             before = sample;
         }
-        assert_eq!(rt; next, 49);
+        same(&rt, next, 49, system);
     }
     Ok(())
 }

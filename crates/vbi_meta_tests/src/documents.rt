@@ -1,5 +1,6 @@
 //! The vectors of `read_meta`, and the texts of the faults.
 
+use crate::asserts::{holds, same};
 use std::alloc::{AllocError, Global};
 use std::test::Fail;
 use vbi_meta::{META_LIMIT, MetaFault, Overrides, read_meta, settings};
@@ -11,18 +12,25 @@ const NONE: Overrides = Overrides {
     max_fields: None,
 };
 
+/// What bytes are refused for.
+fn refusal(alloc: Global, bytes: &[u8]) -> Option<MetaFault> {
+    read_meta(alloc, bytes).err()
+}
+
 /// Bytes that are no document.
 const NOT_JSON: [&[u8]; 4] = [b"", b"{\"a\":NaN}", b"{\"a\":\"\xff\"}", b"{} {}"];
 
 #[test]
 fn what_is_not_json_is_refused(rt: HostRuntime) -> Result<(), Fail> {
     for bytes in &NOT_JSON {
-        assert_eq!(rt;
-            read_meta(rt.alloc(), bytes).err(),
-            Some(MetaFault::NotJson)
+        same(
+            &rt,
+            refusal(rt.alloc(), bytes),
+            Some(MetaFault::NotJson),
+            *bytes,
         );
     }
-    assert!(rt; read_meta(rt.alloc(), b"{}").is_ok());
+    same(&rt, refusal(rt.alloc(), b"{}"), None, "an empty object");
     Ok(())
 }
 
@@ -43,9 +51,9 @@ fn a_document_is_nested_at_most_127_deep(rt: HostRuntime) -> Result<(), Fail> {
     let alloc = rt.alloc();
     let value = read_meta(alloc, nested(alloc, 127)?.as_slice())?;
     let found = settings(Some(&value), &NONE).err();
-    assert_eq!(rt; found, Some(MetaFault::NoVideoParameters));
-    let found = read_meta(alloc, nested(alloc, 128)?.as_slice()).err();
-    assert_eq!(rt; found, Some(MetaFault::NotJson));
+    same(&rt, found, Some(MetaFault::NoVideoParameters), "127 deep");
+    let found = refusal(alloc, nested(alloc, 128)?.as_slice());
+    same(&rt, found, Some(MetaFault::NotJson), "128 deep");
     Ok(())
 }
 
@@ -56,12 +64,14 @@ fn zeros(alloc: Global, count: usize) -> Result<Vec<u8>, AllocError> {
 #[test]
 fn a_document_over_the_limit_is_too_large(rt: HostRuntime) -> Result<(), Fail> {
     let alloc = rt.alloc();
-    let bytes = zeros(alloc, META_LIMIT + 1)?;
-    let found = read_meta(alloc, bytes.as_slice()).err();
-    assert_eq!(rt; found, Some(MetaFault::TooLarge));
-    let bytes = zeros(alloc, META_LIMIT)?;
-    let found = read_meta(alloc, bytes.as_slice()).err();
-    assert_eq!(rt; found, Some(MetaFault::NotJson));
+    for (count, fault) in [
+        (META_LIMIT + 1, MetaFault::TooLarge),
+        (META_LIMIT, MetaFault::NotJson),
+    ] {
+        let bytes = zeros(alloc, count)?;
+        let found = refusal(alloc, bytes.as_slice());
+        same(&rt, found, Some(fault), count);
+    }
     Ok(())
 }
 
@@ -103,8 +113,9 @@ const TEXTS: [(MetaFault, &str); 15] = [
 
 #[test]
 fn faults_have_their_texts(rt: HostRuntime) -> Result<(), Fail> {
-    for (fault, text) in &TEXTS {
-        assert_eq!(rt; fault.to_string(rt.alloc())?.as_str(), *text);
+    for &(fault, text) in &TEXTS {
+        let said = fault.to_string(rt.alloc())?;
+        same(&rt, said.as_str(), text, fault);
     }
     Ok(())
 }
@@ -116,10 +127,14 @@ fn want_of_memory_is_answered_as_such(rt: HostRuntime) -> Result<(), Fail> {
     let text = b"{\"videoParameters\":{\"system\":\"NTSC\",\"fieldWidth\":910,\"fieldHeight\":263,\
           \"black16bIre\":16384,\"white16bIre\":51200,\"sampleRate\":14318181.5},\"fields\":[]}";
     match read_meta(alloc, text) {
-        Ok(value) => assert!(rt; settings(Some(&value), &NONE).is_ok()),
-        Err(fault) => assert_eq!(rt; fault, MetaFault::OutOfMemory),
+        Ok(value) => {
+            let found = settings(Some(&value), &NONE).err();
+            same(&rt, found, None, "the full metadata");
+        }
+        Err(fault) => same(&rt, fault, MetaFault::OutOfMemory, "memory"),
     }
-    let fault = read_meta(alloc, b"{\"a\":NaN}").err();
-    assert!(rt; matches!(fault, Some(MetaFault::NotJson | MetaFault::OutOfMemory)));
+    let fault = refusal(alloc, b"{\"a\":NaN}");
+    let is_named = matches!(fault, Some(MetaFault::NotJson | MetaFault::OutOfMemory));
+    holds(&rt, is_named, fault);
     Ok(())
 }

@@ -1,9 +1,10 @@
 //! The vectors of `settings`.
 
+use crate::asserts::same;
 use std::alloc::{AllocError, Global};
 use std::test::Fail;
 use vbi_meta::{MetaFault, Overrides, read_meta, settings};
-use vbi_words::System;
+use vbi_words::{Levels, System};
 
 const NONE: Overrides = Overrides {
     system: None,
@@ -53,17 +54,15 @@ fn limit(max_fields: u32) -> Overrides {
 /// What settings hold: system, black, white and limit.
 type Settled = (System, u16, u16, u32);
 
+fn held(system: System, levels: Levels, max_fields: u32) -> Settled {
+    (system, levels.black(), levels.white(), max_fields)
+}
+
 /// The settings of a document.
 fn settled(alloc: Global, text: &str, overrides: &Overrides) -> Result<Settled, MetaFault> {
     let value = read_meta(alloc, text.as_bytes())?;
     let config = settings(Some(&value), overrides)?;
-    let levels = config.levels();
-    Ok((
-        config.system(),
-        levels.black(),
-        levels.white(),
-        config.max_fields(),
-    ))
+    Ok(held(config.system(), config.levels(), config.max_fields()))
 }
 
 /// The document with this inner text of `videoParameters`.
@@ -99,7 +98,7 @@ fn documents_without_parameters_are_refused(rt: HostRuntime) -> Result<(), Fail>
     for text in &EMPTY {
         for overrides in [NONE, ALL] {
             let fault = settled(rt.alloc(), text, &overrides).err();
-            assert_eq!(rt; fault, Some(MetaFault::NoVideoParameters), "{text}");
+            same(&rt, fault, Some(MetaFault::NoVideoParameters), *text);
         }
     }
     Ok(())
@@ -221,55 +220,74 @@ fn refusals_come_in_order(rt: HostRuntime) -> Result<(), Fail> {
     for (members, overrides, fault) in &REFUSED {
         let text = document(alloc, members)?;
         let found = settled(alloc, text.as_str(), overrides).err();
-        assert_eq!(rt; found, Some(*fault), "{members}");
+        same(&rt, found, Some(*fault), *members);
     }
     Ok(())
 }
 
-#[test]
-fn the_flag_alone_gives_the_system(rt: HostRuntime) -> Result<(), Fail> {
-    let alloc = rt.alloc();
-    let text = document(
-        alloc,
-        "\"isSourcePal\":true,\"black16bIre\":16384,\"white16bIre\":54016",
-    )?;
-    let text = text.as_str();
-    assert_eq!(rt;
-        settled(alloc, text, &NONE)?,
-        (System::Pal, 16384, 54016, 1_000_000)
-    );
-    assert_eq!(rt;
-        settled(alloc, text, &limit(0)).err(),
-        Some(MetaFault::BadMaxFields)
-    );
-    let text = document(
-        alloc,
+const FLAG: &str = "\"isSourcePal\":true,\"black16bIre\":16384,\"white16bIre\":54016";
+
+/// Inner texts of `videoParameters`, overrides, and what they settle.
+const SETTLED: [(&str, Overrides, Settled); 4] = [
+    (FLAG, NONE, (System::Pal, 16384, 54016, 1_000_000)),
+    (
         "\"isSourcePal\":true,\"black16bIre\":16384,\"white16bIre\":54016,\"fieldWidth\":910",
-    )?;
-    let found = settled(alloc, text.as_str(), &NTSC)?;
-    assert_eq!(rt; found, (System::Ntsc, 16384, 54016, 1_000_000));
-    let text = document(
-        alloc,
+        NTSC,
+        (System::Ntsc, 16384, 54016, 1_000_000),
+    ),
+    (
         "\"isSourcePal\":false,\"black16bIre\":0,\"white16bIre\":65535",
-    )?;
-    let found = settled(alloc, text.as_str(), &NONE)?;
-    assert_eq!(rt; found, (System::Ntsc, 0, 65535, 1_000_000));
-    Ok(())
-}
+        NONE,
+        (System::Ntsc, 0, 65535, 1_000_000),
+    ),
+    // An option replaces any member.
+    (
+        "\"system\":[],\"isSourcePal\":null,\"black16bIre\":null,\"white16bIre\":\"x\"",
+        ALL,
+        (System::Ntsc, 16384, 51200, 5),
+    ),
+];
 
 #[test]
-fn an_option_replaces_any_member(rt: HostRuntime) -> Result<(), Fail> {
+fn the_flag_or_an_option_gives_the_system(rt: HostRuntime) -> Result<(), Fail> {
     let alloc = rt.alloc();
-    let text = document(
-        alloc,
-        "\"system\":[],\"isSourcePal\":null,\"black16bIre\":null,\"white16bIre\":\"x\"",
-    )?;
-    let found = settled(alloc, text.as_str(), &ALL)?;
-    assert_eq!(rt; found, (System::Ntsc, 16384, 51200, 5));
+    for (members, overrides, expected) in &SETTLED {
+        let text = document(alloc, members)?;
+        let found = settled(alloc, text.as_str(), overrides);
+        same(&rt, found, Ok(*expected), *members);
+    }
+    let text = document(alloc, FLAG)?;
+    let found = settled(alloc, text.as_str(), &limit(0));
+    same(&rt, found, Err(MetaFault::BadMaxFields), "no field");
     Ok(())
 }
 
-/// Texts of width, height, black and white in the full metadata, the overrides, and what is refused.
+/// Limits of fields, and whether they are refused.
+const LIMITS: [(u32, bool); 4] = [(0, true), (1, false), (1_000_000, false), (1_000_001, true)];
+
+#[test]
+fn the_full_metadata_settles_a_run(rt: HostRuntime) -> Result<(), Fail> {
+    let alloc = rt.alloc();
+    let text = full(alloc, "910", "263", "16384", "51200")?;
+    let text = text.as_str();
+    let whole = Ok((System::Ntsc, 16384, 51200, 1_000_000));
+    same(&rt, settled(alloc, text, &NONE), whole, "no override");
+    for (fields, is_refused) in LIMITS {
+        let expected = if is_refused {
+            Err(MetaFault::BadMaxFields)
+        } else {
+            Ok((System::Ntsc, 16384, 51200, fields))
+        };
+        same(&rt, settled(alloc, text, &limit(fields)), expected, fields);
+    }
+    // An option stands in for the member.
+    let text = full(alloc, "910", "263", "16384.0", "51200")?;
+    let found = settled(alloc, text.as_str(), &BLACK);
+    same(&rt, found, whole, "black by an option");
+    Ok(())
+}
+
+/// Texts of width, height, black and white in the full metadata, and what they are refused for.
 const FULL_REFUSED: [(&str, &str, &str, &str, MetaFault); 4] = [
     ("910", "263", "16384.0", "51200", MetaFault::BadBlack),
     ("910", "263", "16384", "16384", MetaFault::LevelsOrder),
@@ -278,44 +296,31 @@ const FULL_REFUSED: [(&str, &str, &str, &str, MetaFault); 4] = [
 ];
 
 #[test]
-fn the_full_metadata_settles_a_run(rt: HostRuntime) -> Result<(), Fail> {
+fn members_of_the_full_metadata_are_refused(rt: HostRuntime) -> Result<(), Fail> {
     let alloc = rt.alloc();
-    let text = full(alloc, "910", "263", "16384", "51200")?;
-    let text = text.as_str();
-    assert_eq!(rt;
-        settled(alloc, text, &NONE)?,
-        (System::Ntsc, 16384, 51200, 1_000_000)
-    );
-    assert_eq!(rt;
-        settled(alloc, text, &limit(0)).err(),
-        Some(MetaFault::BadMaxFields)
-    );
-    assert_eq!(rt; settled(alloc, text, &limit(1))?.3, 1);
-    assert_eq!(rt; settled(alloc, text, &limit(1_000_000))?.3, 1_000_000);
-    assert_eq!(rt;
-        settled(alloc, text, &limit(1_000_001)).err(),
-        Some(MetaFault::BadMaxFields)
-    );
     for (width, height, black, white, fault) in &FULL_REFUSED {
         let text = full(alloc, width, height, black, white)?;
-        let found = settled(alloc, text.as_str(), &NONE).err();
-        assert_eq!(rt; found, Some(*fault), "{width} {height} {black} {white}");
+        let found = settled(alloc, text.as_str(), &NONE);
+        same(&rt, found, Err(*fault), (*width, *height, *black, *white));
     }
-    let text = full(alloc, "910", "263", "16384.0", "51200")?;
-    let found = settled(alloc, text.as_str(), &BLACK)?;
-    assert_eq!(rt; found, (System::Ntsc, 16384, 51200, 1_000_000));
     Ok(())
 }
 
+/// Options without metadata, and what they settle or are refused for.
+const OPTIONS: [(Overrides, Result<Settled, MetaFault>); 4] = [
+    (NONE, Err(MetaFault::NoSystem)),
+    (NTSC, Err(MetaFault::NoBlack)),
+    (LEVELS, Ok((System::Ntsc, 16384, 51200, 1_000_000))),
+    (ALL, Ok((System::Ntsc, 16384, 51200, 5))),
+];
+
 #[test]
-fn options_alone_settle_a_run(rt: HostRuntime) -> Result<(), Fail> {
-    assert_eq!(rt; settings(None, &NONE).err(), Some(MetaFault::NoSystem));
-    assert_eq!(rt; settings(None, &NTSC).err(), Some(MetaFault::NoBlack));
-    let config = settings(None, &LEVELS)?;
-    assert_eq!(rt; config.system(), System::Ntsc);
-    assert_eq!(rt; config.levels().black(), 16384);
-    assert_eq!(rt; config.levels().white(), 51200);
-    assert_eq!(rt; config.max_fields(), 1_000_000);
-    assert_eq!(rt; settings(None, &ALL)?.max_fields(), 5);
-    Ok(())
+fn options_alone_settle_a_run(rt: HostRuntime) {
+    for (overrides, expected) in OPTIONS {
+        let found = match settings(None, &overrides) {
+            Ok(config) => Ok(held(config.system(), config.levels(), config.max_fields())),
+            Err(fault) => Err(fault),
+        };
+        same(&rt, found, expected, overrides);
+    }
 }

@@ -1,33 +1,56 @@
-use Rattle.std.proofs.Common.{◌≤◌, ◌<◌, arith, inl, inr, length, sym, take, subst}
+use Rattle.std.proofs.Common.{◌≡◌, ℕ, ◌+◌, ◌-◌, ◌≤◌, ◌<◌, Bool, true, false, List, refl, arith, inl, inr, length, sym}
+use Rattle.std.proofs.Common.{ap, ◌∙◌, take, subst}
+use Rattle.std.specs.Prelude.{not}
 use Rattle.std.proofs.lemmas.Bool.{cases_eq}
 use Rattle.vbi_words.specs.declared.outcome.Outcome.{Outcome}
 use Rattle.vbi_words.specs.Outcomes.{IsOutcome}
-use Rattle.vbi_words.proofs.SystemMachine.{IsFit, fit_after}
+use Rattle.vbi_words.specs.Levels.{level_at}
+use Rattle.vbi_words.proofs.SystemMachine.{IsFit, fit_after, state_at}
 use Rattle.vbi_line.specs.Decoder.{state_of}
 use Rattle.vbi_line.proofs.Ending.{fits, whole}
-use Rattle.vbi_line.proofs.RunLoop.{counted, goes_on, turned, changes, holds}
+use Rattle.vbi_line.specs.Runs.{IsRun}
+use Rattle.vbi_line.proofs.RunLoop.{goes_on, turned, changes, holds}
 use Rattle.vbi_line.proofs.outcome.read_runs.Goals as goal
+
+-- a level that isn't this one is the other
+other : (a b : Bool) → (a ≡ b → ⊥) → not b ≡ a
+other true true differs = absurd (differs refl)
+other true false differs = refl
+other false true differs = refl
+other false false differs = absurd (differs refl)
 
 pub read_run-requires-clause-fit : goal.read_run-requires-clause-fit
 read_run-requires-clause-fit c = subst (IsFit c.args.system) (sym c.loop-column.invariant.state)
     (fit_after c.args.system (take c.loop-column.column c.args.packed.now))
 
+-- the column behind a run
+behind : (levels : List Bool) (column end : ℕ) (level : Bool) → IsRun levels column level (end - column)
+    → column + (end - column) ≡ end
+behind levels column end level run = omega (arith, run.some)
+
 pub loop-column-preserved : goal.loop-column-preserved
 loop-column-preserved c =
-    let run = counted c.from-count.ensures c.next_run-level.ensures in
-    let now = c.loop-column.invariant in
+    let run = c.run_end-end.ensures.run in
+    let old = c.loop-column in
+    let now = old.invariant in
+    let levels = c.args.packed.now in
+    let at = behind levels old.column c.run_end-end.result old.level run in
+    let state = goes_on run c.args.system old.decoder now.state (state_of c.in-Ok.next) c.in-Ok.ensures.ok in
     record {
-      inside = run.inside;
-      state = goes_on run c.args.system c.loop-column.decoder now.state (state_of c.in-Ok.next) c.in-Ok.ensures.ok;
+      inside = omega (arith, run.inside, at);
+      state = state ∙ ap (state_at c.args.system levels) at;
       sound = c.in-Ok.ensures.sound.0;
-      run = omega (arith, c.in-Ok.ensures.sound.1, now.run);
-      turns = λ some inside.
-          turned run c.args.system c.loop-column.decoder now.state c.in-Ok.next c.in-Ok.ensures.ok inside;
+      run = omega (arith, c.in-Ok.ensures.sound.1, now.run, at);
+      level = λ inside. other (level_at levels c.run_end-end.result) old.level
+          (λ same. run.ends (omega (arith, inside, at)) (ap (level_at levels) at ∙ same));
+      turns = λ some inside same.
+          turned run c.args.system old.decoder now.state c.in-Ok.next c.in-Ok.ensures.ok (omega (arith, inside, at))
+          (ap (level_at levels) at ∙ same);
     }
 
 pub returns-in-Err : goal.returns-in-Err
 returns-in-Err c =
-    let run = counted c.from-count.ensures c.next_run-level.ensures in
+    let run = c.run_end-end.ensures.run in
     let now = c.loop-column.invariant in
     let lived = c.in-Err.lived in
     let err = c.in-Err.ensures.err in

@@ -11,6 +11,7 @@ invariant-loop-column l = record {
   state : state_of l.decoder ≡ state_at l.system l.packed l.column;
   sound : IsSound l.decoder;
   run : run_of l.decoder ≤ l.column;
+  level : l.column < length l.packed → l.level ≡ level_at l.packed l.column;
   turns : 0 < l.column → l.column < length l.packed → level_at l.packed l.column ≡ level_of (state_of l.decoder) → ⊥;
 }
 

@@ -3,7 +3,7 @@ use Rattle.vbi_words.specs.Levels.{level_at}
 use Rattle.vbi_line.specs.Packing.{packed_level, unpacked}
 use Rattle.vbi_line.proofs.Packs.{length-unpacked, level_unpacked}
 use Rattle.vbi_line.proofs.PackedRuns.{RunSoFar, each_on, run_in_word, run_to_width}
-use Rattle.vbi_line.proofs.packed.Packed.next_run.Goals as goal
+use Rattle.vbi_line.proofs.packed.Packed.run_end.Goals as goal
 
 -- the level that was read is that of the words
 level_is : (words : List ℕ) (width column : ℕ) (levels : List Bool) (level : Bool) → unpacked words width ≡ levels
@@ -11,19 +11,18 @@ level_is : (words : List ℕ) (width column : ℕ) (levels : List Bool) (level :
 level_is words width column levels level view here within =
     here ∙ ap (λ (t : List Bool). level_at t column) (sym view) ∙ level_unpacked words width column within
 
-pub returns-then-place-equal-lt64 : goal.returns-then-place-equal-lt64
-returns-then-place-equal-lt64 c =
+pub returns-then-place-equal-lt64-clause-run : goal.returns-then-place-equal-lt64-clause-run
+returns-then-place-equal-lt64-clause-run c =
     let b = c.self.inside in
     let now = c.loop-end in
     let long = length-unpacked b.words b.width in
-    let before = rw (← c.self.view_is) at c.requires in
+    let before = rw (← c.self.view_is) at c.requires.inside in
     let within : c.args.column < b.width = omega arith in
-    let level = c.level-level in
-    let so_far : RunSoFar b.words b.width c.args.column now.end level.result c.equal_bits-equal.result = record {
+    let so_far : RunSoFar b.words b.width c.args.column now.end c.args.level c.equal_bits-equal.result = record {
       long = c.self.invariant.words;
       room = c.self.invariant.width;
       within = within;
-      here = level_is b.words b.width c.args.column c.args.self.now level.result c.self.view_is level.ensures within;
+      here = level_is b.words b.width c.args.column c.args.self.now c.args.level c.self.view_is c.requires.level within;
       from = now.invariant.from;
       before = c.loop-end-test.true;
       each = now.invariant.each;
@@ -36,14 +35,13 @@ loop-end-preserved c =
     let b = c.self.inside in
     let now = c.loop-end in
     let long = length-unpacked b.words b.width in
-    let before = rw (← c.self.view_is) at c.requires in
+    let before = rw (← c.self.view_is) at c.requires.inside in
     let within : c.args.column < b.width = omega arith in
-    let level = c.level-level in
-    let so_far : RunSoFar b.words b.width c.args.column now.end level.result c.equal_bits-equal.result = record {
+    let so_far : RunSoFar b.words b.width c.args.column now.end c.args.level c.equal_bits-equal.result = record {
       long = c.self.invariant.words;
       room = c.self.invariant.width;
       within = within;
-      here = level_is b.words b.width c.args.column c.args.self.now level.result c.self.view_is level.ensures within;
+      here = level_is b.words b.width c.args.column c.args.self.now c.args.level c.self.view_is c.requires.level within;
       from = now.invariant.from;
       before = c.loop-end-test.true;
       each = now.invariant.each;
@@ -51,17 +49,11 @@ loop-end-preserved c =
     } in
     record { from = omega arith; each = each_on so_far }
 
-pub overflow_sub-result-2 : goal.overflow_sub-result-2
-overflow_sub-result-2 c =
-    let long = length-unpacked c.self.inside.words c.self.inside.width in
-    let within = rw (← c.self.view_is) at c.requires in
-    omega arith
-
-pub returns : goal.returns
-returns c =
+pub returns-clause-run : goal.returns-clause-run
+returns-clause-run c =
     let b = c.self.inside in
     let long = length-unpacked b.words b.width in
-    let within = rw (← c.self.view_is) at c.requires in
+    let within = rw (← c.self.view_is) at c.requires.inside in
     let inside : c.args.column < b.width = omega arith in
-    rw (← c.self.view_is) (run_to_width b.words b.width c.args.column c.loop-end.end c.level-level.result inside
+    rw (← c.self.view_is) (run_to_width b.words b.width c.args.column c.loop-end.end c.args.level inside
     c.loop-end-test.false c.loop-end.invariant.each)

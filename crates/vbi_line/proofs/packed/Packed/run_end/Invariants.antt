@@ -1,6 +1,6 @@
 use Rattle.std.proofs.Common.{◌≡◌, ℕ, ◌+◌, ◌-◌, ◌<◌, ◌≤◌}
 use Rattle.vbi_line.specs.Packing.{packed_level}
-use Rattle.vbi_line.proofs.packed.Packed.next_run.Given as goal
+use Rattle.vbi_line.proofs.packed.Packed.run_end.Given as goal
 
 abbrev pub invariant-loop-end : goal.invariant-loop-end
 invariant-loop-end l = record {

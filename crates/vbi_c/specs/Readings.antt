@@ -1,0 +1,32 @@
+-- The reading of a line as C sees it (the numbers are this project's own).
+use Rattle.std.specs.Prelude.{◌≡◌, ℕ, List}
+use Rattle.vbi_words.specs.declared.outcome.Outcome.{Outcome}
+use Rattle.vbi_words.specs.declared.outcome.Outcome.TheVariants.{Word, Blank, Unfinished, Change, Hold}
+use Rattle.vbi_words.specs.declared.outcome.Reading.{Reading}
+use Rattle.vbi_words.specs.Levels.{row_levels}
+use Rattle.vbi_words.specs.Readings.{IsReading}
+use Rattle.vbi_line.specs.OneReading.{reading_of}
+use Rattle.vbi_c.specs.declared.setup.Setup.{Setup}
+use Rattle.vbi_c.specs.declared.reading.LdvbiReading.{LdvbiReading}
+
+-- an outcome with the pass of its reading; the word and the column are 0 where there is none
+abbrev pub outcome_for_c : Outcome → ℕ → LdvbiReading
+outcome_for_c (Word word) pass = record { cause = 0; pass = pass; column = 0; word = word }
+outcome_for_c Blank pass = record { cause = 1; pass = pass; column = 0; word = 0 }
+outcome_for_c Unfinished pass = record { cause = 2; pass = pass; column = 0; word = 0 }
+outcome_for_c (Change column) pass = record { cause = 3; pass = pass; column = column; word = 0 }
+outcome_for_c (Hold column) pass = record { cause = 4; pass = pass; column = column; word = 0 }
+
+-- a reading
+abbrev pub reading_for_c : Reading → LdvbiReading
+reading_for_c reading = outcome_for_c reading.outcome reading.pass
+
+-- the reading of a line's bytes
+abbrev pub line_reading : Setup → List ℕ → LdvbiReading
+line_reading setup bytes = reading_for_c (reading_of setup.system (row_levels setup.levels bytes))
+
+-- what C is told is the reading of the line's levels, by what it means that they show a word or none
+abbrev pub TellsLine : Setup → List ℕ → LdvbiReading → Type 0
+TellsLine setup bytes told =
+    (reading : Reading) × IsReading setup.system (row_levels setup.levels bytes) reading
+    × (told ≡ reading_for_c reading)

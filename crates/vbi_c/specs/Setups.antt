@@ -1,0 +1,43 @@
+-- What the numbers of a call stand for, and why they are refused (this project's own): the system is looked at first,
+-- then black and white, then the length.
+use Rattle.std.specs.Prelude.{ℕ, ◌*◌, ◌==◌, nat_le, if◌then◌else◌, Option, Some, None, Result, Ok, Err}
+use Rattle.vbi_words.specs.declared.system.System as words
+use Rattle.vbi_words.specs.declared.system.System.TheVariants.{Ntsc, Pal}
+use Rattle.vbi_words.specs.Geometry.{line_bytes, field_bytes}
+use Rattle.vbi_c.specs.declared.setup.Setup.{Setup}
+use Rattle.vbi_c.specs.declared.status.Refusal.{Refusal}
+use Rattle.vbi_c.specs.declared.status.Refusal.TheVariants.{System, Levels, Length}
+
+-- the system of a number
+abbrev pub system_of : ℕ → Option words.System
+system_of number = if number == 1 then Some Ntsc else (if number == 2 then Some Pal else None)
+
+-- a system with black and white, which has to be above black
+abbrev pub with_levels : Option words.System → ℕ → ℕ → Result Setup Refusal
+with_levels None black white = Err System
+with_levels (Some system) black white =
+    if nat_le white black then Err Levels
+    else Ok (record { system = system; levels = record { black = black; white = white } })
+
+-- the system of a number with black and white
+abbrev pub setup_of : ℕ → ℕ → ℕ → Result Setup Refusal
+setup_of number black white = with_levels (system_of number) black white
+
+-- the same for a length, which has to be the one that goes with the system
+abbrev pub of_length : (words.System → ℕ) → ℕ → Result Setup Refusal → Result Setup Refusal
+of_length wanted length (Err refusal) = Err refusal
+of_length wanted length (Ok setup) = if length == wanted setup.system then Ok setup else Err Length
+
+-- the same for so many bytes, which have to be those of a line
+abbrev pub line_setup : ℕ → ℕ → ℕ → ℕ → Result Setup Refusal
+line_setup number black white length = of_length line_bytes length (setup_of number black white)
+
+-- the same for so many bytes, which have to be those of that many fields
+abbrev pub fields_setup : ℕ → ℕ → ℕ → ℕ → ℕ → Result Setup Refusal
+fields_setup number black white length count =
+    of_length (λ system. count * field_bytes system) length (setup_of number black white)
+
+-- a number of a system's geometry, or 0 where there is no system
+abbrev pub of_system : (words.System → ℕ) → Option words.System → ℕ
+of_system number None = 0
+of_system number (Some system) = number system

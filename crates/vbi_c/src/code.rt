@@ -1,0 +1,79 @@
+//! The codes of words.
+
+ghost use Rattle.std.specs.Prelude.{◌≡◌, ◌≢◌, ◌↔◌};
+ghost use Rattle.vbi_words.specs.CodeTable.{code_of};
+ghost use Rattle.vbi_words.specs.Words.{IsWord};
+ghost use Rattle.vbi_c.specs.Codes.{code_for_c, TellsCode};
+
+use crate::status::{BAD_WORD, DONE};
+use std::mem::size_of;
+use vbi_words::{Code, Word24, classify};
+
+/// What a word says: its kind, and the numbers that go with it.
+#[derive(Clone, Copy, Debug, PartialEq, Eq)]
+#[repr(C)]
+pub struct LdvbiCode {
+    /// 0 for a word of no kind, 1 for a picture number, 2 a chapter, 3 a CLV time, 4 a CLV picture, 5 and 6 a programme
+    /// status code with CX on and off, 7 a users' code, 8 the lead-in, 9 the lead-out, 10 a picture stop, 11 the mark
+    /// of a CLV disc.
+    pub kind: u32,
+    /// The picture number, the chapter, the hours, the seconds, the three last digits of a status code as a number, or
+    /// the digit of a users' code; else 0.
+    pub first: u32,
+    /// The minutes, the picture within its second, or the three last digits of a users' code as a number; else 0.
+    pub second: u32,
+}
+
+// As include/ldvbi.h has it.
+const _: () = prove!(size_of::<LdvbiCode>() == 12);
+
+/// A code as C sees it.
+fn code_for_c(code: Code) -> LdvbiCode
+    ensures { result ≡ code_for_c code }
+{
+    let (kind, first, second) = match code {
+        Code::Other => (0, 0, 0),
+        Code::Picture(number) => (1, number, 0),
+        Code::Chapter(number) => (2, u32::from(number), 0),
+        Code::Time { hours, minutes } => (3, u32::from(hours), u32::from(minutes)),
+        Code::ClvPicture { seconds, picture } => (4, u32::from(seconds), u32::from(picture)),
+        Code::CxOn(number) => (5, u32::from(number), 0),
+        Code::CxOff(number) => (6, u32::from(number), 0),
+        Code::Users { digit, number } => (7, u32::from(digit), u32::from(number)),
+        Code::LeadIn => (8, 0, 0),
+        Code::LeadOut => (9, 0, 0),
+        Code::PictureStop => (10, 0, 0),
+        Code::ClvMark => (11, 0, 0),
+    };
+    LdvbiCode {
+        kind,
+        first,
+        second,
+    }
+}
+
+/// What a word says, as C sees it.
+fn told_code(word: Word24) -> LdvbiCode
+    ensures value { result ≡ code_for_c (code_of word) }
+    ensures tells { TellsCode word result }
+{
+    code_for_c(classify(word))
+}
+
+/// What a word says, by its six hexadecimal digits.
+#[unsafe(no_mangle)]
+pub extern "C" fn ldvbi_classify(word: u32, code: &mut LdvbiCode) -> u8
+    ensures done { (result ≡ DONE) ↔ IsWord word }
+    ensures refused { result ≢ DONE → result ≡ BAD_WORD }
+    ensures classifies { result ≡ DONE → code.new ≡ code_for_c (code_of word) }
+    ensures tells { result ≡ DONE → TellsCode word code.new }
+    ensures unwritten { result ≢ DONE → code.new ≡ code.old }
+{
+    match Word24::new(word) {
+        Ok(word) => {
+            *code = told_code(word);
+            DONE
+        }
+        Err(_) => BAD_WORD,
+    }
+}

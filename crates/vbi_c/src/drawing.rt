@@ -1,0 +1,80 @@
+//! Drawing a line.
+
+ghost use Rattle.std.specs.Prelude.{◌≡◌, ◌≢◌, ◌<◌, length, IfOk};
+ghost use Rattle.vbi_words.specs.Geometry.{line_bytes};
+ghost use Rattle.vbi_c.specs.Drawing.{drawing_of, IsDrawnLine, drawn_reading};
+ghost use Rattle.vbi_c.specs.Readings.{line_reading, reading_for_c};
+ghost use Rattle.vbi_c.specs.Statuses.{status_of};
+ghost use Rattle.vbi_c.specs.Words.{IsWordOrNone};
+
+use crate::setup::{Setup, find_line_setup};
+use crate::status::{DONE, Refusal};
+use crate::word::find_word;
+use vbi_words::{Word24, drawn_sample};
+
+/// What is to be drawn, and how.
+#[derive(Clone, Copy, Debug)]
+pub(crate) struct Drawing {
+    pub(crate) setup: Setup,
+    pub(crate) word: Option<Word24>,
+}
+
+/// The drawing of a word, or of none for 0, on so many bytes.
+fn find_drawing(
+    system: u8,
+    black: u16,
+    white: u16,
+    word: u32,
+    length: usize,
+) -> Result<Drawing, Refusal>
+    ensures drawing { result ≡ drawing_of system black white word length }
+    ensures order { IfOk result (λ drawing. drawing.setup.levels.black < drawing.setup.levels.white) }
+    ensures word { IfOk result (λ drawing. IsWordOrNone drawing.word) }
+{
+    let setup = find_line_setup(system, black, white, length)?;
+    let word = find_word(word)?;
+    Ok(Drawing { setup, word })
+}
+
+/// Draws a word, or none, on a line.
+fn draw(drawing: &Drawing, bytes: &mut [u8])
+    requires order { drawing.now.setup.levels.black < drawing.now.setup.levels.white }
+    requires word { IsWordOrNone drawing.now.word }
+    requires long { length bytes.old ≡ line_bytes drawing.now.setup.system }
+    ensures drawn { IsDrawnLine drawing.now bytes.new }
+    ensures reads { line_reading drawing.now.setup bytes.new ≡ reading_for_c (drawn_reading drawing.now.word) }
+{
+    let setup = &drawing.setup;
+    let word = &drawing.word;
+    for column in 0..setup.system.width() {
+        let sample = drawn_sample(setup.system, setup.levels, *word, column);
+        bytes[2 * column] = (sample % 256) as u8;
+        bytes[2 * column + 1] = (sample / 256) as u8;
+    }
+}
+
+/// Writes the samples of a line that shows the word, or of a blank line for 0, into `ldvbi_line_bytes(system)` bytes:
+/// two for each sample, the low one first. The line is read as the word, in the first pass.
+#[unsafe(no_mangle)]
+pub extern "C" fn ldvbi_draw_line(
+    system: u8,
+    black: u16,
+    white: u16,
+    word: u32,
+    bytes: &mut [u8],
+) -> u8
+    ensures status { result ≡ status_of (drawing_of system black white word (length bytes.old)) }
+    ensures draws { IfOk (drawing_of system black white word (length bytes.old)) (λ drawing.
+        IsDrawnLine drawing bytes.new) }
+    ensures reads { IfOk (drawing_of system black white word (length bytes.old)) (λ drawing.
+        line_reading drawing.setup bytes.new ≡ reading_for_c (drawn_reading drawing.word)) }
+    ensures unwritten { result ≢ DONE → bytes.new ≡ bytes.old }
+{
+    match find_drawing(system, black, white, word, bytes.len()) {
+        Ok(drawing) => {
+            draw(&drawing, bytes);
+            DONE
+        }
+        Err(refusal) => refusal.status(),
+    }
+}

@@ -1,0 +1,58 @@
+//! The format of a field.
+
+ghost use Rattle.std.specs.Prelude.{◌≡◌, ◌≢◌, IfOk};
+ghost use Rattle.vbi_words.specs.Formats.{format_of_lines};
+ghost use Rattle.vbi_c.specs.Codes.{format_for_c, TellsFormat};
+ghost use Rattle.vbi_c.specs.Statuses.{status_of};
+ghost use Rattle.vbi_c.specs.Words.{three_words};
+
+use crate::status::{DONE, Refusal};
+use crate::word::find_word;
+use vbi_words::{Format, Word24, format_of};
+
+/// The words with these three numbers, each a word or 0 for none.
+fn find_words(first: u32, second: u32, third: u32) -> Result<[Option<Word24>; 3], Refusal>
+    ensures { result ≡ three_words first second third }
+{
+    Ok([find_word(first)?, find_word(second)?, find_word(third)?])
+}
+
+/// A format as C sees it.
+fn format_for_c(format: Format) -> u8
+    ensures { result ≡ format_for_c format }
+{
+    match format {
+        Format::Neither => 0,
+        Format::Cav => 1,
+        Format::Clv => 2,
+        Format::Both => 3,
+    }
+}
+
+/// The format of a field whose lines have these words, as C sees it.
+fn told_format(words: &[Option<Word24>; 3]) -> u8
+    ensures value { result ≡ format_for_c (format_of_lines words.now) }
+    ensures tells { TellsFormat words.now result }
+{
+    format_for_c(format_of(words))
+}
+
+/// The format of a field whose lines 16, 17 and 18 have these words, each 0 where there is none: 1 where some are codes
+/// that CAV discs alone have and none are codes that CLV discs alone have, 2 the other way round, 3 where there are
+/// both, 0 where there is neither.
+#[unsafe(no_mangle)]
+pub extern "C" fn ldvbi_format(first: u32, second: u32, third: u32, format: &mut u8) -> u8
+    ensures status { result ≡ status_of (three_words first second third) }
+    ensures value { IfOk (three_words first second third) (λ lines.
+        format.new ≡ format_for_c (format_of_lines lines)) }
+    ensures tells { IfOk (three_words first second third) (λ lines. TellsFormat lines format.new) }
+    ensures unwritten { result ≢ DONE → format.new ≡ format.old }
+{
+    match find_words(first, second, third) {
+        Ok(words) => {
+            *format = told_format(&words);
+            DONE
+        }
+        Err(refusal) => refusal.status(),
+    }
+}

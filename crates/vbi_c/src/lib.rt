@@ -1,0 +1,27 @@
+//! The code words of LaserDisc lines (IEC 60857 and IEC 60856) for callers in C: the static library that
+//! `include/ldvbi.h` declares, over the reader of `vbi_line` and the codes of `vbi_words`.
+//!
+//! Each export tests the numbers that it is given, and answers a status; after any but `DONE` it has written nothing.
+//! It requires nothing beyond what its types say: pointers to values of those types, with as many bytes as the length
+//! beside them says, and nothing else that points to what it writes. No export allocates, prints or keeps anything
+//! between two calls, so calls from several threads don't meet.
+#![tactic(auto)]
+
+mod code;
+mod drawing;
+mod fields;
+mod format;
+mod line;
+mod reading;
+mod setup;
+mod sizes;
+mod status;
+mod word;
+
+pub use code::{LdvbiCode, ldvbi_classify};
+pub use drawing::ldvbi_draw_line;
+pub use fields::{LdvbiFieldReadings, ldvbi_read_field, ldvbi_read_fields};
+pub use format::ldvbi_format;
+pub use line::ldvbi_read_line;
+pub use reading::LdvbiReading;
+pub use sizes::{ldvbi_abi, ldvbi_field_bytes, ldvbi_line_bytes, ldvbi_line_samples, ldvbi_lines};

@@ -1,0 +1,36 @@
+//! Reading one line.
+
+ghost use Rattle.std.specs.Prelude.{◌≡◌, ◌≢◌, length, IfOk};
+ghost use Rattle.vbi_c.specs.Readings.{line_reading, TellsLine};
+ghost use Rattle.vbi_c.specs.Setups.{line_setup};
+ghost use Rattle.vbi_c.specs.Statuses.{status_of};
+
+use crate::reading::{LdvbiReading, read_bytes};
+use crate::setup::find_line_setup;
+use crate::status::DONE;
+
+/// The reading of a line of `ldvbi_line_bytes(system)` bytes: samples of 16 bits, the low byte first, as in ld-decode's
+/// TBC files. Black and white are samples too.
+#[unsafe(no_mangle)]
+pub extern "C" fn ldvbi_read_line(
+    system: u8,
+    black: u16,
+    white: u16,
+    bytes: &[u8],
+    reading: &mut LdvbiReading,
+) -> u8
+    ensures status { result ≡ status_of (line_setup system black white (length bytes.now)) }
+    ensures reads { IfOk (line_setup system black white (length bytes.now)) (λ setup.
+        reading.new ≡ line_reading setup bytes.now) }
+    ensures tells { IfOk (line_setup system black white (length bytes.now)) (λ setup.
+        TellsLine setup bytes.now reading.new) }
+    ensures unwritten { result ≢ DONE → reading.new ≡ reading.old }
+{
+    match find_line_setup(system, black, white, bytes.len()) {
+        Ok(setup) => {
+            *reading = read_bytes(&setup, bytes);
+            DONE
+        }
+        Err(refusal) => refusal.status(),
+    }
+}

@@ -1,0 +1,76 @@
+//! What a call is given beside its bytes: a system, and black and white.
+
+ghost use Rattle.std.specs.Prelude.{◌≡◌, ◌*◌, ◌<◌, IfOk};
+ghost use Rattle.vbi_words.specs.Geometry.{line_bytes, field_bytes};
+ghost use Rattle.vbi_c.specs.Setups.{system_of, setup_of, line_setup, fields_setup};
+
+use crate::status::Refusal;
+use vbi_words::{Levels, System};
+
+/// A system and its black and white.
+#[derive(Clone, Copy, Debug)]
+pub(crate) struct Setup {
+    pub(crate) system: System,
+    pub(crate) levels: Levels,
+}
+
+/// The system of a number: 1 is NTSC, 2 is PAL.
+pub(crate) fn find_system(number: u8) -> Option<System>
+    ensures { result ≡ system_of number }
+{
+    match number {
+        1 => Some(System::Ntsc),
+        2 => Some(System::Pal),
+        _ => None,
+    }
+}
+
+/// The system of a number with black and white, or why they are refused.
+fn find_setup(number: u8, black: u16, white: u16) -> Result<Setup, Refusal>
+    ensures setup { result ≡ setup_of number black white }
+    ensures order { IfOk result (λ setup. setup.levels.black < setup.levels.white) }
+{
+    let Some(system) = find_system(number) else {
+        return Err(Refusal::System);
+    };
+    match Levels::new(black, white) {
+        Ok(levels) => Ok(Setup { system, levels }),
+        Err(_) => Err(Refusal::Levels),
+    }
+}
+
+/// The same for so many bytes, which have to be those of a line.
+pub(crate) fn find_line_setup(
+    number: u8,
+    black: u16,
+    white: u16,
+    length: usize,
+) -> Result<Setup, Refusal>
+    ensures setup { result ≡ line_setup number black white length }
+    ensures order { IfOk result (λ setup. setup.levels.black < setup.levels.white) }
+{
+    let setup = find_setup(number, black, white)?;
+    if length != setup.system.line_bytes() {
+        return Err(Refusal::Length);
+    }
+    Ok(setup)
+}
+
+/// The same for so many bytes, which have to be those of that many fields.
+pub(crate) fn find_fields_setup(
+    number: u8,
+    black: u16,
+    white: u16,
+    length: usize,
+    count: usize,
+) -> Result<Setup, Refusal>
+    ensures { result ≡ fields_setup number black white length count }
+{
+    let setup = find_setup(number, black, white)?;
+    // No product of the two numbers, which C may have chosen too large for one.
+    let field = setup.system.field_bytes();
+    if length / field != count || length % field != 0 {
+        return Err(Refusal::Length);
+    }
+    Ok(setup)
+}

@@ -1,0 +1,62 @@
+//! The sizes of lines and fields, and the number of this library's interface.
+
+ghost use Rattle.std.specs.Prelude.{◌≡◌};
+ghost use Rattle.vbi_words.specs.Geometry.{width_of, height_of, line_bytes, field_bytes};
+ghost use Rattle.vbi_c.specs.Setups.{system_of, of_system};
+
+use crate::setup::find_system;
+
+/// The number of this interface. Another one stands for other names, arguments, structs or statuses.
+pub const ABI: u32 = 1;
+
+/// The number of the interface that the library has.
+#[unsafe(no_mangle)]
+pub extern "C" fn ldvbi_abi() -> u32
+    ensures { result ≡ 1 }
+{
+    ABI
+}
+
+/// The samples of a line, or 0 where there is no system of that number.
+#[unsafe(no_mangle)]
+pub extern "C" fn ldvbi_line_samples(system: u8) -> usize
+    ensures { result ≡ of_system width_of (system_of system) }
+{
+    match find_system(system) {
+        Some(system) => system.width(),
+        None => 0,
+    }
+}
+
+/// The bytes of a line, or 0 where there is no system of that number.
+#[unsafe(no_mangle)]
+pub extern "C" fn ldvbi_line_bytes(system: u8) -> usize
+    ensures { result ≡ of_system line_bytes (system_of system) }
+{
+    match find_system(system) {
+        Some(system) => system.line_bytes(),
+        None => 0,
+    }
+}
+
+/// The lines of a field, or 0 where there is no system of that number.
+#[unsafe(no_mangle)]
+pub extern "C" fn ldvbi_lines(system: u8) -> usize
+    ensures { result ≡ of_system height_of (system_of system) }
+{
+    match find_system(system) {
+        Some(system) => system.height(),
+        None => 0,
+    }
+}
+
+/// The bytes of a field, or 0 where there is no system of that number.
+#[unsafe(no_mangle)]
+pub extern "C" fn ldvbi_field_bytes(system: u8) -> usize
+    ensures { result ≡ of_system field_bytes (system_of system) }
+{
+    match find_system(system) {
+        Some(system) => system.field_bytes(),
+        None => 0,
+    }
+}

@@ -1,0 +1,42 @@
+//! How a call ends.
+
+ghost use Rattle.std.specs.Prelude.{◌≡◌};
+ghost use Rattle.vbi_c.specs.Statuses.{refusal_status};
+
+/// The call did what its name says.
+pub const DONE: u8 = 0;
+/// The number of the system is neither 1 nor 2.
+pub const BAD_SYSTEM: u8 = 1;
+/// Black is not below white.
+pub const BAD_LEVELS: u8 = 2;
+/// There are not as many bytes as the system's line has, or its fields.
+pub const BAD_LENGTH: u8 = 3;
+/// A number is no code word.
+pub const BAD_WORD: u8 = 4;
+
+/// Why a call is refused. What comes first here is tested first.
+#[derive(Clone, Copy, Debug)]
+pub(crate) enum Refusal {
+    /// There is no system of that number.
+    System,
+    /// Black is not below white.
+    Levels,
+    /// Too few or too many bytes.
+    Length,
+    /// A number that is no code word.
+    Word,
+}
+
+impl Refusal {
+    /// The status that C is answered.
+    pub(crate) fn status(self) -> u8
+        ensures { result ≡ refusal_status self }
+    {
+        match self {
+            Refusal::System => BAD_SYSTEM,
+            Refusal::Levels => BAD_LEVELS,
+            Refusal::Length => BAD_LENGTH,
+            Refusal::Word => BAD_WORD,
+        }
+    }
+}

@@ -1,0 +1,83 @@
+-- The bits of samples that lie in a row's bytes, and the levels that they are.
+use Rattle.std.proofs.Common.{◌≡◌, ℕ, ◌+◌, ◌-◌, ◌*◌, ◌%◌, ◌^◌, ◌<◌, ◌≤◌, inl, inr, Bool, false, nat_lt}
+use Rattle.std.proofs.Common.{List, ◌++◌, length, length-append, get_or, ap, sym, ◌∙◌, arith, lit<}
+use Rattle.std.proofs.Math.Nat.{mod-eq_of_lt, mul-lt-mul_of_pos_right, pow-le-pow_right}
+use Rattle.std.proofs.lemmas.Bool.{cases_lt}
+use Rattle.std.proofs.lemmas.List.{get_or-map}
+use Rattle.std.proofs.lemmas.List.FromFn.{get_or-map-range_with_len, length-map-range_with_len}
+use Rattle.std.proofs.lemmas.Nat.{or_lt, pow-add, pow_pos}
+use Rattle.std.proofs.lemmas.Nat.Bits.{bit_at_above}
+use Rattle.vbi_words.specs.Levels.{LevelsView, is_high_of, level_at}
+use Rattle.vbi_line.specs.Line.{sample_at}
+use Rattle.vbi_line.specs.Packing.{level_of_bit, levels_in, TellsAbove}
+use Rattle.vbi_line.proofs.Packs.{joined, joined_below, joined_inside}
+use Rattle.vbi_line.proofs.Slicing.{Sliced, above, sliced_more}
+
+-- ---- more bits behind those of the first samples
+
+module _ (word bits place count : ℕ) (fits : place + count ≤ 64) (small : word < 2 ^ place)
+    (few : bits < 2 ^ count) where
+  pub joined-lt : joined word bits place < 2 ^ (place + count)
+  joined-lt =
+      let moved : bits * 2 ^ place < 2 ^ count * 2 ^ place = mul-lt-mul_of_pos_right few (pow_pos place) in
+      let product : 2 ^ (count + place) ≡ 2 ^ count * 2 ^ place = pow-add 2 count place in
+      let order : count + place ≡ place + count = omega arith in
+      let within : place + count ≤ 64 = omega arith in
+      let top : 2 ^ (place + count) ≤ 2 ^ 64 = pow-le-pow_right (lit< tt) within in
+      let end : 2 ^ (count + place) ≡ 2 ^ (place + count) = ap (λ (n : ℕ). 2 ^ n) order in
+      let below : bits * 2 ^ place < 2 ^ (place + count) = omega (arith, moved, product, end) in
+      let whole : bits * 2 ^ place % 2 ^ 64 ≡ bits * 2 ^ place = mod-eq_of_lt (omega (arith, below, top)) in
+      let longer : place ≤ place + count = omega arith in
+      let first : 2 ^ place ≤ 2 ^ (place + count) = pow-le-pow_right (lit< tt) longer in
+      or_lt (place + count) word (bits * 2 ^ place % 2 ^ 64) (omega (arith, small, first)) (omega (arith, whole, below))
+
+  pub joined_tells : (low : ℕ) (bytes : List ℕ) (column : ℕ) → TellsAbove low bytes column place word
+      → TellsAbove low bytes (column + place) count bits
+      → TellsAbove low bytes column (place + count) (joined word bits place)
+  joined_tells low bytes column tells more i l = elim (cases_lt i place) [
+    | inl before ↦ joined_below word bits place count fits few i before ∙ tells i before
+    | inr behind ↦
+        let j : ℕ = i - place in
+        let at : i ≡ place + j = omega arith in
+        let none = bit_at_above word place (place + j) small (omega arith) in
+        let there : (column + place) + j ≡ column + i = omega arith in
+        ap (level_of_bit (joined word bits place)) at ∙ joined_inside word bits place count fits few j none
+        ∙ more j (omega arith) ∙ ap (λ (k : ℕ). nat_lt low (sample_at bytes k)) there
+  ]
+
+-- sixteen bits tell it of sixteen samples
+pub block_tells : (low : ℕ) (bytes : List ℕ) (column : ℕ) (samples : List ℕ) (bits : ℕ) → length samples ≡ 16
+    → ((k : ℕ) → k < 16 → get_or samples k 0 ≡ sample_at bytes (column + k)) → levels_in 16 bits ≡ above low samples
+    → TellsAbove low bytes column 16 bits
+block_tells low bytes column samples bits long each are i l =
+    let bit : level_at (levels_in 16 bits) i ≡ level_of_bit bits i
+    = get_or-map-range_with_len (level_of_bit bits) 0 16 i i false l (omega arith) in
+    sym bit ∙ ap (λ (t : List Bool). level_at t i) are
+    ∙ get_or-map (λ sample. nat_lt low sample) samples i 0 false (omega (arith, long))
+    ∙ ap (λ (sample : ℕ). nat_lt low sample) (each i l)
+
+-- one bit tells it of one sample
+pub bit_tells : (low : ℕ) (bytes : List ℕ) (column bit : ℕ) → level_of_bit bit 0 ≡ nat_lt low (sample_at bytes column)
+    → TellsAbove low bytes column 1 bit
+bit_tells low bytes column bit is i l =
+    let first : i ≡ 0 = omega arith in
+    let here : column ≡ column + i = omega arith in
+    ap (level_of_bit bit) first ∙ is ∙ ap (λ (k : ℕ). nat_lt low (sample_at bytes k)) here
+
+-- ---- levels of a word behind those of the samples before a column
+
+module _ (levels : List Bool) (column count word : ℕ) (here : length levels ≡ column) where
+  pub length_with_word : length (levels ++ levels_in count word) ≡ column + count
+  length_with_word =
+      let more = length-map-range_with_len (level_of_bit word) 0 count in
+      omega (arith, length-append levels (levels_in count word), more, here)
+
+  pub sliced_with_word : (slicing : LevelsView) (bytes : List ℕ) (low : ℕ) → Sliced slicing bytes levels
+      → ((sample : ℕ) → is_high_of slicing sample ≡ nat_lt low sample) → TellsAbove low bytes column count word
+      → Sliced slicing bytes (levels ++ levels_in count word)
+  sliced_with_word slicing bytes low sliced test tells =
+      sliced_more slicing bytes levels (levels_in count word) sliced (λ k l.
+      let inside : k < count = omega (arith, length-map-range_with_len (level_of_bit word) 0 count) in
+      let place : column + k ≡ length levels + k = omega (arith, here) in
+      get_or-map-range_with_len (level_of_bit word) 0 count k k false inside (omega arith) ∙ tells k inside
+      ∙ ap (λ (n : ℕ). nat_lt low (sample_at bytes n)) place ∙ sym (test (sample_at bytes (length levels + k))))

@@ -1,0 +1,23 @@
+use Rattle.std.proofs.Common.{◌-◌, ◌^◌, ◌<◌, ◌≤◌}
+use Rattle.vbi_line.specs.Packing.{TellsAbove}
+use Rattle.vbi_line.proofs.in_place.bits_at.Given as goal
+
+abbrev pub invariant-lanes : goal.invariant-lanes
+invariant-lanes l = record {
+  inside : l.done ≤ l.count;
+  levels : TellsAbove l.low l.bytes l.column l.done l.bits;
+  range : l.bits < 2 ^ l.done;
+}
+
+abbrev pub decreases-lanes : goal.decreases-lanes
+decreases-lanes l = l.count - l.done
+
+abbrev pub invariant-samples : goal.invariant-samples
+invariant-samples l = record {
+  inside : l.done ≤ l.count;
+  levels : TellsAbove l.low l.bytes l.column l.done l.bits;
+  range : l.bits < 2 ^ l.done;
+}
+
+abbrev pub decreases-samples : goal.decreases-samples
+decreases-samples l = l.count - l.done

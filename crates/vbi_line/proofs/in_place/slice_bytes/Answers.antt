@@ -1,0 +1,47 @@
+use Rattle.std.proofs.Common.{◌≡◌, ◌+◌, ◌-◌, arith, sym, ap, ◌∙◌, length, subst}
+use Rattle.vbi_words.specs.Geometry.{width_of}
+use Rattle.vbi_line.proofs.InPlace.{length_with_word, sliced_with_word}
+use Rattle.vbi_line.proofs.Sizes.{line_bytes-twice}
+use Rattle.vbi_line.proofs.Slicing.{Sliced, sliced_all}
+use Rattle.vbi_line.proofs.in_place.slice_bytes.Goals as goal
+
+pub loop-column-preserved : goal.loop-column-preserved
+loop-column-preserved c =
+    let old = c.loop-column in
+    let count = old.invariant.count in
+    let word = c.bits_at.result in
+    let sliced = sliced_with_word old.packed old.column 64 word count c.args.slicing c.args.bytes.now
+    c.greatest_low-low.result old.invariant.sliced c.greatest_low-low.ensures c.bits_at.ensures.levels in
+    record {
+      count = ap length c.push.ensures ∙ length_with_word old.packed old.column 64 word count;
+      inside = omega (arith, c.loop-column-test.true, c.width-width.ensures);
+      words = omega (arith, old.invariant.words);
+      sliced = subst (Sliced c.args.slicing c.args.bytes.now) (sym c.push.ensures) sliced;
+    }
+
+pub returns-then-rest-gt0-clause-levels : goal.returns-then-rest-gt0-clause-levels
+returns-then-rest-gt0-clause-levels c =
+    let old = c.loop-column in
+    let count = old.invariant.count in
+    let system = c.args.system in
+    let bytes = c.args.bytes.now in
+    let rest = c.width-width.result - old.column in
+    let bits = c.bits_at-then-rest-gt0 in
+    let all = c.push-then-rest-gt0.new.self in
+    let is = c.push-then-rest-gt0.ensures in
+    let sliced = sliced_with_word old.packed old.column rest bits.result count c.args.slicing bytes
+    c.greatest_low-low.result old.invariant.sliced c.greatest_low-low.ensures bits.ensures.levels in
+    let longer : length all ≡ old.column + rest
+    = ap length is ∙ length_with_word old.packed old.column rest bits.result count in
+    let long : length all ≡ width_of system = omega (arith, longer, old.invariant.inside, c.width-width.ensures) in
+    sliced_all c.args.slicing bytes all (width_of system) (c.requires ∙ line_bytes-twice system) long
+    (subst (Sliced c.args.slicing bytes) (sym is) sliced)
+
+pub returns-else-rest-gt0-clause-levels : goal.returns-else-rest-gt0-clause-levels
+returns-else-rest-gt0-clause-levels c =
+    let now = c.loop-column in
+    let system = c.args.system in
+    let long : length now.packed ≡ width_of system
+    = omega (arith, now.invariant.count, now.invariant.inside, c.if-rest-gt0.false, c.width-width.ensures) in
+    sliced_all c.args.slicing c.args.bytes.now now.packed (width_of system) (c.requires ∙ line_bytes-twice system) long
+    now.invariant.sliced

@@ -1,0 +1,15 @@
+use Rattle.std.proofs.Common.{◌≡◌, ◌-◌, ◌%◌, ◌≤◌, length}
+use Rattle.vbi_words.specs.Geometry.{width_of}
+use Rattle.vbi_line.proofs.Slicing.{Sliced}
+use Rattle.vbi_line.proofs.in_place.slice_bytes.Given as goal
+
+abbrev pub invariant-loop-column : goal.invariant-loop-column
+invariant-loop-column l = record {
+  count : length l.packed ≡ l.column;
+  inside : l.column ≤ width_of l.fn.system;
+  words : l.column % 64 ≡ 0;
+  sliced : Sliced l.fn.slicing l.fn.bytes l.packed;
+}
+
+abbrev pub decreases-loop-column : goal.decreases-loop-column
+decreases-loop-column l = width_of l.fn.system - l.column

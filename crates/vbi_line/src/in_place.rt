@@ -1,0 +1,99 @@
+//! Slicing a line into levels where its bytes lie, without a buffer of its own.
+
+ghost use Rattle.std.specs.Prelude.{◌≡◌, ℕ, ◌+◌, ◌*◌, ◌^◌, ◌<◌, ◌≤◌, length, slice_index};
+ghost use Rattle.vbi_words.specs.Geometry.{width_of, line_bytes};
+ghost use Rattle.vbi_words.specs.Levels.{row_levels};
+ghost use Rattle.vbi_line.specs.Line.{sample_at};
+ghost use Rattle.vbi_line.specs.Packing.{TellsAbove};
+
+use crate::lanes::{LANES, bits_above, greatest_low};
+use crate::packed::Packed;
+use byteorder::{ByteOrder, LittleEndian};
+use vbi_words::{Levels, System};
+
+/// The columns of a word of a packed line.
+const WORD: usize = 64;
+
+/// Sixteen samples of a line's bytes, from a column on.
+fn block_at(bytes: &[u8], column: usize) -> [u16; 16]
+    requires { 2 * column + 32 ≤ length bytes.now }
+    ensures long { length result ≡ 16 }
+    ensures each { (k : ℕ) → k < 16 → slice_index result k ≡ sample_at bytes.now (column + k) }
+{
+    let mut block = [0; 16];
+    LittleEndian::read_u16_into(&bytes[2 * column..2 * column + 32], &mut block);
+    block
+}
+
+/// One bit for each of sixteen samples from a column on, the lowest for the first: set where the sample is above `low`.
+fn block_bits_at(bytes: &[u8], column: usize, low: u16) -> u64
+    requires { 2 * column + 32 ≤ length bytes.now }
+    ensures levels { TellsAbove low bytes.now column 16 result }
+    ensures range { result < 2 ^ 16 }
+{
+    let samples = block_at(bytes, column);
+    bits_above(samples, low)
+}
+
+/// The sample at a column.
+fn sample_of(bytes: &[u8], column: usize) -> u16
+    requires { 2 * column + 2 ≤ length bytes.now }
+    ensures { result ≡ sample_at bytes.now column }
+{
+    LittleEndian::read_u16(&bytes[2 * column..])
+}
+
+/// One bit for the sample at a column: set where the sample is above `low`.
+fn bit_at(bytes: &[u8], column: usize, low: u16) -> u64
+    requires { 2 * column + 2 ≤ length bytes.now }
+    ensures levels { TellsAbove low bytes.now column 1 result }
+    ensures range { result < 2 ^ 1 }
+{
+    let sample = sample_of(bytes, column);
+    if sample > low { 1 } else { 0 }
+}
+
+/// One bit for each of `count` samples of a line's bytes from a column on, the lowest bit for the first: set where the
+/// sample is above `low`.
+// Inlined, so that a whole word's blocks need no loop.
+#[inline(always)]
+fn bits_at(bytes: &[u8], column: usize, count: usize, low: u16) -> u64
+    requires inside { 2 * (column + count) ≤ length bytes.now }
+    requires few { count ≤ 64 }
+    ensures levels { TellsAbove low bytes.now column count result }
+    ensures range { result < 2 ^ count }
+{
+    let mut bits: u64 = 0;
+    let mut done: usize = 0;
+    'lanes: while count - done >= LANES {
+        bits |= block_bits_at(bytes, column + done, low) << done;
+        done += LANES;
+    }
+    'samples: while done < count {
+        bits |= bit_at(bytes, column + done, low) << done;
+        done += 1;
+    }
+    bits
+}
+
+/// The levels of a line's bytes, two for each sample, the low one first. Each sample is looked at once; nothing counts
+/// that.
+pub fn slice_bytes(bytes: &[u8], system: System, slicing: Levels) -> Packed
+    requires { length bytes.now ≡ line_bytes system }
+    ensures levels { result ≡ row_levels slicing bytes.now }
+    ensures width { length result ≡ width_of system }
+{
+    let low = greatest_low(slicing);
+    let width = system.width();
+    let mut packed = Packed::new();
+    let mut column: usize = 0;
+    while width - column >= WORD {
+        packed.push(bits_at(bytes, column, WORD, low), WORD);
+        column += WORD;
+    }
+    let rest = width - column;
+    if rest > 0 {
+        packed.push(bits_at(bytes, column, rest, low), rest);
+    }
+    packed
+}
