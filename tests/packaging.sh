@@ -7,7 +7,10 @@
 
 # A copy of the source in a repository of its own, with the program behind it; and a PATH without `rt`
 mkdir tree tools
-(cd "$here/.." && tar --exclude=.git --exclude=out --exclude=./ldvbi --exclude='./libldvbi.*' --exclude=./dist -cf - .) | tar -xf - -C tree
+(
+    cd "$here/.." &&
+        tar --exclude=.git --exclude=out --exclude=./ldvbi --exclude='./libldvbi.*' --exclude=./dist -cf - .
+) | tar -xf - -C tree
 for tool in sh make install rm mkdir find cp touch git tar gzip sha256sum; do
     ln -s "$(command -v $tool)" tools/$tool
 done
