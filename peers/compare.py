@@ -5,7 +5,9 @@ words that each read right, read wrong, and didn't read.
 
 usage: compare.py PROGRAM ZVBI FIELDS
 
-The status is 1 where lines as they were drawn aren't read alike, word for word."""
+Before that, MAME's `ldverify` looks at a drawn CAV disc of 100 pictures.
+
+The status is 1 where lines as they were drawn aren't read alike, word for word, or ldverify finds an error."""
 
 import array
 import json
@@ -134,24 +136,48 @@ def in_eight_bits(lines):
             for line in lines]
 
 
+def said(*words):
+    """What a program prints that has to succeed."""
+    return subprocess.run(words, capture_output=True, check=True).stdout.decode()
+
+
+def disc_of_mame(folder, lines):
+    """The path of a disc that chdman makes of these lines."""
+    video, disc = os.path.join(folder, "side.avi"), os.path.join(folder, "side.chd")
+    avi.write(video, [lines[field:field + 3] for field in range(0, len(lines), 3)], 16)
+    said("chdman", "createld", "-f", "-np", "1", "-i", video, "-o", disc)
+    return disc
+
+
 def by_mame(folder, lines):
     """The words in the AVLD metadata that chdman writes: 16 bytes a field, with the words of lines 16, 17 and 18 behind
     the field's number and its white flag."""
-    paths = {name: os.path.join(folder, "side." + name) for name in ("avi", "chd", "meta")}
-    avi.write(paths["avi"], [lines[field:field + 3] for field in range(0, len(lines), 3)], 16)
-    subprocess.run(["chdman", "createld", "-f", "-np", "1", "-i", paths["avi"], "-o", paths["chd"]],
-                   check=True, capture_output=True)
-    subprocess.run(["chdman", "dumpmeta", "-f", "-t", "AVLD", "-i", paths["chd"], "-o", paths["meta"]],
-                   check=True, capture_output=True)
-    with open(paths["meta"], "rb") as file:
+    disc, metadata = disc_of_mame(folder, lines), os.path.join(folder, "side.meta")
+    said("chdman", "dumpmeta", "-f", "-t", "AVLD", "-i", disc, "-o", metadata)
+    with open(metadata, "rb") as file:
         packed = file.read()
     return [int.from_bytes(packed[start:start + 3], "big")
             for field in range(len(lines) // 3) for start in range(16 * field + 4, 16 * field + 13, 3)]
 
 
 def by_zvbi(zvbi, lines):
-    said = subprocess.run([zvbi], input=b"".join(lines), capture_output=True, check=True).stdout.decode().split()
-    return [0 if word == "none" else int(word, 16) for word in said]
+    text = subprocess.run([zvbi], input=b"".join(lines), capture_output=True, check=True).stdout.decode()
+    return [0 if word == "none" else int(word, 16) for word in text.split()]
+
+
+def verify_disc(program):
+    """Whether ldverify finds no error on a CAV disc of 100 pictures, each in two fields, between lead-in and lead-out,
+    and `ldvbi` reads its words."""
+    words = [0x88FFFF] * 30
+    for picture in range(1, 101):
+        words += [0x82CFFF if picture == 50 else 0x8DC0A1, *[int(f"F{picture:05d}", 16)] * 2]
+        words += [0x8DC0A1, 0x800DDD, 0x800DDD]
+    words += [0x80EEEE] * 30
+    lines = drawn_lines(program, words)
+    with tempfile.TemporaryDirectory() as folder:
+        text = said("ldverify", disc_of_mame(folder, in_eight_bits(lines)))
+    found = ["lead-in code detected", "detected frame 1\n", "lead-out code detected", "final frame number was 100\n"]
+    return by_ldvbi(program, lines) == words and all(part in text for part in found) and "(ERROR)" not in text
 
 
 def score(words, read):
@@ -167,6 +193,8 @@ def main():
     fields = int(sys.argv[3])
     chance = random.Random(SEED)
     alike = True
+    if not verify_disc(program):
+        sys.exit("ldverify finds an error on a drawn disc, or ldvbi doesn't read its words")
     print("| Lines | `ldvbi` | MAME | libzvbi |")
     print("|---|---|---|---|")
     for name, worsened, amount in TRIALS:

@@ -6,8 +6,11 @@ set -eu
 
 here=$(cd "$(dirname "$0")" && pwd)
 compiler=${CC:-cc}
-for tool in "$compiler" chdman python3; do
-    command -v "$tool" > /dev/null || { echo "peers: $tool isn't there (chdman is in mame-tools)" >&2; exit 1; }
+for tool in "$compiler" chdman ldverify python3; do
+    command -v "$tool" > /dev/null || {
+        echo "peers: $tool isn't there (chdman and ldverify are in mame-tools)" >&2
+        exit 1
+    }
 done
 work=$(mktemp -d)
 trap 'rm -rf "$work"' EXIT

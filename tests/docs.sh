@@ -119,9 +119,10 @@ document docs/FORMATS.md trial
 
 # What the documents link to, and what CONTRIBUTING.md names of the crates, is there.
 for path in README.md CONTRIBUTING.md CHANGELOG.md $(cd "$top" && echo docs/*.md); do
-    for link in $(grep -o '](\([^)#]*\))' "$top/$path" | sed 's/^](//; s/)$//'); do
+    grep -o '](\([^)#]*\))' "$top/$path" | sed 's/^](//; s/)$//' > links
+    while read -r link; do
         check "$path: $link" [ -e "$(dirname "$top/$path")/$link" ]
-    done
+    done < links
 done
 grep -o '[a-z_]*/\(specs\|src\)/[A-Za-z_]*[.][a-z]*' "$top/CONTRIBUTING.md" > named
 check 'CONTRIBUTING.md names files' [ -s named ]

@@ -13,7 +13,7 @@ check 'there are eleven patterns' [ "$(wc -l < patterns)" = 11 ]
 
 # The corners: at each place of a pattern the digits at its bounds and one beyond, all other digits at either bound.
 # Then the drawn words: by thirds any word, one of a pattern, and one of a pattern with a digit that is replaced.
-cat > words.awk << 'END'
+cat > words.awk << 'AWK'
 function digit_at(text, place) {
     return index("0123456789ABCDEF", substr(text, place, 1)) - 1
 }
@@ -64,7 +64,7 @@ END {
         tell(word)
     }
 }
-END
+AWK
 awk -f words.awk patterns > items
 check 'there are 20,000 words and those of the corners' [ "$(wc -l < items)" -gt 20300 ]
 { cat items; echo -; echo -; } | paste -d ' ' - - - | sed -n '/[^ ] [^ ]* [^ ]/p' > words
