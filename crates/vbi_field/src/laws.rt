@@ -63,8 +63,8 @@ pub fn few_looks()
     ensures { (c : ConfigView) (z : List ℕ) → looks_of c z ≤ 3 * width_of c.system * (fields_of c z + 1) }
 {}
 
-/// A text that a failed writer cut inside the head, an entry or the tail is a first part of the text of the whole fields,
-/// or, where the reader ended, of the whole text.
+/// A text that a failed writer cut inside the head, an entry or the tail is a first part of the text of the whole
+/// fields, or, where the reader ended, of the whole text.
 pub fn first_of_text()
     ensures { (t : Texts) (c : ConfigView) (input : Option (List ℕ)) (z text : List ℕ) → EndsWithin t c input z text
         → IsFirstOf text (text_before_tail t c z) ⊎ (IsAtEnd input × IsFirstOf text (whole_text t c z)) }

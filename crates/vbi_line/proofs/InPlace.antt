@@ -56,14 +56,6 @@ block_tells low bytes column samples bits long each are i l =
     ∙ get_or-map (λ sample. nat_lt low sample) samples i 0 false (omega (arith, long))
     ∙ ap (λ (sample : ℕ). nat_lt low sample) (each i l)
 
--- one bit tells it of one sample
-pub bit_tells : (low : ℕ) (bytes : List ℕ) (column bit : ℕ) → level_of_bit bit 0 ≡ nat_lt low (sample_at bytes column)
-    → TellsAbove low bytes column 1 bit
-bit_tells low bytes column bit is i l =
-    let first : i ≡ 0 = omega arith in
-    let here : column ≡ column + i = omega arith in
-    ap (level_of_bit bit) first ∙ is ∙ ap (λ (k : ℕ). nat_lt low (sample_at bytes k)) here
-
 -- ---- levels of a word behind those of the samples before a column
 
 module _ (levels : List Bool) (column count word : ℕ) (here : length levels ≡ column) where

@@ -6,7 +6,10 @@ ghost use Rattle.vbi_line.specs.Line.{IsFull};
 use crate::asserts::{holds, same};
 use crate::cases::{Case, RUNS, Shape, TURNED, Told, WORDS};
 use byteorder::{ByteOrder, LittleEndian};
-use vbi_line::{Filled, Intake, LineBuf, read_line, read_packed, read_twice, slice_lanes};
+use vbi_line::{
+    Filled, Intake, LineBuf, read_line, read_packed, read_packed_twice, read_twice, slice_bytes,
+    slice_lanes,
+};
 use vbi_words::{Levels, Outcome, System, Word24, drawn_sample};
 
 /// The levels of the lines below.
@@ -114,6 +117,15 @@ fn reading(system: System, levels: Levels, samples: &[u16; 1135]) -> (Told, u8) 
     (in_numbers(reading.outcome), reading.pass)
 }
 
+/// The reading of the line's bytes where they lie, and its pass.
+fn in_place(system: System, levels: Levels, samples: &[u16; 1135]) -> (Told, u8) {
+    let mut bytes = [0; 2270];
+    LittleEndian::write_u16_into(samples, &mut bytes);
+    let packed = slice_bytes(&bytes[..2 * system.width()], system, levels);
+    let reading = read_packed_twice(&packed, system);
+    (in_numbers(reading.outcome), reading.pass)
+}
+
 /// The outcome, and the reading with its pass, as an intake gives them of the line's bytes.
 fn by_intake(system: System, levels: Levels, samples: &[u16; 1135]) -> Option<(Told, (Told, u8))> {
     let mut bytes = [0; 2270];
@@ -148,6 +160,7 @@ fn is_told(case: &Case) -> bool {
     plain_too
         && by_bits(case.system, levels, &samples) == outcome
         && reading(case.system, levels, &samples) == case.reading
+        && in_place(case.system, levels, &samples) == case.reading
         && by_intake(case.system, levels, &samples) == Some((outcome, case.reading))
 }
 
