@@ -1,6 +1,5 @@
 //! The plain reader that `read_line` is measured beside: sample by sample, a run machine with the same tolerances, in
 //! Rust. Prints the lines read, the milliseconds, and a sum of the words.
-use std::hint::black_box;
 use std::time::Instant;
 
 const WIDTH: usize = 910;
@@ -11,7 +10,7 @@ fn drawn_line(word: u32) -> Vec<u8> {
     let mut bytes = Vec::new();
     for column in 0..WIDTH {
         let half = (0..48).find(|j| 150 + j * 315 / 22 <= column && column < 150 + (j + 1) * 315 / 22);
-        let high = half.is_some_and(|j| (word >> (23 - j / 2) & 1 == 1) == (j % 2 == 1));
+        let high = half.map_or(false, |j| (word >> (23 - j / 2) & 1 == 1) == (j % 2 == 1));
         bytes.extend_from_slice(&(if high { 51200u16 } else { 16384 }).to_le_bytes());
     }
     bytes
@@ -61,9 +60,11 @@ fn main() {
     let mut sum = 0u32;
     for _ in 0..ROUNDS {
         for line in &lines {
-            // As the intake does: the bytes come into a buffer of one line.
+            // As the intake does: the bytes come into a buffer of one line. The volatile read keeps the compiler from
+            // seeing that each round has the same lines.
+            let line: &[u8] = unsafe { std::ptr::read_volatile(&line.as_slice()) };
             let mut buffer = [0u8; 2270];
-            buffer[..line.len()].copy_from_slice(black_box(line));
+            buffer[..line.len()].copy_from_slice(line);
             sum = sum.wrapping_add(word_of(&buffer[..line.len()], 33792));
         }
     }

@@ -2,7 +2,7 @@
 //! NTSC line's bytes.
 use std::fs::File;
 use std::io::Write;
-use std::os::fd::FromRawFd;
+use std::os::unix::io::FromRawFd;
 
 fn main() -> std::io::Result<()> {
     let lines: u64 = std::env::args().nth(1).and_then(|words| words.parse().ok()).unwrap_or(0);
