@@ -10,6 +10,7 @@ from . import Kind, System, format_of
 from .document import is_document, side_of_document
 from .metadata import settings_of
 from .side import agreed_word, code_of, side_of_tbc
+from .summary import Summary
 
 DESCRIPTION = """Reads a side from a TBC file, or from a document that `ldvbi extract` wrote, and tells what its words
 mean. A file is taken for a document where its name ends with .json or its text begins as a document's does."""
@@ -37,6 +38,8 @@ def _parser():
                         help="print the fields that have a picture number or a CLV time (the default)")
     output.add_argument("--seek", metavar="PICTURE", type=_wanted, help="print the first field of a picture, which is "
                         "given by its number or as a CLV time h:mm:ss.pp; status 1 where there is none")
+    output.add_argument("--summary", action="store_true", help="print what to look at first, in a line each; status 1 "
+                        "where a picture is missing, none is there, or the last field is cut")
     return parser
 
 
@@ -84,6 +87,10 @@ def _run(options):
         field = _sought(side, options.seek)
         print("not found" if field is None else "field %d" % field)
         return int(field is None)
+    if options.summary:
+        summary = Summary(side)
+        print(*summary.lines(), sep="\n")
+        return 0 if summary.is_whole else 1
     _print_csv(side)
     return 0
 
