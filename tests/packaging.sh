@@ -34,6 +34,7 @@ usr/share/ldvbi/plot_line.py
 usr/share/ldvbi/python/ldvbi/__init__.py
 usr/share/ldvbi/python/ldvbi/__main__.py
 usr/share/ldvbi/python/ldvbi/document.py
+usr/share/ldvbi/python/ldvbi/drawing.py
 usr/share/ldvbi/python/ldvbi/metadata.py
 usr/share/ldvbi/python/ldvbi/sequence.py
 usr/share/ldvbi/python/ldvbi/side.py

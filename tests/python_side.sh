@@ -284,9 +284,14 @@ END
     picture "$number"
 done | side_of "$ntsc"
 glance 'more gaps than are listed' 1 << END
-missing: 14 (2 after field 1, 4 after field 3, 6 after field 5, 8 after field 7, 10 after field 9, 12 after field 11, \
-14 after field 13, 16 after field 15, 18 after field 17, 20 after field 19 and 4 more)
+missing: 14 (2 after field 1, 4 after field 3, 6 after field 5, 8 after field 7, 10 after field 9, 12 after field 11 \
+and 8 more)
 END
+for number in 1 2 3 4 5 6 7; do
+    printf -- '- - -\n- F%05d F%05d\n' $number $number
+done > sparse
+{ cat sparse; printf -- '- - -\n- - -\n'; } | side_of "$ntsc"
+echo 'fields with neither line 17 nor 18: 9 (8 stretches, the longest 15-16)' | glance 'more stretches than are listed' 0
 
 # An NTSC CLV disc may leave out a number now and then, to keep to the clock; not three, nor one by one
 for picture in 0 1 3 4; do
@@ -317,6 +322,131 @@ minutes: 3, from 0:58 to 1:01
 missing: 1 (1:00 after field 5)
 repeated: none
 END
+
+# The drawing, read as XML: what each line shows, marks with their fields, and the curve
+cat > found.py << 'END'
+import sys
+import xml.etree.ElementTree as xml
+
+picture = xml.parse(sys.argv[1]).getroot()
+for part in picture.iter():
+    name, fields = part.get("class"), part.get("data-fields") or part.get("data-field")
+    if name in ("title", "count"):
+        print(part.text)
+    elif name and name.startswith("line-"):
+        left, right = float(part.get("x")), float(part.get("x")) + float(part.get("width"))
+        print(name, fields, part.get("data-shown"), "%d-%d" % (left, right), round(float(part.get("height"))))
+    elif name == "run":
+        print(name, fields, part.get("d").replace("\n", " "))
+    elif fields:
+        print(name, fields, part.get("x1"))
+END
+# drawn OPTION..: draws a side, and finds what is in its picture
+drawn() {
+    told "$@" --svg side.svg
+    python3 found.py side.svg > found 2>> err
+}
+# shows NAME < LINES: checks that these lines, and no others with their first words, are in the picture
+shows() {
+    cat > wanted
+    cut -d ' ' -f 1 wanted | sort -u > names
+    awk 'NR == FNR { names[$1]; next } $1 in names' names found > shown
+    check "the drawing of $1" cmp shown wanted
+}
+
+# The disc with faults: 44 fields on 960 pixels from 90 on, pictures 1 to 20 on 240 pixels from 222 on
+side_of "$ntsc" < faulty_words
+drawn side.vbi.json
+check 'nothing else is printed with --svg' [ "$status $(wc -c < out) $(wc -c < err)" = '0 0 0' ]
+shows 'a disc with faults: marks' << 'END'
+side.vbi.json
+out of order: 1
+repeated: 1
+missing: 4
+missing 11 308.2
+missing 35 831.8
+missing 41 962.7
+repeated 17 439.1
+out-of-order 25 613.6
+END
+shows 'a disc with faults: the curve' << 'END'
+run 3-9 M144.5 456.0 188.2 444.0 231.8 432.0 275.5 420.0
+run 11-15 M319.1 396.0 362.7 384.0 406.4 372.0
+run 17-21 M450.0 372.0 493.6 360.0 537.3 348.0
+run 23-23 M580.9 324.0h0
+run 25-25 M624.5 336.0h0
+run 27-29 M668.2 312.0 711.8 300.0
+run 35-37 M842.7 264.0 886.4 252.0
+run 41-41 M973.6 228.0h0
+END
+shows 'a disc with faults: its lines' << 'END'
+line-16 1-2 word 90-134 30
+line-16 3-37 blank 134-897 30
+line-16 38-38 word 897-919 30
+line-16 39-42 blank 919-1006 30
+line-16 43-44 word 1006-1050 30
+line-17 1-30 word 90-745 30
+line-17 31-34 blank 745-832 30
+line-17 35-44 word 832-1050 30
+line-18 1-30 word 90-745 30
+line-18 31-34 blank 745-832 30
+line-18 35-36 word 832-875 30
+line-18 37-37 blank 875-897 30
+line-18 38-44 word 897-1050 30
+END
+cp side.svg first.svg
+drawn side.tbc $ntsc --summary
+check 'the drawing of a TBC file' [ "$(sed 's/side.tbc/side.vbi.json/' side.svg | cksum)" = "$(cksum < first.svg)" ]
+check 'the summary is printed too' [ "$status $(wc -l < out)" = '1 13' ]
+drawn side.vbi.json --csv
+check 'so is the table' [ "$status $(wc -l < out)" = '0 18' ]
+drawn side.vbi.json --seek 99
+check 'so is what is sought' [ "$status $(cat out)" = '1 not found' ]
+told side.vbi.json --svg absent/side.svg
+judge 'a drawing that cannot be written' 1 empty "ldvbi: [Errno 2] No such file or directory: 'absent/side.svg'"
+
+# More fields than pixels, 20 of them to a pixel. One damaged line is seen nevertheless.
+jq -c '.fields[2] as $with | .fields[30] as $without |
+    .fields = [range(9600) | $with, $without] | .fields |= (to_entries | map(.value.seqNo = .key + 1 | .value)) |
+    .fields[9600] |= (.vbi.vbiData[1] = 0 | .vbiCause[1] = "change 40" | .vbiPass[1] = 0)' side.vbi.json > large.vbi.json
+drawn large.vbi.json
+shows 'many fields' << 'END'
+line-16 1-19200 blank 90-1050 30
+line-17 1-9600 word 90-570 15
+line-17 1-9600 blank 90-570 15
+line-17 9601-9620 change 570-571 4
+line-17 9601-9620 word 570-571 12
+line-17 9601-9620 blank 570-571 14
+line-17 9621-19200 word 571-1050 15
+line-17 9621-19200 blank 571-1050 15
+END
+
+# Each cause, in a side without pictures and with a name that XML has to quote; and a side without fields
+signal NTSC 1 << 'WORDS' | ntsc_samples > '<&>.tbc'
+82CFFF|82CFFF @170-171L|-
+L900 H10|82CFFF @170-174L|L164 H746
+WORDS
+drawn '<&>.tbc' $ntsc
+shows 'each cause' << 'END'
+<&>.tbc
+missing: 0
+line-16 1-1 word 90-570 30
+line-16 2-2 unfinished 570-1050 30
+line-17 1-1 word of the second reading 90-570 30
+line-17 2-2 change 570-1050 30
+line-18 1-1 blank 90-570 30
+line-18 2-2 hold 570-1050 30
+END
+: | side_of "$pal"
+drawn side.vbi.json
+check 'a side without fields is drawn' [ "$status $(wc -l < found)" = '0 4' ]
+
+# README's picture, made again
+mkdir made
+sh "$top/docs/pictures/make_side.sh" "$program" made > out 2> err
+status=$?
+check "README's picture of a side" cmp made/side.svg "$top/docs/pictures/side.svg"
+check 'README shows it' grep -q '(docs/pictures/side.svg)' "$top/README.md"
 
 # What is refused: with status 1 and a line on standard error
 # refused TEXT OPTION..

@@ -8,6 +8,7 @@ import sys
 
 from . import Kind, System, format_of
 from .document import is_document, side_of_document
+from .drawing import drawing_of
 from .metadata import settings_of
 from .side import agreed_word, code_of, side_of_tbc
 from .summary import Summary
@@ -40,6 +41,8 @@ def _parser():
                         "given by its number or as a CLV time h:mm:ss.pp; status 1 where there is none")
     output.add_argument("--summary", action="store_true", help="print what to look at first, in a line each; status 1 "
                         "where a picture is missing, none is there, or the last field is cut")
+    parser.add_argument("--svg", metavar="FILE", help="draw the side into this file; with one of the others, that is "
+                        "printed too")
     return parser
 
 
@@ -83,6 +86,9 @@ def _sought(side, wanted):
 def _run(options):
     """What the options ask for. The answer is the exit status."""
     side = _side(options)
+    if options.svg:
+        with open(options.svg, "w", encoding="utf-8") as file:
+            file.write(drawing_of(side, os.path.basename(options.side)))
     if options.seek:
         field = _sought(side, options.seek)
         print("not found" if field is None else "field %d" % field)
@@ -91,7 +97,8 @@ def _run(options):
         summary = Summary(side)
         print(*summary.lines(), sep="\n")
         return 0 if summary.is_whole else 1
-    _print_csv(side)
+    if options.csv or not options.svg:
+        _print_csv(side)
     return 0
 
 

@@ -6,21 +6,25 @@ from . import Cause, Format
 from .sequence import Sequence
 from .side import KINDS, code_of
 
-MOST_LISTED = 10  # fields, pictures or gaps in a line
+MOST_LISTED = 6  # fields, pictures or gaps in a line
 
 
-def spans(numbers):
-    """Numbers in ascending order as spans, of which the first are listed: '3, 5-8 and 2 more'."""
+def _spans(numbers):
+    """Numbers in ascending order as spans, each with its least and its greatest number."""
     found = []
     for number in numbers:
         if found and number == found[-1][1] + 1:
             found[-1][1] = number
         else:
             found.append([number, number])
-    return listed("%d" % least if least == greatest else "%d-%d" % (least, greatest) for least, greatest in found)
+    return found
 
 
-def listed(texts):
+def _span_text(span):
+    return "%d-%d" % tuple(span) if span[0] < span[1] else "%d" % span[0]
+
+
+def _listed(texts):
     """The first texts, and how many more there are."""
     texts = list(texts)
     more = len(texts) - MOST_LISTED
@@ -32,7 +36,12 @@ def _counted(count, details):
 
 
 def _fields(numbers):
-    return _counted(len(numbers), ("field " if len(numbers) == 1 else "fields ") + spans(numbers))
+    """How many fields these are, and which; where they are too many stretches to list, the longest one."""
+    spans = _spans(numbers)
+    if len(spans) > MOST_LISTED:
+        longest = max(spans, key=lambda span: span[1] - span[0])
+        return "%d (%d stretches, the longest %s)" % (len(numbers), len(spans), _span_text(longest))
+    return _counted(len(numbers), ("field " if len(numbers) == 1 else "fields ") + ", ".join(map(_span_text, spans)))
 
 
 def _by_name(counts, names):
@@ -73,7 +82,7 @@ class Summary:
         yield "fields with neither line 17 nor 18: " + _fields(self.neither)
         yield "fields whose lines 17 and 18 differ: " + _fields(self.differing)
         yield from self._sequence_lines()
-        yield "chapters: " + (spans(chapters) or "none")
+        yield "chapters: " + (", ".join(map(_span_text, _spans(chapters))) or "none")
         yield "picture stops: " + _fields(side.stops())
 
     def _sequence_lines(self):
@@ -88,12 +97,12 @@ class Summary:
         if sequence.left_out:
             yield "left out by the disc's clock: " + self._gaps(sequence.left_out)
         for title, showings in (("repeated", sequence.repeated), ("out of order", sequence.turned_back)):
-            yield "%s: %s" % (title, _counted(len(showings), listed(
+            yield "%s: %s" % (title, _counted(len(showings), _listed(
                 "%s in field %d" % (text_of(showing.number), showing.first) for showing in showings)))
 
     def _gaps(self, gaps):
         text_of = self.sequence.text_of
-        return _counted(sum(gap.count() for gap in gaps), listed(
+        return _counted(sum(gap.count() for gap in gaps), _listed(
             (text_of(gap.least) if gap.count() == 1 else "%s to %s" % (text_of(gap.least), text_of(gap.greatest)))
             + " after field %d" % gap.field for gap in gaps))
 
