@@ -27,6 +27,7 @@ for script in jq_module schema docs manual packaging plots; do
 done
 if [ -e libldvbi.so.1 ]; then
     sh tests/library.sh "$program"
+    sh tests/python_side.sh "$program"
 else
     echo "library: left out, since it isn't built"
 fi

@@ -34,6 +34,14 @@ usr/share/bash-completion/completions/ldvbi
 usr/share/ldvbi/ldvbi.jq
 usr/share/ldvbi/ldvbi.schema.json
 usr/share/ldvbi/plot_line.py
+usr/share/ldvbi/python/ldvbi/__init__.py
+usr/share/ldvbi/python/ldvbi/__main__.py
+usr/share/ldvbi/python/ldvbi/document.py
+usr/share/ldvbi/python/ldvbi/drawing.py
+usr/share/ldvbi/python/ldvbi/metadata.py
+usr/share/ldvbi/python/ldvbi/sequence.py
+usr/share/ldvbi/python/ldvbi/side.py
+usr/share/ldvbi/python/ldvbi/summary.py
 usr/share/man/man1/ldvbi.1
 usr/share/zsh/site-functions/_ldvbi
 END

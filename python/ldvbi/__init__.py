@@ -1,4 +1,3 @@
-#!/usr/bin/env python3
 """The code words of LaserDisc lines, read by the library libldvbi.so in this process.
 
     import ldvbi
@@ -11,21 +10,21 @@ holds samples of 16 bits, the low byte first, as ld-decode's TBC files do. `syst
 and `white` are samples, black16bIre and white16bIre of the capture's .tbc.json. Arguments that can't be right raise a
 ValueError, and nothing is read.
 
-The library is the file that the environment variable LDVBI_LIBRARY names; else libldvbi.so.1 in the folder of this file
-or in the one above it; else the one that the system's loader finds. Only CPython and its standard library are needed.
+The library is the file that the environment variable LDVBI_LIBRARY names; else libldvbi.so.1 in this package's folder
+or in one of the two above it; else the one in lib/ of the folder that `make install` installed both to; else the one
+that the system's loader finds. Only CPython and its standard library are needed. `ldvbi.side` tells what the words of a
+side mean, and so does the command
 
     python3 -m ldvbi side.tbc --system NTSC --black 16384 --white 51200 > pictures.csv
 """
 
-import argparse
 import contextlib
-import csv
 import ctypes
 import enum
 import mmap
 import os
+import stat
 import struct
-import sys
 from typing import NamedTuple
 
 __all__ = ["System", "Cause", "Kind", "Format", "Reading", "FieldReadings", "Code", "line_bytes", "field_bytes",
@@ -103,7 +102,10 @@ class Code(NamedTuple):
 def _load():
     here = os.path.dirname(os.path.abspath(__file__))
     name = "libldvbi.so.%d" % ABI
-    places = [os.path.join(here, name), os.path.join(here, os.pardir, name)]
+    above = os.path.join(here, os.pardir)
+    # as installed, the package is PREFIX/share/ldvbi/python/ldvbi
+    installed = os.path.join(above, os.pardir, os.pardir, os.pardir, "lib")
+    places = [os.path.join(folder, name) for folder in (here, above, os.path.join(above, os.pardir), installed)]
     chosen = os.environ.get("LDVBI_LIBRARY") or next((place for place in places if os.path.exists(place)), name)
     library = ctypes.CDLL(chosen)
     byte, sample, word, size = ctypes.c_uint8, ctypes.c_uint16, ctypes.c_uint32, ctypes.c_size_t
@@ -250,7 +252,10 @@ def fields(source, system, black, white):
 
 def _fields_of_file(path, setup):
     with open(path, "rb") as file:
-        if os.fstat(file.fileno()).st_size < field_bytes(setup[0]):
+        status = os.fstat(file.fileno())
+        if not stat.S_ISREG(status.st_mode):
+            raise ValueError("%s is no file that can be mapped" % path)
+        if status.st_size < field_bytes(setup[0]):
             return
         with mmap.mmap(file.fileno(), 0, access=mmap.ACCESS_READ) as mapped:
             # Few pages of a field are wanted, so the system shall not read ahead.
@@ -289,52 +294,3 @@ def draw_line(word, system, black, white):
     out = ctypes.create_string_buffer(line_bytes(system))
     _check(_library.ldvbi_draw_line(*setup, _number("word", word, 0xFFFFFFFF), out, len(out)))
     return out.raw
-
-
-# ---- The command: pictures as CSV
-
-class _Row(NamedTuple):
-    field: int
-    format: str
-    picture: str
-    time: str
-    stop: str
-
-
-def _row(number, readings):
-    """The row of a field, or None where no line of it has a picture or a time."""
-    words = [line.word for line in readings]
-    codes = {code.kind: code for code in map(classify, filter(None, words))}
-    told = {kind: codes[kind] for kind in (Kind.picture, Kind.time, Kind.clv_picture) if kind in codes}
-    if not told:
-        return None
-    time = []
-    if Kind.time in told:
-        time.append("%d:%02d" % told[Kind.time][1:])
-    if Kind.clv_picture in told:
-        time.append("%02d.%02d" % told[Kind.clv_picture][1:])
-    return _Row(number, format_of(*words).name, str(told[Kind.picture].first) if Kind.picture in told else "",
-                ":".join(time), "stop" if Kind.picture_stop in codes else "")
-
-
-def main(words=None):
-    """Prints the fields of a TBC file that have a picture number or a CLV time, as CSV."""
-    parser = argparse.ArgumentParser(prog="ldvbi.py", description=main.__doc__)
-    parser.add_argument("tbc", help="the TBC file")
-    parser.add_argument("--system", required=True, choices=[system.name for system in System])
-    parser.add_argument("--black", required=True, type=int, help="the sample of black, 0 to 65535")
-    parser.add_argument("--white", required=True, type=int, help="the sample of white, 0 to 65535 and above black")
-    options = parser.parse_args(words)
-    table = csv.writer(sys.stdout, lineterminator="\n")
-    table.writerow(_Row._fields)
-    try:
-        for number, readings in enumerate(fields(options.tbc, options.system, options.black, options.white), 1):
-            row = _row(number, readings)
-            if row:
-                table.writerow(row)
-    except (OSError, ValueError) as error:
-        sys.exit("ldvbi.py: %s" % error)
-
-
-if __name__ == "__main__":
-    main()

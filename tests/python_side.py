@@ -1,0 +1,54 @@
+#!/usr/bin/env python3
+"""Tells of a side what the report of `show` or contrib/ldvbi.jq tells, by the Python package.
+
+usage: python_side.py report|tables FILE [SYSTEM BLACK WHITE]"""
+
+import json
+import sys
+
+from ldvbi.document import side_of_document
+from ldvbi.side import side_of_tbc
+
+# How the report writes the numbers of a kind
+NUMBERS = {
+    "picture": "{number:05}", "chapter": "{number:02}", "time": "{hours}:{minutes:02}",
+    "clv picture": "{seconds:02} {picture:02}", "cx on": "{number:03X}", "cx off": "{number:03X}",
+    "users": "{digit} {number:03X}",
+}
+
+
+def line_text(line, reading, code):
+    if code is None:
+        return "%d none %s" % (line, reading.cause.name)
+    numbers = NUMBERS.get(code["kind"])
+    text = "%d %06X %s" % (line, reading.word, code["kind"])
+    return text + " " + numbers.format(**code) if numbers else text
+
+
+def print_report(side):
+    for codes, readings in zip(side.codes(), side.readings):
+        print("field", codes["seqNo"], codes["format"])
+        for line, reading, code in zip((16, 17, 18), readings, codes["codes"]):
+            print(line_text(line, reading, code))
+
+
+def print_tables(side):
+    for codes in side.codes():
+        print(json.dumps(codes, separators=(",", ":")))
+    for table in (side.pictures(), side.chapters(), side.stops(), side.format().name):
+        print(json.dumps(table, separators=(",", ":")))
+
+
+def main():
+    output, path, *settings = sys.argv[1:]
+    if settings:
+        system, black, white = settings
+        side = side_of_tbc(path, system, int(black), int(white))
+    else:
+        with open(path, "rb") as file:
+            side = side_of_document(file.read())
+    {"report": print_report, "tables": print_tables}[output](side)
+
+
+if __name__ == "__main__":
+    main()
