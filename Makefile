@@ -4,7 +4,7 @@
 # The toolchain's command `rt` has to be on the PATH; `make test` needs the tools of tests/tools.sh as well.
 #
 # Once the program is built, these need no toolchain: `make install PREFIX=DIR` copies it to DIR/bin, the manual page,
-# completions, schema, contrib's files and the Python package to DIR/share, and the library with its header to DIR/lib
+# completions, schema, contrib's files and the Python module to DIR/share, and the library with its header to DIR/lib
 # and DIR/include where it is built, too; `make uninstall PREFIX=DIR` takes all of it away; `make check
 # PROGRAM=./ldvbi` runs the gate's scripts on it; `make dist` packs source and what is built, with checksums; `make
 # peers` has other programs read what it reads, and needs mame-tools and libzvbi-dev.
@@ -19,7 +19,7 @@ MANUAL := $(ROOT)/share/man/man1/ldvbi.1
 BASH_COMPLETION := $(ROOT)/share/bash-completion/completions/ldvbi
 ZSH_COMPLETION := $(ROOT)/share/zsh/site-functions/_ldvbi
 SHARED := docs/ldvbi.schema.json contrib/ldvbi.jq contrib/plot_line.py
-PYTHON := $(wildcard python/ldvbi/*.py)
+PYTHON := $(wildcard python/ldvbi_side/*.py)
 SOURCES := $(shell find crates -name out -prune -o \( -name '*.rt' -o -name '*.antt' \) -print)
 LIBRARY_SOURCES := $(filter crates/vbi_words/% crates/vbi_line/% crates/vbi_c/%,$(SOURCES))
 
@@ -57,8 +57,9 @@ install: ldvbi $(if $(wildcard libldvbi.a),install-lib)
 	install -D -m 644 contrib/completions/_ldvbi $(ZSH_COMPLETION)
 	install -d $(ROOT)/share/ldvbi
 	install -m 644 $(SHARED) $(ROOT)/share/ldvbi
-	install -d $(ROOT)/share/ldvbi/python/ldvbi
-	install -m 644 $(PYTHON) $(ROOT)/share/ldvbi/python/ldvbi
+	install -d $(ROOT)/share/ldvbi/python/ldvbi_side
+	install -m 644 python/ldvbi.py $(ROOT)/share/ldvbi/python
+	install -m 644 $(PYTHON) $(ROOT)/share/ldvbi/python/ldvbi_side
 
 install-lib: lib
 	install -D -m 644 include/ldvbi.h $(ROOT)/include/ldvbi.h

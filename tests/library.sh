@@ -114,7 +114,7 @@ check 'seek is built with what is installed' does $cc -std=c99 -I root/usr/inclu
     -L root/usr/lib -lldvbi
 check 'seek runs with what is installed' prints 0 'field 7' env LD_LIBRARY_PATH=root/usr/lib ./seek cav.tbc $on_cav 3
 check 'the description for pkg-config' [ "$(head -n 1 root/usr/lib/pkgconfig/ldvbi.pc)" = prefix=/usr ]
-check 'the installed Python package' prints 0 'field 7' env -u LDVBI_LIBRARY \
+check 'the installed Python module' prints 0 'field 7' env -u LDVBI_LIBRARY \
     PYTHONPATH=root/usr/share/ldvbi/python python3 -m ldvbi cav.tbc $ntsc --seek 3
 check 'the installed program' prints 0 'ldvbi 0.1.0' root/usr/bin/ldvbi --version
 check 'make uninstall' installs uninstall

@@ -1,13 +1,13 @@
 #!/usr/bin/env python3
-"""Tells of a side what the report of `show` or contrib/ldvbi.jq tells, by the Python package.
+"""Tells of a side what the report of `show` or contrib/ldvbi.jq tells, by the Python module.
 
 usage: python_side.py report|tables FILE [SYSTEM BLACK WHITE]"""
 
 import json
 import sys
 
-from ldvbi.document import side_of_document
-from ldvbi.side import side_of_tbc
+from ldvbi_side.document import side_of_document
+from ldvbi_side.side import side_of_tbc
 
 # How the report writes the numbers of a kind
 NUMBERS = {

@@ -1,5 +1,5 @@
 #!/bin/sh
-# Compares what the Python package says of words with what `show` and contrib/ldvbi.jq say, from TBC files and documents
+# Compares what the Python module says of words with what `show` and contrib/ldvbi.jq say, from TBC files and documents
 # alike, and runs its command on drawn discs and on documents that are broken.
 # Needs libldvbi.so.1 at the top of the repository (`make lib`).
 # usage: sh tests/python_side.sh PROGRAM

@@ -1,3 +1,4 @@
+#!/usr/bin/env python3
 """The code words of LaserDisc lines, read by the library libldvbi.so in this process.
 
     import ldvbi
@@ -10,10 +11,10 @@ holds samples of 16 bits, the low byte first, as ld-decode's TBC files do. `syst
 and `white` are samples, black16bIre and white16bIre of the capture's .tbc.json. Arguments that can't be right raise a
 ValueError, and nothing is read.
 
-The library is the file that the environment variable LDVBI_LIBRARY names; else libldvbi.so.1 in this package's folder
-or in one of the two above it; else the one in lib/ of the folder that `make install` installed both to; else the one
-that the system's loader finds. Only CPython and its standard library are needed. `ldvbi.side` tells what the words of a
-side mean, and so does the command
+The library is the file that the environment variable LDVBI_LIBRARY names; else libldvbi.so.1 in the folder of this file
+or in the one above it; else the one in lib/ of the folder that `make install` installed both to; else the one that the
+system's loader finds. Only CPython and its standard library are needed. `ldvbi_side.side` tells what the words of a side
+mean, and so does the command, whose parts are in the folder ldvbi_side beside this file:
 
     python3 -m ldvbi side.tbc --system NTSC --black 16384 --white 51200 > pictures.csv
 """
@@ -25,6 +26,7 @@ import mmap
 import os
 import stat
 import struct
+import sys
 from typing import NamedTuple
 
 __all__ = ["System", "Cause", "Kind", "Format", "Reading", "FieldReadings", "Code", "line_bytes", "field_bytes",
@@ -103,9 +105,9 @@ def _load():
     here = os.path.dirname(os.path.abspath(__file__))
     name = "libldvbi.so.%d" % ABI
     above = os.path.join(here, os.pardir)
-    # as installed, the package is PREFIX/share/ldvbi/python/ldvbi
-    installed = os.path.join(above, os.pardir, os.pardir, os.pardir, "lib")
-    places = [os.path.join(folder, name) for folder in (here, above, os.path.join(above, os.pardir), installed)]
+    # as installed, this file is in PREFIX/share/ldvbi/python
+    installed = os.path.join(above, os.pardir, os.pardir, "lib")
+    places = [os.path.join(folder, name) for folder in (here, above, installed)]
     chosen = os.environ.get("LDVBI_LIBRARY") or next((place for place in places if os.path.exists(place)), name)
     library = ctypes.CDLL(chosen)
     byte, sample, word, size = ctypes.c_uint8, ctypes.c_uint16, ctypes.c_uint32, ctypes.c_size_t
@@ -294,3 +296,15 @@ def draw_line(word, system, black, white):
     out = ctypes.create_string_buffer(line_bytes(system))
     _check(_library.ldvbi_draw_line(*setup, _number("word", word, 0xFFFFFFFF), out, len(out)))
     return out.raw
+
+
+def main(words=None):
+    """The command `python3 -m ldvbi`. The answer is its exit status."""
+    # What was started by that name isn't to be loaded a second time by the command's parts.
+    sys.modules.setdefault("ldvbi", sys.modules[__name__])
+    from ldvbi_side.command import main as command
+    return command(words)
+
+
+if __name__ == "__main__":
+    sys.exit(main())

@@ -12,7 +12,7 @@ the lead-in and the lead-out and each picture's other field, break nothing."""
 import enum
 from typing import NamedTuple
 
-from . import Kind, System
+from ldvbi import Kind, System
 
 MOST_FIELDS = 3  # of a picture, with 3-2 pulldown
 

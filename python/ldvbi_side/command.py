@@ -6,7 +6,7 @@ import os
 import re
 import sys
 
-from . import Kind, System, format_of
+from ldvbi import Kind, System, format_of
 from .document import is_document, side_of_document
 from .drawing import drawing_of
 from .metadata import settings_of
@@ -115,7 +115,3 @@ def main(words=None):
     except (OSError, ValueError) as error:
         print("ldvbi: %s" % error, file=sys.stderr)
         return 1
-
-
-if __name__ == "__main__":
-    sys.exit(main())

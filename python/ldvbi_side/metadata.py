@@ -5,7 +5,7 @@ import json
 import math
 from typing import NamedTuple
 
-from . import System
+from ldvbi import System
 from .side import size_of
 
 

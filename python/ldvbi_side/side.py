@@ -1,12 +1,12 @@
 """A side: what lines 16, 17 and 18 of each of its fields show, and what their words mean. It comes from a TBC file or
-from a document that `ldvbi extract` wrote (`ldvbi.document`). Fields are counted from 1. Names and results are those of
+from a document that `ldvbi extract` wrote (`ldvbi_side.document`). Fields are counted from 1. Names and results are those of
 contrib/ldvbi.jq."""
 
 import functools
 import os
 from typing import List, NamedTuple, Optional
 
-from . import FieldReadings, Format, Kind, System, classify, field_bytes, fields, format_of, line_bytes
+from ldvbi import FieldReadings, Format, Kind, System, classify, field_bytes, fields, format_of, line_bytes
 
 # The names of a kind and of its numbers, as `ldvbi show` and contrib/ldvbi.jq have them
 KINDS = {

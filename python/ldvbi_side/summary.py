@@ -2,7 +2,7 @@
 
 from collections import Counter
 
-from . import Cause, Format
+from ldvbi import Cause, Format
 from .sequence import Sequence
 from .side import KINDS, code_of
 

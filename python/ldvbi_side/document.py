@@ -4,7 +4,7 @@ checked; what isn't as it has to be raises a ValueError that says where."""
 import json
 import re
 
-from . import Cause, FieldReadings, Reading, System, field_bytes
+from ldvbi import Cause, FieldReadings, Reading, System, field_bytes
 from .side import Cut, Side, size_of
 
 # What a document begins with, also where it was written anew by another program
