@@ -122,7 +122,9 @@ for number in 7 8 9 10; do
     picture $number
 done > whole_words
 side_of "$ntsc" < whole_words
-echo 'missing: none' | glance 'a whole disc' 0
+glance 'a whole disc' 0 << 'END'
+missing: none
+END
 { cat whole_words; picture 9; picture 8; } | side_of "$ntsc"
 glance 'pictures that come again' 0 << 'END'
 missing: none
@@ -152,7 +154,9 @@ END
 for number in 1 1 2 2 2 2 3 3; do
     printf -- '- F%05d F%05d\n' $number $number
 done | side_of "$ntsc"
-echo 'repeated: 1 (2 in field 6)' | glance 'a picture that stands still' 0
+glance 'a picture that stands still' 0 << 'END'
+repeated: 1 (2 in field 6)
+END
 printf -- '- - -\n88FFFF 88FFFF 88FFFF\n' | side_of "$ntsc"
 glance 'a disc without pictures' 1 << 'END'
 system: NTSC, no code of CAV or CLV
@@ -180,6 +184,24 @@ glance 'more stretches than are listed' 0 << 'END'
 fields with neither line 17 nor 18: 9 (in 8 stretches; the longest: fields 15-16)
 END
 
+side_of "$ntsc" < whole_words
+head -c 3000000 side.tbc | "$program" extract $ntsc > side.vbi.json
+glance 'pictures of a disc that is cut' 1 << 'END'
+fields: 6, cut: field 7, of 128040 bytes
+pictures: 3, from 7 to 9
+missing: none
+END
+printf -- '- F00001 F00001\n- F0DD01 F0DD01\n' | side_of "$ntsc"
+glance 'as many pictures as times' 0 << 'END'
+system: NTSC, codes of CAV and of CLV
+pictures: 1, from 1 to 1
+END
+{ time_code 59 59 24; time_code 59 59 25; time_code 60 0 0; time_code 0 0 0; } | side_of "$pal"
+glance 'times that no clock shows' 1 << 'END'
+times: 2, from 0:00:00.00 to 0:59:59.24
+out of order: 1 (0:00:00.00 in field 7)
+END
+
 # An NTSC CLV disc may leave out a number now and then, to keep to the clock; not three, nor one by one
 for picture in 0 1 3 4; do
     time_code 9 59 $picture
@@ -193,12 +215,22 @@ for picture in 27 28; do
     time_code 9 59 $picture
 done > times
 { cat times; time_code 10 0 2; } | side_of "$ntsc"
-echo 'missing: 3 (0:09:59.29 to 0:10:00.01 after field 3)' | glance 'three numbers left out' 1
+glance 'three numbers left out' 1 << 'END'
+missing: 3 (0:09:59.29 to 0:10:00.01 after field 3)
+END
 for picture in 0 2 4 6; do
     time_code 9 59 $picture
 done | side_of "$ntsc"
 glance 'numbers left out one by one' 1 << 'END'
 missing: 3 (0:09:59.01 after field 1, 0:09:59.03 after field 3, 0:09:59.05 after field 5)
+END
+# three at once, of a side so long that as many could be left out
+awk 'BEGIN { for (n = 0; n < 1004; n++) if (n < 500 || n > 502) printf "8%XE%d%02d F0DD00 F0DD00\n",
+    10 + int(n / 300), n / 30 % 10, n % 30 }' > long_words
+"$program" draw $ntsc long_words | "$program" extract $ntsc > side.vbi.json
+glance 'three numbers at once of a long side' 1 << 'END'
+times: 1001, from 0:00:00.00 to 0:00:33.13
+missing: 3 (0:00:16.20 to 0:00:16.22 after field 500)
 END
 for minute in 58 58 59 59; do
     printf -- '- F0DD%02d F0DD%02d\n87FFFF 87FFFF 87FFFF\n' $minute $minute
