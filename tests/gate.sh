@@ -28,6 +28,7 @@ done
 if [ -e libldvbi.so.1 ]; then
     sh tests/library.sh "$program"
     sh tests/python_side.sh "$program"
+    sh tests/python_glance.sh "$program"
 else
     echo "library: left out, since it isn't built"
 fi

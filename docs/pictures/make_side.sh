@@ -1,6 +1,6 @@
 #!/bin/sh
-# Makes README's picture of a side: a drawn disc of some fifty pictures on which things went wrong. Pictures 10 to 13 are
-# skipped, 21 stands still, 30 and 31 are swapped, and the lines of ten fields are damaged. It needs the library.
+# Makes README's picture of a side: a drawn disc of some fifty pictures on which things went wrong. Pictures 10 to 13
+# are skipped, 21 stands still, 30 and 31 are swapped, and the lines of ten fields are damaged. It needs the library.
 # usage: sh docs/pictures/make_side.sh PROGRAM FOLDER
 set -eu
 

@@ -1,5 +1,5 @@
-"""A side drawn as an SVG: fields along, what each of the three lines shows in colour, and the picture numbers as a curve
-with marks where one is missing, comes again or comes before its turn."""
+"""A side drawn as an SVG: fields along, what each of the three lines shows in colour, and the picture numbers as a
+curve with marks where one is missing, comes again or comes before its turn."""
 
 import itertools
 from collections import Counter

@@ -3,7 +3,8 @@
 Each field that has a picture number (CAV) or a time (CLV) stands at a number of its side. On a CAV side that is the
 picture number on which lines 17 and 18 agree. On a CLV side it is the count of pictures since 0:00:00.00, by the hours
 and minutes on which lines 17 and 18 agree and the seconds and picture of line 16; where no field has both, as on the
-first CLV discs, it is the count of minutes. A time that no clock shows (minute 60, picture 25 of PAL) is none.
+first CLV discs, it is the count of minutes. A time that no clock shows (minute 60, picture 25 of PAL) is none. A side
+is taken for what more of its fields say, and for CAV where these are as many.
 
 A picture has two or three fields, and its number stands on one of them or more. So a number on up to three fields that
 follow one another is one showing of a picture; any other is a showing of its own. Fields without a number, as those of

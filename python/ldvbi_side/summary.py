@@ -24,6 +24,11 @@ def _span_text(span):
     return "%d-%d" % tuple(span) if span[0] < span[1] else "%d" % span[0]
 
 
+def _fields_text(spans):
+    is_one = len(spans) == 1 and spans[0][0] == spans[0][1]
+    return ("field " if is_one else "fields ") + ", ".join(map(_span_text, spans))
+
+
 def _listed(texts):
     """The first texts, and how many more there are."""
     texts = list(texts)
@@ -40,17 +45,18 @@ def _fields(numbers):
     spans = _spans(numbers)
     if len(spans) > MOST_LISTED:
         longest = max(spans, key=lambda span: span[1] - span[0])
-        return "%d (%d stretches, the longest %s)" % (len(numbers), len(spans), _span_text(longest))
-    return _counted(len(numbers), ("field " if len(numbers) == 1 else "fields ") + ", ".join(map(_span_text, spans)))
+        return "%d (in %d stretches; the longest: %s)" % (len(numbers), len(spans), _fields_text([longest]))
+    return _counted(len(numbers), _fields_text(spans))
 
 
 def _by_name(counts, names):
-    return _counted(sum(counts.values()), ", ".join("%s %d" % (name, counts[key]) for key, name in names if counts[key]))
+    told = ["%s %d" % (name, counts[key]) for key, name in names if counts[key]]
+    return _counted(sum(counts.values()), ", ".join(told))
 
 
 class Summary:
-    """What there is to tell of a side. `is_whole` says that nothing of it is missing: it has a picture number or a time,
-    none is missing between the least and the greatest, and the last field isn't cut."""
+    """What there is to tell of a side. `is_whole` says that nothing of it is missing: it has a picture number or a
+    time, none is missing between the least and the greatest, and the last field isn't cut."""
 
     def __init__(self, side):
         self.side = side
