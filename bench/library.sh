@@ -1,8 +1,8 @@
 #!/bin/sh
 # Times the library for C and in Python: lines and fields beside a plain reader in C, and a drawn stream of FIELDS
 # fields (2,240, which are 1.07 GB, unless it is given), mapped, first where it is not in memory, then where it is.
-# Works in a folder of its own on DISK (/var/tmp unless it is given), since a folder of /tmp may lie in memory. usage:
-# sh bench/library.sh [FIELDS]
+# Works in a folder of its own on DISK (/var/tmp unless it is given), since a folder of /tmp may lie in memory.
+# usage: sh bench/library.sh [FIELDS]
 set -eu
 top=$(cd "$(dirname "$0")/.." && pwd)
 work=$(mktemp -d "${DISK:-/var/tmp}/ldvbi.XXXXXX")
