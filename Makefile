@@ -23,8 +23,12 @@ PYTHON := $(wildcard python/ldvbi_side/*.py)
 SOURCES := $(shell find crates -name out -prune -o \( -name '*.rt' -o -name '*.antt' \) -print)
 LIBRARY_SOURCES := $(filter crates/vbi_words/% crates/vbi_line/% crates/vbi_c/%,$(SOURCES))
 
+# Libraries, lowest first: with one of them missing, `rt run` would first pass over the sources of all
+proved = for crate in $(1); do (cd crates/$$crate && rt lib) || exit 1; done
+
 ldvbi: crates.txt $(SOURCES)
 	@$(MAKE) -s toolchain
+	@$(call proved,vbi_words vbi_line vbi_field vbi_meta)
 	cd crates/vbi_cli && rt run -- --help > /dev/null
 	cp crates/vbi_cli/out/vbi_cli ldvbi
 
@@ -32,6 +36,7 @@ lib: libldvbi.a libldvbi.so
 
 libldvbi.a: crates.txt $(LIBRARY_SOURCES)
 	@$(MAKE) -s toolchain
+	@$(call proved,vbi_words vbi_line)
 	cd crates/vbi_c && rt lib > /dev/null
 	cp crates/vbi_c/out/libvbi_c.a libldvbi.a
 

@@ -104,16 +104,34 @@ pub(crate) fn program<'a>(alloc: Global) -> Result<Command<'a>, AllocError>
     ensures { IfOk result (λ c. ((fields_of c).has_globals ≡ false)
         × ((fields_of c).subcommand_required ≡ true)) }
 {
-    let program = Command::new(alloc, "ldvbi")
+    let program = with_command(alloc, titled(alloc), &LINE)?;
+    let program = with_command(alloc, program, &EXTRACT)?;
+    let program = with_command(alloc, program, &SHOW)?;
+    let program = with_command(alloc, program, &DRAW)?;
+    Ok(program.subcommand_required(true))
+}
+
+/// The program's name and texts, with no command yet.
+fn titled<'a>(alloc: Global) -> Command<'a>
+    ensures { (fields_of result).has_globals ≡ false }
+{
+    Command::new(alloc, "ldvbi")
         .version(VERSION)
         .about(ABOUT)
         .long_about(DETAILS)
         .after_help(EXAMPLES)
-        .subcommand(command(alloc, &LINE)?)?
-        .subcommand(command(alloc, &EXTRACT)?)?
-        .subcommand(command(alloc, &SHOW)?)?
-        .subcommand(command(alloc, &DRAW)?)?;
-    Ok(program.subcommand_required(true))
+}
+
+/// The program with one more command.
+fn with_command<'a>(
+    alloc: Global,
+    program: Command<'a>,
+    texts: &Texts,
+) -> Result<Command<'a>, AllocError>
+    requires program { (fields_of program).has_globals ≡ false }
+    ensures { IfOk result (λ c. (fields_of c).has_globals ≡ false) }
+{
+    program.subcommand(command(alloc, texts)?)
 }
 
 static SYSTEMS: [&str; 2] = ["NTSC", "PAL"];
@@ -126,12 +144,28 @@ fn command<'a>(alloc: Global, texts: &Texts) -> Result<Command<'a>, AllocError>
         .about(texts.about)
         .long_about(texts.details)
         .after_help(texts.example);
+    let command = with_settings(alloc, command)?;
+    with(command, input(alloc, texts.input))
+}
+
+/// The command with metadata, and the options that stand in place of it.
+fn with_settings<'a>(alloc: Global, command: Command<'a>) -> Result<Command<'a>, AllocError>
+    requires command { (fields_of command).has_globals ≡ false }
+    ensures { IfOk result (λ c. (fields_of c).has_globals ≡ false) }
+{
     let command = with(command, meta(alloc))?;
     let command = with(command, system(alloc))?;
+    let command = with_levels(alloc, command)?;
+    with(command, max_fields(alloc))
+}
+
+/// The command with the two levels.
+fn with_levels<'a>(alloc: Global, command: Command<'a>) -> Result<Command<'a>, AllocError>
+    requires command { (fields_of command).has_globals ≡ false }
+    ensures { IfOk result (λ c. (fields_of c).has_globals ≡ false) }
+{
     let command = with(command, level(alloc, "black", BLACK, LONG_BLACK))?;
-    let command = with(command, level(alloc, "white", WHITE, LONG_WHITE))?;
-    let command = with(command, max_fields(alloc))?;
-    with(command, input(alloc, texts.input))
+    with(command, level(alloc, "white", WHITE, LONG_WHITE))
 }
 
 /// The command with one more argument of its own.
