@@ -6,8 +6,7 @@ use crate::job::Ended;
 use crate::tests_asserts::{ends, same, says, writes};
 use crate::tests_devices::{feed_of, wide_sink};
 use crate::tests_runs::{
-    Asked, BLACK, HEAD, NONE, NTSC, TAIL, VERBS, alike, black_stream, job, joined, repeated,
-    run_between,
+    Asked, BLACK, HEAD, NONE, NTSC, TAIL, black_stream, job, joined, repeated, run_between,
 };
 use std::alloc::{AllocError, Global};
 use std::process::Abort;
@@ -97,23 +96,5 @@ fn two_megabytes_of_metadata_are_read(rt: HostRuntime) -> Result<(), Fail> {
     let document = joined(alloc, &[HEAD, BLACK, TAIL])?;
     let document = document.as_slice();
     writes(&rt, &ran, Ok(Ended::Whole), document, "two megabytes");
-    Ok(())
-}
-
-#[test]
-fn metadata_over_its_limit_is_too_large(rt: HostRuntime) -> Result<(), Fail> {
-    // The limit is 256 times a megabyte, 268,435,456 bytes.
-    let megabyte = alike(rt.alloc(), 0, 1_048_576)?;
-    let mut meta = repeated(rt.alloc(), megabyte.as_slice(), 256)?;
-    meta.push(0)?;
-    same(&rt, meta.len(), 268_435_457, "bytes of metadata");
-    for verb in VERBS {
-        refuses(&rt, verb, meta.as_slice(), MetaFault::TooLarge);
-    }
-    says(
-        &rt,
-        AppFault::Meta(MetaFault::TooLarge),
-        "metadata too large",
-    )?;
     Ok(())
 }
