@@ -1,52 +1,85 @@
 #!/bin/sh
 # The whole gate, at the top of the repository: every proof, test and stored run by `rt ci`, each wrong body by
-# tests/wrong_bodies.py, then the built program on its own. `rt ci` works on a copy without must-fail/, whose edits it
-# would try one at a time, while program and library are built here; what these keep, the wrong bodies are tried over.
-# The last line counts crates and wrong bodies, 'N passed, M failed'; the status is 0 only where all of it passed. With
-# a PROGRAM the scripts alone are run, on this one, which needs no toolchain.
-# usage: sh tests/gate.sh [PROGRAM]
+# tests/wrong_bodies.py, then the scripts on the built program and library, and the scripts tried themselves.
+#
+# `rt ci` works on a copy without must-fail/, whose edits it would try one at a time, while program and library are built
+# here; what these keep, the wrong bodies are tried over. So the program is proved and built twice, and the two are
+# compared byte for byte. The last line counts crates and wrong bodies, 'N passed, 0 failed'; the status is 0 only where
+# all of it passed. Times of the parts stand before it.
+# usage: sh tests/gate.sh
 set -eu
 
-program=${1:-./ldvbi}
+# What the gate tried when it last grew. With less of any it fails, so what is taken out is taken out here as well.
+crates=10
+unit_tests=201
+wrong_bodies=198
+# Memory in kB with which the proofs and the build can run side by side
+memory_of_both=14000000
+
 work=$(mktemp -d)
 proofs=
-trap 'kill $proofs 2> /dev/null || true; rm -rf "$work"' EXIT
+# shellcheck disable=SC2317
+leave() {
+    [ -z "$proofs" ] || kill -- "-$proofs" 2> /dev/null || :
+    rm -rf "$work"
+}
+trap leave EXIT
+trap 'exit 1' HUP INT TERM
 
-if [ $# = 0 ]; then
-    mkdir "$work/copy"
-    tar --exclude='./.git' --exclude='./crates/*/out' --exclude='./crates/*/must-fail' -cf - . |
-        tar -C "$work/copy" -xf -
-    (cd "$work/copy" && exec rt ci > "$work/log" 2>&1) &
-    proofs=$!
-    proved() {
-        wait $proofs || { cat "$work/log"; exit 1; }
-        proofs=
-    }
-    # Both at once take some 12 GB
-    [ "$(awk '/^MemAvailable/ { print $2 }' /proc/meminfo)" -gt 14000000 ] || proved
-    make ldvbi lib
-    python3 tests/wrong_bodies.py > "$work/wrong" || { cat "$work/wrong"; exit 1; }
-    cat "$work/wrong"
-    [ -z "$proofs" ] || proved
+fails() {
+    echo "the gate: $1" >&2
+    exit 1
+}
+
+# at_least NAME FOUND WANTED: fails where fewer of these were tried than when the gate last grew
+at_least() {
+    [ "$2" -ge "$3" ] || fails "$2 $1, and there were $3"
+    [ "$2" = "$3" ] || echo "the gate: $2 $1, more than the $3 that tests/gate.sh asks for: raise the number"
+}
+
+# part NAME: says how long the part that ends here took, and how many seconds of processors all parts so far
+began=$(date +%s)
+part() {
+    now=$(date +%s)
+    times | sed -n 2p | sed "s/^/time: $1: $((now - began)) s; processors until here: /" >> "$work/times"
+    began=$now
+}
+
+# ends_proofs: waits for `rt ci`, and looks at its status, its last line and what it ran
+ends_proofs() {
+    wait "$proofs" || { cat "$work/log"; fails 'rt ci failed'; }
+    proofs=
     cat "$work/log"
-    cmp ldvbi "$work/copy/crates/vbi_cli/out/vbi_cli"
-    crates=$(tail -n 1 "$work/log")
-    refused=$(tail -n 1 "$work/wrong" | sed 's/^wrong bodies: \([0-9]*\) .*/\1/')
-    echo "$((${crates%% *} + refused)) passed, 0 failed" >> "$work/log"
-else
-    echo "the scripts passed on $program" > "$work/log"
+    last=$(tail -n 1 "$work/log")
+    [ "$last" = "${last%% *} passed, 0 failed" ] || fails "rt ci ended with '$last'"
+    at_least crates "${last%% *}" "$crates"
+    at_least 'unit tests' "$(grep -c '^test .* \.\.\. ok$' "$work/log")" "$unit_tests"
+    passed=${last%% *}
+}
+
+mkdir "$work/copy"
+tar --exclude='./.git' --exclude='./crates/*/out' --exclude='./crates/*/must-fail' -cf - . | tar -C "$work/copy" -xf -
+(cd "$work/copy" && exec setsid rt ci > "$work/log" 2>&1) &
+proofs=$!
+if [ "$(awk '/^MemAvailable/ { print $2 }' /proc/meminfo)" -lt "$memory_of_both" ]; then
+    ends_proofs
+    part 'proofs and tests'
 fi
-for script in lines program words settings device_faults line_and_draw_faults read_back want_of_memory; do
-    sh tests/$script.sh "$program"
-done
-for script in jq_module schema docs manual packaging plots; do
-    sh tests/$script.sh "$program"
-done
-if [ -e libldvbi.so.1 ]; then
-    sh tests/library.sh "$program"
-    sh tests/python_side.sh "$program"
-    sh tests/python_glance.sh "$program"
-else
-    echo "library: left out, since it isn't built"
+make ldvbi lib
+part 'program and library'
+python3 tests/wrong_bodies.py > "$work/wrong" || { cat "$work/wrong"; fails 'a wrong body was not refused'; }
+cat "$work/wrong"
+refused=$(tail -n 1 "$work/wrong" | sed -n 's/^wrong bodies: \([0-9]*\) refused .* 0 not$/\1/p')
+at_least 'wrong bodies' "${refused:-0}" "$wrong_bodies"
+python3 tests/wrong_bodies_trials.py
+part 'wrong bodies'
+if [ -n "$proofs" ]; then
+    ends_proofs
+    part 'proofs and tests, where they took longer'
 fi
-tail -n 1 "$work/log"
+cmp ldvbi "$work/copy/crates/vbi_cli/out/vbi_cli"
+cmp libldvbi.a "$work/copy/crates/vbi_c/out/libvbi_c.a"
+sh tests/scripts.sh ./ldvbi
+part 'scripts'
+cat "$work/times"
+echo "$((passed + refused)) passed, 0 failed"

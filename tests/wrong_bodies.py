@@ -12,7 +12,7 @@ that the prover has to refuse, and else it is any of the crate.
 
 Kept work is that of `rt lib`, `rt run` or `rt check` in each crate, which must have passed on the same files.
 
-usage: python3 tests/wrong_bodies.py [--lanes N] [--only WORD] [CRATE..]     (at the top, with `rt` on the PATH)
+usage: python3 tests/wrong_bodies.py [--lanes N] [--only WORD] [--plan] [CRATE..]     (at the top, with `rt` on the PATH)
 """
 import argparse
 import collections
@@ -23,101 +23,119 @@ import shutil
 import subprocess
 import sys
 import tempfile
-import types
 
 FOLDER = "must-fail"
-FN = re.compile(r"(\s*)(?:pub(?:\([^)]*\))?\s+)?(?:const\s+)?(?:unsafe\s+)?(?:extern\s+\"C\"\s+)?fn\s+(\w+)")
-# a function refused by itself: by an error in its written proof, or a goal that has no proof. One that is right, and
-# only calls such a function, reads 'no proof: it calls ..'
+HEAD = re.compile(r"(\s*)(?:pub(?:\([^)]*\))?\s+)?(?:const\s+)?(?:unsafe\s+)?(?:extern\s+\"C\"\s+)?fn\s+(\w+)")
+# A function refused by itself: by an error in its written proof, or by a goal that has no proof. One that is right and
+# only calls such a function reads 'no proof: it calls ..'.
+REFUSED = r"^fn {}: (not proved|no proof: (?!it calls|it passes|it rests|it uses)).*"
+# An error in a written proof which says no more than that a name went with the right body
 LOST = re.compile(r"has no field|is not in scope|has no `|was not admitted")
-REFUSED = r"^fn {}: (not proved|no proof: (?!it calls|it passes|it rests|it uses))"
+# Memory of one check, in kB
+CHECK_MEMORY = 2_500_000
 
 
-def lanes():
-    """Returns how many checks to run side by side: one a processor, as far as memory goes (one takes up to 2.5 GB)."""
-    free = int(re.search(r"MemAvailable:\s+(\d+)", open("/proc/meminfo").read())[1])
-    return max(min(len(os.sched_getaffinity(0)), free // 2_500_000), 1)
+def processors():
+    """Returns how many checks to run side by side: one a processor, as far as memory goes."""
+    free = int(re.search(r"MemAvailable:\s+(\d+)", read("/proc/meminfo"))[1])
+    return max(min(len(os.sched_getaffinity(0)), free // CHECK_MEMORY), 1)
 
 
 def read(path):
-    with open(path, encoding="utf-8") as it:
-        return it.read()
+    with open(path, encoding="utf-8") as file:
+        return file.read()
 
 
 def write(path, text):
     """Writes a file anew, and not into the file that a link shares."""
-    with open(f"{path}.part", "w", encoding="utf-8") as it:
-        it.write(text)
+    with open(f"{path}.part", "w", encoding="utf-8") as file:
+        file.write(text)
     os.replace(f"{path}.part", path)
 
 
+def owner_of(lines, number):
+    """Returns what the prover writes before a method's name: the type of the impl that begins here, then its trait."""
+    head = lines[number]
+    for more in lines[number + 1:number + 8]:
+        if "{" in head:
+            break
+        head += " " + more
+    head = re.sub(r"<[^<>]*>", "", re.sub(r"<[^<>]*>", "", head))
+    named = re.search(r"impl\s+(?:[\w:]*?(\w+)\s+for\s+)?(?:[\w:]*::)?(\w+)", head)
+    return f"{named[2]}{named[1] or ''}::" if named else ""
+
+
 def functions(text):
-    """Returns where each function's body begins and ends, and its name behind its type's, as the prover writes it."""
-    found, owner, lines, at = [], "", text.split("\n"), 0
-    starts = []
+    """Returns of each function where its body begins and ends, and its name behind its type's."""
+    lines = text.split("\n")
+    starts = [0]
     for line in lines:
-        starts.append(at)
-        at += len(line) + 1
-    for i, line in enumerate(lines):
+        starts.append(starts[-1] + len(line) + 1)
+    found, owner = [], ""
+    for number, line in enumerate(lines):
         if re.match(r"(unsafe )?impl\b", line):
-            head = line
-            for more in lines[i + 1 : i + 8]:
-                if "{" in head:
-                    break
-                head += " " + more
-            head = re.sub(r"<[^<>]*>", "", re.sub(r"<[^<>]*>", "", head))
-            named = re.search(r"impl\s+(?:[\w:]*?(\w+)\s+for\s+)?(?:[\w:]*::)?(\w+)", head)
-            owner = f"{named[2]}{named[1] or ''}::" if named else ""
+            owner = owner_of(lines, number)
         elif line.startswith("}"):
             owner = ""
-        head = FN.match(line)
-        if head:
-            last = next((k for k in range(i, len(lines)) if re.match(head[1] + r"\}", lines[k])), i)
-            first = next((k for k in range(i, last + 1) if re.search(r"\{\s*$", lines[k]) and
-                          not re.search(r"\b(requires|ensures|ghost)\b", lines[k])), i)
-            found.append((starts[first] + len(lines[first]) - (first == i == last) * len(lines[i]), starts[last],
-                          (owner if head[1] else "") + head[2]))
+        head = HEAD.match(line)
+        if not head:
+            continue
+        below = range(number, len(lines))
+        last = next((at for at in below if re.match(head[1] + r"\}", lines[at])), number)
+        opens = (at for at in range(number, last + 1)
+                 if re.search(r"\{\s*$", lines[at]) and not re.search(r"\b(requires|ensures|ghost)\b", lines[at]))
+        first = next(opens, number)
+        begin = starts[first] if first == last else starts[first] + len(lines[first])
+        found.append((begin, starts[last], (owner if head[1] else "") + head[2]))
     return found
 
 
-def module(path):
-    inside = path[len("src/") : -len(".rt")].removesuffix("/mod").replace("/", "::")
+def module_of(path):
+    """Returns the path of a source file's module, as the prover writes it before a name."""
+    inside = path[len("src/"):-len(".rt")].replace("/", "::")
     return "" if inside in ("lib", "main") else f"{inside}::"
 
 
 class Edit:
+    """A wrong body: its places and texts, and the functions of which one has to be refused."""
+
     def __init__(self, folder, path):
-        self.name, self.pairs, self.refuses, self.why = os.path.basename(path)[: -len(".edit")], [], [], None
+        self.name = os.path.basename(path)[:-len(".edit")]
+        self.pairs, self.refuses = [], []
+        self.fault = None
+        self.alone = False
         file = old = None
         for line in read(path).split("\n"):
             if line.startswith("file: "):
-                file = line[6:].strip()
+                file = line[len("file: "):].strip()
             elif line.startswith("refuses: "):
-                self.refuses.append(line[9:].strip())
+                self.refuses.append(line[len("refuses: "):].strip())
             elif line.startswith("old: "):
-                old = line[5:]
+                old = line[len("old: "):]
             elif line.startswith("new:"):
-                self.pairs.append((file, old, line[4:].removeprefix(" ")))
-        self.alone = False
+                self.pairs.append((file, old, line[len("new:"):].removeprefix(" ")))
+        self.find_functions(folder)
+
+    def find_functions(self, folder):
         touched, texts = [], {}
         for file, old, new in self.pairs:
             text = texts.setdefault(file, read(f"{folder}/{file}"))
-            at = text.find(old)
             if text.count(old) != 1:
-                self.why = f"an 'old:' text is in {file} {text.count(old)} times"
+                self.fault = f"an 'old:' text is in {file} {text.count(old)} times"
                 return
-            inside = [name for start, end, name in functions(text) if start <= at and at + len(old) <= end]
+            at = text.find(old)
+            inside = [name for begin, end, name in functions(text) if begin <= at and at + len(old) <= end]
             if inside:
-                touched.append(module(file) + inside[-1])
+                touched.append(module_of(file) + inside[-1])
             else:
                 self.alone = True
             texts[file] = text.replace(old, new)
-        self.refuses = self.refuses or list(dict.fromkeys(touched))
-        if self.alone and not self.refuses:
-            self.refuses = ["*"]
+        if not self.pairs:
+            self.fault = "it changes nothing"
+        self.refuses = self.refuses or list(dict.fromkeys(touched)) or ["*"]
 
-    def apply(self, texts, folder):
-        """Returns the texts with this edit as well, or None where its places can't be told any more."""
+    def applied_to(self, texts, folder):
+        """Returns the texts with this edit as well, or None where another edit has taken its place."""
         texts = dict(texts)
         for file, old, new in self.pairs:
             text = texts.get(file) or read(f"{folder}/{file}")
@@ -127,139 +145,186 @@ class Edit:
         return texts
 
 
-def rounds_of(edits, folder):
-    """Shares the edits among rounds: in one round no two change one function, and each applies beside the others."""
-    made = []
-    for edit in sorted(edits, key=lambda it: -sum(it.refuses == other.refuses for other in edits)):
-        for it in made:
-            taken = {name for other in it["edits"] for name in other.refuses}
-            texts = None if edit.alone or it["alone"] or taken & {*edit.refuses} else edit.apply(it["texts"], folder)
-            if texts:
-                it["edits"].append(edit)
-                it["texts"] = texts
-                break
-        else:
-            made.append({"edits": [edit], "texts": edit.apply({}, folder) or {}, "alone": edit.alone})
+class Round:
+    """Edits that share a check: no two change one function, and each applies beside the others."""
+
+    def __init__(self, edits=()):
+        self.edits = []
+        self.texts = {}
+        self.edits += edits
+
+    def takes(self, edit, folder):
+        """Adds an edit where it fits, and returns whether it did."""
+        taken = {name for other in self.edits for name in other.refuses}
+        beside = self.edits and (edit.alone or self.edits[0].alone or taken & {*edit.refuses})
+        texts = None if beside else edit.applied_to(self.texts, folder)
+        if texts is None:
+            return False
+        self.edits.append(edit)
+        self.texts = texts
+        return True
+
+
+def round_of(edits, folder):
+    made = Round()
+    made.edits = list(edits)
+    for edit in edits:
+        made.texts = edit.applied_to(made.texts, folder)
     return made
 
 
-def applied(edits, folder):
-    texts = {}
-    for it in edits:
-        texts = it.apply(texts, folder)
-    return texts
+def rounds_of(edits, folder):
+    """Shares the edits among rounds, those of the most often edited function first."""
+    made = []
+    for edit in sorted(edits, key=lambda it: -sum(it.refuses == other.refuses for other in edits)):
+        if not any(it.takes(edit, folder) for it in made):
+            made.append(round_of([edit], folder))
+    return made
 
 
-class Lane:
-    """A copy of the repository, whose kept work is linked and never written through."""
-
-    def __init__(self, top, room, crate, below):
-        self.top, self.crate = tempfile.mkdtemp(dir=room), crate
-        for name in ("crates.txt", "HANDLES"):
-            shutil.copy(f"{top}/{name}", self.top)
-        for name in [*below, crate]:
-            for part in ("src", "specs", "proofs", "out/rlib", *["out/incremental"] * (name == crate)):
-                if os.path.isdir(f"{top}/crates/{name}/{part}"):
-                    to = f"{self.top}/crates/{name}/{part}"
-                    shutil.copytree(f"{top}/crates/{name}/{part}", to, copy_function=os.link)
-        with open(f"{self.top}/crates.txt", "w", encoding="utf-8") as it:
-            it.writelines(line for line in open(f"{top}/crates.txt", encoding="utf-8")
-                          if re.split(r"[ :]", line)[0] in (*below, crate))
-
-    def check(self, texts):
-        folder = f"{self.top}/crates/{self.crate}"
-        for file, text in texts.items():
-            write(f"{folder}/{file}", text)
-        how = {"stdin": subprocess.DEVNULL, "stdout": subprocess.PIPE, "stderr": subprocess.STDOUT, "errors": "replace"}
-        ran = subprocess.run(["rt", "check", "--jobs", "1"], cwd=folder, **how)
-        shutil.rmtree(self.top)
-        return ran.stdout
-
-
-def below_of(top, crate):
-    rows = dict(re.match(r"(\w+)[^:]*:(.*)", line).groups() for line in open(f"{top}/crates.txt") if ":" in line)
+def below(top, crate):
+    """Returns the crates of the repository on which this one stands, lowest first."""
+    rows = dict(re.match(r"(\w+)[^:]*:(.*)", line).groups() for line in read(f"{top}/crates.txt").split("\n")
+                if ":" in line)
     found = []
     for name in rows[crate].split():
         if name in rows:
-            found += [it for it in [*below_of(top, name), name] if it not in found]
+            found += [it for it in [*below(top, name), name] if it not in found]
     return found
 
 
-def judged(crate, edit, said):
-    """Returns whether the check refused the edit's own function, and the first line that says why."""
-    if re.search(r"^logic=proved ", said, re.M):
-        return False, ""
-    if not re.search(r"^logic=not-proved", said, re.M):
-        return None, next((it for it in said.split("\n") if "error" in it), said[-300:])
-    for name in edit.refuses:
-        whole = re.escape(f"{crate}::{name}") if name != "*" else r"\S+"
-        line = re.search(REFUSED.format(whole) + r".*", said, re.M)
-        if line:
-            place = name.replace("::", "/")
-            told = re.findall(rf"^(?:\./)?proofs/{place}/\S+:\d+:\d+: error.*", said, re.M)
-            if told and all(LOST.search(it) for it in told):
-                return "name", f"only by a name that the edit took away, which says little: {told[0][:120]}"
-            return "proof" if told else "goal", (told or [line[0]])[0][:160]
-    return False, ""
+class Crate:
+    """A crate, and copies of it in which rounds are checked: its kept work is linked, and never written through."""
+
+    def __init__(self, top, room, name):
+        self.top, self.room, self.name = top, room, name
+        self.folder = f"{top}/crates/{name}"
+        self.below = below(top, name)
+
+    def edits(self, word):
+        names = sorted(name for name in os.listdir(f"{self.folder}/{FOLDER}")
+                       if name.endswith(".edit") and word in name)
+        return [Edit(self.folder, f"{self.folder}/{FOLDER}/{name}") for name in names]
+
+    def copy(self):
+        copy = tempfile.mkdtemp(dir=self.room)
+        shutil.copy(f"{self.top}/HANDLES", copy)
+        for name in [*self.below, self.name]:
+            for part in ("src", "specs", "proofs", "out/rlib", *["out/incremental"] * (name == self.name)):
+                inside = f"crates/{name}/{part}"
+                if os.path.isdir(f"{self.top}/{inside}"):
+                    shutil.copytree(f"{self.top}/{inside}", f"{copy}/{inside}", copy_function=os.link)
+        rows = [row for row in read(f"{self.top}/crates.txt").split("\n")
+                if re.split(r"[ :]", row)[0] in (*self.below, self.name)]
+        write(f"{copy}/crates.txt", "\n".join(rows) + "\n")
+        return copy
+
+    def check(self, texts):
+        """Returns what the check says of the crate with these texts in place of its own."""
+        copy = self.copy()
+        folder = f"{copy}/crates/{self.name}"
+        for file, text in texts.items():
+            write(f"{folder}/{file}", text)
+        ran = subprocess.run(["rt", "check", "--jobs", "1"], cwd=folder, stdin=subprocess.DEVNULL,
+                             stdout=subprocess.PIPE, stderr=subprocess.STDOUT, errors="replace", check=False)
+        shutil.rmtree(copy)
+        return ran.stdout
+
+    def proved(self):
+        """Returns whether the crate is proved as it stands, and the end of what the check says."""
+        said = self.check({})
+        return bool(re.search(r"^logic=proved ", said, re.M)), said[-300:]
+
+    def judged(self, edit, said):
+        """Returns by what the check refused the edit's own function, 'goal', 'proof' or 'name' (or None, where it
+        didn't, and 'bad', where there was no check of it), and the first line that says why."""
+        if re.search(r"^logic=proved ", said, re.M):
+            return None, "the crate is proved with it"
+        if not re.search(r"^logic=not-proved", said, re.M):
+            return "bad", next((line for line in said.split("\n") if "error" in line), said[-300:])
+        for name in edit.refuses:
+            whole = re.escape(f"{self.name}::{name}") if name != "*" else r"\S+"
+            refused = re.search(REFUSED.format(whole), said, re.M)
+            if refused:
+                place = name.replace("::", "/")
+                errors = re.findall(rf"^(?:\./)?proofs/{place}/\S+:\d+:\d+: error.*", said, re.M)
+                if errors and all(LOST.search(error) for error in errors):
+                    return "name", errors[0][:160]
+                return "proof" if errors else "goal", (errors or [refused[0]])[0][:160]
+        return None, f"the check doesn't refuse {' or '.join(edit.refuses)}"
+
+    def tried(self, one):
+        """Checks a round, and returns each of its edits with the verdict on it."""
+        said = self.check(one.texts)
+        if len(one.edits) > 1 and not re.search(r"^logic=", said, re.M):
+            # One of them doesn't compile, so half of them is tried at a time
+            half = len(one.edits) // 2
+            parts = (one.edits[:half], one.edits[half:])
+            return [it for part in parts for it in self.tried(round_of(part, self.folder))]
+        found = []
+        for edit in one.edits:
+            by, why = self.judged(edit, said)
+            if by in (None, "bad") and len(one.edits) > 1:
+                by, why = self.tried(round_of([edit], self.folder))[0][1:]
+            found.append((edit, by, why))
+        return found
+
+
+def planned(crates, word):
+    """Prints the plan, and returns its rounds with their crates, the largest first, and the count of faulty edits."""
+    tasks, faulty = [], 0
+    for crate in crates:
+        edits = crate.edits(word)
+        for edit in edits:
+            if edit.fault:
+                print(f"{crate.name}/{edit.name}: BAD EDIT: {edit.fault}")
+                faulty += 1
+        made = rounds_of([edit for edit in edits if not edit.fault], crate.folder)
+        tasks += [(crate, it) for it in made]
+        sizes = " ".join(str(len(it.edits)) for it in made)
+        print(f"{crate.name}: {len(edits)} wrong bodies in {len(made)} rounds: {sizes}", flush=True)
+    return sorted(tasks, key=lambda it: -len(it[1].edits)), faulty
+
+
+def run(crates, tasks, lanes):
+    """Tries all rounds, prints each verdict, and returns how many edits were refused by what."""
+    counts = collections.Counter()
+    with concurrent.futures.ThreadPoolExecutor(lanes) as pool:
+        rounds = {pool.submit(crate.tried, one): crate for crate, one in tasks}
+        as_they_stand = {pool.submit(crate.proved): crate for crate in crates}
+        for done in concurrent.futures.as_completed(rounds):
+            for edit, by, why in done.result():
+                word = {None: "NOT REFUSED", "bad": "BAD EDIT"}.get(by, f"refused by a {by}")
+                print(f"{rounds[done].name}/{edit.name}: {word}: {why}", flush=True)
+                counts[by] += 1
+        for done in concurrent.futures.as_completed(as_they_stand):
+            proved, said = done.result()
+            if not proved:
+                print(f"{as_they_stand[done].name}: not proved as it stands: {said}", flush=True)
+                counts["bad"] += 1
+    return counts
 
 
 def main():
     words = argparse.ArgumentParser()
-    words.add_argument("--lanes", type=int, default=lanes())
+    words.add_argument("--lanes", type=int, default=processors())
     words.add_argument("--only", default="")
     words.add_argument("--plan", action="store_true")
     words.add_argument("crates", nargs="*")
     given = words.parse_args()
     top = os.getcwd()
     names = given.crates or sorted(it for it in os.listdir("crates") if os.path.isdir(f"crates/{it}/{FOLDER}"))
-    tasks, bad, good = [], 0, collections.Counter()
-    for crate in names:
-        folder = f"{top}/crates/{crate}"
-        edits = [Edit(folder, f"{folder}/{FOLDER}/{it}") for it in sorted(os.listdir(f"{folder}/{FOLDER}"))
-                 if it.endswith(".edit") and given.only in it]
-        for it in [it for it in edits if it.why]:
-            print(f"{crate}/{it.name}: BAD EDIT: {it.why}")
-            bad += 1
-        made = rounds_of([it for it in edits if not it.why], folder)
-        tasks += [(crate, it) for it in made]
-        sizes = " ".join(str(len(it["edits"])) for it in made)
-        print(f"{crate}: {len(edits)} wrong bodies in {len(made)} rounds: {sizes}", flush=True)
-        # the crate as it stands, which must be proved
-        tasks.append((crate, {"edits": [], "texts": {}}))
-    if given.plan:
-        return 0
-    # the largest rounds first
-    tasks.sort(key=lambda it: -len(it[1]["edits"]))
-    with tempfile.TemporaryDirectory(prefix="wrong-bodies-", dir=f"{top}") as room:
-
-        def work(crate, edits, texts):
-            said = Lane(top, room, crate, below_of(top, crate)).check(texts)
-            found = []
-            if not edits and not re.search(r"^logic=proved ", said, re.M):
-                return [(types.SimpleNamespace(name="as it stands"), None, f"the crate isn't proved: {said[-300:]}")]
-            folder = f"{top}/crates/{crate}"
-            if len(edits) > 1 and not re.search(r"^logic=", said, re.M):
-                # one of them doesn't compile, so half of them is tried at a time
-                half = len(edits) // 2
-                return [it for part in (edits[:half], edits[half:]) for it in work(crate, part, applied(part, folder))]
-            for edit in edits:
-                well, why = judged(crate, edit, said)
-                if not well and len(edits) > 1:
-                    well, why = work(crate, [edit], applied([edit], folder))[0][1:]
-                found.append((edit, well, why))
-            return found
-
-        with concurrent.futures.ThreadPoolExecutor(given.lanes) as pool:
-            runs = {pool.submit(work, crate, it["edits"], it["texts"]): crate for crate, it in tasks}
-            for run in concurrent.futures.as_completed(runs):
-                for edit, well, why in run.result():
-                    word = "refused, as it must be: " if well else "NOT REFUSED" if well is False else "BAD EDIT: "
-                    print(f"{runs[run]}/{edit.name}: {word}{why}", flush=True)
-                    good[well] += bool(well)
-                    bad += not well
-    print(f"wrong bodies: {sum(good.values())} refused ({good['goal']} by a goal, {good['proof']} by a written proof, "
-          f"{good['name']} by a name alone), {bad} not")
-    return 1 if bad else 0
+    with tempfile.TemporaryDirectory(prefix="wrong-bodies-", dir=top) as room:
+        crates = [Crate(top, room, name) for name in names]
+        tasks, faulty = planned(crates, given.only)
+        if given.plan:
+            return 0
+        counts = run(crates, tasks, given.lanes)
+    refused = counts["goal"] + counts["proof"] + counts["name"]
+    not_refused = faulty + counts["bad"] + counts[None]
+    print(f"wrong bodies: {refused} refused ({counts['goal']} by a goal, {counts['proof']} by a written proof, "
+          f"{counts['name']} by a name alone), {not_refused} not")
+    return 1 if not_refused else 0
 
 
 if __name__ == "__main__":

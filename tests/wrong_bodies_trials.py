@@ -1,0 +1,93 @@
+#!/usr/bin/env python3
+"""Tries tests/wrong_bodies.py itself: what isn't a wrong body has to be named as such, and to fail.
+
+In a copy of one crate, whose edits are these: a wrong body, a right one that calls it, one that changes nothing, one
+that doesn't compile and one whose text is gone. Then a copy that isn't proved as it stands. Kept work is that of the
+crate (`rt lib`).
+
+usage: python3 tests/wrong_bodies_trials.py     (at the top, with `rt` on the PATH)
+"""
+import os
+import re
+import shutil
+import subprocess
+import sys
+import tempfile
+
+CRATE = "vbi_words"
+# Name, file, old text, new text, and what the script has to say of it
+EDITS = [
+    ("wrong", "src/format.rt", "Some(word) => matches!(classify(word), Code::Picture(_) | Code::PictureStop),",
+     "Some(word) => matches!(classify(word), Code::Picture(_)),", "refused by a goal"),
+    ("right_beside_a_wrong_callee", "src/format.rt", "lines.iter().any(|line| is_cav(*line))",
+     "lines.iter().any(|each| is_cav(*each))", "NOT REFUSED"),
+    ("changes_nothing", "src/levels.rt", "if black >= white {", "if white <= black {", "NOT REFUSED"),
+    ("does_not_compile", "src/levels.rt", "2 * u32::from(sample) > u32::from(self.black) + u32::from(self.white)",
+     "2 * u32::from(sample) > self.grey", "BAD EDIT"),
+    ("text_is_gone", "src/word.rt", "no such text", "another", "BAD EDIT"),
+]
+
+
+def copy_of_crate(top, room):
+    """Makes a repository of this one crate alone, without edits, its kept work linked."""
+    copy = tempfile.mkdtemp(dir=room)
+    shutil.copy(f"{top}/HANDLES", copy)
+    folder = f"{copy}/crates/{CRATE}"
+    shutil.copytree(f"{top}/crates/{CRATE}", folder, copy_function=os.link,
+                    ignore=shutil.ignore_patterns("must-fail"))
+    os.mkdir(f"{folder}/must-fail")
+    with open(f"{copy}/crates.txt", "w", encoding="utf-8") as file:
+        file.write(f"{CRATE}:\n")
+    return copy
+
+
+def changed(path, old, new):
+    with open(path, encoding="utf-8") as file:
+        text = file.read()
+    assert text.count(old) == 1, (path, old)
+    # Not through the link
+    os.remove(path)
+    with open(path, "w", encoding="utf-8") as file:
+        file.write(text.replace(old, new))
+
+
+def verdicts(top, copy):
+    """Returns the script's status, what it says of each edit, and its other lines."""
+    ran = subprocess.run([sys.executable, f"{top}/tests/wrong_bodies.py"], cwd=copy, stdin=subprocess.DEVNULL,
+                         stdout=subprocess.PIPE, stderr=subprocess.STDOUT, universal_newlines=True, check=False)
+    said = dict(re.findall(rf"^{CRATE}/(\w+): ([a-zA-Z ]+): ", ran.stdout, re.M))
+    return ran.returncode, said, ran.stdout
+
+
+def main():
+    top = os.getcwd()
+    failures = []
+
+    def check(name, found, wanted):
+        if found != wanted:
+            failures.append(f"{name}: {found}, not {wanted}")
+
+    with tempfile.TemporaryDirectory(prefix="wrong-bodies-trials-", dir=top) as room:
+        copy = copy_of_crate(top, room)
+        for name, file, old, new, _ in EDITS:
+            with open(f"{copy}/crates/{CRATE}/must-fail/{name}.edit", "w", encoding="utf-8") as edit:
+                edit.write(f"file: {file}\nold: {old}\nnew: {new}\n")
+        status, said, text = verdicts(top, copy)
+        check("the edits", said, {name: verdict for name, _, _, _, verdict in EDITS})
+        check("the edits, status", status, 1)
+        check("the edits, last line", text.split("\n")[-2],
+              "wrong bodies: 1 refused (1 by a goal, 0 by a written proof, 0 by a name alone), 4 not")
+        copy = copy_of_crate(top, room)
+        _, file, old, new, _ = EDITS[0]
+        changed(f"{copy}/crates/{CRATE}/{file}", old, new)
+        status, said, text = verdicts(top, copy)
+        check("a crate that isn't proved, status", status, 1)
+        check("a crate that isn't proved", f"{CRATE}: not proved as it stands" in text, True)
+    for failure in failures:
+        print(f"wrong bodies, tried themselves: {failure}", file=sys.stderr)
+    print(f"wrong bodies, tried themselves: {5 - len(failures)} of 5 as wanted")
+    return 1 if failures else 0
+
+
+if __name__ == "__main__":
+    sys.exit(main())
