@@ -1,7 +1,7 @@
 -- What a job does: what metadata and options settle, what each command does with it, and the job's answer. The input
 -- is seen by the bytes that it has yet to give, and the output by those that it has taken, where they tell them, as
 -- those over memory do.
-use Rattle.std.specs.Prelude.{◌≡◌, ◌⊎◌, ℕ, List, Option, Some, None, Result, Ok, Err, ⊤}
+use Rattle.std.specs.Prelude.{◌≡◌, ◌⊎◌, ℕ, List, Option, Some, None, Result, Ok, Err, IfOk, ⊤}
 use Rattle.vbi_words.specs.Geometry.{line_bytes}
 use Rattle.vbi_words.specs.declared.outcome.Outcome.{Outcome}
 use Rattle.vbi_words.specs.declared.system.System.{System}
@@ -17,6 +17,7 @@ use Rattle.vbi_field.specs.declared.summary.RunFault.{RunFault}
 use Rattle.vbi_field.specs.declared.summary.RunFault.TheVariants as run
 use Rattle.vbi_meta.specs.Data.{Data}
 use Rattle.vbi_meta.specs.Metadata.{IsMetadata, IsUnread}
+use Rattle.vbi_meta.specs.ReadBack.{ReadsBack}
 use Rattle.vbi_meta.specs.Settings.{IsSettled, IsRefused}
 use Rattle.vbi_meta.specs.declared.choosing.Overrides.{Overrides}
 use Rattle.vbi_meta.specs.declared.fault.MetaFault.{MetaFault}
@@ -50,6 +51,10 @@ Refuses (Some bytes) given fault =
 abbrev pub Under : Option (List ℕ) → Overrides → (ConfigView → Type 0) → Type 0
 Under meta given P = (c : ConfigView) × (Settles meta given c × P c)
 
+-- P holds of some counts
+abbrev pub Counting : (Counts → Type 0) → Type 0
+Counting P = (n : Counts) × P n
+
 -- ---- the commands
 
 -- whole, or with a cut field where one was cut
@@ -80,23 +85,29 @@ IsDrawnBy (Err (draw.Read number)) answer = answer ≡ Err (ReadRow number)
 IsDrawnBy (Err (draw.Write written)) answer = answer ≡ Err (Write written)
 IsDrawnBy (Err draw.TooManyFields) answer = answer ≡ Err TooManyFields
 
--- a command ran over the input and the output and gave some result, what it fetched and wrote is what it says of that
--- result, and the job's answer is the one that belongs to it
-pub record DidRun {A : Type 0} (input0 input output0 output : Option (List ℕ))
+-- a command ran over the input and the output and gave some result, what it fetched and wrote and what the two counted
+-- is what it says of that result, and the job's answer is the one that belongs to it
+pub record DidRun {A : Type 0} (input0 input output0 output : Option (List ℕ)) (n : Counts)
     (Says : Counts → A → List ℕ → List ℕ → Type 0) (IsFor : A → Result Ended AppFault → Type 0)
     (answer : Result Ended AppFault) : Type 0 where
-  pub counts : Counts
   pub result : A
-  pub ran : Ran input0 input output0 output counts (Says counts result)
+  pub ran : Ran input0 input output0 output n (Says n result)
   pub answered : IsFor result answer
 
-module _ (c : ConfigView) (input0 input output0 output : Option (List ℕ)) where
-  -- what a command did
+-- what `extract` says of its result; and where that is Ok, what is found in the text by a reader of JSON are the words
+-- that the lines in the bytes fetched show
+pub record ExtractsWords (c : ConfigView) (input : Option (List ℕ)) (n : Counts) (result : Result Summary RunFault)
+    (z text : List ℕ) : Type 0 where
+  pub says : Extracts document c input n result z text
+  pub read_back : IfOk result (λ summary. ReadsBack c z text)
+
+module _ (c : ConfigView) (input0 input output0 output : Option (List ℕ)) (n : Counts) where
+  -- what a command did, over devices that counted n since
   abbrev pub Did : Verb → Result Ended AppFault → Type 0
-  Did Line answer = DidRun input0 input output0 output (Answers c input) (IsAnsweredBy c.system) answer
-  Did Extract answer = DidRun input0 input output0 output (Extracts document c input) IsEndedBy answer
-  Did Show answer = DidRun input0 input output0 output (Extracts report c input) IsEndedBy answer
-  Did Draw answer = DidRun input0 input output0 output (Draws c input) IsDrawnBy answer
+  Did Line answer = DidRun input0 input output0 output n (Answers c input) (IsAnsweredBy c.system) answer
+  Did Extract answer = DidRun input0 input output0 output n (ExtractsWords c input) IsEndedBy answer
+  Did Show answer = DidRun input0 input output0 output n (Extracts report c input) IsEndedBy answer
+  Did Draw answer = DidRun input0 input output0 output n (Draws c input) IsDrawnBy answer
 
 -- ---- the job
 

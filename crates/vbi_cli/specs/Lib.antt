@@ -1,4 +1,5 @@
 pub mod Inputs
 pub mod Jobs
 pub mod OneLine
+pub mod Sources
 pub mod Statuses

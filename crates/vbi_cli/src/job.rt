@@ -1,16 +1,23 @@
 //! A job: settings from metadata and options, and then the command.
 
 ghost use Rattle.std.specs.Prelude.{◌≡◌, ◌≢◌, IfOk, IfErr, Err, option_map};
-ghost use Rattle.vbi_cli.specs.Jobs.{Settles, Refuses, Under, Did, IfMeta, UnlessMeta};
+ghost use Rattle.vbi_line.specs.Intake as lines;
+ghost use Rattle.vbi_field.specs.Outlet.{IsFresh as IsFreshOutlet, IsSameDevice as IsSameOutlet};
+ghost use Rattle.vbi_field.specs.Outlet.{device_of as writer_of};
+ghost use Rattle.vbi_meta.specs.DocumentValue.{IsConfig};
+ghost use Rattle.vbi_cli.specs.Jobs.{Settles, Refuses, Under, Counting, Did, IfMeta, UnlessMeta};
 ghost use Rattle.vbi_cli.specs.Jobs.{IsEndedBy, IsAnsweredBy, IsDrawnBy};
+ghost use Rattle.vbi_cli.specs.Sources.{device_of as reader_of, counts_of, IsFreshFor, IsSameDevice};
 ghost use Rattle.vbi_cli.specs.Statuses.{app_status};
+ghost use Rattle.vbi_cli.specs.declared.source.Source.TheVariants.{Lines};
 
 use crate::command_line::{Job, Verb};
 use crate::fault::AppFault;
 use crate::one_line::{LineFault, run_line};
+use crate::source::Source;
 use std::alloc::Global;
 use std::io::{Read, Write};
-use vbi_field::{Config, DrawFault, Outlet, RowIntake, RunFault, Summary, draw, extract, show};
+use vbi_field::{Config, DrawFault, Outlet, RunFault, Summary, draw, extract, show};
 use vbi_line::Intake;
 use vbi_meta::{MetaFault, read_meta, settings};
 use vbi_words::{Outcome, System};
@@ -36,7 +43,8 @@ pub fn status(ended: &Result<Ended, AppFault>) -> u8
 }
 
 /// Settles the settings from metadata and the job's options, and then does what the job says. The paths in the job
-/// aren't looked at. Memory is taken for the metadata document alone. It doesn't flush.
+/// aren't looked at. Memory is taken for the metadata document alone. It doesn't flush. The counts of the two devices
+/// are made here; `settle` and `do_command` say the same of counts that their caller has.
 pub fn run_job<R: Read, W: Write>(
     alloc: Global,
     job: &Job,
@@ -50,20 +58,21 @@ pub fn run_job<R: Read, W: Write>(
 
     // Every other answer is the command's own.
     ensures did { UnlessMeta result (Under (option_map (λ b. b.now) meta.entry) job.now.overrides (λ c.
-        Did c (R.remaining input.old) (R.remaining input.new) (W.contents output.old) (W.contents output.new)
-        job.now.verb result)) }
+        Counting (λ n. Did c (R.remaining input.old) (R.remaining input.new)
+        (W.contents output.old) (W.contents output.new) n job.now.verb result))) }
 {
-    let config = config_of(alloc, job, meta).map_err(AppFault::Meta)?;
-    match job.verb {
-        Verb::Line => line_job(&config, input, output),
-        Verb::Extract => extract_job(&config, input, output),
-        Verb::Show => show_job(&config, input, output),
-        Verb::Draw => draw_job(&config, input, output),
-    }
+    let config = settle(alloc, job, meta).map_err(AppFault::Meta)?;
+    let mut source = Source::new(job.verb, config.system(), input);
+    let mut outlet = Outlet::new(output);
+    let answer = do_command(&config, job.verb, &mut source, &mut outlet);
+    // Handed back, so that it is known what the two devices are now.
+    let _ = source.into_reader();
+    let _ = outlet.into_writer();
+    answer
 }
 
 /// What metadata and the job's options settle.
-fn config_of(alloc: Global, job: &Job, meta: Option<&[u8]>) -> Result<Config, MetaFault>
+pub fn settle(alloc: Global, job: &Job, meta: Option<&[u8]>) -> Result<Config, MetaFault>
     ensures ok { IfOk result (Settles (option_map (λ b. b.now) meta.entry) job.now.overrides) }
     ensures err { IfErr result (Refuses (option_map (λ b. b.now) meta.entry) job.now.overrides) }
 {
@@ -76,23 +85,34 @@ fn config_of(alloc: Global, job: &Job, meta: Option<&[u8]>) -> Result<Config, Me
     }
 }
 
-/// The command `line`.
-fn line_job<R: Read, W: Write>(
+/// Does a command. What it fetched and wrote, its answer, and what source and outlet have counted of the two devices
+/// belong together as `Did` says. It doesn't flush.
+pub fn do_command<R: Read, W: Write>(
     config: &Config,
-    input: &mut R,
-    output: &mut W,
+    verb: Verb,
+    source: &mut Source<R>,
+    outlet: &mut Outlet<W>,
 ) -> Result<Ended, AppFault>
-    ensures { Did config.now (R.remaining input.old) (R.remaining input.new)
-        (W.contents output.old) (W.contents output.new) Verb.Line result }
+    requires source { IsFreshFor source.old verb config.now.system }
+    requires outlet { IsFreshOutlet outlet.old }
+    ensures same_reader { IsSameDevice source.old source.new }
+    ensures same_writer { IsSameOutlet outlet.old outlet.new }
+    ensures did { Did config.now (R.remaining (reader_of source.old)) (R.remaining (reader_of source.new))
+        (W.contents (writer_of outlet.old)) (W.contents (writer_of outlet.new)) (counts_of source.new outlet.new)
+        verb result }
 {
-    let system = config.system();
-    let mut intake = Intake::new(input, system);
-    let mut outlet = Outlet::new(output);
-    let outcome = run_line(config, &mut intake, &mut outlet);
-    // Handed back, so that it is known what the two devices are now.
-    let _ = intake.into_reader();
-    let _ = outlet.into_writer();
-    line_end(system, outcome)
+    match source {
+        Source::Lines(intake) => match verb {
+            Verb::Line => line_end(config.system(), run_line(config, intake, outlet)),
+            Verb::Extract => extract_job(config, intake, outlet),
+            Verb::Show => show_job(config, intake, outlet),
+            Verb::Draw => unreachable!("drawing reads rows"),
+        },
+        Source::Rows(rows) => match verb {
+            Verb::Draw => drawing_end(draw(config, rows, outlet)),
+            _ => unreachable!("only drawing reads rows"),
+        },
+    }
 }
 
 /// The job's answer to a run over one line.
@@ -113,36 +133,45 @@ fn line_end(system: System, outcome: Result<Outcome, LineFault>) -> Result<Ended
 /// The command `extract`.
 fn extract_job<R: Read, W: Write>(
     config: &Config,
-    input: &mut R,
-    output: &mut W,
+    intake: &mut Intake<R>,
+    outlet: &mut Outlet<W>,
 ) -> Result<Ended, AppFault>
-    ensures { Did config.now (R.remaining input.old) (R.remaining input.new)
-        (W.contents output.old) (W.contents output.new) Verb.Extract result }
+    requires intake { lines.IsFresh intake.old config.now.system }
+    requires outlet { IsFreshOutlet outlet.old }
+    ensures same_reader { lines.IsSameDevice intake.old intake.new }
+    ensures same_writer { IsSameOutlet outlet.old outlet.new }
+    ensures did { Did config.now (R.remaining (lines.device_of intake.old)) (R.remaining (lines.device_of intake.new))
+        (W.contents (writer_of outlet.old)) (W.contents (writer_of outlet.new))
+        (counts_of (Lines intake.new) outlet.new) Verb.Extract result }
 {
-    let mut intake = Intake::new(input, config.system());
-    let mut outlet = Outlet::new(output);
-    let summary = extract(config, &mut intake, &mut outlet);
-    // Handed back, so that it is known what the two devices are now.
-    let _ = intake.into_reader();
-    let _ = outlet.into_writer();
+    numbers(config);
+    let summary = extract(config, intake, outlet);
     end_of(summary)
+}
+
+/// What is known of a config's numbers.
+fn numbers(config: &Config)
+    ensures { IsConfig config.now }
+{
+    let _levels = config.levels();
+    let _max_fields = config.max_fields();
 }
 
 /// The command `show`.
 fn show_job<R: Read, W: Write>(
     config: &Config,
-    input: &mut R,
-    output: &mut W,
+    intake: &mut Intake<R>,
+    outlet: &mut Outlet<W>,
 ) -> Result<Ended, AppFault>
-    ensures { Did config.now (R.remaining input.old) (R.remaining input.new)
-        (W.contents output.old) (W.contents output.new) Verb.Show result }
+    requires intake { lines.IsFresh intake.old config.now.system }
+    requires outlet { IsFreshOutlet outlet.old }
+    ensures same_reader { lines.IsSameDevice intake.old intake.new }
+    ensures same_writer { IsSameOutlet outlet.old outlet.new }
+    ensures did { Did config.now (R.remaining (lines.device_of intake.old)) (R.remaining (lines.device_of intake.new))
+        (W.contents (writer_of outlet.old)) (W.contents (writer_of outlet.new))
+        (counts_of (Lines intake.new) outlet.new) Verb.Show result }
 {
-    let mut intake = Intake::new(input, config.system());
-    let mut outlet = Outlet::new(output);
-    let summary = show(config, &mut intake, &mut outlet);
-    // Handed back, so that it is known what the two devices are now.
-    let _ = intake.into_reader();
-    let _ = outlet.into_writer();
+    let summary = show(config, intake, outlet);
     end_of(summary)
 }
 
@@ -159,24 +188,6 @@ fn end_of(summary: Result<Summary, RunFault>) -> Result<Ended, AppFault>
         Err(RunFault::TooManyFields) => Err(AppFault::TooManyFields),
         Err(RunFault::Failed) => unreachable!("a run never answers it"),
     }
-}
-
-/// The command `draw`.
-fn draw_job<R: Read, W: Write>(
-    config: &Config,
-    input: &mut R,
-    output: &mut W,
-) -> Result<Ended, AppFault>
-    ensures { Did config.now (R.remaining input.old) (R.remaining input.new)
-        (W.contents output.old) (W.contents output.new) Verb.Draw result }
-{
-    let mut rows = RowIntake::new(input);
-    let mut outlet = Outlet::new(output);
-    let fields = draw(config, &mut rows, &mut outlet);
-    // Handed back, so that it is known what the two devices are now.
-    let _ = rows.into_reader();
-    let _ = outlet.into_writer();
-    drawing_end(fields)
 }
 
 /// The job's answer to a run of drawing.

@@ -10,16 +10,20 @@ mod fault;
 mod input;
 mod job;
 mod one_line;
+mod source;
 
 use command_line::{Job, WordsFault, read_words};
+use fault::AppFault;
 use input::Input;
-use job::{run_job, status};
+use job::{do_command, settle, status};
+use source::Source;
 use std::fs::File;
 use std::io::{Read, Write};
 use std::process::ExitCode;
 use std::rt::{Env, Files};
 use std::{env, io};
 use thiserror::Error;
+use vbi_field::Outlet;
 use vbi_meta::META_LIMIT;
 
 /// What fails in the program itself, outside a job.
@@ -119,7 +123,14 @@ fn run_with_files(rt: &HostRuntime, job: &Job) -> Result<u8, MainFault> {
     };
     let mut output = rt.stdout();
     let bytes = meta.as_ref().map(Vec::as_slice);
-    let ended = run_job(rt.alloc(), job, bytes, &mut input, &mut output);
+    let ended = match settle(rt.alloc(), job, bytes) {
+        Ok(config) => {
+            let mut source = Source::new(job.verb, config.system(), &mut input);
+            let mut outlet = Outlet::new(&mut output);
+            do_command(&config, job.verb, &mut source, &mut outlet)
+        }
+        Err(fault) => Err(AppFault::Meta(fault)),
+    };
     let flushed = output.flush();
     if let Err(fault) = &ended {
         let _ = eprintln!(rt; "ldvbi: {fault}");

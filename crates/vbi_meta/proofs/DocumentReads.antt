@@ -80,7 +80,7 @@ fields_within Pal fields bytes h = omega arith
 pub few_fields : (c : ConfigView) (z : List ℕ) → IsOfRun c z → fields_of c z ≤ 1000000
 few_fields c z run = omega (arith, fields_within c.system c.max_fields (length z) run.within, run.config.max_fields)
 
-small_rest : (system : System) (bytes : ℕ) → bytes % field_bytes system < 2 ^ 64
+pub small_rest : (system : System) (bytes : ℕ) → bytes % field_bytes system < 2 ^ 64
 small_rest Ntsc bytes = omega arith
 small_rest Pal bytes = omega arith
 

@@ -31,6 +31,7 @@ use Rattle.vbi_meta.specs.Settings.{whole, member_of}
 use Rattle.vbi_meta.specs.declared.fault.MetaFault.{MetaFault}
 use Rattle.vbi_meta.specs.declared.fault.MetaFault.TheVariants.{TooLarge, NotJson, OutOfMemory}
 use Rattle.vbi_meta.proofs.DocumentReads.{document_is_read, is_metadata}
+use Rattle.vbi_meta.proofs.Lengths.{document_short}
 
 -- ---- lists
 
@@ -210,6 +211,10 @@ module _ (c : ConfigView) (z text : List ℕ) (is : read text ≡ Some (document
 
 -- ---- a text that is the document of a stream
 
+short_enough : (c : ConfigView) (z text : List ℕ) → IsOfRun c z → text ≡ whole_text document c z
+    → length text ≤ most_bytes
+short_enough c z text run e = subst (λ t. length t ≤ most_bytes) (sym e) (document_short c z run)
+
 pub extracted : (c : ConfigView) (z text : List ℕ) → IsOfRun c z → text ≡ whole_text document c z → ReadsBack c z text
 extracted c z text run e =
     let is : IsReadAs text (document_value c z) = subst (λ t. IsReadAs t (document_value c z)) (sym e)
@@ -217,13 +222,12 @@ extracted c z text run e =
     record {
       is_read = is;
       tells = tells c z text is.value_of_text;
-      metadata = is_metadata text (document_value c z) is;
+      metadata = is_metadata text (document_value c z) is (short_enough c z text run e);
     }
 
 pub document_is_metadata : (c : ConfigView) (z text : List ℕ) → IsOfRun c z → text ≡ whole_text document c z
-    → length text ≤ most_bytes
     → IsMetadata text (document_value c z)
-document_is_metadata c z text run e short = (extracted c z text run e).metadata short
+document_is_metadata c z text run e = (extracted c z text run e).metadata
 
 same_some : (a b : Data) → Some a ≡ Some b → a ≡ b
 same_some a b e = cc
@@ -233,11 +237,11 @@ pub only_value : (c : ConfigView) (z text : List ℕ) (value : Data) → IsOfRun
 only_value c z text value run e is =
     same_some value (document_value c z) (sym is.reading ∙ (extracted c z text run e).is_read.value_of_text)
 
--- the reasons for which a document that is short enough isn't read
+-- the reasons for which a document isn't read
 pub only_memory : (c : ConfigView) (z text : List ℕ) (fault : MetaFault) → IsOfRun c z → text ≡ whole_text document c z
-    → length text ≤ most_bytes → IsUnread text fault → fault ≡ OutOfMemory
-only_memory c z text TooLarge run e short unread = absurd (omega arith)
-only_memory c z text NotJson run e short unread =
-    absurd (unread.1 (document_value c z) (document_is_metadata c z text run e short))
-only_memory c z text OutOfMemory run e short unread = refl
-only_memory c z text _ run e short unread = absurd unread
+    → IsUnread text fault → fault ≡ OutOfMemory
+only_memory c z text TooLarge run e unread = absurd (omega (arith, short_enough c z text run e))
+only_memory c z text NotJson run e unread =
+    absurd (unread.1 (document_value c z) (document_is_metadata c z text run e))
+only_memory c z text OutOfMemory run e unread = refl
+only_memory c z text _ run e unread = absurd unread

@@ -1,6 +1,7 @@
 pub mod DocumentReads
 pub mod DocumentTells
 pub mod DocumentTexts
+pub mod Lengths
 pub mod LineFeeds
 pub mod RecordTexts
 pub mod Refusals

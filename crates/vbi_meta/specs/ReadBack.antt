@@ -1,5 +1,5 @@
 -- What readers of JSON (RFC 8259) find in a text, and when that is what the lines of a stream show.
-use Rattle.std.specs.Prelude.{◌≡◌, ℕ, ◌+◌, ◌<◌, ◌≤◌, List, Option, Some, None, option_and_then, codes, length, IsUtf8}
+use Rattle.std.specs.Prelude.{◌≡◌, ℕ, ◌+◌, ◌<◌, ◌≤◌, List, Option, Some, None, option_and_then, codes, IsUtf8}
 use Rattle.json.specs.Json.{Json, document}
 use Rattle.json.specs.Strict.{HasUniqueKeys}
 use Rattle.serde_json.specs.Data.{Data, null}
@@ -13,7 +13,7 @@ use Rattle.vbi_field.specs.ConfigView.{ConfigView}
 use Rattle.vbi_field.specs.Document.{value_of}
 use Rattle.vbi_field.specs.Stream.{fields_of, rest_of}
 use Rattle.vbi_meta.specs.DocumentValue.{document_value}
-use Rattle.vbi_meta.specs.Metadata.{most_bytes, IsMetadata}
+use Rattle.vbi_meta.specs.Metadata.{IsMetadata}
 use Rattle.vbi_meta.specs.Settings.{whole, member_of}
 
 -- the text is JSON in UTF-8, this is its value, and no object in it has a key twice: readers that keep the first of two
@@ -91,9 +91,8 @@ pub record Tells (c : ConfigView) (z text : List ℕ) : Type 0 where
   pub words : (i k word : ℕ) → word_in text i k ≡ Some word → 0 < word → ShowsWord c z i k word
   pub cut : TellsCut text (fields_of c z) (rest_of c z)
 
--- the text is read as the stream's document, tells what its lines show, and is metadata of that value where it isn't
--- too long
+-- the text is read as the stream's document, tells what its lines show, and is metadata of that value
 pub record ReadsBack (c : ConfigView) (z text : List ℕ) : Type 0 where
   pub is_read : IsReadAs text (document_value c z)
   pub tells : Tells c z text
-  pub metadata : length text ≤ most_bytes → IsMetadata text (document_value c z)
+  pub metadata : IsMetadata text (document_value c z)

@@ -1,6 +1,6 @@
 //! Laws over the definitions: each function's contract is one, for every config and stream.
 
-ghost use Rattle.std.specs.Prelude.{◌≡◌, ℕ, ◌≤◌, List, length, Option};
+ghost use Rattle.std.specs.Prelude.{◌≡◌, ℕ, List, Option};
 ghost use Rattle.serde_json.specs.Data.{Data};
 ghost use Rattle.vbi_field.specs.ConfigView.{ConfigView};
 ghost use Rattle.vbi_field.specs.Extracts.{ExtractsAll};
@@ -9,7 +9,7 @@ ghost use Rattle.vbi_field.specs.Ran.{Counts};
 ghost use Rattle.vbi_field.specs.Texts.{whole_text};
 ghost use Rattle.vbi_field.specs.declared.summary.Summary.{Summary};
 ghost use Rattle.vbi_meta.specs.DocumentValue.{IsConfig, IsOfRun, document_value};
-ghost use Rattle.vbi_meta.specs.Metadata.{most_bytes, IsMetadata, IsUnread};
+ghost use Rattle.vbi_meta.specs.Metadata.{IsMetadata, IsUnread};
 ghost use Rattle.vbi_meta.specs.ReadBack.{IsReadAs, Tells, ReadsBack};
 ghost use Rattle.vbi_meta.specs.declared.fault.MetaFault.{MetaFault};
 ghost use Rattle.vbi_meta.specs.declared.fault.MetaFault.TheVariants.{OutOfMemory};
@@ -33,13 +33,13 @@ pub fn extracted_words()
         → IsConfig c → ExtractsAll document c input n z text summary → ReadsBack c z text }
 {}
 
-/// Our own reader takes the document of a stream, where it is no longer than metadata may be, with the same value: by
-/// its clauses `read_meta` answers that value, or was refused memory.
+/// Our own reader takes the document of every stream with the same value: it is never longer than metadata may be, and
+/// by its clauses `read_meta` answers that value, or was refused memory.
 pub fn document_is_metadata()
     ensures value { (c : ConfigView) (z text : List ℕ) → IsOfRun c z → text ≡ whole_text document c z
-        → length text ≤ most_bytes → IsMetadata text (document_value c z) }
+        → IsMetadata text (document_value c z) }
     ensures only { (c : ConfigView) (z text : List ℕ) (value : Data) → IsOfRun c z → text ≡ whole_text document c z
         → IsMetadata text value → value ≡ document_value c z }
     ensures fault { (c : ConfigView) (z text : List ℕ) (fault : MetaFault) → IsOfRun c z
-        → text ≡ whole_text document c z → length text ≤ most_bytes → IsUnread text fault → fault ≡ OutOfMemory }
+        → text ≡ whole_text document c z → IsUnread text fault → fault ≡ OutOfMemory }
 {}
