@@ -4,21 +4,20 @@ use Rattle.std.specs.Prelude.{Option}
 use Rattle.std.specs.Io.KnownBytes.{Consumes}
 use Rattle.vbi_words.specs.Geometry.{line_bytes}
 use Rattle.vbi_line.specs.Line.{Keeps}
-use Rattle.vbi_line.specs.Intake.{device_of, failures_of, errors_of, streak_of, held_of, IsSameDevice}
+use Rattle.vbi_line.specs.Counted.{device_of, failures_of, IsSameDevice}
+use Rattle.vbi_line.specs.Intake.{counted_of, held_of}
 use Rattle.vbi_line.specs.declared.intake.Intake.{Intake}
 
--- what the call has done so far: the bytes that it read, and how many interruptions there were since the last of them
-pub record Since {R : Type 0} (remaining : R → Option (List ℕ)) (old now : Intake R) (tries : ℕ) : Type 0 where
+-- what the call has done so far: the bytes that it read, and no error
+pub record Since {R : Type 0} (remaining : R → Option (List ℕ)) (old now : Intake R) : Type 0 where
   pub bytes : List ℕ
   pub held : held_of now ≡ held_of old ++ bytes
-  pub consumed : Consumes (remaining (device_of old)) (remaining (device_of now)) bytes
+  pub consumed : Consumes (remaining (device_of (counted_of old))) (remaining (device_of (counted_of now))) bytes
   pub fetched : now.fetched ≡ old.fetched + length bytes
-  pub least : failures_of old + tries ≤ failures_of now
-  pub most : failures_of now ≤ failures_of old + 16 * length bytes + tries
-  pub few : tries ≤ 16
-  pub errors : errors_of now ≡ errors_of old
-  pub streak : tries ≤ streak_of now
-  pub longest : streak_of now ≤ streak_of old + tries
+  pub least : (failures_of (counted_of old)).all ≤ (failures_of (counted_of now)).all
+  pub most : (failures_of (counted_of now)).all ≤ (failures_of (counted_of old)).all + 16 * length bytes
+  pub errors : (failures_of (counted_of now)).errors ≡ (failures_of (counted_of old)).errors
+  pub longest : (failures_of (counted_of now)).streak ≤ (failures_of (counted_of old)).streak
   pub kept : Keeps old.line now.line
-  pub same : IsSameDevice old now
+  pub same : IsSameDevice (counted_of old) (counted_of now)
   pub short : length (held_of now) < line_bytes now.line.system

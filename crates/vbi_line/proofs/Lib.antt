@@ -7,6 +7,7 @@ pub mod OneReading
 pub mod PackedRuns
 pub mod Packs
 pub mod Parts
+pub mod Retries
 pub mod RunLoop
 pub mod RunSteps
 pub mod Sizes

@@ -9,7 +9,7 @@ ghost use Rattle.vbi_line.specs.Line.{IsFull, KeepsBytes, IsCleared};
 ghost use Rattle.vbi_line.specs.OneOutcome.{outcome_of};
 ghost use Rattle.vbi_line.specs.OneReading.{reading_of};
 
-use crate::counted::{Counted, Fail, RETRIES};
+use crate::counted::Counted;
 use crate::line::LineBuf;
 use crate::outcome::read_line;
 use crate::reading::read_twice;
@@ -53,14 +53,14 @@ pub struct Intake<'a, R> {
 }
 
 impl<'a, R: Read> Intake<'a, R> {
-    ghost use Rattle.vbi_line.specs.Intake.{device_of, failures_of, errors_of, streak_of};
-    ghost use Rattle.vbi_line.specs.Intake.{fetched_of, held_of, line_of, name_of};
-    ghost use Rattle.vbi_line.specs.Intake.{IsFresh, Fetches, IsFilled, HasCause, IsSameDevice, KeepsReader};
+    ghost use Rattle.vbi_line.specs.Counted.{name_of, device_of, failures_of, HasCause, IsSameDevice};
+    ghost use Rattle.vbi_line.specs.Intake.{counted_of, fetched_of, held_of, line_of};
+    ghost use Rattle.vbi_line.specs.Intake.{IsFresh, Fetches, IsFilled, KeepsReader};
 
     /// An intake for lines of this system. It holds no byte and has not called the reader.
     pub fn new(reader: &'a mut R, system: System) -> Self
-        ensures same { name_of result ≡ reader.entry.ghost_name }
-        ensures reader { device_of result ≡ reader.old }
+        ensures same { name_of (counted_of result) ≡ reader.entry.ghost_name }
+        ensures reader { device_of (counted_of result) ≡ reader.old }
         ensures fresh { IsFresh result system }
     {
         Intake {
@@ -72,8 +72,8 @@ impl<'a, R: Read> Intake<'a, R> {
 
     /// Gives the borrowed reader back, as the calls have left it.
     pub fn into_reader(self) -> &'a mut R
-        ensures same { result.ghost_name ≡ name_of self.entry }
-        ensures reader { result.now ≡ device_of self.entry }
+        ensures same { result.ghost_name ≡ name_of (counted_of self.entry) }
+        ensures reader { result.now ≡ device_of (counted_of self.entry) }
     {
         let Intake {
             device,
@@ -89,20 +89,21 @@ impl<'a, R: Read> Intake<'a, R> {
     pub fn fill_line(&mut self) -> Result<Filled, IntakeFault>
         requires room { length (held_of self.old) < line_bytes (line_of self.old).system }
         requires fetched { fetched_of self.old ≤ 2 ^ 62 }
-        requires failures { failures_of self.old ≤ 2 ^ 62 }
-        ensures same { IsSameDevice self.old self.new }
+        requires failures { (failures_of (counted_of self.old)).all ≤ 2 ^ 62 }
+        ensures same { IsSameDevice (counted_of self.old) (counted_of self.new) }
         ensures bytes { Fetches R.remaining self.old self.new }
         ensures fits { length (held_of self.new) ≤ line_bytes (line_of self.old).system }
         ensures ok { IfOk result (λ f. IsFilled R.remaining f self.new) }
-        ensures no_error { OnOk result (errors_of self.new ≡ errors_of self.old) }
-        ensures failed { OnErr result (HasCause self.old self.new) }
-        ensures streak { streak_of self.new ≤ streak_of self.old + 17 }
+        ensures no_error { OnOk result
+            ((failures_of (counted_of self.new)).errors ≡ (failures_of (counted_of self.old)).errors) }
+        ensures failed { OnErr result (HasCause (failures_of (counted_of self.old)) (failures_of (counted_of self.new))) }
+        ensures streak { (failures_of (counted_of self.new)).streak
+            ≤ (failures_of (counted_of self.old)).streak + 17 }
         ensures short { OnErr result (length (held_of self.new) < line_bytes (line_of self.old).system) }
     {
-        let mut tries = 0u32;
         loop {
             let room = self.line.room();
-            match self.device.read_once(room) {
+            match self.device.read_some(room) {
                 Ok(count) => {
                     self.line.commit(count);
                     self.fetched += count as u64;
@@ -112,9 +113,7 @@ impl<'a, R: Read> Intake<'a, R> {
                     if count == 0 {
                         return Ok(Filled::Ended(self.line.held()));
                     }
-                    tries = 0;
                 }
-                Err(Fail::Interrupted) if tries < RETRIES => tries += 1,
                 Err(_) => return Err(IntakeFault::Read),
             }
         }
@@ -190,14 +189,14 @@ impl<'a, R: Read> Intake<'a, R> {
 
     /// How many calls of the reader failed, interruptions included.
     pub fn failures(&self) -> u64
-        ensures { result ≡ failures_of self.now }
+        ensures { result ≡ (failures_of (counted_of self.now)).all }
     {
         self.device.failures()
     }
 
     /// How many calls of the reader failed, interruptions not included.
     pub fn errors(&self) -> u64
-        ensures { result ≡ errors_of self.now }
+        ensures { result ≡ (failures_of (counted_of self.now)).errors }
     {
         self.device.errors()
     }

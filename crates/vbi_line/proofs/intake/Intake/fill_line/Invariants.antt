@@ -1,10 +1,10 @@
-use Rattle.std.proofs.Common.{◌+◌, ◌*◌, ◌-◌, length}
+use Rattle.std.proofs.Common.{◌-◌, length}
 use Rattle.vbi_words.specs.Geometry.{line_bytes}
 use Rattle.vbi_line.proofs.FillSteps.{Since}
 use Rattle.vbi_line.proofs.intake.Intake.fill_line.Given as goal
 
 abbrev pub invariant-loop-count : goal.invariant-loop-count
-invariant-loop-count g l = Since g.R.Read.remaining l.initial.self l.self l.tries
+invariant-loop-count g l = Since g.R.Read.remaining l.initial.self l.self
 
 abbrev pub decreases-loop-count : goal.decreases-loop-count
-decreases-loop-count g l = 17 * (line_bytes l.self.line.system - length l.self.line.held) + (16 - l.tries)
+decreases-loop-count g l = line_bytes l.self.line.system - length l.self.line.held
