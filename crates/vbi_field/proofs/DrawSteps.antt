@@ -52,14 +52,14 @@ module _ {R W : Type 0} (remaining : R → Option (List ℕ)) (contents : W → 
     pub well_formed : AreRows z rows
     pub count : length rows ≡ done
     pub long : length z ≤ 21 * done
-    pub reads : intakes.failures_of i ≤ 357 * done
+    pub reads : (failures_of (intakes.counted_of i)).all ≤ 357 * done
     pub wrote : outlets.Wrote contents o0 o (draw_out c rows)
     pub written : o.written ≡ length (draw_out c rows)
     pub small : o.written ≤ 710510 * done
-    pub writes : outlets.failures_of o ≤ 17 * (o.written + 313 * done)
-    pub calm_reads : intakes.errors_of i ≡ 0
-    pub calm_writes : outlets.errors_of o ≡ 0
-    pub same_writer : outlets.IsSameDevice o0 o
+    pub writes : (failures_of (outlets.counted_of o)).all ≤ 17 * (o.written + 313 * done)
+    pub calm_reads : (failures_of (intakes.counted_of i)).errors ≡ 0
+    pub calm_writes : (failures_of (outlets.counted_of o)).errors ≡ 0
+    pub same_writer : IsSameDevice (outlets.counted_of o0) (outlets.counted_of o)
     pub black : line ≡ drawn_line_of c None
 
   pub start : (line : List ℕ) → IsFresh i0 → outlets.IsFresh o0 → line ≡ drawn_line_of c None → Drawn 0 i0 o0 line
@@ -100,7 +100,7 @@ module _ {R W : Type 0} (remaining : R → Option (List ℕ)) (contents : W → 
 
       -- the run ends with these bytes, and nothing more is written
       ends_here : (result : Result ℕ DrawFault)
-          → Draws c (remaining (intakes.device_of j)) (counts_of j o) result (g.z ++ b) (draw_out c g.rows)
+          → Draws c (remaining (device_of (intakes.counted_of j))) (counts_of j o) result (g.z ++ b) (draw_out c g.rows)
           → RunsDrawing remaining contents c i0 j o0 o result
       ends_here result says =
           let all = fetches_more in
@@ -120,8 +120,8 @@ module _ {R W : Type 0} (remaining : R → Option (List ℕ)) (contents : W → 
     rows_count words = omega (arith, length-append g.rows (words ∷ []), g.count)
 
     -- the reader ended after whole rows
-    ended : (j : RowIntake R) → Fetches remaining i j [] → intakes.errors_of j ≡ intakes.errors_of i
-        → IsAtEnd (remaining (intakes.device_of j)) → done ≤ c.max_fields
+    ended : (j : RowIntake R) → Fetches remaining i j [] → NoError (intakes.counted_of i) (intakes.counted_of j)
+        → IsAtEnd (remaining (device_of (intakes.counted_of j))) → done ≤ c.max_fields
         → RunsDrawing remaining contents c i0 j o0 o (Ok done)
     ended j f calm end few = ends_here j [] f (Ok done) (record {
       rows = g.rows;
@@ -134,7 +134,7 @@ module _ {R W : Type 0} (remaining : R → Option (List ℕ)) (contents : W → 
     })
 
     -- the reader failed
-    read_failed : (j : RowIntake R) (b : List ℕ) → Fetches remaining i j b → HasNoNewline b → intakes.HasCause i j
+    read_failed : (j : RowIntake R) (b : List ℕ) → Fetches remaining i j b → HasNoNewline b → HasCause (intakes.counted_of i) (intakes.counted_of j)
         → (done + 1 ≤ c.max_fields) ⊎ ((done + 1 ≡ c.max_fields + 1) × (b ≡ []))
         → RunsDrawing remaining contents c i0 j o0 o (Err (faults.Read (done + 1)))
     read_failed j b f plain cause few = ends_here j b f (Err (faults.Read (done + 1))) (record {
@@ -170,10 +170,10 @@ module _ {R W : Type 0} (remaining : R → Option (List ℕ)) (contents : W → 
     -- ---- a malformed row
 
     module _ (j : RowIntake R) (b : List ℕ) (f : Fetches remaining i j b)
-        (calm : intakes.errors_of j ≡ intakes.errors_of i)
+        (calm : NoError (intakes.counted_of i) (intakes.counted_of j))
         (few : done < c.max_fields) where
       bad : rows_of b ≡ b ∷ [] → row_words b ≡ None
-          → ((front : List ℕ) × (b ≡ front ++ 10 ∷ [])) ⊎ (IsAtEnd (remaining (intakes.device_of j)) ⊎ (length b ≡ 21))
+          → ((front : List ℕ) × (b ≡ front ++ 10 ∷ [])) ⊎ (IsAtEnd (remaining (device_of (intakes.counted_of j))) ⊎ (length b ≡ 21))
           → RunsDrawing remaining contents c i0 j o0 o (Err (faults.Row (done + 1)))
       bad one malformed read_to = ends_here j b f (Err (faults.Row (done + 1))) (record {
         before = g.z;
@@ -193,7 +193,7 @@ module _ {R W : Type 0} (remaining : R → Option (List ℕ)) (contents : W → 
       bad_as : (row : List ℕ) → HasNoNewline row → word_row_of row ≡ None
           → (b ≡ row ++ 10 ∷ [])
           ⊎
-          (((b ≡ row) × (0 < length row) × IsAtEnd (remaining (intakes.device_of j)))
+          (((b ≡ row) × (0 < length row) × IsAtEnd (remaining (device_of (intakes.counted_of j))))
           ⊎ ((b ≡ row) × (length row ≡ 21)))
           → RunsDrawing remaining contents c i0 j o0 o (Err (faults.Row (done + 1)))
       bad_as row plain none (inl e) =
@@ -213,7 +213,7 @@ module _ {R W : Type 0} (remaining : R → Option (List ℕ)) (contents : W → 
     -- ---- a good row was fetched, and its field is written, whole or in part
 
     module _ (j : RowIntake R) (b : List ℕ) (words : WordRow) (f : Fetches remaining i j b)
-        (calm : intakes.errors_of j ≡ intakes.errors_of i)
+        (calm : NoError (intakes.counted_of i) (intakes.counted_of j))
         (one : rows_of b ≡ b ∷ []) (is : row_words b ≡ Some words) (few : done < c.max_fields) where
       well_formed_more : AreRows (g.z ++ b) (g.rows ++ words ∷ [])
       well_formed_more = AreRows-more g.z b g.rows words g.well_formed g.ends one is
@@ -223,7 +223,7 @@ module _ {R W : Type 0} (remaining : R → Option (List ℕ)) (contents : W → 
 
       -- the writer failed
       write_failed : (p : Outlet W) (r : Result ℕ DrawFault) → outlets.WrotePart contents o p (drawn_field_of c words)
-          → outlets.HasCause o p → IsErrAnd r (λ e. e ≡ faults.Write p.written)
+          → HasCause (outlets.counted_of o) (outlets.counted_of p) → IsErrAnd r (λ e. e ≡ faults.Write p.written)
           → RunsDrawing remaining contents c i0 j o0 p r
       write_failed p (Ok n) part cause e = absurd e
       write_failed p (Err fault) part cause e =
@@ -254,7 +254,7 @@ module _ {R W : Type 0} (remaining : R → Option (List ℕ)) (contents : W → 
           }
 
       module _ (p : Outlet W) (wrote : outlets.Wrote contents o p (drawn_field_of c words))
-          (no_error : outlets.errors_of p ≡ outlets.errors_of o) where
+          (no_error : NoError (outlets.counted_of o) (outlets.counted_of p)) where
         wrote_more : outlets.Wrote contents o0 p (draw_out c (g.rows ++ words ∷ []))
         wrote_more =
             rw (draw_out-more c g.rows words)
@@ -264,7 +264,7 @@ module _ {R W : Type 0} (remaining : R → Option (List ℕ)) (contents : W → 
         written_more = omega (arith, longer, g.written, wrote.written)
 
         -- the field is written, and the row was the last
-        last_row : IsAtEnd (remaining (intakes.device_of j))
+        last_row : IsAtEnd (remaining (device_of (intakes.counted_of j)))
             → RunsDrawing remaining contents c i0 j o0 p (Ok (done + 1))
         last_row end =
             let all = fetches_more j b f in
@@ -288,10 +288,10 @@ module _ {R W : Type 0} (remaining : R → Option (List ℕ)) (contents : W → 
             }
 
         -- the field is written, and rows may follow
-        next_row : (line : List ℕ) → outlets.IsSameDevice o p → line ≡ drawn_line_of c None → EndsRow (g.z ++ b)
+        next_row : (line : List ℕ) → IsSameDevice (outlets.counted_of o) (outlets.counted_of p) → line ≡ drawn_line_of c None → EndsRow (g.z ++ b)
             → length b ≤ 21
-            → intakes.failures_of j ≤ intakes.failures_of i + 357
-            → outlets.failures_of p ≤ outlets.failures_of o + 17 * (length (drawn_field_of c words) + 313)
+            → (failures_of (intakes.counted_of j)).all ≤ (failures_of (intakes.counted_of i)).all + 357
+            → (failures_of (outlets.counted_of p)).all ≤ (failures_of (outlets.counted_of o)).all + 17 * (length (drawn_field_of c words) + 313)
             → Drawn (done + 1) j p line
         next_row line same black ends short reads writes =
             let size = length-drawn_field_of c words in
@@ -335,16 +335,16 @@ module _ {R W : Type 0} (remaining : R → Option (List ℕ)) (contents : W → 
     module _ (j : RowIntake R) (words : WordRow) (t : TakesRow remaining i j (Row words)) (few : done < c.max_fields)
         (p : Outlet W) where
       pub row_failed : (r : Result ℕ DrawFault) → outlets.WrotePart contents o p (drawn_field_of c words)
-          → outlets.HasCause o p
+          → HasCause (outlets.counted_of o) (outlets.counted_of p)
           → IsErrAnd r (λ e. e ≡ faults.Write p.written) → RunsDrawing remaining contents c i0 j o0 p r
       row_failed =
           write_failed j t.bytes words t.fetches t.caused (line_one t.bytes t.got.0 t.got.1 t.got.2)
           (line_is t.bytes t.got.0 words t.got.1 t.got.2 t.got.3) few p
 
       pub row_drawn : (line : List ℕ) → outlets.Wrote contents o p (drawn_field_of c words)
-          → outlets.errors_of p ≡ outlets.errors_of o
-          → outlets.IsSameDevice o p
-          → outlets.failures_of p ≤ outlets.failures_of o + 17 * (length (drawn_field_of c words) + 313)
+          → NoError (outlets.counted_of o) (outlets.counted_of p)
+          → IsSameDevice (outlets.counted_of o) (outlets.counted_of p)
+          → (failures_of (outlets.counted_of p)).all ≤ (failures_of (outlets.counted_of o)).all + 17 * (length (drawn_field_of c words) + 313)
           → line ≡ drawn_line_of c None → Drawn (done + 1) j p line
       row_drawn line wrote no_error same writes black =
           next_row j t.bytes words t.fetches t.caused (line_one t.bytes t.got.0 t.got.1 t.got.2)
@@ -354,14 +354,14 @@ module _ {R W : Type 0} (remaining : R → Option (List ℕ)) (contents : W → 
     module _ (j : RowIntake R) (words : WordRow) (t : TakesRow remaining i j (LastRow words))
         (few : done < c.max_fields) (p : Outlet W) where
       pub last_row_failed : (r : Result ℕ DrawFault) → outlets.WrotePart contents o p (drawn_field_of c words)
-          → outlets.HasCause o p
+          → HasCause (outlets.counted_of o) (outlets.counted_of p)
           → IsErrAnd r (λ e. e ≡ faults.Write p.written) → RunsDrawing remaining contents c i0 j o0 p r
       last_row_failed =
           write_failed j t.bytes words t.fetches t.caused (rows_of-part t.bytes t.got.0 t.got.1)
           (row_words-part t.bytes t.got.0 ∙ t.got.2) few p
 
       pub last_row_drawn : outlets.Wrote contents o p (drawn_field_of c words)
-          → outlets.errors_of p ≡ outlets.errors_of o
+          → NoError (outlets.counted_of o) (outlets.counted_of p)
           → RunsDrawing remaining contents c i0 j o0 p (Ok (done + 1))
       last_row_drawn wrote no_error =
           last_row j t.bytes words t.fetches t.caused (rows_of-part t.bytes t.got.0 t.got.1)

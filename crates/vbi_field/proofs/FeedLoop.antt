@@ -9,7 +9,8 @@ use Rattle.vbi_field.specs.Kinds.{document}
 use Rattle.vbi_field.specs.Feed.{IsAt, IsFed, IsFeedFault, StandsAt}
 use Rattle.vbi_field.specs.FeedView.{feeding_of}
 use Rattle.vbi_field.specs.Feeding.{Feeding}
-use Rattle.vbi_field.specs.Outlet.{errors_of, IsSameDevice, Rises}
+use Rattle.vbi_line.specs.Counted.{NoError, IsSameDevice}
+use Rattle.vbi_field.specs.Outlet.{counted_of, Rises}
 use Rattle.vbi_field.specs.Position.{Position}
 use Rattle.vbi_field.specs.ConfigView.{ConfigView, allowed_bytes}
 use Rattle.vbi_field.specs.FeederState.{IsFeederState, IsStep, position_in}
@@ -92,8 +93,8 @@ pub record Taken {W : Type 0} (contents : W → Option (List ℕ)) (old : Feedin
   pub started : old.has_failed ≡ false
   pub stand : IsFeederState now.config now.line now.progress
   pub within : at ≤ length piece
-  pub same : IsSameDevice o0 o
-  pub errors : errors_of o ≡ errors_of o0
+  pub same : IsSameDevice (counted_of o0) (counted_of o)
+  pub errors : NoError (counted_of o0) (counted_of o)
   pub rises : Rises o0 o old.position.fields now.progress.fields
   pub fed : (z : List ℕ) → StandsAt old z
       → IsFed contents old.config o0 o z (take at piece) (position_in now.config now.line now.progress) (Ok tt)
@@ -160,9 +161,9 @@ module _ {W : Type 0} (contents : W → Option (List ℕ)) (old : Feeding) (was 
       subst P (sym t.config) (t.fed z s)
 
   -- the bytes of one row more
-  pub taken_more : (n : ℕ) → result ≡ Ok n → at ≤ length piece → n ≤ length bytes → IsSameDevice o o'
+  pub taken_more : (n : ℕ) → result ≡ Ok n → at ≤ length piece → n ≤ length bytes → IsSameDevice (counted_of o) (counted_of o')
       → IsFeederState was.config l p
-      → Rises o o' was.progress.fields p.fields → errors_of o' ≡ errors_of o
+      → Rises o o' was.progress.fields p.fields → NoError (counted_of o) (counted_of o')
       → Taken contents old (record { config = was.config; line = l; progress = p; has_failed = was.has_failed }) o0 o'
       piece (at + n)
   taken_more n took le few same stand rises no_error =

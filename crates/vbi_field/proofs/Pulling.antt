@@ -127,16 +127,16 @@ module _ (t : Texts) {R W : Type 0} (remaining : R → Option (List ℕ)) (conte
   -- this number of rows was taken, and the text that is due with them was written
   pub record Pulled (k : ℕ) (i : Intake R) (o : Outlet W) (p : Progress) : Type 0 where
     pub z : List ℕ
-    pub consumed : Consumes (remaining (intakes.device_of i0)) (remaining (intakes.device_of i)) z
+    pub consumed : Consumes (remaining (device_of (intakes.counted_of i0))) (remaining (device_of (intakes.counted_of i))) z
     pub fetched : i.fetched ≡ length z
     pub long : length z ≤ 2270 * k
-    pub reads : intakes.failures_of i ≤ 38607 * k
-    pub appended : Appends (contents (outlets.device_of o0)) (contents (outlets.device_of o)) (text_before_tail t c z)
+    pub reads : (failures_of (intakes.counted_of i)).all ≤ 38607 * k
+    pub appended : Appends (contents (device_of (outlets.counted_of o0))) (contents (device_of (outlets.counted_of o))) (text_before_tail t c z)
     pub written : o.written ≡ length (text_before_tail t c z)
     pub small : o.written ≤ 192 + 192 * p.fields
-    pub writes : outlets.failures_of o ≤ 3281 + 3281 * p.fields
-    pub calm_reads : intakes.errors_of i ≡ 0
-    pub calm_writes : outlets.errors_of o ≡ 0
+    pub writes : (failures_of (outlets.counted_of o)).all ≤ 3281 + 3281 * p.fields
+    pub calm_reads : (failures_of (intakes.counted_of i)).errors ≡ 0
+    pub calm_writes : (failures_of (outlets.counted_of o)).errors ≡ 0
     pub at : IsProgress c z p
     pub place : p.fields * height_of c.system + p.row ≡ k
     pub few : p.fields ≤ c.max_fields
@@ -145,20 +145,20 @@ module _ (t : Texts) {R W : Type 0} (remaining : R → Option (List ℕ)) (conte
     pub cursors : i.line.cursors ≡ []
     pub looked : i.line.looked ≤ 2270 * k
     pub looks : i.line.looked ≡ width_of c.system * selected p.fields p.row
-    pub same_reader : intakes.IsSameDevice i0 i
-    pub same_writer : outlets.IsSameDevice o0 o
+    pub same_reader : IsSameDevice (intakes.counted_of i0) (intakes.counted_of i)
+    pub same_writer : IsSameDevice (outlets.counted_of o0) (outlets.counted_of o)
 
   -- fresh devices have given no error
-  calm_reader : intakes.IsFresh i0 c.system → intakes.errors_of i0 ≡ 0
+  calm_reader : intakes.IsFresh i0 c.system → (failures_of (intakes.counted_of i0)).errors ≡ 0
   calm_reader fresh = let d = i0.device in omega (arith, fresh.failures, d.failed)
 
-  calm_writer : outlets.IsFresh o0 → outlets.errors_of o0 ≡ 0
+  calm_writer : outlets.IsFresh o0 → (failures_of (outlets.counted_of o0)).errors ≡ 0
   calm_writer clean = let d = o0.device in omega (arith, clean.failures, d.failed)
 
   -- before the first row
   pub start : (o : Outlet W) (p : Progress) (text : List ℕ) → intakes.IsFresh i0 c.system → outlets.IsFresh o0
       → text ≡ t.head c → length text ≤ 192 → outlets.Puts contents o0 o text
-      → o.written ≡ o0.written + length text → outlets.errors_of o ≡ outlets.errors_of o0 → outlets.IsSameDevice o0 o
+      → o.written ≡ o0.written + length text → NoError (outlets.counted_of o0) (outlets.counted_of o) → IsSameDevice (outlets.counted_of o0) (outlets.counted_of o)
       → p.fields ≡ 0 → p.row ≡ 0
       → Pulled 0 i0 o p
   start o p text fresh clean is few puts whole no_error same fields row =
@@ -201,12 +201,12 @@ module _ (t : Texts) {R W : Type 0} (remaining : R → Option (List ℕ)) (conte
 
   -- a text that was put in part
   write_fault : (i : Intake R) (o o' : Outlet W) (z base part : List ℕ) (fault : RunFault)
-      → Consumes (remaining (intakes.device_of i0)) (remaining (intakes.device_of i)) z → i.fetched ≡ length z
-      → Appends (contents (outlets.device_of o0)) (contents (outlets.device_of o)) base → o.written ≡ length base
-      → intakes.errors_of i ≡ 0 → outlets.errors_of o ≡ 0
-      → outlets.Wrote contents o o' part → outlets.HasCause o o' → fault ≡ Write o'.written
+      → Consumes (remaining (device_of (intakes.counted_of i0))) (remaining (device_of (intakes.counted_of i))) z → i.fetched ≡ length z
+      → Appends (contents (device_of (outlets.counted_of o0))) (contents (device_of (outlets.counted_of o))) base → o.written ≡ length base
+      → (failures_of (intakes.counted_of i)).errors ≡ 0 → (failures_of (outlets.counted_of o)).errors ≡ 0
+      → outlets.Wrote contents o o' part → HasCause (outlets.counted_of o) (outlets.counted_of o') → fault ≡ Write o'.written
       → length z ≤ allowed_bytes c → i.line.looked ≡ looks_of c z
-      → EndsWithin t c (remaining (intakes.device_of i)) z (base ++ part)
+      → EndsWithin t c (remaining (device_of (intakes.counted_of i))) z (base ++ part)
       → Runs t remaining contents c i0 i o0 o' (Err fault)
   write_fault i o o' z base part fault consumed fetched appended written reads writes wrote cause is within looks inside
       =
@@ -232,7 +232,7 @@ module _ (t : Texts) {R W : Type 0} (remaining : R → Option (List ℕ)) (conte
   -- the head was put in part
   pub head_fault : (o : Outlet W) (text : List ℕ) (fault : RunFault) → intakes.IsFresh i0 c.system → outlets.IsFresh o0
       → text ≡ t.head c → outlets.Puts contents o0 o text
-      → outlets.HasCause o0 o → outlets.written_of o < outlets.written_of o0 + length text
+      → HasCause (outlets.counted_of o0) (outlets.counted_of o) → outlets.written_of o < outlets.written_of o0 + length text
       → fault ≡ Write o.written → Runs t remaining contents c i0 i0 o0 o (Err fault)
   head_fault o text fault fresh clean is puts cause short fails =
       let begun : text ≡ text_before_tail t c [] = is
@@ -265,10 +265,10 @@ module _ (t : Texts) {R W : Type 0} (remaining : R → Option (List ℕ)) (conte
         (got.looked ∙ ap (λ s. i.line.looked + cond sel (width_of s) 0) g.system)
 
     -- and what is due with it was written
-    pub step : (o' : Outlet W) (p' : Progress) → intakes.IsSameDevice i i' → MovesOneRow c p p'
+    pub step : (o' : Outlet W) (p' : Progress) → IsSameDevice (intakes.counted_of i) (intakes.counted_of i') → MovesOneRow c p p'
         → outlets.Rises o o' p.fields p'.fields
-        → SettlesWhole t contents c o o' g.z row.bytes p' → outlets.errors_of o' ≡ outlets.errors_of o
-        → outlets.IsSameDevice o o'
+        → SettlesWhole t contents c o o' g.z row.bytes p' → NoError (outlets.counted_of o) (outlets.counted_of o')
+        → IsSameDevice (outlets.counted_of o) (outlets.counted_of o')
         → k + 1 ≤ c.max_fields * height_of c.system → Pulled (k + 1) i' o' p'
     step o' p' same next rises settled no_error same_writer limit =
         let z : List ℕ = g.z ++ row.bytes in
@@ -283,7 +283,7 @@ module _ (t : Texts) {R W : Type 0} (remaining : R → Option (List ℕ)) (conte
         let w = wrote.written in
         let m = ap length settled.due in
         let n = length-append (text_before_tail t c g.z) settled.text in
-        let P : List ℕ → Type 0 = Appends (contents (outlets.device_of o0)) (contents (outlets.device_of o')) in
+        let P : List ℕ → Type 0 = Appends (contents (device_of (outlets.counted_of o0))) (contents (device_of (outlets.counted_of o'))) in
         record {
           z = z;
           consumed = Consumes-trans _ _ _ g.z row.bytes g.consumed row.consumed;
@@ -312,7 +312,7 @@ module _ (t : Texts) {R W : Type 0} (remaining : R → Option (List ℕ)) (conte
 
     -- or the entry of the field that it ends was put in part
     pub entry_fault : (o' : Outlet W) (p' : Progress) (fault : RunFault) → MovesOneRow c p p' → p'.row ≡ 0
-        → SettlesInPart t contents c o o' g.z row.bytes p' → outlets.HasCause o o' → fault ≡ Write o'.written
+        → SettlesInPart t contents c o o' g.z row.bytes p' → HasCause (outlets.counted_of o) (outlets.counted_of o') → fault ≡ Write o'.written
         → k + 1 ≤ c.max_fields * height_of c.system → Runs t remaining contents c i0 i' o0 o' (Err fault)
     entry_fault o' p' fault next first settled cause fails limit =
         let z : List ℕ = g.z ++ row.bytes in
@@ -390,9 +390,9 @@ module _ (t : Texts) {R W : Type 0} (remaining : R → Option (List ℕ)) (conte
       → rest ≡ p.row * line_bytes c.system + n → k * line_bytes c.system + n ≤ allowed_bytes c
       → looked ≡ i'.line.looked → outlets.Puts contents o o' (t.tail fields rest)
       → (r : Result Summary RunFault) → OnOk r (o'.written ≡ o.written + length (t.tail fields rest))
-      → OnOk r (outlets.errors_of o' ≡ outlets.errors_of o)
+      → OnOk r (NoError (outlets.counted_of o) (outlets.counted_of o'))
       → IfOk r (λ s. s ≡ record { fields = fields; cut = cut_of rest; looked = looked })
-      → OnErr r (outlets.HasCause o o')
+      → OnErr r (HasCause (outlets.counted_of o) (outlets.counted_of o'))
       → OnErr r (outlets.written_of o' < outlets.written_of o + length (t.tail fields rest))
       → IfErr r (λ e. e ≡ Write o'.written) → Runs t remaining contents c i0 i' o0 o' r
   ended k i i' o o' p g sel lv n row fields rest looked fs rs within ls puts r whole calm says cause less fails =
@@ -427,9 +427,9 @@ module _ (t : Texts) {R W : Type 0} (remaining : R → Option (List ℕ)) (conte
           ∙ ap (λ n. text_before_tail t c (g.z ++ b) ++ t.tail (fields_of c (g.z ++ b)) n) is_rest
 
       by : (r : Result Summary RunFault) → OnOk r (o'.written ≡ o.written + length (t.tail fields rest))
-          → OnOk r (outlets.errors_of o' ≡ outlets.errors_of o)
+          → OnOk r (NoError (outlets.counted_of o) (outlets.counted_of o'))
           → IfOk r (λ s. s ≡ record { fields = fields; cut = cut_of rest; looked = looked })
-          → OnErr r (outlets.HasCause o o')
+          → OnErr r (HasCause (outlets.counted_of o) (outlets.counted_of o'))
           → OnErr r (outlets.written_of o' < outlets.written_of o + length (t.tail fields rest))
           → IfErr r (λ e. e ≡ Write o'.written) → Runs t remaining contents c i0 i' o0 o' r
       by (Ok s) whole calm says cause less fails =
@@ -503,7 +503,7 @@ module _ (t : Texts) {R W : Type 0} (remaining : R → Option (List ℕ)) (conte
       (lv : LevelsView) (came : NextLine)
       (row : TakesLine remaining lv sel i i' came)
       → k ≡ c.max_fields * height_of c.system → 0 < length row.bytes → length row.bytes ≤ line_bytes i.line.system
-      → i'.line.looked ≡ i.line.looked → intakes.errors_of i' ≡ intakes.errors_of i
+      → i'.line.looked ≡ i.line.looked → NoError (intakes.counted_of i) (intakes.counted_of i')
       → Runs t remaining contents c i0 i' o0 o (Err TooManyFields)
   too_many k i i' o p g sel lv came row last some few unread no_error =
       let b : List ℕ = row.bytes in

@@ -6,7 +6,8 @@ use Rattle.std.proofs.KnownBytes.{Appends-trans, Appends-nil}
 use Rattle.std.proofs.lemmas.List.{length-append}
 use Rattle.vbi_words.specs.Geometry.{height_of, line_bytes}
 use Rattle.vbi_field.specs.ConfigView.{ConfigView}
-use Rattle.vbi_field.specs.Outlet.{device_of, failures_of, errors_of, IsSameDevice, Puts, Wrote, WrotePart}
+use Rattle.vbi_line.specs.Counted.{device_of, failures_of, NoError, IsSameDevice}
+use Rattle.vbi_field.specs.Outlet.{counted_of, Puts, Wrote, WrotePart}
 use Rattle.vbi_field.specs.Drawing.{drawn_line_of, drawn_field_of, word_at}
 use Rattle.vbi_field.specs.declared.outlet.Outlet.{Outlet}
 use Rattle.vbi_field.specs.declared.word_row.WordRow.{WordRow}
@@ -18,13 +19,13 @@ use Rattle.vbi_field.proofs.DrawnLemmas.{lines_of-none, lines_of-all, lines_of-s
 module _ {W : Type 0} (contents : W → Option (List ℕ)) (c : ConfigView) (words : WordRow) (old : Outlet W) where
   -- this number of rows is written, and the line has the last of them
   pub record Putting (now : Outlet W) (line : List ℕ) (row : ℕ) : Type 0 where
-    pub appended : Appends (contents (device_of old)) (contents (device_of now)) (lines_of c words row)
+    pub appended : Appends (contents (device_of (counted_of old))) (contents (device_of (counted_of now))) (lines_of c words row)
     pub written : now.written ≡ old.written + length (lines_of c words row)
     pub small : now.written ≤ old.written + 2270 * row
-    pub least : failures_of old ≤ failures_of now
-    pub most : failures_of now ≤ failures_of old + 17 * (length (lines_of c words row) + row)
-    pub errors : errors_of now ≡ errors_of old
-    pub same : IsSameDevice old now
+    pub least : (failures_of (counted_of old)).all ≤ (failures_of (counted_of now)).all
+    pub most : (failures_of (counted_of now)).all ≤ (failures_of (counted_of old)).all + 17 * (length (lines_of c words row) + row)
+    pub errors : NoError (counted_of old) (counted_of now)
+    pub same : IsSameDevice (counted_of old) (counted_of now)
     pub drawn : line ≡ drawn_line_of c (word_at words (row - 1))
 
   pub Putting-none : (line : List ℕ) → line ≡ drawn_line_of c None → Putting old line 0
@@ -46,8 +47,8 @@ module _ {W : Type 0} (contents : W → Option (List ℕ)) (c : ConfigView) (wor
   -- one row more
   pub Putting-more : (now new : Outlet W) (before line : List ℕ) (row : ℕ) → Putting now before row
       → line ≡ drawn_line_of c (word_at words row)
-      → Puts contents now new line → new.written ≡ now.written + length line → errors_of new ≡ errors_of now
-      → IsSameDevice now new → Putting new line (row + 1)
+      → Puts contents now new line → new.written ≡ now.written + length line → NoError (counted_of now) (counted_of new)
+      → IsSameDevice (counted_of now) (counted_of new) → Putting new line (row + 1)
   Putting-more now new before line row p e puts ok no_error same =
       let sizes = sizes_of c.system in
       let long = long_line line (word_at words row) e in
@@ -79,7 +80,7 @@ module _ {W : Type 0} (contents : W → Option (List ℕ)) (c : ConfigView) (wor
   -- the field is written
   pub put_whole : (now : Outlet W) (line : List ℕ) (row : ℕ) → Putting now line row → row ≡ height_of c.system
       → Wrote contents old now (drawn_field_of c words) × (line ≡ drawn_line_of c None)
-      × (failures_of now ≤ failures_of old + 17 * (length (drawn_field_of c words) + 313))
+      × ((failures_of (counted_of now)).all ≤ (failures_of (counted_of old)).all + 17 * (length (drawn_field_of c words) + 313))
   put_whole now line row p e =
       let whole : lines_of c words row ≡ drawn_field_of c words = ap (lines_of c words) e ∙ lines_of-all c words in
       let long = ap length whole in
@@ -97,7 +98,7 @@ module _ {W : Type 0} (contents : W → Option (List ℕ)) (c : ConfigView) (wor
       → line ≡ drawn_line_of c (word_at words row) → (puts : Puts contents now new line)
       → new.written < now.written + length line
       → WrotePart contents old new (drawn_field_of c words)
-      × (failures_of new ≤ failures_of old + 17 * (length (drawn_field_of c words) + 313))
+      × ((failures_of (counted_of new)).all ≤ (failures_of (counted_of old)).all + 17 * (length (drawn_field_of c words) + 313))
   put_part now new before line row p inside e puts less =
       let base = lines_of c words row in
       let split = lines_of-split c words (row + 1) (omega arith) in

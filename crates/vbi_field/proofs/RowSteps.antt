@@ -5,7 +5,8 @@ use Rattle.std.specs.Prelude.{Option, Some, None}
 use Rattle.std.proofs.KnownBytes.{Consumes-trans, Consumes-nil}
 use Rattle.std.proofs.lemmas.List.{append-nil, length-append, length-take-le}
 use Rattle.vbi_field.specs.WordRows.{word_row_of}
-use Rattle.vbi_field.specs.RowIntake.{failures_of, errors_of, streak_of, HasNoNewline, Fetches, TakesByte, TakesRow}
+use Rattle.vbi_line.specs.Counted.{failures_of, NoError}
+use Rattle.vbi_field.specs.RowIntake.{counted_of, HasNoNewline, Fetches, TakesByte, TakesRow}
 use Rattle.vbi_field.specs.declared.word_row.WordRow.{WordRow}
 use Rattle.vbi_field.specs.declared.row_intake.RowIntake.{RowIntake}
 use Rattle.vbi_field.specs.declared.row_intake.NextByte.TheVariants as bytes
@@ -17,18 +18,11 @@ all_one byte other zero d inside = other
 all_one byte other (suc k) d inside = absurd (omega arith)
 
 module _ {R : Type 0} (remaining : R → Option (List ℕ)) where
-  -- a byte was asked for this number of times, and each time the reader was interrupted
-  pub record Tried (old now : RowIntake R) (tries : ℕ) : Type 0 where
-    pub fetches : Fetches remaining old now []
-    pub count : failures_of now ≡ failures_of old + tries
-    pub errors : errors_of now ≡ errors_of old
-    pub streak : streak_of now ≡ streak_of old + tries
-
   -- this number of bytes of a row is held, none of them a newline
   pub record Held (old now : RowIntake R) (row : List ℕ) (held : ℕ) : Type 0 where
     pub fetches : Fetches remaining old now (take held row)
-    pub most : failures_of now ≤ failures_of old + 17 * held
-    pub errors : errors_of now ≡ errors_of old
+    pub most : (failures_of (counted_of now)).all ≤ (failures_of (counted_of old)).all + 17 * held
+    pub errors : NoError (counted_of old) (counted_of now)
     pub plain : HasNoNewline (take held row)
     pub long : length row ≡ 21
 

@@ -4,6 +4,7 @@ use Rattle.std.specs.Prelude.{◌≡◌, ℕ, ◌+◌, ◌≤◌, ◌⊎◌, Lis
 use Rattle.std.specs.Io.KnownBytes.{IsAtEnd}
 use Rattle.vbi_field.specs.ConfigView.{ConfigView}
 use Rattle.vbi_field.specs.Drawing.{draw_out}
+use Rattle.vbi_line.specs.Counted.{device_of, failures_of}
 use Rattle.vbi_field.specs.Outlet as outlets
 use Rattle.vbi_field.specs.Ran.{Counts, HasFailed, IsCalm, Ran, EndsInside}
 use Rattle.vbi_field.specs.RowIntake as intakes
@@ -100,14 +101,14 @@ counts_of i o = record {
   fetched = intakes.fetched_of i;
   written = outlets.written_of o;
   looked = 0;
-  reader = record { all = intakes.failures_of i; errors = intakes.errors_of i; streak = intakes.streak_of i };
-  writer = record { all = outlets.failures_of o; errors = outlets.errors_of o; streak = outlets.streak_of o };
+  reader = failures_of (intakes.counted_of i);
+  writer = failures_of (outlets.counted_of o);
 }
 
 -- the run of a fresh intake of rows and a fresh outlet that gave this answer
 abbrev pub RunsDrawing : {R W : Type 0} → (R → Option (List ℕ)) → (W → Option (List ℕ)) → ConfigView
     → RowIntake R → RowIntake R → Outlet W → Outlet W → Result ℕ DrawFault → Type 0
 RunsDrawing remaining contents c i0 i o0 o result =
-    Ran (remaining (intakes.device_of i0)) (remaining (intakes.device_of i)) (contents (outlets.device_of o0))
-    (contents (outlets.device_of o))
-    (counts_of i o) (Draws c (remaining (intakes.device_of i)) (counts_of i o) result)
+    Ran (remaining (device_of (intakes.counted_of i0))) (remaining (device_of (intakes.counted_of i))) (contents (device_of (outlets.counted_of o0)))
+    (contents (device_of (outlets.counted_of o)))
+    (counts_of i o) (Draws c (remaining (device_of (intakes.counted_of i))) (counts_of i o) result)

@@ -3,6 +3,7 @@
 use Rattle.std.specs.Prelude.{◌≡◌, ℕ, ◌+◌, ◌<◌, ◌≤◌, ◌⊎◌, List, [], ◌++◌, length, take, Option, Result, Ok, Err}
 use Rattle.std.specs.Io.KnownBytes.{IsAtEnd}
 use Rattle.vbi_words.specs.Geometry.{line_bytes, field_bytes}
+use Rattle.vbi_line.specs.Counted.{device_of, failures_of}
 use Rattle.vbi_line.specs.Intake as intakes
 use Rattle.vbi_line.specs.declared.intake.Intake.{Intake}
 use Rattle.vbi_field.specs.ConfigView.{ConfigView, allowed_bytes}
@@ -96,14 +97,14 @@ counts_of i o = record {
   fetched = intakes.fetched_of i;
   written = outlets.written_of o;
   looked = (intakes.line_of i).looked;
-  reader = record { all = intakes.failures_of i; errors = intakes.errors_of i; streak = intakes.streak_of i };
-  writer = record { all = outlets.failures_of o; errors = outlets.errors_of o; streak = outlets.streak_of o };
+  reader = failures_of (intakes.counted_of i);
+  writer = failures_of (outlets.counted_of o);
 }
 
 -- the run of a fresh intake and a fresh outlet that gave this answer
 abbrev pub Runs : {R W : Type 0} → Texts → (R → Option (List ℕ)) → (W → Option (List ℕ)) → ConfigView
     → Intake R → Intake R → Outlet W → Outlet W → Result Summary RunFault → Type 0
 Runs t remaining contents c i0 i o0 o result =
-    Ran (remaining (intakes.device_of i0)) (remaining (intakes.device_of i)) (contents (outlets.device_of o0))
-    (contents (outlets.device_of o))
-    (counts_of i o) (Extracts t c (remaining (intakes.device_of i)) (counts_of i o) result)
+    Ran (remaining (device_of (intakes.counted_of i0))) (remaining (device_of (intakes.counted_of i))) (contents (device_of (outlets.counted_of o0)))
+    (contents (device_of (outlets.counted_of o)))
+    (counts_of i o) (Extracts t c (remaining (device_of (intakes.counted_of i))) (counts_of i o) result)

@@ -1,7 +1,8 @@
 -- What a feeder does with a stream in pieces. The pieces before are the stream z so far.
 use Rattle.std.specs.Prelude.{◌≡◌, ℕ, ◌<◌, ◌≤◌, false, List, ◌++◌, length, take, Option, Result, Ok, Err}
 use Rattle.vbi_field.specs.Kinds.{document}
-use Rattle.vbi_field.specs.Outlet.{errors_of, written_of, HasCause, Wrote, WrotePart}
+use Rattle.vbi_line.specs.Counted.{NoError, HasCause}
+use Rattle.vbi_field.specs.Outlet.{counted_of, written_of, Wrote, WrotePart}
 use Rattle.vbi_field.specs.Position.{Position, position_of}
 use Rattle.vbi_field.specs.ConfigView.{ConfigView, allowed_bytes}
 use Rattle.vbi_field.specs.Stream.{fields_of, rest_of, cut_of, looks_of}
@@ -53,14 +54,14 @@ module _ {W : Type 0} (contents : W → Option (List ℕ)) (c : ConfigView) (o o
 module _ {W : Type 0} (o o' : Outlet W) where
   -- a piece answers `Write` where the writer failed, and never `Read`
   abbrev pub IsFeedFault : RunFault → Type 0
-  IsFeedFault (Write written) = (written ≡ written_of o') × HasCause o o'
-  IsFeedFault TooManyFields = errors_of o' ≡ errors_of o
+  IsFeedFault (Write written) = (written ≡ written_of o') × HasCause (counted_of o) (counted_of o')
+  IsFeedFault TooManyFields = NoError (counted_of o) (counted_of o')
   IsFeedFault Failed = Unit {0}
   IsFeedFault (Read field offset) = ⊥
 
   -- the end answers `Write` where the writer failed, and neither `Read` nor `TooManyFields`
   abbrev pub IsEndFault : RunFault → Type 0
-  IsEndFault (Write written) = (written ≡ written_of o') × HasCause o o'
+  IsEndFault (Write written) = (written ≡ written_of o') × HasCause (counted_of o) (counted_of o')
   IsEndFault Failed = Unit {0}
   IsEndFault TooManyFields = ⊥
   IsEndFault (Read field offset) = ⊥

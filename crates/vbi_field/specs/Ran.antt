@@ -3,13 +3,7 @@
 -- where they tell them.
 use Rattle.std.specs.Prelude.{◌≡◌, ℕ, ◌<◌, ◌≤◌, ◌⊎◌, List, ◌++◌, length, take, Option}
 use Rattle.std.specs.Io.KnownBytes.{Consumes, Appends}
-
--- how often a device failed in a run, how often of these it wasn't interrupted, and how many interruptions were its
--- last answers
-pub record Failures : Type 0 where
-  pub all : ℕ
-  pub errors : ℕ
-  pub streak : ℕ
+use Rattle.vbi_line.specs.declared.counted.Failures.{Failures}
 
 -- a device that failed for good: its one error was its last answer, or its last seventeen answers or more were
 -- interruptions

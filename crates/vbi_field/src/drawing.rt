@@ -1,9 +1,10 @@
 //! Fields drawn from rows of words.
 ghost use Rattle.std.specs.Prelude.{◌≡◌, ℕ, ◌+◌, ◌-◌, ◌*◌, ◌^◌, ◌<◌, ◌≤◌, None, length, IfOk, OnOk, OnErr, IfErr};
 ghost use Rattle.vbi_words.specs.Geometry.{line_bytes, height_of};
-ghost use Rattle.vbi_field.specs.Outlet.{failures_of as outlet_failures, errors_of, written_of, HasCause, Wrote};
-ghost use Rattle.vbi_field.specs.Outlet.{WrotePart, IsFresh as IsFreshOutlet, IsSameDevice as IsSameOutlet};
-ghost use Rattle.vbi_field.specs.RowIntake.{IsFresh, IsSameDevice};
+ghost use Rattle.vbi_line.specs.Counted.{failures_of, NoError, HasCause, IsSameDevice};
+ghost use Rattle.vbi_field.specs.Outlet as outlets;
+ghost use Rattle.vbi_field.specs.Outlet.{written_of, Wrote, WrotePart};
+ghost use Rattle.vbi_field.specs.RowIntake as intakes;
 ghost use Rattle.vbi_field.specs.Drawing.{drawn_line_of, drawn_field_of, word_at};
 ghost use Rattle.vbi_field.specs.Draws.{RunsDrawing};
 
@@ -96,16 +97,16 @@ fn put_field<W: Write>(
 ) -> Result<(), DrawFault>
     requires black { line.old ≡ drawn_line_of config.now None }
     requires written { written_of outlet.old ≤ 2 ^ 61 }
-    requires failures { outlet_failures outlet.old ≤ 2 ^ 61 }
+    requires failures { (failures_of (outlets.counted_of outlet.old)).all ≤ 2 ^ 61 }
     ensures black { OnOk result (line.new ≡ drawn_line_of config.now None) }
-    ensures same { IsSameOutlet outlet.old outlet.new }
+    ensures same { IsSameDevice (outlets.counted_of outlet.old) (outlets.counted_of outlet.new) }
     ensures ok { OnOk result (Wrote W.contents outlet.old outlet.new (drawn_field_of config.now words.now)) }
     ensures part { OnErr result (WrotePart W.contents outlet.old outlet.new (drawn_field_of config.now words.now)) }
-    ensures least { outlet_failures outlet.old ≤ outlet_failures outlet.new }
-    ensures most { outlet_failures outlet.new ≤ outlet_failures outlet.old
+    ensures least { (failures_of (outlets.counted_of outlet.old)).all ≤ (failures_of (outlets.counted_of outlet.new)).all }
+    ensures most { (failures_of (outlets.counted_of outlet.new)).all ≤ (failures_of (outlets.counted_of outlet.old)).all
         + 17 * (length (drawn_field_of config.now words.now) + 313) }
-    ensures no_error { OnOk result (errors_of outlet.new ≡ errors_of outlet.old) }
-    ensures failed { OnErr result (HasCause outlet.old outlet.new) }
+    ensures no_error { OnOk result (NoError (outlets.counted_of outlet.old) (outlets.counted_of outlet.new)) }
+    ensures failed { OnErr result (HasCause (outlets.counted_of outlet.old) (outlets.counted_of outlet.new)) }
     ensures fault { IfErr result (λ e. e ≡ DrawFault.Write (written_of outlet.new)) }
 {
     for row in 0..config.system().height() {
@@ -129,10 +130,10 @@ pub fn draw<R: Read, W: Write>(
     rows: &mut RowIntake<R>,
     outlet: &mut Outlet<W>,
 ) -> Result<u32, DrawFault>
-    requires rows { IsFresh rows.old }
-    requires outlet { IsFreshOutlet outlet.old }
-    ensures same_reader { IsSameDevice rows.old rows.new }
-    ensures same_writer { IsSameOutlet outlet.old outlet.new }
+    requires rows { intakes.IsFresh rows.old }
+    requires outlet { outlets.IsFresh outlet.old }
+    ensures same_reader { IsSameDevice (intakes.counted_of rows.old) (intakes.counted_of rows.new) }
+    ensures same_writer { IsSameDevice (outlets.counted_of outlet.old) (outlets.counted_of outlet.new) }
     ensures run { RunsDrawing R.remaining W.contents config.now rows.old rows.new outlet.old outlet.new result }
 {
     let mut cells = [0u8; LONGEST_LINE];

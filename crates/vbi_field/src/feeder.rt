@@ -7,8 +7,8 @@ ghost use Rattle.vbi_line.specs.Line.{IsFull, Keeps};
 ghost use Rattle.vbi_line.specs.OneReading.{reading_of};
 ghost use Rattle.vbi_field.specs.Document.{head_of};
 ghost use Rattle.vbi_field.specs.Feed.{IsAt, IsFeedFault};
-ghost use Rattle.vbi_field.specs.Outlet.{failures_of, errors_of, written_of, HasCause, IsFresh, IsSameDevice, Rises};
-ghost use Rattle.vbi_field.specs.Outlet.{Wrote, WrotePart};
+ghost use Rattle.vbi_line.specs.Counted.{failures_of, NoError, HasCause, IsSameDevice};
+ghost use Rattle.vbi_field.specs.Outlet.{counted_of, written_of, IsFresh, Rises, Wrote, WrotePart};
 ghost use Rattle.vbi_field.specs.FeederState.{IsFeederState, IsStep, position_in};
 
 use crate::config::Config;
@@ -80,12 +80,12 @@ fn take_bytes<W: Write>(
     requires stand { IsFeederState config.now line.old progress.old }
     requires some { 0 < length bytes.now }
     requires written { written_of outlet.old ≤ 2 ^ 62 }
-    requires failures { failures_of outlet.old ≤ 2 ^ 62 }
-    ensures same { IsSameDevice outlet.old outlet.new }
+    requires failures { (failures_of (counted_of outlet.old)).all ≤ 2 ^ 62 }
+    ensures same { IsSameDevice (counted_of outlet.old) (counted_of outlet.new) }
     ensures stand { IsFeederState config.now line.new progress.new }
     ensures some { IfOk result (λ n. (0 < n) × (n ≤ length bytes.now)) }
     ensures rises { Rises outlet.old outlet.new progress.old.fields progress.new.fields }
-    ensures no_error { OnOk result (errors_of outlet.new ≡ errors_of outlet.old) }
+    ensures no_error { OnOk result (NoError (counted_of outlet.old) (counted_of outlet.new)) }
     ensures fault { IfErr result (IsFeedFault outlet.old outlet.new) }
     ensures calm { result ≢ Err RunFault.Failed }
     ensures step { (z : List ℕ) → IsAt config.now z (position_in config.now line.old progress.old)
@@ -131,14 +131,14 @@ impl Feeder {
     /// Writes the head, and begins a stream of which nothing has come. Where the writer fails there is no feeder.
     pub fn begin<W: Write>(config: Config, outlet: &mut Outlet<W>) -> Result<Feeder, RunFault>
         requires { IsFresh outlet.old }
-        ensures same { IsSameDevice outlet.old outlet.new }
+        ensures same { IsSameDevice (counted_of outlet.old) (counted_of outlet.new) }
         ensures rises { Rises outlet.old outlet.new 0 1 }
         ensures config { IfOk result (λ f. f.config ≡ config) }
         ensures stands { IfOk result (λ f. StandsAt f []) }
         ensures head { OnOk result (Wrote W.contents outlet.old outlet.new (head_of config)) }
         ensures write { IfErr result (λ e. e ≡ RunFault.Write (written_of outlet.new)) }
-        ensures no_error { OnOk result (errors_of outlet.new ≡ errors_of outlet.old) }
-        ensures failed { OnErr result (HasCause outlet.old outlet.new) }
+        ensures no_error { OnOk result (NoError (counted_of outlet.old) (counted_of outlet.new)) }
+        ensures failed { OnErr result (HasCause (counted_of outlet.old) (counted_of outlet.new)) }
         ensures part { OnErr result (WrotePart W.contents outlet.old outlet.new (head_of config)) }
     {
         put(outlet, Document::head(&config).as_str())?;
@@ -159,8 +159,8 @@ impl Feeder {
     /// the pieces before have; what is written depends on it and the piece alone.
     pub fn feed<W: Write>(&mut self, piece: &[u8], outlet: &mut Outlet<W>) -> Result<(), RunFault>
         requires written { written_of outlet.old ≤ 2 ^ 61 }
-        requires failures { failures_of outlet.old ≤ 2 ^ 61 }
-        ensures same { IsSameDevice outlet.old outlet.new }
+        requires failures { (failures_of (counted_of outlet.old)).all ≤ 2 ^ 61 }
+        ensures same { IsSameDevice (counted_of outlet.old) (counted_of outlet.new) }
         ensures rises { Rises outlet.old outlet.new self.old.position.fields self.new.position.fields }
         ensures config { self.new.config ≡ self.old.config }
         ensures short { length self.new.position.held < line_bytes self.new.config.system }
@@ -169,7 +169,7 @@ impl Feeder {
         ensures failed { IsTrue self.new.has_failed ↔ IsErr result }
         ensures refused { IsTrue self.old.has_failed ↔ (result ≡ Err RunFault.Failed) }
         ensures unwritten { IsTrue self.old.has_failed → outlet.new ≡ outlet.old }
-        ensures no_error { OnOk result (errors_of outlet.new ≡ errors_of outlet.old) }
+        ensures no_error { OnOk result (NoError (counted_of outlet.old) (counted_of outlet.new)) }
         ensures fault { IfErr result (IsFeedFault outlet.old outlet.new) }
 
         // What it wrote, and its position in the stream afterwards.
@@ -201,13 +201,13 @@ impl Feeder {
     /// Writes the tail, and answers the number of fields and the cut. The feeder is gone afterwards, in a fault too.
     pub fn finish<W: Write>(self, outlet: &mut Outlet<W>) -> Result<Summary, RunFault>
         requires written { written_of outlet.old ≤ 2 ^ 61 }
-        requires failures { failures_of outlet.old ≤ 2 ^ 61 }
-        ensures same { IsSameDevice outlet.old outlet.new }
+        requires failures { (failures_of (counted_of outlet.old)).all ≤ 2 ^ 61 }
+        ensures same { IsSameDevice (counted_of outlet.old) (counted_of outlet.new) }
         ensures refused { IsTrue self.has_failed ↔ (result ≡ Err RunFault.Failed) }
         ensures unwritten { IsTrue self.has_failed → outlet.new ≡ outlet.old }
         ensures looked { IfOk result (λ s. s.looked ≡ self.looked) }
         ensures few_looks { IfOk result (λ s. s.looked ≤ 6 * width_of self.config.system * (s.fields + 1)) }
-        ensures no_error { OnOk result (errors_of outlet.new ≡ errors_of outlet.old) }
+        ensures no_error { OnOk result (NoError (counted_of outlet.old) (counted_of outlet.new)) }
         ensures fault { IfErr result (IsEndFault outlet.old outlet.new) }
         ensures finished { (z : List ℕ) → StandsAt self z
             → IsFinished W.contents self.config outlet.old outlet.new z result }

@@ -2,7 +2,8 @@
 ghost use Rattle.std.specs.Prelude.{◌≡◌, ◌+◌, ◌*◌, ◌^◌, ◌↔◌, IsTrue, ◌<◌, ◌≤◌, List, ℕ, length, MatchOption, OnOk};
 ghost use Rattle.std.specs.Prelude.{OnErr, IfErr};
 ghost use Rattle.vbi_words.specs.Geometry.{height_of, line_bytes};
-ghost use Rattle.vbi_field.specs.Outlet.{failures_of, errors_of, written_of, HasCause, IsSameDevice, Rises};
+ghost use Rattle.vbi_line.specs.Counted.{failures_of, NoError, HasCause, IsSameDevice};
+ghost use Rattle.vbi_field.specs.Outlet.{counted_of, written_of, Rises};
 ghost use Rattle.vbi_field.specs.Progress.{Keeps};
 
 use crate::config::Config;
@@ -109,13 +110,13 @@ impl Progress {
         requires inside { self.old.row < height_of config.now.system }
         requires few { self.old.fields < 1000000 }
         requires written { written_of outlet.old ≤ 2 ^ 62 }
-        requires failures { failures_of outlet.old ≤ 2 ^ 62 }
-        ensures same { IsSameDevice outlet.old outlet.new }
+        requires failures { (failures_of (counted_of outlet.old)).all ≤ 2 ^ 62 }
+        ensures same { IsSameDevice (counted_of outlet.old) (counted_of outlet.new) }
         ensures inside { self.new.row < height_of config.now.system }
         ensures next { MovesOneRow config.now self.old self.new }
         ensures rises { Rises outlet.old outlet.new self.old.fields self.new.fields }
-        ensures no_error { OnOk result (errors_of outlet.new ≡ errors_of outlet.old) }
-        ensures failed { OnErr result (HasCause outlet.old outlet.new) }
+        ensures no_error { OnOk result (NoError (counted_of outlet.old) (counted_of outlet.new)) }
+        ensures failed { OnErr result (HasCause (counted_of outlet.old) (counted_of outlet.new)) }
         ensures field { OnErr result (self.new.row ≡ 0) }
         ensures fault { IfErr result (λ e. e ≡ RunFault.Write (written_of outlet.new)) }
         ensures settles { (z b : List ℕ) → IsProgress config.now z self.old

@@ -3,7 +3,7 @@ ghost use Rattle.std.specs.Prelude.{◌≡◌, ◌+◌, ◌*◌, ◌^◌, ◌<�
 
 use crate::word_row::{WordRow, read_word_row};
 use std::io::Read;
-use vbi_line::{Counted, Fail, RETRIES};
+use vbi_line::Counted;
 
 /// The bytes of a row at which it is malformed, whatever follows: a good one has at most 20 before its newline.
 const ROW_LIMIT: usize = 21;
@@ -42,13 +42,13 @@ pub struct RowIntake<'a, R> {
 }
 
 impl<'a, R: Read> RowIntake<'a, R> {
-    ghost use Rattle.vbi_field.specs.RowIntake.{device_of, name_of, failures_of, errors_of, fetched_of};
-    ghost use Rattle.vbi_field.specs.RowIntake.{IsFresh, IsSameDevice, TakesByte, TakesRow};
+    ghost use Rattle.vbi_line.specs.Counted.{name_of, device_of, failures_of};
+    ghost use Rattle.vbi_field.specs.RowIntake.{counted_of, fetched_of, IsFresh, TakesByte, TakesRow};
 
     /// An intake that has fetched nothing.
     pub fn new(reader: &'a mut R) -> Self
-        ensures same { name_of result ≡ reader.entry.ghost_name }
-        ensures reader { device_of result ≡ reader.old }
+        ensures same { name_of (counted_of result) ≡ reader.entry.ghost_name }
+        ensures reader { device_of (counted_of result) ≡ reader.old }
         ensures fresh { IsFresh result }
     {
         RowIntake {
@@ -59,8 +59,8 @@ impl<'a, R: Read> RowIntake<'a, R> {
 
     /// The reader again. A caller that lent it knows by this what the reader is now.
     pub fn into_reader(self) -> &'a mut R
-        ensures same { result.ghost_name ≡ name_of self.entry }
-        ensures reader { result.now ≡ device_of self.entry }
+        ensures same { result.ghost_name ≡ name_of (counted_of self.entry) }
+        ensures reader { result.now ≡ device_of (counted_of self.entry) }
     {
         let RowIntake { device, fetched: _ } = self;
         device.into_inner()
@@ -75,14 +75,14 @@ impl<'a, R: Read> RowIntake<'a, R> {
 
     /// How often the reader failed, interruptions among these.
     pub fn failures(&self) -> u64
-        ensures { result ≡ failures_of self.now }
+        ensures { result ≡ (failures_of (counted_of self.now)).all }
     {
         self.device.failures()
     }
 
     /// How often the reader failed, interruptions not among these.
     pub fn errors(&self) -> u64
-        ensures { result ≡ errors_of self.now }
+        ensures { result ≡ (failures_of (counted_of self.now)).errors }
     {
         self.device.errors()
     }
@@ -90,28 +90,24 @@ impl<'a, R: Read> RowIntake<'a, R> {
     /// Takes the next byte. An interrupted read is tried again at most 16 times in a row.
     pub(crate) fn next_byte(&mut self) -> NextByte
         requires fetched { fetched_of self.old ≤ 2 ^ 62 }
-        requires failures { failures_of self.old ≤ 2 ^ 62 }
+        requires failures { (failures_of (counted_of self.old)).all ≤ 2 ^ 62 }
         ensures { TakesByte R.remaining self.old self.new result }
     {
         let mut byte = [0u8; 1];
-        for _ in 0..=RETRIES {
-            match self.device.read_once(&mut byte) {
-                Ok(0) => return NextByte::Ended,
-                Ok(_) => {
-                    self.fetched += 1;
-                    return NextByte::Byte(byte[0]);
-                }
-                Err(Fail::Interrupted) => {}
-                Err(Fail::Other) => return NextByte::Failed,
+        match self.device.read_some(&mut byte) {
+            Ok(0) => NextByte::Ended,
+            Ok(_) => {
+                self.fetched += 1;
+                NextByte::Byte(byte[0])
             }
+            Err(_) => NextByte::Failed,
         }
-        NextByte::Failed
     }
 
     /// Takes the next row: the bytes up to its newline, the reader's end or the 21st byte that isn't a newline.
     pub(crate) fn next_row(&mut self) -> NextRow
         requires fetched { fetched_of self.old ≤ 2 ^ 61 }
-        requires failures { failures_of self.old ≤ 2 ^ 61 }
+        requires failures { (failures_of (counted_of self.old)).all ≤ 2 ^ 61 }
         ensures { TakesRow R.remaining self.old self.new result }
     {
         let mut row = [0u8; ROW_LIMIT];

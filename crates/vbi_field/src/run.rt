@@ -1,11 +1,13 @@
 //! The document and the report of a whole stream, pulled from a reader.
 ghost use Rattle.std.specs.Prelude.{◌≡◌, ◌+◌, ◌*◌, ◌^◌, ◌<◌, ◌≤◌, [], length};
 ghost use Rattle.vbi_words.specs.Geometry.{height_of, line_bytes};
-ghost use Rattle.vbi_line.specs.Intake.{failures_of, fetched_of, held_of, line_of, IsFresh, IsSameDevice};
+ghost use Rattle.vbi_line.specs.Counted.{failures_of, IsSameDevice};
+ghost use Rattle.vbi_line.specs.Intake as intakes;
+ghost use Rattle.vbi_line.specs.Intake.{fetched_of, held_of, line_of, IsFresh};
 ghost use Rattle.vbi_field.specs.Extracts.{Runs};
 ghost use Rattle.vbi_field.specs.Kinds.{document, report};
 ghost use Rattle.vbi_field.specs.NextLine.{TakesLine};
-ghost use Rattle.vbi_field.specs.Outlet.{IsFresh as IsFreshOutlet, IsSameDevice as IsSameOutlet};
+ghost use Rattle.vbi_field.specs.Outlet as outlets;
 
 use crate::config::Config;
 use crate::document::Document;
@@ -35,8 +37,8 @@ fn take_line<R: Read>(intake: &mut Intake<R>, levels: Levels, is_selected: bool)
     requires fresh { (line_of intake.old).cursors ≡ [] }
     requires looked { (line_of intake.old).looked ≤ 2 ^ 61 }
     requires fetched { fetched_of intake.old ≤ 2 ^ 62 }
-    requires failures { failures_of intake.old ≤ 2 ^ 62 }
-    ensures same { IsSameDevice intake.old intake.new }
+    requires failures { (failures_of (intakes.counted_of intake.old)).all ≤ 2 ^ 62 }
+    ensures same { IsSameDevice (intakes.counted_of intake.old) (intakes.counted_of intake.new) }
     ensures takes { TakesLine R.remaining levels is_selected intake.old intake.new result }
 {
     match intake.fill_line() {
@@ -75,9 +77,9 @@ fn run<F: Form, R: Read, W: Write>(
     outlet: &mut Outlet<W>,
 ) -> Result<Summary, RunFault>
     requires intake { IsFresh intake.old config.now.system }
-    requires outlet { IsFreshOutlet outlet.old }
-    ensures same_reader { IsSameDevice intake.old intake.new }
-    ensures same_writer { IsSameOutlet outlet.old outlet.new }
+    requires outlet { outlets.IsFresh outlet.old }
+    ensures same_reader { IsSameDevice (intakes.counted_of intake.old) (intakes.counted_of intake.new) }
+    ensures same_writer { IsSameDevice (outlets.counted_of outlet.old) (outlets.counted_of outlet.new) }
     ensures run { Runs F.texts R.remaining W.contents config.now intake.old intake.new outlet.old outlet.new result }
 {
     put(outlet, F::head(config).as_str())?;
@@ -110,9 +112,9 @@ pub fn extract<R: Read, W: Write>(
     outlet: &mut Outlet<W>,
 ) -> Result<Summary, RunFault>
     requires intake { IsFresh intake.old config.now.system }
-    requires outlet { IsFreshOutlet outlet.old }
-    ensures same_reader { IsSameDevice intake.old intake.new }
-    ensures same_writer { IsSameOutlet outlet.old outlet.new }
+    requires outlet { outlets.IsFresh outlet.old }
+    ensures same_reader { IsSameDevice (intakes.counted_of intake.old) (intakes.counted_of intake.new) }
+    ensures same_writer { IsSameDevice (outlets.counted_of outlet.old) (outlets.counted_of outlet.new) }
     ensures run { Runs document R.remaining W.contents config.now intake.old intake.new outlet.old outlet.new result }
 {
     run::<Document, R, W>(config, intake, outlet)
@@ -127,9 +129,9 @@ pub fn show<R: Read, W: Write>(
     outlet: &mut Outlet<W>,
 ) -> Result<Summary, RunFault>
     requires intake { IsFresh intake.old config.now.system }
-    requires outlet { IsFreshOutlet outlet.old }
-    ensures same_reader { IsSameDevice intake.old intake.new }
-    ensures same_writer { IsSameOutlet outlet.old outlet.new }
+    requires outlet { outlets.IsFresh outlet.old }
+    ensures same_reader { IsSameDevice (intakes.counted_of intake.old) (intakes.counted_of intake.new) }
+    ensures same_writer { IsSameDevice (outlets.counted_of outlet.old) (outlets.counted_of outlet.new) }
     ensures run { Runs report R.remaining W.contents config.now intake.old intake.new outlet.old outlet.new result }
 {
     run::<Report, R, W>(config, intake, outlet)

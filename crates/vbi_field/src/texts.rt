@@ -1,6 +1,7 @@
 //! The texts of a stream, of either kind, and how they are written.
 ghost use Rattle.std.specs.Prelude.{◌≡◌, ◌+◌, ◌-◌, ◌^◌, ◌<◌, ◌≤◌, length, OnOk, OnErr, IfOk, IfErr};
-ghost use Rattle.vbi_field.specs.Outlet.{failures_of, errors_of, written_of, HasCause, IsSameDevice, Puts};
+ghost use Rattle.vbi_line.specs.Counted.{failures_of, NoError, HasCause, IsSameDevice};
+ghost use Rattle.vbi_field.specs.Outlet.{counted_of, written_of, Puts};
 ghost use Rattle.vbi_field.specs.Stream.{cut_of};
 ghost use Rattle.vbi_field.specs.Texts.{Texts, joined_entry_of};
 
@@ -37,13 +38,13 @@ pub(crate) trait Form {
 /// Writes a text.
 pub(crate) fn put<W: Write>(outlet: &mut Outlet<W>, text: &str) -> Result<(), RunFault>
     requires written { written_of outlet.old ≤ 2 ^ 62 }
-    requires failures { failures_of outlet.old ≤ 2 ^ 62 }
+    requires failures { (failures_of (counted_of outlet.old)).all ≤ 2 ^ 62 }
     requires few { length text.now ≤ 2 ^ 56 }
-    ensures same { IsSameDevice outlet.old outlet.new }
+    ensures same { IsSameDevice (counted_of outlet.old) (counted_of outlet.new) }
     ensures puts { Puts W.contents outlet.old outlet.new text.now }
     ensures ok { OnOk result (written_of outlet.new ≡ written_of outlet.old + length text.now) }
-    ensures no_error { OnOk result (errors_of outlet.new ≡ errors_of outlet.old) }
-    ensures failed { OnErr result (HasCause outlet.old outlet.new) }
+    ensures no_error { OnOk result (NoError (counted_of outlet.old) (counted_of outlet.new)) }
+    ensures failed { OnErr result (HasCause (counted_of outlet.old) (counted_of outlet.new)) }
     ensures short { OnErr result (written_of outlet.new < written_of outlet.old + length text.now) }
     ensures fault { IfErr result (λ e. e ≡ RunFault.Write (written_of outlet.new)) }
 {
@@ -63,14 +64,14 @@ pub(crate) fn end<F: Form, W: Write>(
     looked: u64,
 ) -> Result<Summary, RunFault>
     requires written { written_of outlet.old ≤ 2 ^ 62 }
-    requires failures { failures_of outlet.old ≤ 2 ^ 62 }
+    requires failures { (failures_of (counted_of outlet.old)).all ≤ 2 ^ 62 }
     requires fields { fields ≤ 1000000 }
-    ensures same { IsSameDevice outlet.old outlet.new }
+    ensures same { IsSameDevice (counted_of outlet.old) (counted_of outlet.new) }
     ensures puts { Puts W.contents outlet.old outlet.new (F.texts.tail fields rest) }
     ensures written { OnOk result (written_of outlet.new ≡ written_of outlet.old + length (F.texts.tail fields rest)) }
-    ensures no_error { OnOk result (errors_of outlet.new ≡ errors_of outlet.old) }
+    ensures no_error { OnOk result (NoError (counted_of outlet.old) (counted_of outlet.new)) }
     ensures ok { IfOk result (λ s. s ≡ record { fields = fields; cut = cut_of rest; looked = looked }) }
-    ensures failed { OnErr result (HasCause outlet.old outlet.new) }
+    ensures failed { OnErr result (HasCause (counted_of outlet.old) (counted_of outlet.new)) }
     ensures short { OnErr result (written_of outlet.new < written_of outlet.old + length (F.texts.tail fields rest)) }
     ensures fault { IfErr result (λ e. e ≡ RunFault.Write (written_of outlet.new)) }
 {

@@ -4,7 +4,7 @@ use Rattle.std.specs.Prelude.{Option}
 use Rattle.std.specs.Io.KnownBytes.{Consumes}
 use Rattle.vbi_words.specs.Geometry.{line_bytes}
 use Rattle.vbi_line.specs.Line.{Keeps}
-use Rattle.vbi_line.specs.Counted.{device_of, failures_of, IsSameDevice}
+use Rattle.vbi_line.specs.Counted.{device_of, failures_of, NoError, IsSameDevice}
 use Rattle.vbi_line.specs.Intake.{counted_of, held_of}
 use Rattle.vbi_line.specs.declared.intake.Intake.{Intake}
 
@@ -16,7 +16,7 @@ pub record Since {R : Type 0} (remaining : R → Option (List ℕ)) (old now : I
   pub fetched : now.fetched ≡ old.fetched + length bytes
   pub least : (failures_of (counted_of old)).all ≤ (failures_of (counted_of now)).all
   pub most : (failures_of (counted_of now)).all ≤ (failures_of (counted_of old)).all + 16 * length bytes
-  pub errors : (failures_of (counted_of now)).errors ≡ (failures_of (counted_of old)).errors
+  pub no_error : NoError (counted_of old) (counted_of now)
   pub longest : (failures_of (counted_of now)).streak ≤ (failures_of (counted_of old)).streak
   pub kept : Keeps old.line now.line
   pub same : IsSameDevice (counted_of old) (counted_of now)

@@ -53,7 +53,7 @@ pub struct Intake<'a, R> {
 }
 
 impl<'a, R: Read> Intake<'a, R> {
-    ghost use Rattle.vbi_line.specs.Counted.{name_of, device_of, failures_of, HasCause, IsSameDevice};
+    ghost use Rattle.vbi_line.specs.Counted.{name_of, device_of, failures_of, NoError, HasCause, IsSameDevice};
     ghost use Rattle.vbi_line.specs.Intake.{counted_of, fetched_of, held_of, line_of};
     ghost use Rattle.vbi_line.specs.Intake.{IsFresh, Fetches, IsFilled, KeepsReader};
 
@@ -94,9 +94,8 @@ impl<'a, R: Read> Intake<'a, R> {
         ensures bytes { Fetches R.remaining self.old self.new }
         ensures fits { length (held_of self.new) ≤ line_bytes (line_of self.old).system }
         ensures ok { IfOk result (λ f. IsFilled R.remaining f self.new) }
-        ensures no_error { OnOk result
-            ((failures_of (counted_of self.new)).errors ≡ (failures_of (counted_of self.old)).errors) }
-        ensures failed { OnErr result (HasCause (failures_of (counted_of self.old)) (failures_of (counted_of self.new))) }
+        ensures no_error { OnOk result (NoError (counted_of self.old) (counted_of self.new)) }
+        ensures failed { OnErr result (HasCause (counted_of self.old) (counted_of self.new)) }
         ensures streak { (failures_of (counted_of self.new)).streak
             ≤ (failures_of (counted_of self.old)).streak + 17 }
         ensures short { OnErr result (length (held_of self.new) < line_bytes (line_of self.old).system) }
