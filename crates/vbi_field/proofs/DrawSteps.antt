@@ -7,6 +7,7 @@ use Rattle.std.specs.Io.KnownBytes.{IsAtEnd}
 use Rattle.std.proofs.lemmas.List.{append-nil, length-append}
 use Rattle.std.proofs.lemmas.Grind.{flat_map-append}
 use Rattle.vbi_field.specs.ConfigView.{ConfigView}
+use Rattle.vbi_line.specs.Counted.{device_of, failures_of, NoError, HasCause, IsSameDevice}
 use Rattle.vbi_field.specs.Outlet as outlets
 use Rattle.vbi_field.specs.RowIntake as intakes
 use Rattle.vbi_field.specs.RowIntake.{IsFresh, HasNoNewline, Fetches, TakesRow, TakesByte}

@@ -11,7 +11,7 @@ use Rattle.vbi_words.specs.Levels.{LevelsView, row_levels}
 use Rattle.vbi_words.specs.declared.system.System.{System}
 use Rattle.vbi_words.specs.declared.system.System.TheVariants.{Ntsc, Pal}
 use Rattle.vbi_words.specs.declared.outcome.Reading.{Reading}
-use Rattle.vbi_line.specs.Counted as counted
+use Rattle.vbi_line.specs.Counted.{device_of, failures_of, NoError, HasCause, IsSameDevice}
 use Rattle.vbi_line.specs.Intake as intakes
 use Rattle.vbi_line.specs.OneReading.{reading_of}
 use Rattle.vbi_line.specs.declared.counted.Counted.{Counted}
@@ -38,16 +38,14 @@ use Rattle.vbi_field.proofs.FeedTexts.{begun_same}
 use Rattle.vbi_field.proofs.Settling.{fields_at, further, wrote_whole, put_in_part}
 
 -- a device that hadn't given an error before has failed for good
-pub has_failed : {D : Type 0} (old new : Counted D) → counted.errors_of old ≡ 0 → counted.HasCause old new
-    → HasFailed
-    (record { all = counted.failures_of new; errors = counted.errors_of new; streak = counted.streak_of new })
-has_failed old new calm h = record { rose = let r = h.rose in omega arith; cause = since h.cause }
+pub has_failed : {D : Type 0} (old new : Counted D) → (failures_of old).errors ≡ 0 → HasCause old new
+    → HasFailed (failures_of new)
+has_failed old new none h = record { rose = let r = h.rose in omega arith; cause = since h.cause }
   where
-    since : ((counted.errors_of new ≡ counted.errors_of old + 1) × (counted.streak_of new ≡ 0))
-        ⊎ ((counted.errors_of new ≡ counted.errors_of old) × (17 ≤ counted.streak_of new)
-        × (counted.failures_of old + 17 ≤ counted.failures_of new))
-        → ((counted.errors_of new ≡ 1) × (counted.streak_of new ≡ 0))
-        ⊎ ((counted.errors_of new ≡ 0) × (17 ≤ counted.streak_of new))
+    since : (((failures_of new).errors ≡ (failures_of old).errors + 1) × ((failures_of new).streak ≡ 0))
+        ⊎ (NoError old new × (17 ≤ (failures_of new).streak) × ((failures_of old).all + 17 ≤ (failures_of new).all))
+        → (((failures_of new).errors ≡ 1) × ((failures_of new).streak ≡ 0))
+        ⊎ (((failures_of new).errors ≡ 0) × (17 ≤ (failures_of new).streak))
     since (inl (errors, streak)) = inl (omega arith, streak)
     since (inr (errors, streak, failures)) = inr (omega arith, streak)
 
