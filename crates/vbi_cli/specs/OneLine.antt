@@ -6,6 +6,7 @@ use Rattle.vbi_words.specs.Geometry.{width_of, line_bytes}
 use Rattle.vbi_words.specs.Levels.{row_levels}
 use Rattle.vbi_words.specs.declared.outcome.Outcome.{Outcome}
 use Rattle.vbi_words.specs.declared.outcome.Outcome.TheVariants.{Word, Blank, Unfinished, Change, Hold}
+use Rattle.vbi_line.specs.Counted.{device_of}
 use Rattle.vbi_line.specs.Intake as intakes
 use Rattle.vbi_line.specs.OneReading.{reading_of}
 use Rattle.vbi_line.specs.declared.intake.Intake.{Intake}
@@ -83,6 +84,6 @@ Answers c input n (Err (Write written)) z text = StopsAtWrite c input n z text w
 abbrev pub RunsLine : {R W : Type 0} → (R → Option (List ℕ)) → (W → Option (List ℕ)) → ConfigView
     → Intake R → Intake R → Outlet W → Outlet W → Result Outcome LineFault → Type 0
 RunsLine remaining contents c i0 i o0 o result =
-    Ran (remaining (intakes.device_of i0)) (remaining (intakes.device_of i))
-    (contents (outlets.device_of o0)) (contents (outlets.device_of o))
-    (counts_of i o) (Answers c (remaining (intakes.device_of i)) (counts_of i o) result)
+    Ran (remaining (device_of (intakes.counted_of i0))) (remaining (device_of (intakes.counted_of i)))
+    (contents (device_of (outlets.counted_of o0))) (contents (device_of (outlets.counted_of o)))
+    (counts_of i o) (Answers c (remaining (device_of (intakes.counted_of i))) (counts_of i o) result)

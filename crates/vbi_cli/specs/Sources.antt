@@ -1,7 +1,7 @@
 -- What a contract sees of a command's source: the reader, whether it was called, and what was counted.
-use Rattle.std.specs.Prelude.{◌≡◌, ℕ}
 use Rattle.vbi_words.specs.declared.system.System.{System}
 use Rattle.vbi_line.specs.Intake as lines
+use Rattle.vbi_line.specs.declared.counted.Counted.{Counted}
 use Rattle.vbi_field.specs.Draws as draws
 use Rattle.vbi_field.specs.Extracts as extracts
 use Rattle.vbi_field.specs.Ran.{Counts}
@@ -13,19 +13,10 @@ use Rattle.vbi_cli.specs.declared.source.Source.{Source}
 use Rattle.vbi_cli.specs.declared.source.Source.TheVariants.{Lines, Rows}
 
 module _ {R : Type 0} where
-  -- the reader
-  abbrev pub device_of : Source R → R
-  device_of (Lines i) = lines.device_of i
-  device_of (Rows i) = rows.device_of i
-
-  -- the ghost name of the reference to it, by which a caller knows the reader again
-  abbrev pub name_of : Source R → ℕ
-  name_of (Lines i) = lines.name_of i
-  name_of (Rows i) = rows.name_of i
-
-  -- both have the same reader
-  abbrev pub IsSameDevice : Source R → Source R → Type 0
-  IsSameDevice old new = name_of new ≡ name_of old
+  -- the reader with the counts of its failed calls
+  abbrev pub counted_of : Source R → Counted R
+  counted_of (Lines i) = lines.counted_of i
+  counted_of (Rows i) = rows.counted_of i
 
   -- rows of words for drawing, lines of this system for the other commands; the reader has not been called
   abbrev pub IsFreshFor : Source R → Verb → System → Type 0

@@ -1,13 +1,14 @@
 //! A job: settings from metadata and options, and then the command.
 
 ghost use Rattle.std.specs.Prelude.{◌≡◌, ◌≢◌, IfOk, IfErr, Err, option_map};
+ghost use Rattle.vbi_line.specs.Counted.{device_of, IsSameDevice};
 ghost use Rattle.vbi_line.specs.Intake as lines;
-ghost use Rattle.vbi_field.specs.Outlet.{IsFresh as IsFreshOutlet, IsSameDevice as IsSameOutlet};
-ghost use Rattle.vbi_field.specs.Outlet.{device_of as writer_of};
+ghost use Rattle.vbi_field.specs.Outlet as outlets;
 ghost use Rattle.vbi_meta.specs.DocumentValue.{IsConfig};
 ghost use Rattle.vbi_cli.specs.Jobs.{Settles, Refuses, Under, Counting, Did, IfMeta, UnlessMeta};
 ghost use Rattle.vbi_cli.specs.Jobs.{IsEndedBy, IsAnsweredBy, IsDrawnBy};
-ghost use Rattle.vbi_cli.specs.Sources.{device_of as reader_of, counts_of, IsFreshFor, IsSameDevice};
+ghost use Rattle.vbi_cli.specs.Sources as sources;
+ghost use Rattle.vbi_cli.specs.Sources.{counts_of, IsFreshFor};
 ghost use Rattle.vbi_cli.specs.Statuses.{app_status};
 ghost use Rattle.vbi_cli.specs.declared.source.Source.TheVariants.{Lines};
 
@@ -94,11 +95,11 @@ pub fn do_command<R: Read, W: Write>(
     outlet: &mut Outlet<W>,
 ) -> Result<Ended, AppFault>
     requires source { IsFreshFor source.old verb config.now.system }
-    requires outlet { IsFreshOutlet outlet.old }
-    ensures same_reader { IsSameDevice source.old source.new }
-    ensures same_writer { IsSameOutlet outlet.old outlet.new }
-    ensures did { Did config.now (R.remaining (reader_of source.old)) (R.remaining (reader_of source.new))
-        (W.contents (writer_of outlet.old)) (W.contents (writer_of outlet.new)) (counts_of source.new outlet.new)
+    requires outlet { outlets.IsFresh outlet.old }
+    ensures same_reader { IsSameDevice (sources.counted_of source.old) (sources.counted_of source.new) }
+    ensures same_writer { IsSameDevice (outlets.counted_of outlet.old) (outlets.counted_of outlet.new) }
+    ensures did { Did config.now (R.remaining (device_of (sources.counted_of source.old))) (R.remaining (device_of (sources.counted_of source.new)))
+        (W.contents (device_of (outlets.counted_of outlet.old))) (W.contents (device_of (outlets.counted_of outlet.new))) (counts_of source.new outlet.new)
         verb result }
 {
     match source {
@@ -137,11 +138,11 @@ fn extract_job<R: Read, W: Write>(
     outlet: &mut Outlet<W>,
 ) -> Result<Ended, AppFault>
     requires intake { lines.IsFresh intake.old config.now.system }
-    requires outlet { IsFreshOutlet outlet.old }
-    ensures same_reader { lines.IsSameDevice intake.old intake.new }
-    ensures same_writer { IsSameOutlet outlet.old outlet.new }
-    ensures did { Did config.now (R.remaining (lines.device_of intake.old)) (R.remaining (lines.device_of intake.new))
-        (W.contents (writer_of outlet.old)) (W.contents (writer_of outlet.new))
+    requires outlet { outlets.IsFresh outlet.old }
+    ensures same_reader { IsSameDevice (lines.counted_of intake.old) (lines.counted_of intake.new) }
+    ensures same_writer { IsSameDevice (outlets.counted_of outlet.old) (outlets.counted_of outlet.new) }
+    ensures did { Did config.now (R.remaining (device_of (lines.counted_of intake.old))) (R.remaining (device_of (lines.counted_of intake.new)))
+        (W.contents (device_of (outlets.counted_of outlet.old))) (W.contents (device_of (outlets.counted_of outlet.new)))
         (counts_of (Lines intake.new) outlet.new) Verb.Extract result }
 {
     numbers(config);
@@ -164,11 +165,11 @@ fn show_job<R: Read, W: Write>(
     outlet: &mut Outlet<W>,
 ) -> Result<Ended, AppFault>
     requires intake { lines.IsFresh intake.old config.now.system }
-    requires outlet { IsFreshOutlet outlet.old }
-    ensures same_reader { lines.IsSameDevice intake.old intake.new }
-    ensures same_writer { IsSameOutlet outlet.old outlet.new }
-    ensures did { Did config.now (R.remaining (lines.device_of intake.old)) (R.remaining (lines.device_of intake.new))
-        (W.contents (writer_of outlet.old)) (W.contents (writer_of outlet.new))
+    requires outlet { outlets.IsFresh outlet.old }
+    ensures same_reader { IsSameDevice (lines.counted_of intake.old) (lines.counted_of intake.new) }
+    ensures same_writer { IsSameDevice (outlets.counted_of outlet.old) (outlets.counted_of outlet.new) }
+    ensures did { Did config.now (R.remaining (device_of (lines.counted_of intake.old))) (R.remaining (device_of (lines.counted_of intake.new)))
+        (W.contents (device_of (outlets.counted_of outlet.old))) (W.contents (device_of (outlets.counted_of outlet.new)))
         (counts_of (Lines intake.new) outlet.new) Verb.Show result }
 {
     let summary = show(config, intake, outlet);

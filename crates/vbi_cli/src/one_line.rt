@@ -1,8 +1,9 @@
 //! The command `line`.
 
 ghost use Rattle.std.specs.Prelude.{◌≡◌};
-ghost use Rattle.vbi_line.specs.Intake.{IsFresh, IsSameDevice};
-ghost use Rattle.vbi_field.specs.Outlet.{IsFresh as IsFreshOutlet, IsSameDevice as IsSameOutlet};
+ghost use Rattle.vbi_line.specs.Counted.{IsSameDevice};
+ghost use Rattle.vbi_line.specs.Intake as intakes;
+ghost use Rattle.vbi_field.specs.Outlet as outlets;
 ghost use Rattle.vbi_cli.specs.OneLine.{RunsLine, line_text};
 
 use arrayvec::ArrayString;
@@ -39,10 +40,10 @@ pub fn run_line<R: Read, W: Write>(
     intake: &mut Intake<R>,
     outlet: &mut Outlet<W>,
 ) -> Result<Outcome, LineFault>
-    requires intake { IsFresh intake.old config.now.system }
-    requires outlet { IsFreshOutlet outlet.old }
-    ensures same_reader { IsSameDevice intake.old intake.new }
-    ensures same_writer { IsSameOutlet outlet.old outlet.new }
+    requires intake { intakes.IsFresh intake.old config.now.system }
+    requires outlet { outlets.IsFresh outlet.old }
+    ensures same_reader { IsSameDevice (intakes.counted_of intake.old) (intakes.counted_of intake.new) }
+    ensures same_writer { IsSameDevice (outlets.counted_of outlet.old) (outlets.counted_of outlet.new) }
     ensures run { RunsLine R.remaining W.contents config.now intake.old intake.new outlet.old outlet.new result }
 {
     match intake.fill_line() {

@@ -1,7 +1,8 @@
 //! What a command reads from, before its first read.
 
 ghost use Rattle.std.specs.Prelude.{◌≡◌};
-ghost use Rattle.vbi_cli.specs.Sources.{device_of, name_of, IsFreshFor};
+ghost use Rattle.vbi_line.specs.Counted.{device_of, name_of};
+ghost use Rattle.vbi_cli.specs.Sources.{counted_of, IsFreshFor};
 
 use crate::command_line::Verb;
 use std::io::Read;
@@ -21,8 +22,8 @@ pub enum Source<'a, R> {
 impl<'a, R: Read> Source<'a, R> {
     /// The source of a command on lines of this system. It has not called the reader.
     pub fn new(verb: Verb, system: System, reader: &'a mut R) -> Self
-        ensures same { name_of result ≡ reader.entry.ghost_name }
-        ensures reader { device_of result ≡ reader.old }
+        ensures same { name_of (counted_of result) ≡ reader.entry.ghost_name }
+        ensures reader { device_of (counted_of result) ≡ reader.old }
         ensures fresh { IsFreshFor result verb system }
     {
         match verb {
@@ -35,8 +36,8 @@ impl<'a, R: Read> Source<'a, R> {
 
     /// Gives the borrowed reader back, as the calls have left it.
     pub fn into_reader(self) -> &'a mut R
-        ensures same { result.ghost_name ≡ name_of self.entry }
-        ensures reader { result.now ≡ device_of self.entry }
+        ensures same { result.ghost_name ≡ name_of (counted_of self.entry) }
+        ensures reader { result.now ≡ device_of (counted_of self.entry) }
     {
         match self {
             Source::Lines(intake) => intake.into_reader(),
