@@ -5,7 +5,7 @@ use Rattle.std.proofs.Common.{refl, ap, ◌∙◌, arith, add-one, lit<, lit≤}
 use Rattle.std.specs.Prelude.{IsTrue, ◌↔◌}
 use Rattle.std.proofs.Math.Nat.{eq-zero-or-pos, lt_of_not-le, suc-mul}
 use Rattle.std.proofs.lemmas.Nat.{div-mul-add}
-use Rattle.vbi_field.specs.Stream.{selected}
+use Rattle.vbi_field.specs.FeederState.{selected}
 use Rattle.vbi_words.specs.Geometry.{width_of, height_of, line_bytes, field_bytes}
 use Rattle.vbi_words.specs.declared.system.System.{System}
 use Rattle.vbi_words.specs.declared.system.System.TheVariants.{Ntsc, Pal}

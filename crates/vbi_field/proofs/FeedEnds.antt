@@ -1,5 +1,5 @@
 -- How a stream that is pushed begins and ends.
-use Rattle.std.proofs.Common.{◌≡◌, ℕ, ◌+◌, ◌*◌, ◌<◌, List, length, sym, ap, subst, ◌∙◌}
+use Rattle.std.proofs.Common.{◌/◌, ◌≡◌, ℕ, ◌+◌, ◌*◌, ◌<◌, List, length, sym, ap, subst, ◌∙◌}
 use Rattle.std.specs.Prelude.{Option, Result, Ok, Err, OnOk, OnErr, IfOk, IfErr}
 use Rattle.vbi_words.specs.Geometry.{width_of, line_bytes}
 use Rattle.vbi_line.specs.Line.{Line}
@@ -8,7 +8,8 @@ use Rattle.vbi_field.specs.Feed.{IsAt, IsFinished}
 use Rattle.vbi_field.specs.Outlet.{written_of, Puts, WrotePart}
 use Rattle.vbi_field.specs.ConfigView.{ConfigView}
 use Rattle.vbi_field.specs.FeederState.{IsFeederState, position_in}
-use Rattle.vbi_field.specs.Stream.{fields_of, rest_of, cut_of, selected, selected_rows, looks_of}
+use Rattle.vbi_field.specs.Stream.{fields_of, rest_of, cut_of, looks_of}
+use Rattle.vbi_field.specs.FeederState.{selected}
 use Rattle.vbi_field.specs.declared.outlet.Outlet.{Outlet}
 use Rattle.vbi_field.specs.declared.progress.Progress.{Progress}
 use Rattle.vbi_field.specs.declared.summary.RunFault.{RunFault}
@@ -43,7 +44,7 @@ module _ {W : Type 0} (contents : W → Option (List ℕ)) (c : ConfigView) (l :
 
   looks : l.looked ≡ looks_of c z
   looks =
-      let same : selected p.fields p.row ≡ selected_rows c z =
+      let same : selected p.fields p.row ≡ selected (fields_of c z) (rest_of c z / line_bytes c.system) =
       ap (λ n. selected n p.row) fields ∙ ap (selected (fields_of c z)) (sym (split_rows c z l.held p parts)) in
       st.looked ∙ ap (λ n. width_of c.system * n) same
 

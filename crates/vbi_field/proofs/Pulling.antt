@@ -22,7 +22,8 @@ use Rattle.vbi_field.specs.NextLine.{TakesLine}
 use Rattle.vbi_field.specs.Outlet as outlets
 use Rattle.vbi_field.specs.Progress.{IsProgress, IsLineOf, MovesOneRow, SettlesWhole, SettlesInPart}
 use Rattle.vbi_field.specs.Ran.{EndsInside, HasFailed}
-use Rattle.vbi_field.specs.Stream.{fields_of, rest_of, cut_of, selected, looks_of}
+use Rattle.vbi_field.specs.Stream.{fields_of, rest_of, cut_of, looks_of}
+use Rattle.vbi_field.specs.FeederState.{selected}
 use Rattle.vbi_field.specs.Texts.{Texts, text_before_tail, whole_text}
 use Rattle.vbi_field.specs.declared.outlet.Outlet.{Outlet}
 use Rattle.vbi_field.specs.declared.progress.Progress.{Progress}
@@ -240,7 +241,7 @@ module _ (t : Texts) {R W : Type 0} (remaining : R → Option (List ℕ)) (conte
       write_fault i0 o0 o [] [] w.part fault (Consumes-nil _) fresh.fetched (Appends-nil _) clean.written
       (calm_reader fresh) (calm_writer clean)
       w.wrote cause fails (zero-le) looks
-      (inl (record { none = refl; ends = inside_of contents o0 o [] text (text_before_tail t c []) w begun }))
+      (inl (refl, inside_of contents o0 o [] text (text_before_tail t c []) w begun))
 
   -- ---- a whole row was fetched
 
@@ -334,16 +335,8 @@ module _ (t : Texts) {R W : Type 0} (remaining : R → Option (List ℕ)) (conte
         (Consumes-trans _ _ _ g.z row.bytes g.consumed row.consumed) (omega (arith, row.fetched, g.fetched)) g.appended
         g.written
         (got.no_error ∙ g.calm_reads) g.calm_writes w.wrote cause fails within looks
-        (inr (inl (record {
-          before = due.before;
-          last = due.last;
-          both = due.both;
-          fields = due.fields;
-          field = due.field;
-          ends =
-              subst P (sym due.begun)
-              (inside_of contents o o' (text_before_tail t c g.z) settled.text (text_before_tail t c z) w settled.due);
-        })))
+        (inr (inl (due.before, due.last, due.both, due.fields, due.field, subst P (sym due.begun)
+        (inside_of contents o o' (text_before_tail t c g.z) settled.text (text_before_tail t c z) w settled.due))))
       where
         next_fields : (p p' : Progress) → MovesOneRow c p p' → p'.row ≡ 0 → p'.fields ≡ p.fields + 1
         next_fields p p' (inl (fields, row)) first = absurd (omega arith)
@@ -463,7 +456,7 @@ module _ (t : Texts) {R W : Type 0} (remaining : R → Option (List ℕ)) (conte
           (Consumes-trans _ _ _ g.z b g.consumed row.consumed)
           (omega (arith, row.fetched, g.fetched, length-append g.z b)) g.appended g.written
           (got.no_error ∙ g.calm_reads) g.calm_writes w.wrote cause fails few looks
-          (inr (inr (record { ended = got.ended; ends = subst P (begun_is k i o p g b short) inside })))
+          (inr (inr (got.ended, subst P (begun_is k i o p g b short) inside)))
 
   -- the reader failed
   pub read_fault : (k : ℕ) (i i' : Intake R) (o : Outlet W) (p : Progress) (g : Pulled k i o p) (sel : Bool)

@@ -36,22 +36,21 @@ first_inside before due text ends =
 pub first_of_text : (t : Texts) (c : ConfigView) (input : Option (List ℕ)) (z text : List ℕ)
     → EndsWithin t c input z text
     → IsFirstOf text (text_before_tail t c z) ⊎ (IsAtEnd input × IsFirstOf text (whole_text t c z))
-first_of_text t c input z text (inl head) =
+first_of_text t c input z text (inl (none, ends)) =
     let P : List ℕ → Type 0 = λ z. IsFirstOf text (text_before_tail t c z) in
-    inl (subst P (sym head.none) (first_inside [] (text_before_tail t c []) text head.ends))
-first_of_text t c input z text (inr (inl entry)) =
-    inl (first_inside (text_before_tail t c entry.before) (text_before_tail t c z) text entry.ends)
-first_of_text t c input z text (inr (inr tail)) =
-    inr (tail.ended, first_inside (text_before_tail t c z) (whole_text t c z) text tail.ends)
+    inl (subst P (sym none) (first_inside [] (text_before_tail t c []) text ends))
+first_of_text t c input z text (inr (inl (before, last, both, fields, field, ends))) =
+    inl (first_inside (text_before_tail t c before) (text_before_tail t c z) text ends)
+first_of_text t c input z text (inr (inr (ended, ends))) =
+    inr (ended, first_inside (text_before_tail t c z) (whole_text t c z) text ends)
 
 pub prompt : (t : Texts) (c : ConfigView) (input : Option (List ℕ)) (z text : List ℕ) → EndsWithin t c input z text
     → (rest_of c z ≡ 0) ⊎ (IsAtEnd input × (length (text_before_tail t c z) ≤ length text))
-prompt t c input z text (inl head) = inl (ap (rest_of c) head.none ∙ zero-mod (field_bytes c.system))
-prompt t c input z text (inr (inl entry)) =
-    inl (ap (rest_of c) (sym entry.both) ∙ ap (λ n. n % field_bytes c.system) (length-append entry.before entry.last)
-    ∙ rest-next c.system (length entry.before) (length entry.last) entry.fields entry.field)
-prompt t c input z text (inr (inr tail)) =
-    let ends = tail.ends in
+prompt t c input z text (inl (none, ends)) = inl (ap (rest_of c) none ∙ zero-mod (field_bytes c.system))
+prompt t c input z text (inr (inl (before, last, both, fields, field, ends))) =
+    inl (ap (rest_of c) (sym both) ∙ ap (λ n. n % field_bytes c.system) (length-append before last)
+    ∙ rest-next c.system (length before) (length last) fields field)
+prompt t c input z text (inr (inr (ended, ends))) =
     let l = ap length ends.begun in
     let m = length-append (text_before_tail t c z) ends.part in
-    inr (tail.ended, omega arith)
+    inr (ended, omega arith)

@@ -8,7 +8,8 @@ use Rattle.vbi_words.specs.Geometry.{width_of, height_of}
 use Rattle.vbi_field.specs.ConfigView.{ConfigView}
 use Rattle.vbi_field.specs.Outlet.{written_of, Puts, Wrote, WrotePart}
 use Rattle.vbi_field.specs.Progress.{IsProgress, MovesOneRow, SettlesWhole, SettlesInPart, Settles}
-use Rattle.vbi_field.specs.Stream.{fields_of, readings_at, selected}
+use Rattle.vbi_field.specs.Stream.{fields_of, readings_at}
+use Rattle.vbi_field.specs.FeederState.{selected}
 use Rattle.vbi_field.specs.Texts.{Texts, IsTextBetween, text_before_tail, joined_entry_of}
 use Rattle.vbi_field.specs.declared.outlet.Outlet.{Outlet}
 use Rattle.vbi_field.specs.declared.progress.Progress.{Progress}

@@ -17,28 +17,14 @@ use Rattle.vbi_field.specs.declared.summary.RunFault.{RunFault}
 use Rattle.vbi_field.specs.declared.summary.RunFault.TheVariants.{Read, Write, TooManyFields, Failed}
 
 module _ (t : Texts) (c : ConfigView) (input : Option (List ℕ)) (z text : List ℕ) where
-  -- the head is due before the first read
-  pub record EndsInHead : Type 0 where
-    pub none : z ≡ []
-    pub ends : EndsInside [] (text_before_tail t c []) text
-
-  -- the entry of a field is due as soon as the field's last byte was fetched
-  pub record EndsInEntry : Type 0 where
-    pub before : List ℕ
-    pub last : List ℕ
-    pub both : before ++ last ≡ z
-    pub fields : rest_of c before ≡ 0
-    pub field : length last ≡ field_bytes c.system
-    pub ends : EndsInside (text_before_tail t c before) (text_before_tail t c z) text
-
-  -- the tail is due as soon as the reader has ended
-  pub record EndsInTail : Type 0 where
-    pub ended : IsAtEnd input
-    pub ends : EndsInside (text_before_tail t c z) (whole_text t c z) text
-
-  -- the text ends inside one of the three
+  -- the text ends inside one of three parts: the head, which is due before the first read; the entry of a field, which
+  -- is due as soon as the field's last byte was fetched; or the tail, which is due as soon as the reader has ended
   abbrev pub EndsWithin : Type 0
-  EndsWithin = EndsInHead ⊎ (EndsInEntry ⊎ EndsInTail)
+  EndsWithin =
+      ((z ≡ []) × EndsInside [] (text_before_tail t c []) text)
+      ⊎ (((before : List ℕ) × (last : List ℕ) × (before ++ last ≡ z) × (rest_of c before ≡ 0)
+      × (length last ≡ field_bytes c.system) × EndsInside (text_before_tail t c before) (text_before_tail t c z) text)
+      ⊎ (IsAtEnd input × EndsInside (text_before_tail t c z) (whole_text t c z) text))
 
 module _ (t : Texts) (c : ConfigView) (input : Option (List ℕ)) (n : Counts) (z text : List ℕ) where
   -- Ok: the reader ended within the limit, the whole text was written, and the summary has the fields, the cut and the

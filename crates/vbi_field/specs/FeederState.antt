@@ -1,11 +1,10 @@
 -- The state of a feeder: its line and its progress, and the position that they make.
-use Rattle.std.specs.Prelude.{◌≡◌, ℕ, ◌+◌, ◌-◌, ◌*◌, ◌<◌, ◌≤◌, List, [], ◌∷◌, length, take, Option, Result, Ok, Err}
+use Rattle.std.specs.Prelude.{◌≡◌, ℕ, ◌+◌, ◌-◌, ◌*◌, ◌<◌, ◌≤◌, List, [], ◌∷◌, length, min, take, Option, Result, Ok, Err}
 use Rattle.vbi_words.specs.Geometry.{width_of, height_of, line_bytes}
 use Rattle.vbi_line.specs.Line.{Line}
 use Rattle.vbi_field.specs.Feed.{IsFed}
 use Rattle.vbi_field.specs.Position.{Position}
 use Rattle.vbi_field.specs.ConfigView.{ConfigView}
-use Rattle.vbi_field.specs.Stream.{selected}
 use Rattle.vbi_field.specs.declared.outlet.Outlet.{Outlet}
 use Rattle.vbi_field.specs.declared.progress.Progress.{Progress}
 use Rattle.vbi_field.specs.declared.summary.RunFault.{RunFault}
@@ -18,6 +17,10 @@ position_in c l p = record {
   held = l.held;
   readings = take (p.row - 15) (p.readings.first ∷ p.readings.second ∷ p.readings.third ∷ []);
 }
+
+-- how many of the rows 15, 16 and 17 are among the rows of f fields and r rows more
+abbrev pub selected : ℕ → ℕ → ℕ
+selected f r = 3 * f + min 3 (r - 15)
 
 -- less than a line is held and no pass was started, no more fields are whole than are allowed, and the samples of the
 -- selected rows were looked at once each

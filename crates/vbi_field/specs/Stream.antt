@@ -36,14 +36,6 @@ abbrev pub readings_at : ConfigView → List ℕ → ℕ → FieldReadings
 readings_at c z i =
     record { first = reading_at c z i 15; second = reading_at c z i 16; third = reading_at c z i 17 }
 
--- how many of the rows 15, 16 and 17 are among the rows of f fields and r rows more
-abbrev pub selected : ℕ → ℕ → ℕ
-selected f r = 3 * f + min 3 (r - 15)
-
--- how many of the rows 15, 16 and 17 of its fields a stream has whole
-abbrev pub selected_rows : ConfigView → List ℕ → ℕ
-selected_rows c z = selected (fields_of c z) (rest_of c z / line_bytes c.system)
-
--- how many samples are looked at: all of those rows' samples, once each
+-- how many samples are looked at: those of the rows 15, 16 and 17 that the stream has whole, once each
 abbrev pub looks_of : ConfigView → List ℕ → ℕ
-looks_of c z = width_of c.system * selected_rows c z
+looks_of c z = width_of c.system * (3 * fields_of c z + min 3 (rest_of c z / line_bytes c.system - 15))
