@@ -1,14 +1,21 @@
 -- What a contract sees of a command's source: the reader, whether it was called, and what was counted.
+use Rattle.std.specs.Prelude.{ℕ, List, Option, Result}
 use Rattle.vbi_words.specs.declared.system.System.{System}
+use Rattle.vbi_line.specs.Counted.{device_of}
 use Rattle.vbi_line.specs.Intake as lines
 use Rattle.vbi_line.specs.declared.counted.Counted.{Counted}
+use Rattle.vbi_field.specs.ConfigView.{ConfigView}
 use Rattle.vbi_field.specs.Draws as draws
 use Rattle.vbi_field.specs.Extracts as extracts
+use Rattle.vbi_field.specs.Outlet as outlets
 use Rattle.vbi_field.specs.Ran.{Counts}
 use Rattle.vbi_field.specs.RowIntake as rows
 use Rattle.vbi_field.specs.declared.outlet.Outlet.{Outlet}
+use Rattle.vbi_cli.specs.Jobs.{Did}
 use Rattle.vbi_cli.specs.declared.command_line.Verb.{Verb}
 use Rattle.vbi_cli.specs.declared.command_line.Verb.TheVariants as verb
+use Rattle.vbi_cli.specs.declared.fault.AppFault.{AppFault}
+use Rattle.vbi_cli.specs.declared.job.Ended.{Ended}
 use Rattle.vbi_cli.specs.declared.source.Source.{Source}
 use Rattle.vbi_cli.specs.declared.source.Source.TheVariants.{Lines, Rows}
 
@@ -33,3 +40,11 @@ module _ {R : Type 0} where
 abbrev pub counts_of : {R W : Type 0} → Source R → Outlet W → Counts
 counts_of (Lines i) o = extracts.counts_of i o
 counts_of (Rows i) o = draws.counts_of i o
+
+-- what a command did with a fresh source and a fresh outlet, of which the first of two is that before, by its answer
+abbrev pub Does : {R W : Type 0} → (R → Option (List ℕ)) → (W → Option (List ℕ)) → ConfigView → Verb
+    → Source R → Source R → Outlet W → Outlet W → Result Ended AppFault → Type 0
+Does remaining contents c verb s0 s o0 o answer =
+    Did c (remaining (device_of (counted_of s0))) (remaining (device_of (counted_of s)))
+    (contents (device_of (outlets.counted_of o0))) (contents (device_of (outlets.counted_of o)))
+    (counts_of s o) verb answer

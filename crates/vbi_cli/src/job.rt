@@ -1,16 +1,17 @@
 //! A job: settings from metadata and options, and then the command.
 
 ghost use Rattle.std.specs.Prelude.{◌≡◌, ◌≢◌, IfOk, IfErr, Err, option_map};
-ghost use Rattle.vbi_line.specs.Counted.{device_of, IsSameDevice};
+ghost use Rattle.vbi_line.specs.Counted.{IsSameDevice};
 ghost use Rattle.vbi_line.specs.Intake as lines;
 ghost use Rattle.vbi_field.specs.Outlet as outlets;
+ghost use Rattle.vbi_field.specs.RowIntake as word_rows;
 ghost use Rattle.vbi_meta.specs.DocumentValue.{IsConfig};
 ghost use Rattle.vbi_cli.specs.Jobs.{Settles, Refuses, Under, Counting, Did, IfMeta, UnlessMeta};
 ghost use Rattle.vbi_cli.specs.Jobs.{IsEndedBy, IsAnsweredBy, IsDrawnBy};
 ghost use Rattle.vbi_cli.specs.Sources as sources;
-ghost use Rattle.vbi_cli.specs.Sources.{counts_of, IsFreshFor};
+ghost use Rattle.vbi_cli.specs.Sources.{Does, IsFreshFor};
 ghost use Rattle.vbi_cli.specs.Statuses.{app_status};
-ghost use Rattle.vbi_cli.specs.declared.source.Source.TheVariants.{Lines};
+ghost use Rattle.vbi_cli.specs.declared.source.Source.TheVariants.{Lines, Rows};
 
 use crate::command_line::{Job, Verb};
 use crate::fault::AppFault;
@@ -18,7 +19,7 @@ use crate::one_line::{LineFault, run_line};
 use crate::source::Source;
 use std::alloc::Global;
 use std::io::{Read, Write};
-use vbi_field::{Config, DrawFault, Outlet, RunFault, Summary, draw, extract, show};
+use vbi_field::{Config, DrawFault, Outlet, RowIntake, RunFault, Summary, draw, extract, show};
 use vbi_line::Intake;
 use vbi_meta::{MetaFault, read_meta, settings};
 use vbi_words::{Outcome, System};
@@ -98,22 +99,37 @@ pub fn do_command<R: Read, W: Write>(
     requires outlet { outlets.IsFresh outlet.old }
     ensures same_reader { IsSameDevice (sources.counted_of source.old) (sources.counted_of source.new) }
     ensures same_writer { IsSameDevice (outlets.counted_of outlet.old) (outlets.counted_of outlet.new) }
-    ensures did { Did config.now (R.remaining (device_of (sources.counted_of source.old))) (R.remaining (device_of (sources.counted_of source.new)))
-        (W.contents (device_of (outlets.counted_of outlet.old))) (W.contents (device_of (outlets.counted_of outlet.new))) (counts_of source.new outlet.new)
-        verb result }
+    ensures did { Does R.remaining W.contents config.now verb source.old source.new outlet.old outlet.new result }
 {
     match source {
         Source::Lines(intake) => match verb {
-            Verb::Line => line_end(config.system(), run_line(config, intake, outlet)),
+            Verb::Line => line_job(config, intake, outlet),
             Verb::Extract => extract_job(config, intake, outlet),
             Verb::Show => show_job(config, intake, outlet),
             Verb::Draw => unreachable!("drawing reads rows"),
         },
         Source::Rows(rows) => match verb {
-            Verb::Draw => drawing_end(draw(config, rows, outlet)),
+            Verb::Draw => draw_job(config, rows, outlet),
             _ => unreachable!("only drawing reads rows"),
         },
     }
+}
+
+/// The command `line`.
+fn line_job<R: Read, W: Write>(
+    config: &Config,
+    intake: &mut Intake<R>,
+    outlet: &mut Outlet<W>,
+) -> Result<Ended, AppFault>
+    requires intake { lines.IsFresh intake.old config.now.system }
+    requires outlet { outlets.IsFresh outlet.old }
+    ensures same_reader { IsSameDevice (lines.counted_of intake.old) (lines.counted_of intake.new) }
+    ensures same_writer { IsSameDevice (outlets.counted_of outlet.old) (outlets.counted_of outlet.new) }
+    ensures did { Does R.remaining W.contents config.now Verb.Line (Lines intake.old) (Lines intake.new)
+        outlet.old outlet.new result }
+{
+    let outcome = run_line(config, intake, outlet);
+    line_end(config.system(), outcome)
 }
 
 /// The job's answer to a run over one line.
@@ -141,9 +157,8 @@ fn extract_job<R: Read, W: Write>(
     requires outlet { outlets.IsFresh outlet.old }
     ensures same_reader { IsSameDevice (lines.counted_of intake.old) (lines.counted_of intake.new) }
     ensures same_writer { IsSameDevice (outlets.counted_of outlet.old) (outlets.counted_of outlet.new) }
-    ensures did { Did config.now (R.remaining (device_of (lines.counted_of intake.old))) (R.remaining (device_of (lines.counted_of intake.new)))
-        (W.contents (device_of (outlets.counted_of outlet.old))) (W.contents (device_of (outlets.counted_of outlet.new)))
-        (counts_of (Lines intake.new) outlet.new) Verb.Extract result }
+    ensures did { Does R.remaining W.contents config.now Verb.Extract (Lines intake.old) (Lines intake.new)
+        outlet.old outlet.new result }
 {
     numbers(config);
     let summary = extract(config, intake, outlet);
@@ -168,9 +183,8 @@ fn show_job<R: Read, W: Write>(
     requires outlet { outlets.IsFresh outlet.old }
     ensures same_reader { IsSameDevice (lines.counted_of intake.old) (lines.counted_of intake.new) }
     ensures same_writer { IsSameDevice (outlets.counted_of outlet.old) (outlets.counted_of outlet.new) }
-    ensures did { Did config.now (R.remaining (device_of (lines.counted_of intake.old))) (R.remaining (device_of (lines.counted_of intake.new)))
-        (W.contents (device_of (outlets.counted_of outlet.old))) (W.contents (device_of (outlets.counted_of outlet.new)))
-        (counts_of (Lines intake.new) outlet.new) Verb.Show result }
+    ensures did { Does R.remaining W.contents config.now Verb.Show (Lines intake.old) (Lines intake.new)
+        outlet.old outlet.new result }
 {
     let summary = show(config, intake, outlet);
     end_of(summary)
@@ -189,6 +203,23 @@ fn end_of(summary: Result<Summary, RunFault>) -> Result<Ended, AppFault>
         Err(RunFault::TooManyFields) => Err(AppFault::TooManyFields),
         Err(RunFault::Failed) => unreachable!("a run never answers it"),
     }
+}
+
+/// The command `draw`.
+fn draw_job<R: Read, W: Write>(
+    config: &Config,
+    rows: &mut RowIntake<R>,
+    outlet: &mut Outlet<W>,
+) -> Result<Ended, AppFault>
+    requires rows { word_rows.IsFresh rows.old }
+    requires outlet { outlets.IsFresh outlet.old }
+    ensures same_reader { IsSameDevice (word_rows.counted_of rows.old) (word_rows.counted_of rows.new) }
+    ensures same_writer { IsSameDevice (outlets.counted_of outlet.old) (outlets.counted_of outlet.new) }
+    ensures did { Does R.remaining W.contents config.now Verb.Draw (Rows rows.old) (Rows rows.new)
+        outlet.old outlet.new result }
+{
+    let fields = draw(config, rows, outlet);
+    drawing_end(fields)
 }
 
 /// The job's answer to a run of drawing.
