@@ -70,21 +70,21 @@ folder() {
 
 # in_folder NAME COMMAND..: runs a command there
 in_folder() {
-    (cd "$1" && shift && exec "$@") > out 2>&1 < empty
-    status=$?
+    status=0
+    (cd "$1" && shift && bounded "$@") < empty > out 2>&1 || status=$?
     cp out err
 }
 
 # sides NAME: puts into a folder a small side with its metadata, one of PAL, a line, and words, as documents name them
 sides() {
     for side in side disc; do
-        "$program" draw $ntsc "$top/examples/cav.words" > "$1/$side.tbc"
+        output_of draw $ntsc "$top/examples/cav.words" > "$1/$side.tbc"
         cat > "$1/$side.tbc.json" << 'END'
 {"fields":[{"seqNo":3,"isFirstField":true,"syncConf":100}],"videoParameters":{"system":"NTSC","fieldWidth":910,
 "fieldHeight":263,"black16bIre":16384,"white16bIre":51200,"sampleRate":14318181.8}}
 END
     done
-    "$program" draw $pal "$top/examples/clv.words" > "$1/pal.tbc"
+    output_of draw $pal "$top/examples/clv.words" > "$1/pal.tbc"
     tail -c +27301 "$1/side.tbc" > "$1/line.raw"
     cp "$top/examples/cav.words" "$1/disc.words"
 }
@@ -144,11 +144,11 @@ check 'the words of the drawn field of the manual page' cmp last last.wanted
 
 # The examples of the help texts; one of them has a disc of PAL
 for command in '' line extract show draw; do
-    "$program" $command --help | sed -n '/^Examples*:$/,/^$/s/^  //p' > examples.txt
+    output_of $command --help | sed -n '/^Examples*:$/,/^$/s/^  //p' > examples.txt
     check "the help of '$command' has examples" [ -s examples.txt ]
     while read -r example; do
         case $example in
-            *PAL*) "$program" draw $pal "$top/examples/clv.words" > trial/disc.tbc ;;
+            *PAL*) output_of draw $pal "$top/examples/clv.words" > trial/disc.tbc ;;
             *) cp trial/side.tbc trial/disc.tbc ;;
         esac
         in_folder trial sh -e -c "$example"

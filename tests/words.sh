@@ -87,25 +87,25 @@ done
 
 # Paths: an input that is a dash alone is standard input, and every other word is a path
 printf '{"videoParameters":{"system":"NTSC","black16bIre":8224,"white16bIre":16448}}' > ./-
-run line --meta - < line.raw
+run_with line.raw line --meta -
 judge 'metadata in a file named by a dash' 0 "$stored/stdout" ''
-run line $levels - < line.raw
+run_with line.raw line $levels -
 judge 'standard input where there is a file named by a dash' 0 "$stored/stdout" ''
-run line $levels -- - < line.raw
+run_with line.raw line $levels -- -
 judge 'standard input behind two dashes' 0 "$stored/stdout" ''
-run line $levels ./- < line.raw
+run_with line.raw line $levels ./-
 judge 'an input named by a dash' 1 empty "ldvbi: short line: $(wc -c < ./-) of 1820 bytes"
 rm ./-
-run line $levels --meta - < line.raw
+run_with line.raw line $levels --meta -
 judge 'no metadata in a file named by a dash' 1 empty 'ldvbi: cannot read metadata'
 run line $levels --meta '' line.raw
 judge 'metadata named by nothing' 1 empty 'ldvbi: cannot read metadata'
-run line $levels '' < line.raw
+run_with line.raw line $levels ''
 judge 'an input named by nothing' 1 empty 'ldvbi: cannot open input'
 cp line.raw ./--black
-run line $levels -- --black < empty
+run line $levels -- --black
 judge 'an input behind two dashes' 0 "$stored/stdout" ''
-run line $levels -- --white < line.raw
+run_with line.raw line $levels -- --white
 judge 'no input behind two dashes' 1 empty 'ldvbi: cannot open input'
 run line $levels line.raw/line.raw
 judge 'an input in a folder that is a file' 1 empty 'ldvbi: cannot open input'
