@@ -36,5 +36,17 @@ if [ $# = 0 ]; then
 else
     echo "the scripts passed on $program" > "$work/log"
 fi
-sh tests/scripts.sh "$program" --whole
+for script in lines program words settings device_faults line_and_draw_faults read_back want_of_memory; do
+    sh tests/$script.sh "$program"
+done
+for script in jq_module schema docs manual packaging plots; do
+    sh tests/$script.sh "$program"
+done
+if [ -e libldvbi.so.1 ]; then
+    sh tests/library.sh "$program"
+    sh tests/python_side.sh "$program"
+    sh tests/python_glance.sh "$program"
+else
+    echo "library: left out, since it isn't built"
+fi
 tail -n 1 "$work/log"

@@ -3,7 +3,7 @@
 # sanitizers, the examples on drawn discs, and the document that Python's readings make beside the one of `extract`.
 # Needs libldvbi.a and libldvbi.so.1 at the top of the repository (`make lib`).
 # usage: sh tests/library.sh PROGRAM
-# shellcheck disable=SC2086
+# shellcheck disable=SC2016,SC2086,SC2317
 
 # shellcheck source=tests/helpers.sh
 . "$(dirname "$0")/helpers.sh"

@@ -213,8 +213,8 @@ left out by the disc's clock: 1 (0:09:59.02 after field 3)
 END
 for picture in 27 28; do
     time_code 9 59 $picture
-done > times
-{ cat times; time_code 10 0 2; } | side_of "$ntsc"
+done > few_times
+{ cat few_times; time_code 10 0 2; } | side_of "$ntsc"
 glance 'three numbers left out' 1 << 'END'
 missing: 3 (0:09:59.29 to 0:10:00.01 after field 3)
 END

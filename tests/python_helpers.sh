@@ -1,4 +1,4 @@
-# shellcheck shell=sh disable=SC2034,SC2086
+# shellcheck shell=sh disable=SC2034,SC2086,SC2154
 # What the tests of the Python package share. They read this in after tests/helpers.sh. The package is found by
 # PYTHONPATH, the library at the top of the repository, where `make lib` puts it.
 

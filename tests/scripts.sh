@@ -2,14 +2,13 @@
 # Runs the scripts of scripts.txt on the built program, as many at a time as there are processors, and then prints what
 # they said, in the order of that table. A script has failed where its status isn't 0, where its last line isn't that as
 # many checks as the table has came out as wanted, or where it took SCRIPT_SECONDS (900 where the environment doesn't
-# say). Nothing is run where the folder has a script that neither the table nor `helpers` below names.
+# say). Nothing is run where the library isn't built, or where the folder has a script that the table doesn't name.
 #
-# Where the library isn't built, what needs it is left out; with --whole that is a fault, and the scripts for the whole
-# gate alone are run as well. With names, those scripts are run.
-# usage: sh tests/scripts.sh PROGRAM [--whole | NAME..]
+# With --as-built, what needs the library is left out where that isn't built, and so is what the whole gate alone runs.
+# With names, those scripts are run and no others.
+# usage: sh tests/scripts.sh PROGRAM [--as-built | NAME..]
 set -eu
 
-helpers='devices.sh gate.sh helpers.sh library.py python_helpers.sh python_side.py scripts.sh tools.sh wrong_bodies.py'
 here=$(cd "$(dirname "$0")" && pwd)
 program=$(cd "$(dirname "$1")" && pwd)/$(basename "$1")
 shift
@@ -22,14 +21,21 @@ fault() {
     exit 1
 }
 
-# rows [WHERE..]: the names of the table's scripts that are run there
+# rows WHERE..: the names of the table's scripts that are run there
 rows() {
-    awk -v where=" $* " '!/^#/ && (where == "  " || index(where, " " $3 " ")) { print $1 }' "$here/scripts.txt"
+    awk -v where=" $* " '!/^#/ && index(where, " " $3 " ") { print $1 }' "$here/scripts.txt"
 }
 
 # checks_of NAME: how many checks a script has, by the table
 checks_of() {
     awk -v name="$1" '$1 == name { print $2 }' "$here/scripts.txt"
+}
+
+# is_named FILE: whether the table has it, as a script that is run somewhere or as what isn't run by itself
+is_named() {
+    awk -v file="$1" '
+        $1 ".sh" == file && $3 ~ /^(everywhere|library|whole)$/ || $1 == file && $3 == "helper" { named = 1 }
+        END { exit !named }' "$here/scripts.txt"
 }
 
 # side_by_side < NAMES: runs these scripts. What NAME says is then in the file NAME.said, its status in NAME.status.
@@ -53,22 +59,20 @@ is_as_wanted() {
 
 [ -x "$program" ] || fault "there is no program $program"
 for path in "$here"/*.sh "$here"/*.py; do
-    name=$(basename "$path")
-    case " $helpers " in *" $name "*) continue ;; esac
-    [ "$name" = "${name%.sh}.sh" ] && [ -n "$(checks_of "${name%.sh}")" ] ||
-        fault "neither scripts.txt nor the list of helpers names tests/$name"
+    is_named "$(basename "$path")" || fault "scripts.txt doesn't name $(basename "$path")"
 done
 library=
 [ ! -e "$here/../libldvbi.so.1" ] || library=yes
 case ${1:-} in
-    --whole)
+    '')
         [ "$library" ] || fault 'the library is not built'
         rows everywhere library > "$work/first"
         rows whole > "$work/then"
         ;;
-    '')
+    --as-built)
         rows everywhere ${library:+library} > "$work/first"
         : > "$work/then"
+        [ "$library" ] || echo "scripts: left out, since the library isn't built: $(rows library | paste -s -d ' ')"
         ;;
     *)
         printf '%s\n' "$@" > "$work/first"
@@ -89,6 +93,5 @@ while read -r name; do
 done << END_OF_NAMES
 $(cat "$work/first" "$work/then")
 END_OF_NAMES
-[ $# != 0 ] || [ "$library" ] || echo "scripts: left out, since the library isn't built:" $(rows library)
 [ -z "$failed" ] || fault "failed:$failed"
-echo "scripts: all of $(cat "$work/first" "$work/then" | wc -l) passed"
+echo "scripts: all $(cat "$work/first" "$work/then" | wc -l) passed"

@@ -3,6 +3,7 @@
 # out (by alter.c), or one of a file that the script looks at. Where scripts are altered so that they check less, or what
 # they share is, scripts.sh has to fail; or an altered program gets through, by which the rows above it would find that.
 # usage: sh tests/self_test.sh PROGRAM
+# shellcheck disable=SC2317
 
 # shellcheck source=tests/helpers.sh
 . "$(dirname "$0")/helpers.sh"
@@ -15,7 +16,7 @@ library|include/ldvbi.h|s/LDVBI_HOLD = 4/LDVBI_HOLD = 5/
 library|python/ldvbi.py|s/is no code word/is not a word/
 python_side|out|"vbiPass"|"vbiPaSS"
 python_side|hangs
-python_side|python/ldvbi_side/document.py|s/no list of three/no list of 3/
+python_side|python/ldvbi_side/side.py|s/("lead-in",)/("lead-out",)/
 python_glance|out|"blank"|"plank"
 python_glance|python/ldvbi_side/summary.py|s/"missing: "/"mizzing: "/
 packaging|out|0.1.0|0.1.1
@@ -74,22 +75,23 @@ END
 # three columns), and the file that is altered, by this program for sed. That all passed beside an altered program is what
 # the rows above would find.
 cat > frames << 'END'
-all of 1 passed|lines|nothing
+all 1 passed|lines|nothing
 lines failed: status 1|lines|eats
-all of 1 passed|words|eats
+all 1 passed|words|eats
 checks, and scripts.txt has|words|eats|||tests/helpers.sh|s/run_with empty "/run_inheriting "/
 lines failed: status 124|lines|nothing|||tests/lines.sh|s/^finish/sleep 100/
+scripts.txt doesn't name lines.sh|lines|nothing|||tests/scripts.txt|s/^\(lines .*\) everywhere/\1 elsewhere/
 lines failed: status 0|lines|nothing|||tests/lines.sh|d
 lines failed: status 0|lines|nothing|||tests/lines.sh|s/^finish/exit/
 lines failed: status 0|lines|nothing|||tests/lines.sh|s/^head -c 1819.*/exit/
 lines failed: status 2|lines|nothing|||tests/lines.sh|s/^finish/fi/
 lines: 54 checks, and scripts.txt has 55|lines|nothing|||tests/lines.sh|/^judge 'a short line' /d
 lines failed: status 0|lines|status|1|0|tests/helpers.sh|s/^    \[ "$judged $passed" = .*/    :/
-neither scripts.txt nor the list of helpers names tests/lines.sh|lines|nothing|||tests/scripts.txt|/^lines /d
-all of 1 passed|lines|err|short line|shirt line|tests/helpers.sh|s/elif "$@"; then/elif "$@" || :; then/
-all of 1 passed|lines|err|short line|shirt line|tests/helpers.sh|s/ && cmp -s err "$3"//
-all of 1 passed|lines|out|82CFFF|82CFFE|tests/helpers.sh|s/ && cmp -s out "$2"//
-all of 1 passed|lines|status|1|0|tests/helpers.sh|s/\[ "$status" = "$1" \] && //
+scripts.txt doesn't name lines.sh|lines|nothing|||tests/scripts.txt|/^lines /d
+all 1 passed|lines|err|short line|shirt line|tests/helpers.sh|s/elif "$@"; then/elif "$@" || :; then/
+all 1 passed|lines|err|short line|shirt line|tests/helpers.sh|s/ && cmp -s err "$3"//
+all 1 passed|lines|out|82CFFF|82CFFE|tests/helpers.sh|s/ && cmp -s out "$2"//
+all 1 passed|lines|status|1|0|tests/helpers.sh|s/\[ "$status" = "$1" \] && //
 END
 
 compiler=${CC:-cc}
@@ -141,14 +143,14 @@ alteration() {
 frame() {
     tests=$here
     ended_with=1
-    [ "$2" != 'all of 1 passed' ] || ended_with=0
+    [ "$2" != 'all 1 passed' ] || ended_with=0
     [ -z "$7" ] || { tree_with "$1" "$7" "$8" && tests=$1/tree/tests; } || return
     program_with "$1" "$4" "$5" "$6"
     rm -f "$1/mark"
     case $2 in *' 124') SCRIPT_SECONDS=5; export SCRIPT_SECONDS ;; esac
     sh "$tests/scripts.sh" "$tried" "$3" < empty > "$1/said" 2>&1
     echo $? > "$1/status"
-    [ "$(cat "$1/status")" = $ended_with ] && grep -qF "$2" "$1/said" && { [ "$4" = nothing ] || [ -e "$1/mark" ]; }
+    [ "$(cat "$1/status")" = "$ended_with" ] && grep -qF "$2" "$1/said" && { [ "$4" = nothing ] || [ -e "$1/mark" ]; }
 }
 
 # Trials are made side by side: each worker takes a row that no other has taken.
@@ -179,13 +181,13 @@ while read -r row; do
     check "$row" [ -e "trial.$number/as_wanted" ]
 done < rows
 
-awk '!/^#/ && $1 != "self_test" { print $1 }' "$here/scripts.txt" | sort > listed
+awk '$3 == "everywhere" || $3 == "library" { print $1 }' "$here/scripts.txt" | sort > listed
 cut -d '|' -f 1 alterations | sort -u > altered_scripts
 status=none
 check 'each script is tried' cmp listed altered_scripts
 rm -f tree/libldvbi.so.1
 status=0
-sh tree/tests/scripts.sh "$program" --whole < empty > out 2> err || status=$?
+sh tree/tests/scripts.sh "$program" < empty > out 2> err || status=$?
 echo 'scripts: the library is not built' > wanted
 check 'without the library there is no whole gate' ended 1 empty wanted
 finish
