@@ -108,4 +108,7 @@ faulty_with line.raw '3 10 end' 1 line --meta line.json 3<&-
 stands 'metadata: the end at byte 10' 1 empty 'ldvbi: metadata is not JSON' '2 1' '0 0'
 faulty_with line.raw '3 0 1' 1 line --meta line.json 3<&-
 stands 'metadata: one byte at a time' 0 "$stored/stdout" '' '77 77' '1 0'
+# An interrupted read of metadata is made again, however often: 10 bytes, 1,000 interruptions, 66 bytes, the end
+faulty_with line.raw '3 10 interrupt 1000' 1 line --meta line.json 3<&-
+stands 'metadata: 1,000 interruptions' 0 "$stored/stdout" '' '1003 1000' '1 0'
 finish

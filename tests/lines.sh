@@ -50,6 +50,24 @@ output_of line $levels line.raw >&4 2> err || status=$?
 exec 4>&-
 judge 'a pipe that nobody reads' 1 empty 'ldvbi: write failed after 0 bytes'
 
+# Standard error that takes nothing: the fault is in the status alone, and a word is written as ever
+status=0
+output_of line $levels > out 2> /dev/full || status=$?
+: > err
+judge 'no room for a fault' 1 empty ''
+status=0
+output_of line $levels > out 2>&- || status=$?
+judge 'a fault where standard error is closed' 1 empty ''
+status=0
+output_of line $levels line.raw > out 2>&- || status=$?
+judge 'a word where standard error is closed' 0 "$stored/stdout" ''
+
+# Standard input is left alone where the input is a file.
+for command in line extract show draw; do
+    run_leaving longer.raw $command $levels line.raw
+    check "$command: standard input beside a file" cmp rest longer.raw
+done
+
 # What a line shows, by its reading
 # one_line NAME ANSWER WORD..: checks what the program says of the line in shown.raw
 one_line() {

@@ -11,6 +11,7 @@
 # Each row: a script, and what is altered. That is its program (see alter.c: what, from, to), or a file of the repository
 # (by this program for sed).
 cat > alterations << 'END'
+large|out|field 8981|field 8980
 library|out|"vbiPass"|"vbiPaSS"
 library|include/ldvbi.h|s/LDVBI_HOLD = 4/LDVBI_HOLD = 5/
 library|python/ldvbi.py|s/is no code word/is not a word/
@@ -85,7 +86,7 @@ lines failed: status 0|lines|nothing|||tests/lines.sh|d
 lines failed: status 0|lines|nothing|||tests/lines.sh|s/^finish/exit/
 lines failed: status 0|lines|nothing|||tests/lines.sh|s/^head -c 1819.*/exit/
 lines failed: status 2|lines|nothing|||tests/lines.sh|s/^finish/fi/
-lines: 54 checks, and scripts.txt has 55|lines|nothing|||tests/lines.sh|/^judge 'a short line' /d
+checks, and scripts.txt has|lines|nothing|||tests/lines.sh|/^judge 'a short line' /d
 lines failed: status 0|lines|status|1|0|tests/helpers.sh|s/^    \[ "$judged $passed" = .*/    :/
 scripts.txt doesn't name lines.sh|lines|nothing|||tests/scripts.txt|/^lines /d
 all 1 passed|lines|err|short line|shirt line|tests/helpers.sh|s/elif "$@"; then/elif "$@" || :; then/
