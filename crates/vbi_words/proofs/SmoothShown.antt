@@ -60,7 +60,7 @@ level_later system levels word s c inside =
     ∙ ap (λ (t : List Bool). level_at t (c + 3)) r.2 ∙ get_or_append_left (smooth_of levels) r.0 false (c + 3) within
 
 -- two shown lists that are smoothed to the same differ in their last three columns at most
-shown_alike : (system : System) (s t : List Bool) (v w : ℕ) → Shows system s v → Shows system t w
+pub shown_alike : (system : System) (s t : List Bool) (v w : ℕ) → Shows system s v → Shows system t w
     → smooth_of s ≡ smooth_of t → (c : ℕ) → c + 3 < length s → level_at s c ≡ level_at t c
 shown_alike system s t v w a b same c inside =
     let long : length (smooth_of s) ≡ length (smooth_of t) = ap length same in

@@ -2,7 +2,7 @@
 //! system, every list of levels, every word and every black and white.
 
 ghost use Rattle.std.specs.Prelude.{◌≡◌, ℕ, ◌≤◌, ◌<◌, ◌+◌, ◌-◌, List, Bool, false};
-ghost use Rattle.std.specs.Prelude.{[], ◌∷◌, ◌++◌, replicate, Option, Some, None};
+ghost use Rattle.std.specs.Prelude.{[], ◌∷◌, ◌++◌, replicate, length, Option, Some, None};
 ghost use Rattle.vbi_words.specs.declared.system.System.{System};
 ghost use Rattle.vbi_words.specs.declared.system.System.TheVariants.{Ntsc};
 ghost use Rattle.vbi_words.specs.declared.outcome.Outcome.TheVariants.{Word, Unfinished, Change, Hold};
@@ -14,6 +14,9 @@ ghost use Rattle.vbi_words.specs.RunLimits.{EndsOtherwise, HasRunLimit};
 ghost use Rattle.vbi_words.specs.Smooth.{IsSmooth, smooth_of, Glitch};
 ghost use Rattle.vbi_words.specs.Readings.{IsReading};
 ghost use Rattle.vbi_words.specs.Drawn.{IsDrawnRow};
+ghost use Rattle.vbi_words.specs.Distance.{differences, least_distance, near_first, near_second};
+ghost use Rattle.vbi_words.specs.Geometry.{width_of};
+ghost use Rattle.vbi_words.specs.Jitter.{ShowsAmply, IsBlurred, IsJittered};
 ghost use Rattle.vbi_words.specs.declared.code.Code.{Code};
 ghost use Rattle.vbi_words.specs.declared.format.Format.{Format};
 ghost use Rattle.vbi_words.specs.Codes.{IsCode};
@@ -42,6 +45,41 @@ pub fn drawn_shows()
     ensures none { (system : System) (slicing : LevelsView) (samples : List ℕ)
         → slicing.black < slicing.white
         → IsDrawnRow system slicing None samples → AllLow (levels_of slicing samples) }
+{}
+
+/// Where each change of level lies in its column, or one before or behind, the word is still shown: of any list that
+/// shows a word with two columns to spare in each half cell, as that of the row drawn for the word does.
+pub fn jitter_shown()
+    ensures any { (system : System) (drawn levels : List Bool) (word : ℕ)
+        → ShowsAmply system drawn word → IsJittered drawn levels → Shows system levels word }
+    ensures drawn { (system : System) (slicing : LevelsView) (word : ℕ) (samples : List ℕ) (levels : List Bool)
+        → slicing.black < slicing.white → IsWord word → IsDrawnRow system slicing (Some word) samples
+        → IsJittered (levels_of slicing samples) levels → Shows system levels word }
+{}
+
+/// Where the two columns beside each change of level in such a list, the last before it and the first behind it, get any
+/// levels, and all others are as they were, the reading is still its word, in the first or the second pass.
+pub fn blur_read()
+    ensures any { (system : System) (drawn levels : List Bool) (word : ℕ)
+        → ShowsAmply system drawn word → IsBlurred drawn levels
+        → (pass : ℕ) × IsReading system levels (record { outcome = Word word; pass = pass }) }
+    ensures drawn { (system : System) (slicing : LevelsView) (word : ℕ) (samples : List ℕ) (levels : List Bool)
+        → slicing.black < slicing.white → IsWord word → IsDrawnRow system slicing (Some word) samples
+        → IsBlurred (levels_of slicing samples) levels
+        → (pass : ℕ) × IsReading system levels (record { outcome = Word word; pass = pass }) }
+{}
+
+/// Two lists of one length that show different words differ in 4 columns at least (NTSC), or 6 (PAL); and there are two
+/// that differ in no more. So fewer columns turned over, wherever they are, never make another word of a word.
+pub fn words_apart()
+    ensures apart { (system : System) (levels others : List Bool) (v w : ℕ)
+        → Shows system levels v → Shows system others w → length levels ≡ length others
+        → differences levels others < least_distance system → v ≡ w }
+    ensures first { (system : System) → Shows system (near_first system) 8388608 }
+    ensures second { (system : System) → Shows system (near_second system) 8388609 }
+    ensures near { (system : System)
+        → (length (near_first system) ≡ width_of system) × (length (near_second system) ≡ width_of system)
+        × (differences (near_first system) (near_second system) ≡ least_distance system) }
 {}
 
 /// A list of levels has exactly one list of smoothed levels.

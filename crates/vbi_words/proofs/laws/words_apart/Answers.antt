@@ -1,0 +1,6 @@
+use Rattle.vbi_words.proofs.Apart.{same_word}
+use Rattle.vbi_words.proofs.NearLines.{first_shown, second_shown, near}
+use Rattle.vbi_words.proofs.laws.words_apart.Goals as goal
+
+pub returns : goal.returns
+returns c = record { apart = same_word; first = first_shown; second = second_shown; near = near }
