@@ -14,7 +14,7 @@ use Rattle.vbi_words.proofs.Bits
 use Rattle.vbi_words.proofs.Shown.{word_bits, draws_from_shows}
 use Rattle.vbi_words.proofs.Sizes.{Sizes, AreApart, sizes_of, apart_of}
 use Rattle.vbi_words.proofs.Runs
-use Rattle.vbi_words.proofs.Runs.{not_same, same_head, run_joined, cut}
+use Rattle.vbi_words.proofs.Runs.{not_same, same_or_not, same_head, run_joined, cut}
 use Rattle.vbi_words.proofs.Cutting
 use Rattle.vbi_words.proofs.Cutting.{Cells, Half, Draws, First, Single, Double, LowHalf}
 
@@ -174,12 +174,6 @@ step v least k1 k2 x1 y1 (l1, r1, low1, run1) (l2, r2, low2, run2) same few = go
     go (inr (inr more)) = down (omega arith)
 
 -- ---- where a run ends
-
-same_or_not : (a b : Bool) → (b ≡ a) ⊎ (b ≡ not a)
-same_or_not true true = inl refl
-same_or_not true false = inr refl
-same_or_not false true = inr refl
-same_or_not false false = inl refl
 
 -- a list is one level throughout, or changes somewhere
 abbrev Splits : Bool → List Bool → Type 0

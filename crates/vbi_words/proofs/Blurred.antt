@@ -1,5 +1,5 @@
 -- A row whose samples beside each change of level lie on either side is read as its word.
-use Rattle.std.proofs.Common.{◌≡◌, ℕ, suc, ◌≤◌, ◌<◌, ◌+◌, Bool, true, false, List, [], ◌∷◌, ◌++◌, ◌⊎◌, inl, inr}
+use Rattle.std.proofs.Common.{◌≡◌, ℕ, suc, zero, ◌≤◌, ◌<◌, ◌+◌, ◌-◌, Bool, true, false, List, [], ◌∷◌, ◌++◌, ◌⊎◌, inl, inr}
 use Rattle.std.proofs.Common.{length, get_or, refl, sym, ap, subst, ◌∙◌, arith}
 use Rattle.std.proofs.Math.ListN.{replicate}
 use Rattle.std.proofs.lemmas.Bool.{cases_lt}
@@ -11,20 +11,22 @@ use Rattle.vbi_words.specs.declared.system.System.TheVariants.{Ntsc, Pal}
 use Rattle.vbi_words.specs.declared.outcome.Outcome.{Outcome}
 use Rattle.vbi_words.specs.declared.outcome.Outcome.TheVariants.{Word, Blank, Unfinished, Change, Hold}
 use Rattle.vbi_words.specs.Distance.{differs, differences, least_distance}
-use Rattle.vbi_words.specs.Jitter.{ShowsAmply, IsBlurred}
+use Rattle.vbi_words.specs.Jitter.{ShowsAmply, IsBlurred, ReadsWord, HasGlitches}
 use Rattle.vbi_words.specs.Outcomes.{AllLow, IsOutcome}
+use Rattle.vbi_words.specs.Levels.{level_at}
 use Rattle.vbi_words.specs.Readings.{IsReading}
 use Rattle.vbi_words.specs.Shows.{Shows, ShowsNone}
 use Rattle.vbi_words.specs.Smooth.{smooth_of}
 use Rattle.vbi_words.proofs.Apart.{same_word}
 use Rattle.vbi_words.proofs.Cutting
 use Rattle.vbi_words.proofs.Found.{found}
-use Rattle.vbi_words.proofs.Jittered.{Mended, mend}
+use Rattle.vbi_words.proofs.Mended.{Mended, mend}
+use Rattle.vbi_words.proofs.NotAlone.{shown_not_alone}
 use Rattle.vbi_words.proofs.Shown.{word_bits, draws_from_shows}
 use Rattle.vbi_words.proofs.Sizes.{sizes_of, apart_of}
 use Rattle.vbi_words.proofs.Smoothing.{window, smooth_window}
 use Rattle.vbi_words.proofs.SmoothKeeps.{steady_same}
-use Rattle.vbi_words.proofs.SmoothShown.{smooth_shows, shown_alike}
+use Rattle.vbi_words.proofs.SmoothShown.{smooth_shows, shown_alike, smooth_same, turned_none, turned_high}
 
 one_at_most : (a b : Bool) → differs a b ≤ 1
 one_at_most true true = omega arith
@@ -78,8 +80,15 @@ least_four : (system : System) → 4 ≤ least_distance system
 least_four Ntsc = omega arith
 least_four Pal = omega arith
 
+-- the smoothed levels of a blurred row show its word
+blurred_smooth : (system : System) (drawn levels : List Bool) (word : ℕ) → ShowsAmply system drawn word
+    → IsBlurred drawn levels → Shows system (smooth_of levels) word
+blurred_smooth system drawn levels word s blurred =
+    let m : Mended system levels word = mend system drawn levels word s blurred in
+    subst (λ (t : List Bool). Shows system t word) (sym m.alike) (smooth_shows system m.mended word m.shows m.three)
+
 pub blurred_reads : (system : System) (drawn levels : List Bool) (word : ℕ) → ShowsAmply system drawn word
-    → IsBlurred drawn levels → (pass : ℕ) × IsReading system levels (record { outcome = Word word; pass = pass })
+    → IsBlurred drawn levels → ReadsWord system levels word
 blurred_reads system drawn levels word s blurred = go f.0 f.1
   where
     m : Mended system levels word
@@ -89,24 +98,33 @@ blurred_reads system drawn levels word s blurred = go f.0 f.1
     f = found system levels
 
     smooth : Shows system (smooth_of levels) word
-    smooth = subst (λ (t : List Bool). Shows system t word) (sym m.alike)
-        (smooth_shows system m.mended word m.shows m.three)
+    smooth = blurred_smooth system drawn levels word s blurred
 
-    Reading : Type 0
-    Reading = (pass : ℕ) × IsReading system levels (record { outcome = Word word; pass = pass })
-
-    second : ShowsNone system levels → (AllLow levels → ⊥) → Reading
-    second none high = (2, inr (refl, none, high, smooth))
+    second : ShowsNone system levels → (AllLow levels → ⊥) → ReadsWord system levels word
+    second none high = record {
+      pass = 2;
+      reading = inr (refl, none, high, smooth);
+      first = (
+        λ e. let bad : ⊥ = omega (arith, e) in absurd bad,
+        λ none_alone. absurd (none word
+            (subst (λ (t : List Bool). Shows system t word) (sym (m.same none_alone)) m.shows)),
+      );
+    }
 
     -- the word of the levels themselves is this one
-    first : (u : ℕ) → Shows system levels u → Reading
+    first : (u : ℕ) → Shows system levels u → ReadsWord system levels word
     first u t =
         let near : differences levels m.mended ≤ 3
         = end_alike levels m.mended m.long
         (λ c inside. shown_alike system levels m.mended u word t m.shows m.alike c inside) in
         let same : u ≡ word = same_word system levels m.mended u word t m.shows m.long
         (omega (arith, near, least_four system)) in
-        (1, inl (refl, subst (Shows system levels) same t))
+        let shown : Shows system levels word = subst (Shows system levels) same t in
+        record {
+          pass = 1;
+          reading = inl (refl, shown);
+          first = (λ e. shown_not_alone system levels word shown, λ none_alone. refl);
+        }
 
     never_low : AllLow levels → ⊥
     never_low low =
@@ -114,9 +132,40 @@ blurred_reads system drawn levels word s blurred = go f.0 f.1
         low_none system (length levels) word (subst (λ (t : List Bool). Shows system t word)
         (ap smooth_of e ∙ smooth_lows (length levels)) smooth)
 
-    go : (o : Outcome) → IsOutcome system levels o → Reading
+    go : (o : Outcome) → IsOutcome system levels o → ReadsWord system levels word
     go (Word u) t = first u t
     go Blank (none, low) = absurd (never_low low)
     go Unfinished (none, high, rest) = second none high
     go (Change c) (none, high, rest, more) = second none high
     go (Hold c) (none, high, rest, more) = second none high
+
+-- ---- glitches
+
+glitches_same : (n : ℕ) (levels turned : List Bool) → HasGlitches n levels turned
+    → smooth_of turned ≡ smooth_of levels
+glitches_same zero levels turned e = ap smooth_of e
+glitches_same (suc n) levels turned (before, earlier, x) =
+    smooth_same before turned x ∙ glitches_same n levels before earlier
+
+pub glitches_read : (system : System) (drawn blurred levels : List Bool) (word n : ℕ) → ShowsAmply system drawn word
+    → IsBlurred drawn blurred → HasGlitches (suc n) blurred levels
+    → IsReading system levels (record { outcome = Word word; pass = 2 })
+glitches_read system drawn blurred levels word n s is_blurred (before, earlier, x) =
+    let same : smooth_of levels ≡ smooth_of blurred = glitches_same (suc n) blurred levels (before, earlier, x) in
+    let shown : Shows system (smooth_of levels) word
+    = subst (λ (t : List Bool). Shows system t word) (sym same)
+    (blurred_smooth system drawn blurred word s is_blurred) in
+    inr (refl, turned_none before levels x system, turned_high before levels x, shown)
+
+-- five columns from each drawn change, the blurred levels are those drawn up to four columns around
+pub away : (drawn levels : List Bool) (g m c : ℕ) → IsBlurred drawn levels → 5 ≤ g
+    → ((b : ℕ) → g ≤ b + 5 → b < g + m + 5 → level_at drawn b ≡ level_at drawn g)
+    → g ≤ c + 4 → c < g + m + 4 → level_at levels c ≡ level_at levels g
+away drawn levels g m c blurred five equal low high =
+    as_drawn c low high ∙ sym (as_drawn g (omega arith) (omega arith))
+  where
+    as_drawn : (b : ℕ) → g ≤ b + 4 → b < g + m + 4 → level_at levels b ≡ level_at drawn g
+    as_drawn b from to =
+        let here : level_at drawn b ≡ level_at drawn g = equal b (omega arith) (omega arith) in
+        blurred.others b (equal (b - 1) (omega arith) (omega arith) ∙ sym here)
+        (equal (b + 1) (omega arith) (omega arith) ∙ sym here) ∙ here

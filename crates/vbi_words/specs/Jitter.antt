@@ -1,11 +1,14 @@
 -- Rows that differ a little from a drawn one (this project's own rules): a change of level may lie a column early or
--- late, as jitter has it, or the two samples beside it on either side of the middle.
-use Rattle.std.specs.Prelude.{◌≡◌, ℕ, ◌≤◌, ◌+◌, ◌-◌, ◌⊎◌, Bool, false, List, length, ◌++◌, replicate}
+-- late, as jitter has it; the two samples beside it may lie on either side of the middle; there may be glitches.
+use Rattle.std.specs.Prelude.{◌≡◌, ◌↔◌, ℕ, suc, zero, ◌≤◌, ◌+◌, ◌-◌, ◌⊎◌, Bool, false, List, length, ◌++◌, replicate}
 use Rattle.vbi_words.specs.declared.system.System.{System}
+use Rattle.vbi_words.specs.declared.outcome.Outcome.TheVariants.{Word}
 use Rattle.vbi_words.specs.Geometry.{least_half, greatest_half}
 use Rattle.vbi_words.specs.Levels.{level_at}
 use Rattle.vbi_words.specs.Words.{IsWord, halves_of}
 use Rattle.vbi_words.specs.Shows.{Spells}
+use Rattle.vbi_words.specs.Smooth.{Glitch}
+use Rattle.vbi_words.specs.Readings.{IsReading}
 
 -- the levels show the word with two columns to spare in each half cell, and have five lows behind it
 pub record ShowsAmply (system : System) (levels : List Bool) (word : ℕ) : Type 0 where
@@ -32,3 +35,15 @@ NoneAlone levels =
 -- each change of the row drawn lies where it was, or one column before or behind, and there is no other
 abbrev pub IsJittered : List Bool → List Bool → Type 0
 IsJittered drawn levels = IsBlurred drawn levels × NoneAlone levels
+
+-- the reading of the levels is the word: in the first pass exactly where no column stands alone, else in the second
+pub record ReadsWord (system : System) (levels : List Bool) (word : ℕ) : Type 0 where
+  pub pass : ℕ
+  pub reading : IsReading system levels (record { outcome = Word word; pass = pass })
+  pub first : (pass ≡ 1) ↔ NoneAlone levels
+
+-- so many glitches, one after the other: each turns over one to three columns, on either side of which four have one
+-- level before it
+abbrev pub HasGlitches : ℕ → List Bool → List Bool → Type 0
+HasGlitches zero levels turned = turned ≡ levels
+HasGlitches (suc n) levels turned = (before : List Bool) × HasGlitches n levels before × Glitch before turned

@@ -1,12 +1,12 @@
 //! Laws of the definitions in `specs/`. A function here does nothing: its contract is a law, which holds of every
 //! system, every list of levels, every word and every black and white.
 
-ghost use Rattle.std.specs.Prelude.{◌≡◌, ℕ, ◌≤◌, ◌<◌, ◌+◌, ◌-◌, List, Bool, false};
+ghost use Rattle.std.specs.Prelude.{◌≡◌, ℕ, suc, ◌≤◌, ◌<◌, ◌+◌, ◌-◌, List, Bool, false};
 ghost use Rattle.std.specs.Prelude.{[], ◌∷◌, ◌++◌, replicate, length, Option, Some, None};
 ghost use Rattle.vbi_words.specs.declared.system.System.{System};
 ghost use Rattle.vbi_words.specs.declared.system.System.TheVariants.{Ntsc};
 ghost use Rattle.vbi_words.specs.declared.outcome.Outcome.TheVariants.{Word, Unfinished, Change, Hold};
-ghost use Rattle.vbi_words.specs.Levels.{LevelsView, levels_of};
+ghost use Rattle.vbi_words.specs.Levels.{LevelsView, levels_of, level_at};
 ghost use Rattle.vbi_words.specs.Words.{IsWord};
 ghost use Rattle.vbi_words.specs.Shows.{Shows, ShowsNone, Viable};
 ghost use Rattle.vbi_words.specs.Outcomes.{AllLow, IsOutcome};
@@ -16,7 +16,7 @@ ghost use Rattle.vbi_words.specs.Readings.{IsReading};
 ghost use Rattle.vbi_words.specs.Drawn.{IsDrawnRow};
 ghost use Rattle.vbi_words.specs.Distance.{differences, least_distance, near_first, near_second};
 ghost use Rattle.vbi_words.specs.Geometry.{width_of};
-ghost use Rattle.vbi_words.specs.Jitter.{ShowsAmply, IsBlurred, IsJittered};
+ghost use Rattle.vbi_words.specs.Jitter.{ShowsAmply, IsBlurred, IsJittered, ReadsWord, HasGlitches};
 ghost use Rattle.vbi_words.specs.declared.code.Code.{Code};
 ghost use Rattle.vbi_words.specs.declared.format.Format.{Format};
 ghost use Rattle.vbi_words.specs.Codes.{IsCode};
@@ -58,15 +58,29 @@ pub fn jitter_shown()
 {}
 
 /// Where the two columns beside each change of level in such a list, the last before it and the first behind it, get any
-/// levels, and all others are as they were, the reading is still its word, in the first or the second pass.
+/// levels, and all others are as they were, the reading is still its word: in the first pass exactly where no column
+/// stands alone, else in the second.
 pub fn blur_read()
     ensures any { (system : System) (drawn levels : List Bool) (word : ℕ)
-        → ShowsAmply system drawn word → IsBlurred drawn levels
-        → (pass : ℕ) × IsReading system levels (record { outcome = Word word; pass = pass }) }
+        → ShowsAmply system drawn word → IsBlurred drawn levels → ReadsWord system levels word }
     ensures drawn { (system : System) (slicing : LevelsView) (word : ℕ) (samples : List ℕ) (levels : List Bool)
         → slicing.black < slicing.white → IsWord word → IsDrawnRow system slicing (Some word) samples
-        → IsBlurred (levels_of slicing samples) levels
-        → (pass : ℕ) × IsReading system levels (record { outcome = Word word; pass = pass }) }
+        → IsBlurred (levels_of slicing samples) levels → ReadsWord system levels word }
+{}
+
+/// Where such a blurred list has one glitch or more besides, of up to three columns each and with four equal columns on
+/// either side, the reading is still its word, in the second pass. Five columns drawn alike on either side are enough.
+pub fn glitches_read()
+    ensures any { (system : System) (drawn blurred levels : List Bool) (word n : ℕ)
+        → ShowsAmply system drawn word → IsBlurred drawn blurred → HasGlitches (suc n) blurred levels
+        → IsReading system levels (record { outcome = Word word; pass = 2 }) }
+    ensures drawn { (system : System) (slicing : LevelsView) (word n : ℕ) (samples : List ℕ) (blurred levels : List Bool)
+        → slicing.black < slicing.white → IsWord word → IsDrawnRow system slicing (Some word) samples
+        → IsBlurred (levels_of slicing samples) blurred → HasGlitches (suc n) blurred levels
+        → IsReading system levels (record { outcome = Word word; pass = 2 }) }
+    ensures away { (drawn blurred : List Bool) (g m c : ℕ) → IsBlurred drawn blurred → 5 ≤ g
+        → ((b : ℕ) → g ≤ b + 5 → b < g + m + 5 → level_at drawn b ≡ level_at drawn g)
+        → g ≤ c + 4 → c < g + m + 4 → level_at blurred c ≡ level_at blurred g }
 {}
 
 /// Two lists of one length that show different words differ in 4 columns at least (NTSC), or 6 (PAL); and there are two

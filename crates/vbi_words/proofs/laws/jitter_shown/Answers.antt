@@ -1,5 +1,5 @@
 use Rattle.vbi_words.proofs.DrawnShows.{drawn_amply}
-use Rattle.vbi_words.proofs.Jittered.{jittered_shows}
+use Rattle.vbi_words.proofs.Mended.{jittered_shows}
 use Rattle.vbi_words.specs.Levels.{levels_of}
 use Rattle.vbi_words.proofs.laws.jitter_shown.Goals as goal
 

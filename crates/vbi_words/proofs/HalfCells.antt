@@ -1,5 +1,6 @@
--- A row whose changes of level lie a column early or late shows its word.
-use Rattle.std.proofs.Common.{◌≡◌, ℕ, ◌≤◌, ◌<◌, ◌+◌, ◌-◌, Bool, true, false, List, [], ◌∷◌, ◌++◌, ◌⊎◌, inl, suc, subst}
+-- The half cells of a row that is blurred at its changes of level, one behind the other: they are smoothed as those of a
+-- row that shows the word.
+use Rattle.std.proofs.Common.{◌≡◌, ℕ, ◌≤◌, ◌<◌, ◌+◌, ◌-◌, Bool, true, false, List, [], ◌∷◌, ◌++◌, ◌⊎◌, inl, suc}
 use Rattle.std.proofs.Common.{inr, length, get_or, drop, refl, sym, ap, ◌∙◌, arith}
 use Rattle.std.proofs.Common.{append_assoc}
 use Rattle.std.proofs.Math.ListN.{replicate}
@@ -8,18 +9,12 @@ use Rattle.std.proofs.lemmas.List.{append-nil, drop_all, drop-drop, get_or-drop,
 use Rattle.std.proofs.lemmas.List.{get_or_append_left, get_or-append-add, length-replicate, length-append}
 use Rattle.std.proofs.lemmas.Bool.{cases_order}
 use Rattle.std.specs.Prelude.{not}
-use Rattle.vbi_words.specs.declared.system.System.{System}
-use Rattle.vbi_words.specs.declared.system.System.TheVariants.{Ntsc, Pal}
-use Rattle.vbi_words.specs.Geometry.{least_half, greatest_half}
-use Rattle.vbi_words.specs.Words.{IsWord, halves_of, cell_of}
-use Rattle.vbi_words.specs.Smooth.{smooth_of}
-use Rattle.std.specs.List.{flat_map}
-use Rattle.vbi_words.specs.Shows.{Shows, Spells}
-use Rattle.vbi_words.specs.Jitter.{ShowsAmply, IsBlurred, NoneAlone, IsJittered}
-use Rattle.vbi_words.proofs.Runs.{not_same, equal_from, run_joined}
-use Rattle.vbi_words.proofs.Smoothing.{window, smooth_window}
-use Rattle.vbi_words.proofs.SmoothKeeps.{steady, steady_run, steady_same}
-use Rattle.vbi_words.proofs.Shown.{word_bits}
+use Rattle.vbi_words.specs.Shows.{Spells}
+use Rattle.vbi_words.specs.Jitter.{IsBlurred, NoneAlone}
+use Rattle.vbi_words.proofs.HalfCell
+use Rattle.vbi_words.proofs.Runs.{equal_from, run_joined}
+use Rattle.vbi_words.proofs.Smoothing.{window}
+use Rattle.vbi_words.proofs.SmoothKeeps.{steady, steady_run}
 
 -- ---- levels of a run
 
@@ -30,28 +25,22 @@ unfolding window
 spike_gone true s = refl
 spike_gone false s = refl
 
-same_or_not : (a b : Bool) → (b ≡ a) ⊎ (b ≡ not a)
-same_or_not true true = inl refl
-same_or_not true false = inr refl
-same_or_not false true = inr refl
-same_or_not false false = inl refl
-
 -- the level that halves begin with; lows are behind them
-abbrev first : List Bool → Bool
+abbrev pub first : List Bool → Bool
 first [] = false
 first (h ∷ halves) = h
 
-in_run : (n : ℕ) (h : Bool) (t : List Bool) (k : ℕ) → k < n → get_or (replicate n h ++ t) k false ≡ h
+pub in_run : (n : ℕ) (h : Bool) (t : List Bool) (k : ℕ) → k < n → get_or (replicate n h ++ t) k false ≡ h
 in_run n h t k l =
     get_or_append_left (replicate n h) t false k (omega (arith, length-replicate n h, l))
     ∙ get_or-replicate n k h false l
 
-past_run : (n : ℕ) (h : Bool) (t : List Bool) (k : ℕ) → get_or (replicate n h ++ t) (n + k) false ≡ get_or t k false
+pub past_run : (n : ℕ) (h : Bool) (t : List Bool) (k : ℕ) → get_or (replicate n h ++ t) (n + k) false ≡ get_or t k false
 past_run n h t k =
     ap (λ (i : ℕ). get_or (replicate n h ++ t) (i + k) false) (sym (length-replicate n h))
     ∙ get_or-append-add (replicate n h) t k false
 
-all_low : (n k : ℕ) → get_or (replicate n false) k false ≡ false
+pub all_low : (n k : ℕ) → get_or (replicate n false) k false ≡ false
 all_low n k = go (cases_order k n)
   where
     go : (k ≡ n) ⊎ ((k < n) ⊎ (n < k)) → get_or (replicate n false) k false ≡ false
@@ -60,7 +49,7 @@ all_low n k = go (cases_order k n)
     go (inr (inr l)) = get_or_past (replicate n false) k false (omega (arith, length-replicate n false))
 
 -- halves of two columns or more begin with two columns of their first level
-first_two : (lo hi : ℕ) → 2 ≤ lo → (halves drawn : List Bool) (after : ℕ) → Spells lo hi halves drawn → (k : ℕ) → k < 2
+pub first_two : (lo hi : ℕ) → 2 ≤ lo → (halves drawn : List Bool) (after : ℕ) → Spells lo hi halves drawn → (k : ℕ) → k < 2
     → get_or (drawn ++ replicate after false) k false ≡ first halves
 first_two lo hi two [] drawn after e k l =
     ap (λ (t : List Bool). get_or (t ++ replicate after false) k false) e ∙ all_low after k
@@ -70,144 +59,24 @@ first_two lo hi two (h ∷ halves) drawn after (n, rest, low, high, e, spelled) 
     ∙ in_run n h (rest ++ replicate after false) k (omega arith)
 
 module _ (d l : List Bool) (blurred : IsBlurred d l) where
-  -- the level drawn at a column, and the level there
   abbrev at_d : ℕ → Bool
-  at_d c = get_or d c false
+  at_d = HalfCell.at_d d l blurred
 
   abbrev at_l : ℕ → Bool
-  at_l c = get_or l c false
+  at_l = HalfCell.at_l d l blurred
 
-  -- a column whose neighbours are drawn at its level
-  calm : (h : Bool) (b c e : ℕ) → b ≡ c - 1 → e ≡ c + 1 → at_d b ≡ h → at_d c ≡ h → at_d e ≡ h → at_l c ≡ h
-  calm h b c e eb ee hb hc he =
-      blurred.others c (ap at_d (sym eb) ∙ hb ∙ sym hc) (ap at_d (sym ee) ∙ he ∙ sym hc) ∙ hc
+  abbrev Begins : ℕ → ℕ → Bool → Type 0
+  Begins = HalfCell.Begins d l blurred
 
-  -- a half cell drawn from p on begins at e, at most a column from there
-  record Begins (p e : ℕ) (h : Bool) : Type 0 where
-    pub early : p ≤ e + 1
-    pub late : e ≤ p + 1
-    pub has : (c : ℕ) → e ≤ c → c ≤ p → at_l c ≡ h
-
-  -- its levels up to where it ends
   abbrev Plain : ℕ → ℕ → Bool → Type 0
-  Plain p to h = (c : ℕ) → p + 1 ≤ c → c < to → at_l c ≡ h
+  Plain = HalfCell.Plain d l blurred
 
-  -- its last two levels are turned over, so that two columns stand alone
-  record Spiked (p q to : ℕ) (h h' : Bool) : Type 0 where
-    pub end : to ≡ q + 1
-    pub other : h' ≡ not h
-    pub one : at_l (q - 1) ≡ h'
-    pub two : at_l q ≡ h
-    pub before : Plain p (q - 1) h
-    pub alone : NoneAlone l → ⊥
-
-  -- where it ends and the next begins
-  record Ends (p q : ℕ) (h h' : Bool) : Type 0 where
-    pub at : ℕ
-    pub begins : Begins q at h'
-    pub inside : Plain p at h ⊎ Spiked p q at h h'
-
-  module _ (p n : ℕ) (h h' : Bool) (three : 3 ≤ n) (run : (c : ℕ) → p ≤ c → c < p + n → at_d c ≡ h)
-      (here : at_d (p + n) ≡ h') (behind : at_d (p + n + 1) ≡ h') where
-    core : (c : ℕ) → p + 1 ≤ c → c + 1 < p + n → at_l c ≡ h
-    core c low high = calm h (c - 1) c (c + 1) refl refl (run (c - 1) (omega arith) (omega arith))
-        (run c (omega arith) (omega arith)) (run (c + 1) (omega arith) (omega arith))
-
-    -- the last column of the run, and the one behind it
-    abbrev last : ℕ
-    last = p + n - 1
-
-    -- up to the last column
-    up_to : (c : ℕ) → at_l last ≡ h → p + 1 ≤ c → c < p + n → at_l c ≡ h
-    up_to c e low high = go (cases_order c last)
-      where
-        go : (c ≡ last) ⊎ ((c < last) ⊎ (last < c)) → at_l c ≡ h
-        go (inl same) = ap at_l same ∙ e
-        go (inr (inl less)) = core c low (omega arith)
-        go (inr (inr more)) = absurd (omega arith)
-
-    ends_at : at_l last ≡ h → at_l (p + n) ≡ h' → Ends p (p + n) h h'
-    ends_at e f = record {
-      at = p + n;
-      begins = record {
-        early = omega arith;
-        late = omega arith;
-        has = λ c low high. let same : c ≡ p + n = omega arith in ap at_l same ∙ f;
-      };
-      inside = inl (λ c low high. up_to c e low high);
-    }
-
-    ends_early : at_l last ≡ h' → at_l (p + n) ≡ h' → Ends p (p + n) h h'
-    ends_early e f = record {
-      at = last;
-      begins = record {
-        early = omega arith;
-        late = omega arith;
-        has = λ c low high. has c low high (cases_order c last);
-      };
-      inside = inl (λ c low high. core c low (omega arith));
-    }
-      where
-        has : (c : ℕ) → last ≤ c → c ≤ p + n → (c ≡ last) ⊎ ((c < last) ⊎ (last < c)) → at_l c ≡ h'
-        has c low high (inl same) = ap at_l same ∙ e
-        has c low high (inr (inl less)) = absurd (omega arith)
-        has c low high (inr (inr more)) = let same : c ≡ p + n = omega arith in ap at_l same ∙ f
-
-    ends_late : at_l last ≡ h → at_l (p + n) ≡ h → Ends p (p + n) h h'
-    ends_late e f = record {
-      at = p + n + 1;
-      begins = record { early = omega arith; late = omega arith; has = λ c low high. absurd (omega arith) };
-      inside = inl (λ c low high. inside c low high (cases_order c (p + n)));
-    }
-      where
-        inside : (c : ℕ) → p + 1 ≤ c → c < p + n + 1 → (c ≡ p + n) ⊎ ((c < p + n) ⊎ (p + n < c)) → at_l c ≡ h
-        inside c low high (inl same) = ap at_l same ∙ f
-        inside c low high (inr (inl less)) = up_to c e low less
-        inside c low high (inr (inr more)) = absurd (omega arith)
-
-    -- the last column doesn't stand alone
-    not_alone : NoneAlone l → at_l last ≡ not h → at_l (p + n) ≡ h → ⊥
-    not_alone none e f = go (none last)
-      where
-        before : at_l (last - 1) ≡ h
-        before = core (last - 1) (omega arith) (omega arith)
-
-        place : last + 1 ≡ p + n
-        place = omega arith
-
-        go : (at_l last ≡ at_l (last - 1)) ⊎ (at_l last ≡ at_l (last + 1)) → ⊥
-        go (inl same) = not_same h (sym before ∙ sym same ∙ e)
-        go (inr same) = not_same h (sym f ∙ ap at_l (sym place) ∙ sym same ∙ e)
-
-    ends : Ends p (p + n) h h'
-    ends = go (same_or_not h h') (same_or_not h (at_l last)) (same_or_not h (at_l (p + n)))
-      where
-        go : (h' ≡ h) ⊎ (h' ≡ not h) → (at_l last ≡ h) ⊎ (at_l last ≡ not h)
-            → (at_l (p + n) ≡ h) ⊎ (at_l (p + n) ≡ not h) → Ends p (p + n) h h'
-        go (inl same) x y =
-            ends_at (calm h (last - 1) last (p + n) (omega arith) (omega arith)
-            (run (last - 1) (omega arith) (omega arith)) (run last (omega arith) (omega arith)) (here ∙ same))
-            (calm h' last (p + n) (p + n + 1) (omega arith) refl
-            (run last (omega arith) (omega arith) ∙ sym same) here behind)
-        go (inr other) (inl e) (inl f) = ends_late e f
-        go (inr other) (inl e) (inr f) = ends_at e (f ∙ sym other)
-        go (inr other) (inr e) (inl f) = record {
-          at = p + n + 1;
-          begins = record { early = omega arith; late = omega arith; has = λ c low high. absurd (omega arith) };
-          inside = inr (record {
-            end = refl;
-            other = other;
-            one = e ∙ sym other;
-            two = f;
-            before = λ c low high. core c low (omega arith);
-            alone = λ none. not_alone none e f;
-          });
-        }
-        go (inr other) (inr e) (inr f) = ends_early (e ∙ sym other) (f ∙ sym other)
+  abbrev Spiked : ℕ → ℕ → ℕ → Bool → Bool → Type 0
+  Spiked = HalfCell.Spiked d l blurred
 
   module _ (lo hi least greatest : ℕ) (six : 6 ≤ lo) (less : least + 2 ≤ lo) (more : hi + 2 ≤ greatest) where
     -- the levels from e on are smoothed as these halves and then lows are; where no column stands alone, they are that
-    record Goes (halves : List Bool) (e : ℕ) : Type 0 where
+    pub record Goes (halves : List Bool) (e : ℕ) : Type 0 where
       pub drawn : List Bool
       pub after : ℕ
       pub three : 3 ≤ after
@@ -328,7 +197,7 @@ module _ (d l : List Bool) (blurred : IsBlurred d l) where
         low c from (inl same) = begins.has c from (omega arith)
         low c from (inr (inl less)) = begins.has c from (omega arith)
         low c from (inr (inr more)) =
-            calm false (c - 1) c (c + 1) refl refl (low_d (c - 1) (omega arith)) (low_d c (omega arith))
+            HalfCell.calm d l blurred false (c - 1) c (c + 1) refl refl (low_d (c - 1) (omega arith)) (low_d c (omega arith))
             (low_d (c + 1) (omega arith))
 
         all : drop e l ≡ replicate (length l - e) false
@@ -351,7 +220,7 @@ module _ (d l : List Bool) (blurred : IsBlurred d l) where
         ∙ first_two lo hi (omega arith) halves rest' after spelled k two in
         let place : p + (n + 0) ≡ p + n = omega arith in
         let place' : p + (n + 1) ≡ p + n + 1 = omega arith in
-        let x = ends p n h (first halves) (omega arith) run (ap at_d (sym place) ∙ behind 0 (omega arith))
+        let x = HalfCell.ends d l blurred p n h (first halves) (omega arith) run (ap at_d (sym place) ∙ behind 0 (omega arith))
         (ap at_d (sym place') ∙ behind 1 (omega arith)) in
         let len : length rest ≡ n + length rest'
         = ap length spells ∙ length-append (replicate n h) rest'
@@ -402,7 +271,7 @@ module _ (d l : List Bool) (blurred : IsBlurred d l) where
             ∙ drop-append_seam (replicate n h) t
 
     -- the whole list
-    whole_goes : (halves drawn : List Bool) (before after : ℕ) → 5 ≤ after → first halves ≡ false
+    pub whole_goes : (halves drawn : List Bool) (before after : ℕ) → 5 ≤ after → first halves ≡ false
         → Spells lo hi halves drawn → d ≡ replicate before false ++ (drawn ++ replicate after false)
         → (x : Goes halves before) × (l ≡ replicate before false ++ drop before l)
     whole_goes halves drawn before after some begun spelled whole =
@@ -437,7 +306,7 @@ module _ (d l : List Bool) (blurred : IsBlurred d l) where
             side (inr (inr more)) = inr (omega arith)
 
         low : (c : ℕ) → c ≤ before → at_l c ≡ false
-        low c to = calm false (c - 1) c (c + 1) refl refl (near_d (c - 1) (omega arith)) (near_d c (omega arith))
+        low c to = HalfCell.calm d l blurred false (c - 1) c (c + 1) refl refl (near_d (c - 1) (omega arith)) (near_d c (omega arith))
             (near_d (c + 1) (omega arith))
 
         front : l ≡ replicate before false ++ drop before l
@@ -458,60 +327,3 @@ module _ (d l : List Bool) (blurred : IsBlurred d l) where
           late = omega arith;
           has = λ c from to. low c to ∙ sym begun;
         })
-
--- ---- a word
-
--- a word's first half cell is low
-begins_low : (word : ℕ) → IsWord word → first (halves_of word) ≡ false
-begins_low word is_word =
-    let begun = (word_bits word is_word).1 in
-    ap (λ (bits : List Bool). first (flat_map cell_of bits)) begun.1
-
--- the row without its turned columns
-pub record Mended (system : System) (levels : List Bool) (word : ℕ) : Type 0 where
-  pub mended : List Bool
-  pub shows : Shows system mended word
-  pub three : 3 ≤ shows.after
-  pub long : length levels ≡ length mended
-  pub alike : smooth_of levels ≡ smooth_of mended
-  pub same : NoneAlone levels → levels ≡ mended
-
-pub mend : (system : System) (drawn levels : List Bool) (word : ℕ) → ShowsAmply system drawn word
-    → IsBlurred drawn levels → Mended system levels word
-mend system drawn levels word s blurred =
-    let sizes = sizes_fit system in
-    let r = whole_goes drawn levels blurred (least_half system + 2) (greatest_half system - 2)
-    (least_half system) (greatest_half system) sizes.0 (omega arith) sizes.1 (halves_of word) s.drawn s.before s.after
-    s.lows (begins_low word s.is_word) s.spelled s.whole in
-    let x = r.0 in
-    let rest : List Bool = x.drawn ++ replicate x.after false in
-    record {
-      mended = replicate s.before false ++ rest;
-      shows = record {
-        is_word = s.is_word;
-        before = s.before;
-        drawn = x.drawn;
-        after = x.after;
-        spelled = x.spelled;
-        whole = refl;
-      };
-      three = x.three;
-      long = ap length r.1 ∙ length-append (replicate s.before false) (drop s.before levels)
-          ∙ ap (λ (i : ℕ). length (replicate s.before false) + i) x.long
-          ∙ sym (length-append (replicate s.before false) rest);
-      alike = ap smooth_of r.1 ∙ smooth_window (replicate s.before false ++ drop s.before levels)
-          ∙ steady_same false s.before (drop s.before levels)
-          ∙ ap (λ (t : List Bool). replicate s.before false ++ t) (x.alike false)
-          ∙ sym (steady_same false s.before rest) ∙ sym (smooth_window (replicate s.before false ++ rest));
-      same = λ none. r.1 ∙ ap (λ (t : List Bool). replicate s.before false ++ t) (x.whole none);
-    }
-  where
-    sizes_fit : (system : System) → (6 ≤ least_half system + 2) × (greatest_half system - 2 + 2 ≤ greatest_half system)
-    sizes_fit Ntsc = (omega arith, omega arith)
-    sizes_fit Pal = (omega arith, omega arith)
-
-pub jittered_shows : (system : System) (drawn levels : List Bool) (word : ℕ) → ShowsAmply system drawn word
-    → IsJittered drawn levels → Shows system levels word
-jittered_shows system drawn levels word s (blurred, none_alone) =
-    let m = mend system drawn levels word s blurred in
-    subst (λ (t : List Bool). Shows system t word) (sym (m.same none_alone)) m.shows
