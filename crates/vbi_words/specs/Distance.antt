@@ -24,16 +24,35 @@ abbrev pub least_distance : System → ℕ
 least_distance Ntsc = 4
 least_distance Pal = 6
 
--- two lines as near as that: 800000, with a low half cell of the most columns before its last high one, and 800001,
--- with two of the fewest columns there
+-- ---- lines
+
+-- a line of the bits 1, 0, .. 0, each half cell of the fewest columns, up to the second half cell of the 23rd bit, and
+-- then this ending
+abbrev pub near_line : System → List Bool → List Bool
+near_line Ntsc ending = low 150 ++ (high 22 ++ (low 11
+    ++ (flat_map (λ (cell : Bool). high 11 ++ low 11) (replicate 20 true) ++ (high 11 ++ ending))))
+near_line Pal ending = low 190 ++ (high 28 ++ (low 14
+    ++ (flat_map (λ (cell : Bool). high 14 ++ low 14) (replicate 20 true) ++ (high 14 ++ ending))))
+
+-- two lines as near to one another as that: 800000, whose last high half cell and the low one before it have the most
+-- columns, and 800001, whose last bit's change lies 4 columns later (NTSC), or 6 (PAL)
 abbrev pub near_first : System → List Bool
-near_first Ntsc = low 150 ++ (high 22 ++ (low 11 ++ (flat_map (λ (cell : Bool). high 11 ++ low 11) (replicate 20 true)
-    ++ (high 11 ++ (low 18 ++ (high 18 ++ low 240))))))
-near_first Pal = low 190 ++ (high 28 ++ (low 14 ++ (flat_map (λ (cell : Bool). high 14 ++ low 14) (replicate 20 true)
-    ++ (high 14 ++ (low 22 ++ (high 22 ++ low 285))))))
+near_first Ntsc = near_line Ntsc (low 18 ++ (high 18 ++ low 240))
+near_first Pal = near_line Pal (low 22 ++ (high 22 ++ low 285))
 
 abbrev pub near_second : System → List Bool
-near_second Ntsc = low 150 ++ (high 22 ++ (low 11 ++ (flat_map (λ (cell : Bool). high 11 ++ low 11) (replicate 20 true)
-    ++ (high 11 ++ (low 22 ++ (high 14 ++ low 240))))))
-near_second Pal = low 190 ++ (high 28 ++ (low 14 ++ (flat_map (λ (cell : Bool). high 14 ++ low 14) (replicate 20 true)
-    ++ (high 14 ++ (low 28 ++ (high 16 ++ low 285))))))
+near_second Ntsc = near_line Ntsc (low 22 ++ (high 14 ++ low 240))
+near_second Pal = near_line Pal (low 28 ++ (high 16 ++ low 285))
+
+-- the first of them with one column turned over, and the same with one column more
+abbrev pub turned_once : System → List Bool
+turned_once Ntsc = near_line Ntsc (low 18 ++ (high 5 ++ (low 1 ++ (high 12 ++ low 240))))
+turned_once Pal = near_line Pal (low 22 ++ (high 5 ++ (low 1 ++ (high 16 ++ low 285))))
+
+abbrev pub turned_twice : System → List Bool
+turned_twice Ntsc = near_line Ntsc (low 18 ++ (high 3 ++ (low 1 ++ (high 1 ++ (low 1 ++ (high 12 ++ low 240))))))
+turned_twice Pal = near_line Pal (low 22 ++ (high 3 ++ (low 1 ++ (high 1 ++ (low 1 ++ (high 16 ++ low 285))))))
+
+-- in NTSC the second of these columns is enough
+abbrev pub turned_there : List Bool
+turned_there = near_line Ntsc (low 18 ++ (high 3 ++ (low 1 ++ (high 14 ++ low 240))))

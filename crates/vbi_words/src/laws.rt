@@ -15,6 +15,7 @@ ghost use Rattle.vbi_words.specs.Smooth.{IsSmooth, smooth_of, Glitch};
 ghost use Rattle.vbi_words.specs.Readings.{IsReading};
 ghost use Rattle.vbi_words.specs.Drawn.{IsDrawnRow};
 ghost use Rattle.vbi_words.specs.Distance.{differences, least_distance, near_first, near_second};
+ghost use Rattle.vbi_words.specs.Distance.{turned_once, turned_twice, turned_there};
 ghost use Rattle.vbi_words.specs.Geometry.{width_of};
 ghost use Rattle.vbi_words.specs.Jitter.{ShowsAmply, IsBlurred, IsJittered, ReadsWord, HasGlitches};
 ghost use Rattle.vbi_words.specs.declared.code.Code.{Code};
@@ -83,8 +84,10 @@ pub fn glitches_read()
         → g ≤ c + 4 → c < g + m + 4 → level_at blurred c ≡ level_at blurred g }
 {}
 
-/// Two lists of one length that show different words differ in 4 columns at least (NTSC), or 6 (PAL); and there are two
-/// that differ in no more. So fewer columns turned over, wherever they are, never make another word of a word.
+/// Two lists of one length that show different words differ in 4 columns at least (NTSC), or 6 (PAL); there are two
+/// that differ in no more. So fewer columns turned over, wherever they are, never make a shown word another in the first
+/// pass. The second pass guards against less: there are two lists that differ in one column and are read as different
+/// words, and one column (NTSC) or two (PAL) turned over in a list that shows a word can make it read as another.
 pub fn words_apart()
     ensures apart { (system : System) (levels others : List Bool) (v w : ℕ)
         → Shows system levels v → Shows system others w → length levels ≡ length others
@@ -94,6 +97,15 @@ pub fn words_apart()
     ensures near { (system : System)
         → (length (near_first system) ≡ width_of system) × (length (near_second system) ≡ width_of system)
         × (differences (near_first system) (near_second system) ≡ least_distance system) }
+    ensures once { (system : System)
+        → IsReading system (turned_once system) (record { outcome = Word 8388608; pass = 2 }) }
+    ensures twice { (system : System)
+        → IsReading system (turned_twice system) (record { outcome = Word 8388609; pass = 2 }) }
+    ensures turned { (system : System)
+        → (differences (near_first system) (turned_once system) ≡ 1)
+        × (differences (turned_once system) (turned_twice system) ≡ 1) }
+    ensures there { IsReading Ntsc turned_there (record { outcome = Word 8388609; pass = 2 })
+        × (differences (near_first Ntsc) turned_there ≡ 1) }
 {}
 
 /// A list of levels has exactly one list of smoothed levels.
