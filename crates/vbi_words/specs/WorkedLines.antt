@@ -1,4 +1,4 @@
--- A few NTSC lines, run by run, at which the definitions can be seen at work.
+-- A few lines, run by run, at which the definitions can be seen at work.
 use Rattle.std.specs.Prelude.{ℕ, Bool, true, false, List, ◌++◌, replicate}
 use Rattle.std.specs.List.{flat_map}
 
@@ -9,6 +9,8 @@ low n = replicate n false
 -- n high columns
 abbrev pub high : ℕ → List Bool
 high n = replicate n true
+
+-- ---- five lines of NTSC
 
 -- 20 high columns are more than one half cell and fewer than two, so the change behind them, at column 34, is hopeless
 abbrev pub run_of_20 : List Bool
@@ -30,3 +32,15 @@ late_high = low 900 ++ high 10
 -- 24 ones, each half cell of the fewest columns
 abbrev pub ones_of_11 : List Bool
 ones_of_11 = flat_map (λ (cell : Bool). low 11 ++ high 11) (replicate 24 true) ++ low 382
+
+-- ---- one run of another length, in lines of either system
+
+-- 24 ones, each half cell of n columns but the last, a high one of m
+abbrev pub ones_ending : ℕ → ℕ → List Bool
+ones_ending n m =
+    flat_map (λ (cell : Bool). low n ++ high n) (replicate 23 true) ++ (low n ++ (high m ++ low 14))
+
+-- a one and 23 zeros, each half cell of n columns but the second and the third, which are one high run of m
+abbrev pub zeros_behind : ℕ → ℕ → List Bool
+zeros_behind n m =
+    low n ++ (high m ++ (low n ++ (flat_map (λ (cell : Bool). high n ++ low n) (replicate 22 true) ++ low 14)))

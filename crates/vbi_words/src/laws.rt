@@ -4,7 +4,7 @@
 ghost use Rattle.std.specs.Prelude.{◌≡◌, ℕ, suc, ◌≤◌, ◌<◌, ◌+◌, ◌-◌, List, Bool, false};
 ghost use Rattle.std.specs.Prelude.{[], ◌∷◌, ◌++◌, replicate, length, Option, Some, None};
 ghost use Rattle.vbi_words.specs.declared.system.System.{System};
-ghost use Rattle.vbi_words.specs.declared.system.System.TheVariants.{Ntsc};
+ghost use Rattle.vbi_words.specs.declared.system.System.TheVariants.{Ntsc, Pal};
 ghost use Rattle.vbi_words.specs.declared.outcome.Outcome.TheVariants.{Word, Unfinished, Change, Hold};
 ghost use Rattle.vbi_words.specs.Levels.{LevelsView, levels_of, level_at};
 ghost use Rattle.vbi_words.specs.Words.{IsWord};
@@ -24,6 +24,7 @@ ghost use Rattle.vbi_words.specs.Codes.{IsCode};
 ghost use Rattle.vbi_words.specs.Formats.{IsFormat, format_of_lines};
 ghost use Rattle.vbi_words.specs.CodeTable.{code_of};
 ghost use Rattle.vbi_words.specs.WorkedLines.{run_of_20, low_cell, long_lows, late_high, ones_of_11};
+ghost use Rattle.vbi_words.specs.WorkedLines.{ones_ending, zeros_behind};
 
 /// A list of levels shows at most one word.
 pub fn one_word()
@@ -151,4 +152,25 @@ pub fn worked_lines()
     ensures long { IsOutcome Ntsc long_lows (Hold 72) }
     ensures unfinished { IsOutcome Ntsc late_high Unfinished }
     ensures word { IsOutcome Ntsc ones_of_11 (Word 16777215) }
+{}
+
+/// The fewest and the most columns of a half cell and of two, by lines with one run of so many, or of one less or more:
+/// a line with 10 columns shows no word of NTSC, and one with 13 none of PAL.
+pub fn worked_runs()
+    ensures ntsc_single { IsOutcome Ntsc (ones_ending 11 10) (Change 527)
+        × IsOutcome Ntsc (ones_ending 11 11) (Word 16777215)
+        × IsOutcome Ntsc (ones_ending 11 18) (Word 16777215)
+        × IsOutcome Ntsc (ones_ending 11 19) (Hold 535) }
+    ensures ntsc_double { IsOutcome Ntsc (zeros_behind 11 21) (Change 32)
+        × IsOutcome Ntsc (zeros_behind 11 22) (Word 8388608)
+        × IsOutcome Ntsc (zeros_behind 11 36) (Word 8388608)
+        × IsOutcome Ntsc (zeros_behind 11 37) (Hold 47) }
+    ensures pal_single { IsOutcome Pal (ones_ending 14 13) (Change 671)
+        × IsOutcome Pal (ones_ending 14 14) (Word 16777215)
+        × IsOutcome Pal (ones_ending 14 22) (Word 16777215)
+        × IsOutcome Pal (ones_ending 14 23) (Hold 680) }
+    ensures pal_double { IsOutcome Pal (zeros_behind 14 27) (Change 41)
+        × IsOutcome Pal (zeros_behind 14 28) (Word 8388608)
+        × IsOutcome Pal (zeros_behind 14 44) (Word 8388608)
+        × IsOutcome Pal (zeros_behind 14 45) (Hold 58) }
 {}
