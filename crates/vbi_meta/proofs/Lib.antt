@@ -2,6 +2,9 @@ pub mod DocumentReads
 pub mod DocumentTells
 pub mod DocumentTexts
 pub mod LineFeeds
+pub mod PlainBytes
+pub mod PlainDocument
+pub mod PlainTokens
 pub mod RecordTexts
 pub mod Refusals
 pub mod ShownLines

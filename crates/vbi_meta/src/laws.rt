@@ -10,6 +10,7 @@ ghost use Rattle.vbi_field.specs.Texts.{whole_text};
 ghost use Rattle.vbi_field.specs.declared.summary.Summary.{Summary};
 ghost use Rattle.vbi_meta.specs.DocumentValue.{IsConfig, IsOfRun, document_value};
 ghost use Rattle.vbi_meta.specs.Metadata.{most_bytes, IsMetadata, IsUnread};
+ghost use Rattle.vbi_meta.specs.Plain.{IsPlainText};
 ghost use Rattle.vbi_meta.specs.ReadBack.{IsReadAs, Tells, ReadsBack};
 ghost use Rattle.vbi_meta.specs.declared.fault.MetaFault.{MetaFault};
 ghost use Rattle.vbi_meta.specs.declared.fault.MetaFault.TheVariants.{OutOfMemory};
@@ -42,4 +43,13 @@ pub fn document_is_metadata()
         → IsMetadata text value → value ≡ document_value c z }
     ensures fault { (c : ConfigView) (z text : List ℕ) (fault : MetaFault) → IsOfRun c z
         → text ≡ whole_text document c z → length text ≤ most_bytes → IsUnread text fault → fault ≡ OutOfMemory }
+{}
+
+/// The document of a stream is plain: its bytes are printed ASCII without a backslash, so without escapes, and line
+/// feeds; each number in it is written in decimal digits alone and is below 2 ^ 24. So a reader that knows ASCII alone,
+/// or keeps numbers as floats of 32 bits or more, loses nothing.
+pub fn plain_document()
+    ensures text { (c : ConfigView) (z : List ℕ) → IsOfRun c z → IsPlainText (whole_text document c z) }
+    ensures extracted { (c : ConfigView) (input : Option (List ℕ)) (n : Counts) (z text : List ℕ) (summary : Summary)
+        → IsConfig c → ExtractsAll document c input n z text summary → IsPlainText text }
 {}
