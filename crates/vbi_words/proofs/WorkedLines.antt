@@ -1,5 +1,5 @@
 -- The outcomes of a few lines, computed by the machine.
-use Rattle.std.proofs.Common.{◌≡◌, ℕ, true, false, refl, lit<, lit≤}
+use Rattle.std.proofs.Common.{◌≡◌, true, false, refl, lit<, lit≤}
 use Rattle.vbi_words.specs.declared.system.System.TheVariants.{Ntsc, Pal}
 use Rattle.vbi_words.specs.declared.outcome.Outcome.TheVariants.{Word, Unfinished, Change, Hold}
 use Rattle.vbi_words.specs.Words.{lowest_bits}

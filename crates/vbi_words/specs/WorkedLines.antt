@@ -44,3 +44,25 @@ ones_ending n m =
 abbrev pub zeros_behind : ℕ → ℕ → List Bool
 zeros_behind n m =
     low n ++ (high m ++ (low n ++ (flat_map (λ (cell : Bool). high n ++ low n) (replicate 22 true) ++ low 14)))
+
+-- ---- a few columns, for tolerance
+
+-- a row with changes of level at columns 3 and 7, which may be blurred in columns 2, 3, 6 and 7
+abbrev pub little_row : List Bool
+little_row = low 3 ++ (high 4 ++ low 3)
+
+-- its first change a column early
+abbrev pub little_early : List Bool
+little_early = low 2 ++ (high 5 ++ low 3)
+
+-- the two columns beside its first change turned over, so that they stand alone
+abbrev pub little_spiked : List Bool
+little_spiked = low 2 ++ (high 1 ++ (low 1 ++ (high 3 ++ low 3)))
+
+-- its first change two columns late
+abbrev pub little_late : List Bool
+little_late = low 5 ++ (high 2 ++ low 3)
+
+-- 24 ones, each low half cell of m columns and each high one of n, and five lows
+abbrev pub ones_and_five : ℕ → ℕ → List Bool
+ones_and_five m n = flat_map (λ (cell : Bool). low m ++ high n) (replicate 24 true) ++ low 5

@@ -17,14 +17,15 @@ ghost use Rattle.vbi_words.specs.Drawn.{IsDrawnRow};
 ghost use Rattle.vbi_words.specs.Distance.{differences, least_distance, near_first, near_second};
 ghost use Rattle.vbi_words.specs.Distance.{turned_once, turned_twice, turned_there};
 ghost use Rattle.vbi_words.specs.Geometry.{width_of};
-ghost use Rattle.vbi_words.specs.Jitter.{ShowsAmply, IsBlurred, IsJittered, ReadsWord, HasGlitches};
+ghost use Rattle.vbi_words.specs.Jitter.{ShowsAmply, IsBlurred, IsJittered, NoneAlone, ReadsWord, HasGlitches};
 ghost use Rattle.vbi_words.specs.declared.code.Code.{Code};
 ghost use Rattle.vbi_words.specs.declared.format.Format.{Format};
 ghost use Rattle.vbi_words.specs.Codes.{IsCode};
 ghost use Rattle.vbi_words.specs.Formats.{IsFormat, format_of_lines};
 ghost use Rattle.vbi_words.specs.CodeTable.{code_of};
 ghost use Rattle.vbi_words.specs.WorkedLines.{run_of_20, low_cell, long_lows, late_high, ones_of_11};
-ghost use Rattle.vbi_words.specs.WorkedLines.{ones_ending, zeros_behind};
+ghost use Rattle.vbi_words.specs.WorkedLines.{ones_ending, zeros_behind, low, high, ones_and_five};
+ghost use Rattle.vbi_words.specs.WorkedLines.{little_row, little_early, little_spiked, little_late};
 
 /// A list of levels shows at most one word.
 pub fn one_word()
@@ -173,4 +174,17 @@ pub fn worked_runs()
         × IsOutcome Pal (zeros_behind 14 28) (Word 8388608)
         × IsOutcome Pal (zeros_behind 14 44) (Word 8388608)
         × IsOutcome Pal (zeros_behind 14 45) (Hold 58) }
+{}
+
+/// Blurred rows, a glitch and lines with columns to spare, and such as just aren't: computed on a few columns.
+pub fn worked_tolerance()
+    ensures jittered { IsJittered little_row little_early }
+    ensures alone { IsBlurred little_row little_spiked × (NoneAlone little_spiked → ⊥) }
+    ensures late { IsBlurred little_row little_late → ⊥ }
+    ensures glitch { HasGlitches 1 (low 12) (low 4 ++ (high 3 ++ low 5)) }
+    ensures no_glitch { HasGlitches 1 (low 12) (low 4 ++ (high 4 ++ low 4)) → ⊥ }
+    ensures amply { ShowsAmply Ntsc (ones_and_five 13 16) 16777215 × ShowsAmply Pal (ones_and_five 16 20) 16777215 }
+    ensures not_amply { ShowsAmply Ntsc (ones_and_five 11 11) 16777215 → ⊥ }
+    ensures read { ReadsWord Ntsc ones_of_11 16777215 }
+    ensures not_read { (word : ℕ) → ReadsWord Ntsc run_of_20 word → ⊥ }
 {}
