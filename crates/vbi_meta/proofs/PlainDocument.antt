@@ -78,7 +78,8 @@ plain_reading system levels short (Hold c) pass (p, is, none) shown =
 
 row_plain : (c : ConfigView) (z : List ℕ) (i r : ℕ) → IsShown (reading_at c z i r) → IsPlainReading (reading_at c z i r)
 row_plain c z i r =
-    plain_reading c.system _ (short_levels c z i r) _ _ (is_reading c.system (row_levels c.levels (line_at c.system z i r)))
+    plain_reading c.system _ (short_levels c z i r) _ _
+    (is_reading c.system (row_levels c.levels (line_at c.system z i r)))
 
 field_plain : (c : ConfigView) (z : List ℕ) (i : ℕ) → ArePlainReadings (readings_at c z i)
 field_plain c z i =

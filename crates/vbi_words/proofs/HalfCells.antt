@@ -1,5 +1,5 @@
--- The half cells of a row that is blurred at its changes of level, one behind the other: they are smoothed as those of a
--- row that shows the word.
+-- The half cells of a row that is blurred at its changes of level, one behind the other: they are smoothed as those of
+-- a row that shows the word.
 use Rattle.std.proofs.Common.{◌≡◌, ℕ, ◌≤◌, ◌<◌, ◌+◌, ◌-◌, Bool, true, false, List, [], ◌∷◌, ◌++◌, ◌⊎◌, inl, suc}
 use Rattle.std.proofs.Common.{inr, length, get_or, drop, refl, sym, ap, ◌∙◌, arith}
 use Rattle.std.proofs.Common.{append_assoc}
@@ -49,8 +49,8 @@ all_low n k = go (cases_order k n)
     go (inr (inr l)) = get_or_past (replicate n false) k false (omega (arith, length-replicate n false))
 
 -- halves of two columns or more begin with two columns of their first level
-pub first_two : (lo hi : ℕ) → 2 ≤ lo → (halves drawn : List Bool) (after : ℕ) → Spells lo hi halves drawn → (k : ℕ) → k < 2
-    → get_or (drawn ++ replicate after false) k false ≡ first halves
+pub first_two : (lo hi : ℕ) → 2 ≤ lo → (halves drawn : List Bool) (after : ℕ) → Spells lo hi halves drawn → (k : ℕ)
+    → k < 2 → get_or (drawn ++ replicate after false) k false ≡ first halves
 first_two lo hi two [] drawn after e k l =
     ap (λ (t : List Bool). get_or (t ++ replicate after false) k false) e ∙ all_low after k
 first_two lo hi two (h ∷ halves) drawn after (n, rest, low, high, e, spelled) k l =
@@ -197,8 +197,8 @@ module _ (d l : List Bool) (blurred : IsBlurred d l) where
         low c from (inl same) = begins.has c from (omega arith)
         low c from (inr (inl less)) = begins.has c from (omega arith)
         low c from (inr (inr more)) =
-            HalfCell.calm d l blurred false (c - 1) c (c + 1) refl refl (low_d (c - 1) (omega arith)) (low_d c (omega arith))
-            (low_d (c + 1) (omega arith))
+            HalfCell.calm d l blurred false (c - 1) c (c + 1) refl refl (low_d (c - 1) (omega arith))
+            (low_d c (omega arith)) (low_d (c + 1) (omega arith))
 
         all : drop e l ≡ replicate (length l - e) false
         all = equal_from l e (length l - e) false (omega (arith, len, begins.late))
@@ -220,7 +220,8 @@ module _ (d l : List Bool) (blurred : IsBlurred d l) where
         ∙ first_two lo hi (omega arith) halves rest' after spelled k two in
         let place : p + (n + 0) ≡ p + n = omega arith in
         let place' : p + (n + 1) ≡ p + n + 1 = omega arith in
-        let x = HalfCell.ends d l blurred p n h (first halves) (omega arith) run (ap at_d (sym place) ∙ behind 0 (omega arith))
+        let x = HalfCell.ends d l blurred p n h (first halves) (omega arith) run
+        (ap at_d (sym place) ∙ behind 0 (omega arith))
         (ap at_d (sym place') ∙ behind 1 (omega arith)) in
         let len : length rest ≡ n + length rest'
         = ap length spells ∙ length-append (replicate n h) rest'
@@ -306,8 +307,8 @@ module _ (d l : List Bool) (blurred : IsBlurred d l) where
             side (inr (inr more)) = inr (omega arith)
 
         low : (c : ℕ) → c ≤ before → at_l c ≡ false
-        low c to = HalfCell.calm d l blurred false (c - 1) c (c + 1) refl refl (near_d (c - 1) (omega arith)) (near_d c (omega arith))
-            (near_d (c + 1) (omega arith))
+        low c to = HalfCell.calm d l blurred false (c - 1) c (c + 1) refl refl (near_d (c - 1) (omega arith))
+            (near_d c (omega arith)) (near_d (c + 1) (omega arith))
 
         front : l ≡ replicate before false ++ drop before l
         front =

@@ -1,5 +1,5 @@
--- Lines that show different words, or are read as such, and are as near to one another as such lines can be, computed by
--- the machine.
+-- Lines that show different words, or are read as such, and are as near to one another as such lines can be: computed
+-- by the machine.
 use Rattle.std.proofs.Common.{◌≡◌, ℕ, List, Bool, false, inr, refl, sym, subst, lit<, lit≤, length}
 use Rattle.vbi_words.specs.declared.system.System.{System}
 use Rattle.vbi_words.specs.declared.system.System.TheVariants.{Ntsc, Pal}
@@ -65,7 +65,9 @@ unfolding lowest_bits window
 there_read = second_pass Ntsc turned_there 8388609 (lit≤ tt, lit< tt) refl refl
 
 pub turned : (system : System)
-    → (differences (near_first system) (turned_once system) ≡ 1)
+    → (length (turned_once system) ≡ width_of system) × (length (turned_twice system) ≡ width_of system)
+    × (differences (near_first system) (turned_once system) ≡ 1)
+    × (differences (near_first system) (turned_twice system) ≡ 2)
     × (differences (turned_once system) (turned_twice system) ≡ 1)
-turned Ntsc = (refl, refl)
-turned Pal = (refl, refl)
+turned Ntsc = (refl, refl, refl, refl, refl)
+turned Pal = (refl, refl, refl, refl, refl)

@@ -1,5 +1,6 @@
 -- Worked facts of the definitions of tolerance, computed on a few columns.
-use Rattle.std.proofs.Common.{◌≡◌, ℕ, suc, zero, ◌≤◌, ◌<◌, ◌+◌, ◌-◌, Bool, true, false, List, [], ◌∷◌, ◌++◌, ◌⊎◌, inl, inr}
+use Rattle.std.proofs.Common.{◌≡◌, ℕ, suc, zero, ◌≤◌, ◌<◌, ◌+◌, ◌-◌, Bool, true, false, List, [], ◌∷◌, ◌++◌, ◌⊎◌, inl}
+use Rattle.std.proofs.Common.{inr}
 use Rattle.std.proofs.Common.{refl, sym, subst, ap, ◌∙◌, ◌*◌, arith, lit<, lit≤, length, append_assoc}
 use Rattle.std.proofs.Math.ListN.{replicate}
 use Rattle.std.proofs.lemmas.Bool.{cases_lt}
@@ -48,7 +49,8 @@ early_blurred = record {
 }
 
 early_near : (c : ℕ) → c < 10
-    → (level_at little_early c ≡ level_at little_early (c - 1)) ⊎ (level_at little_early c ≡ level_at little_early (c + 1))
+    → (level_at little_early c ≡ level_at little_early (c - 1))
+    ⊎ (level_at little_early c ≡ level_at little_early (c + 1))
 early_near zero inside = inl refl
 early_near (suc zero) inside = inl refl
 early_near (suc (suc zero)) inside = inr refl
@@ -99,7 +101,8 @@ spiked_blurred = record {
 pub spiked_alone : NoneAlone little_spiked → ⊥
 spiked_alone none = go (none 2)
   where
-    go : (level_at little_spiked 2 ≡ level_at little_spiked 1) ⊎ (level_at little_spiked 2 ≡ level_at little_spiked 3) → ⊥
+    go : (level_at little_spiked 2 ≡ level_at little_spiked 1) ⊎ (level_at little_spiked 2 ≡ level_at little_spiked 3)
+        → ⊥
     go (inl e) = let bad : true ≡ false = e in cc
     go (inr e) = let bad : true ≡ false = e in cc
 
@@ -158,7 +161,8 @@ four_no_glitch (before, e, x) = go (cases_lt 4 x.g) (cases_lt 7 (x.g + x.m))
 -- ---- words
 
 spelled_ones : (lo hi m n : ℕ) → lo ≤ m → m ≤ hi → lo ≤ n → n ≤ hi → (k : ℕ)
-    → Spells lo hi (flat_map cell_of (replicate k true)) (flat_map (λ (cell : Bool). low m ++ high n) (replicate k true))
+    → Spells lo hi (flat_map cell_of (replicate k true))
+    (flat_map (λ (cell : Bool). low m ++ high n) (replicate k true))
 spelled_ones lo hi m n a b c d zero = refl
 spelled_ones lo hi m n a b c d (suc k) =
     let rest : List Bool = flat_map (λ (cell : Bool). low m ++ high n) (replicate k true) in (

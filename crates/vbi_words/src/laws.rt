@@ -50,8 +50,8 @@ pub fn drawn_shows()
         → IsDrawnRow system slicing None samples → AllLow (levels_of slicing samples) }
 {}
 
-/// Where each change of level lies in its column, or one before or behind, the word is still shown: of any list that
-/// shows a word with two columns to spare in each half cell, as that of the row drawn for the word does.
+/// A list whose changes of level lie in their columns, or one before or behind, still shows its word: this holds of
+/// every list that shows a word with two columns to spare in each half cell, and the row drawn for a word is one.
 pub fn jitter_shown()
     ensures any { (system : System) (drawn levels : List Bool) (word : ℕ)
         → ShowsAmply system drawn word → IsJittered drawn levels → Shows system levels word }
@@ -60,9 +60,9 @@ pub fn jitter_shown()
         → IsJittered (levels_of slicing samples) levels → Shows system levels word }
 {}
 
-/// Where the two columns beside each change of level in such a list, the last before it and the first behind it, get any
-/// levels, and all others are as they were, the reading is still its word: in the first pass exactly where no column
-/// stands alone, else in the second.
+/// Where the two columns beside each change of level in such a list, the last before it and the first behind it, have
+/// any levels, and all others are as they were, the reading is still its word: in the first pass exactly where no
+/// column stands alone, else in the second.
 pub fn blur_read()
     ensures any { (system : System) (drawn levels : List Bool) (word : ℕ)
         → ShowsAmply system drawn word → IsBlurred drawn levels → ReadsWord system levels word }
@@ -72,12 +72,14 @@ pub fn blur_read()
 {}
 
 /// Where such a blurred list has one glitch or more besides, of up to three columns each and with four equal columns on
-/// either side, the reading is still its word, in the second pass. Five columns drawn alike on either side are enough.
+/// either side, the reading is still its word, in the second pass. A glitch with five columns on either side that were
+/// drawn at one level has four equal ones, whatever the blur.
 pub fn glitches_read()
     ensures any { (system : System) (drawn blurred levels : List Bool) (word n : ℕ)
         → ShowsAmply system drawn word → IsBlurred drawn blurred → HasGlitches (suc n) blurred levels
         → IsReading system levels (record { outcome = Word word; pass = 2 }) }
-    ensures drawn { (system : System) (slicing : LevelsView) (word n : ℕ) (samples : List ℕ) (blurred levels : List Bool)
+    ensures drawn { (system : System) (slicing : LevelsView) (word n : ℕ) (samples : List ℕ)
+        → (blurred levels : List Bool)
         → slicing.black < slicing.white → IsWord word → IsDrawnRow system slicing (Some word) samples
         → IsBlurred (levels_of slicing samples) blurred → HasGlitches (suc n) blurred levels
         → IsReading system levels (record { outcome = Word word; pass = 2 }) }
@@ -86,10 +88,10 @@ pub fn glitches_read()
         → g ≤ c + 4 → c < g + m + 4 → level_at blurred c ≡ level_at blurred g }
 {}
 
-/// Two lists of one length that show different words differ in 4 columns at least (NTSC), or 6 (PAL); there are two
-/// that differ in no more. So fewer columns turned over, wherever they are, never make a shown word another in the first
-/// pass. The second pass guards against less: there are two lists that differ in one column and are read as different
-/// words, and one column (NTSC) or two (PAL) turned over in a list that shows a word can make it read as another.
+/// Two lists of one length that show different words differ in 4 columns at least (NTSC), or 6 (PAL), and there are two
+/// that differ in no more. So fewer columns turned over, wherever they are, never make another word of one in the first
+/// pass. The second pass guards against less: two lists that differ in one column can be read as different words there,
+/// and one column (NTSC) or two (PAL) turned over in a list that shows a word can make it read as another.
 pub fn words_apart()
     ensures apart { (system : System) (levels others : List Bool) (v w : ℕ)
         → Shows system levels v → Shows system others w → length levels ≡ length others
@@ -104,10 +106,12 @@ pub fn words_apart()
     ensures twice { (system : System)
         → IsReading system (turned_twice system) (record { outcome = Word 8388609; pass = 2 }) }
     ensures turned { (system : System)
-        → (differences (near_first system) (turned_once system) ≡ 1)
+        → (length (turned_once system) ≡ width_of system) × (length (turned_twice system) ≡ width_of system)
+        × (differences (near_first system) (turned_once system) ≡ 1)
+        × (differences (near_first system) (turned_twice system) ≡ 2)
         × (differences (turned_once system) (turned_twice system) ≡ 1) }
     ensures there { IsReading Ntsc turned_there (record { outcome = Word 8388609; pass = 2 })
-        × (differences (near_first Ntsc) turned_there ≡ 1) }
+        × (length turned_there ≡ 910) × (differences (near_first Ntsc) turned_there ≡ 1) }
 {}
 
 /// A list of levels has exactly one list of smoothed levels.

@@ -12,5 +12,5 @@ returns c = record {
   once = once_read;
   twice = twice_read;
   turned = turned;
-  there = (there_read, refl);
+  there = (there_read, refl, refl);
 }
