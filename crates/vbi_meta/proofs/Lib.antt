@@ -9,3 +9,4 @@ pub mod RecordTexts
 pub mod Refusals
 pub mod ShownLines
 pub mod ValueReads
+pub mod WorkedPlain

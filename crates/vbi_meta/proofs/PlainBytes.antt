@@ -41,8 +41,11 @@ passes byte e = go (either (leb 32 byte && (leb byte 126 && not (eqb byte 92))) 
     go (inl h) =
         let low = and_parts (leb 32 byte) (leb byte 126 && not (eqb byte 92)) h in
         let high = and_parts (leb byte 126) (not (eqb byte 92)) low.1 in
-        inl (leb-true 32 byte low.0, leb-true byte 126 high.0,
-        λ same. let bad : false ≡ true = subst (λ (k : ℕ). not (eqb k 92) ≡ true) same high.1 in cc)
+        inl (
+          leb-true 32 byte low.0,
+          leb-true byte 126 high.0,
+          λ same. let bad : false ≡ true = subst (λ (k : ℕ). not (eqb k 92) ≡ true) same high.1 in cc,
+        )
     go (inr h) = inr (eqb-true byte 10 h)
 
 tested : (text : List ℕ) → are_plain text ≡ true → AllByRecursion IsPlain text
