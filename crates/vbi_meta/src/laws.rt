@@ -1,17 +1,18 @@
 //! Laws over the definitions: each function's contract is one, for every config and stream.
 
-ghost use Rattle.std.specs.Prelude.{◌≡◌, ℕ, ◌≤◌, List, [], ◌∷◌, length, codes, Option};
-ghost use Rattle.json.specs.Token.{number};
+ghost use Rattle.std.specs.Prelude.{◌≡◌, ℕ, ◌≤◌, List, length, Option};
 ghost use Rattle.serde_json.specs.Data.{Data};
 ghost use Rattle.vbi_field.specs.ConfigView.{ConfigView};
 ghost use Rattle.vbi_field.specs.Extracts.{ExtractsAll};
 ghost use Rattle.vbi_field.specs.Kinds.{document};
+ghost use Rattle.vbi_meta.specs.Plain.{IsSmall, IsPlainText};
+ghost use Rattle.json.specs.Token.{number};
+ghost use Rattle.std.specs.Prelude.{[], ◌∷◌, codes};
 ghost use Rattle.vbi_field.specs.Ran.{Counts};
 ghost use Rattle.vbi_field.specs.Texts.{whole_text};
 ghost use Rattle.vbi_field.specs.declared.summary.Summary.{Summary};
 ghost use Rattle.vbi_meta.specs.DocumentValue.{IsConfig, IsOfRun, document_value};
 ghost use Rattle.vbi_meta.specs.Metadata.{most_bytes, IsMetadata, IsUnread};
-ghost use Rattle.vbi_meta.specs.Plain.{IsSmall, IsPlainText};
 ghost use Rattle.vbi_meta.specs.ReadBack.{IsReadAs, Tells, ReadsBack};
 ghost use Rattle.vbi_meta.specs.declared.fault.MetaFault.{MetaFault};
 ghost use Rattle.vbi_meta.specs.declared.fault.MetaFault.TheVariants.{OutOfMemory};
@@ -55,8 +56,8 @@ pub fn plain_document()
         → IsConfig c → ExtractsAll document c input n z text summary → IsPlainText text }
 {}
 
-/// Numbers that are small, and such as aren't: one with a point, an exponent or a sign, and 2 ^ 24; a text that is plain,
-/// and such as aren't: one with an escape, and one with a byte that isn't printed.
+/// Numbers that are small, and such as aren't: one with a point, an exponent or a sign, and 2 ^ 24. A text that is
+/// plain, and such as aren't: one with an escape, and one with a byte that isn't printed.
 pub fn worked_plain()
     ensures small { IsSmall (number (codes "0")) × IsSmall (number (codes "16777215")) }
     ensures point { IsSmall (number (codes "1.5")) → ⊥ }
