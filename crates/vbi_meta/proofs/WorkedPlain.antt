@@ -43,11 +43,11 @@ too_big (n, h, e) =
 
 -- ---- texts
 
-pub list_is_plain : IsPlainText (codes "[\"~\"]\n")
+pub list_is_plain : IsPlainText (codes "[\" ~\"]\n")
 unfolding lex punctuate content
 list_is_plain = record {
-  bytes = All-from_recursion IsPlain (codes "[\"~\"]\n") (known (codes "[\"~\"]\n") refl).all;
-  numbers = All-from_recursion IsSmall (tokens (codes "[\"~\"]\n")) (tt, (tt, (tt, tt)));
+  bytes = All-from_recursion IsPlain (codes "[\" ~\"]\n") (known (codes "[\" ~\"]\n") refl).all;
+  numbers = All-from_recursion IsSmall (tokens (codes "[\" ~\"]\n")) (tt, (tt, (tt, tt)));
 }
 
 no_backslash : IsPlain 92 → ⊥
@@ -58,8 +58,15 @@ no_delete : IsPlain 127 → ⊥
 no_delete (inl h) = omega (arith, h.1)
 no_delete (inr e) = omega (arith, e)
 
+no_control : IsPlain 31 → ⊥
+no_control (inl h) = omega (arith, h.0)
+no_control (inr e) = omega (arith, e)
+
 pub no_escape : IsPlainText (codes "\"\\n\"") → ⊥
 no_escape p = no_backslash (recursion_from_All IsPlain (codes "\"\\n\"") p.bytes).1.0
 
-pub not_printed : IsPlainText (34 ∷ 127 ∷ 34 ∷ []) → ⊥
-not_printed p = no_delete (recursion_from_All IsPlain (34 ∷ 127 ∷ 34 ∷ []) p.bytes).1.0
+pub not_printed : (IsPlainText (34 ∷ 127 ∷ 34 ∷ []) → ⊥) × (IsPlainText (34 ∷ 31 ∷ 34 ∷ []) → ⊥)
+not_printed = (
+  λ p. no_delete (recursion_from_All IsPlain (34 ∷ 127 ∷ 34 ∷ []) p.bytes).1.0,
+  λ p. no_control (recursion_from_All IsPlain (34 ∷ 31 ∷ 34 ∷ []) p.bytes).1.0,
+)

@@ -64,7 +64,7 @@ pub fn worked_plain()
     ensures exponent { IsSmall (number (codes "1e3")) → ⊥ }
     ensures sign { IsSmall (number (codes "-1")) → ⊥ }
     ensures big { IsSmall (number (codes "16777216")) → ⊥ }
-    ensures plain { IsPlainText (codes "[\"~\"]\n") }
+    ensures plain { IsPlainText (codes "[\" ~\"]\n") }
     ensures escape { IsPlainText (codes "\"\\n\"") → ⊥ }
-    ensures unprinted { IsPlainText (34 ∷ 127 ∷ 34 ∷ []) → ⊥ }
+    ensures unprinted { (IsPlainText (34 ∷ 127 ∷ 34 ∷ []) → ⊥) × (IsPlainText (34 ∷ 31 ∷ 34 ∷ []) → ⊥) }
 {}

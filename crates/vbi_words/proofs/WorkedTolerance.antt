@@ -112,25 +112,25 @@ late_not_blurred b = let bad : false ≡ true = b.others 4 refl refl in cc
 
 -- ---- a glitch
 
-three_others : (c : ℕ) → (c < 4) ⊎ (7 ≤ c) → level_at (low 4 ++ (high 3 ++ low 5)) c ≡ level_at (low 12) c
-three_others c (inl l) = in_run 4 false (high 3 ++ low 5) c l ∙ sym (all_low 12 c)
+three_others : (c : ℕ) → (c < 4) ⊎ (7 ≤ c) → level_at (low 4 ++ (high 3 ++ low 4)) c ≡ level_at (low 11) c
+three_others c (inl l) = in_run 4 false (high 3 ++ low 4) c l ∙ sym (all_low 11 c)
 three_others c (inr l) =
     let place : 4 + (3 + (c - 7)) ≡ c = omega arith in
-    subst (λ (i : ℕ). level_at (low 4 ++ (high 3 ++ low 5)) i ≡ level_at (low 12) i) place
-    (past_run 4 false (high 3 ++ low 5) (3 + (c - 7)) ∙ past_run 3 true (low 5) (c - 7) ∙ all_low 5 (c - 7)
-    ∙ sym (all_low 12 (4 + (3 + (c - 7)))))
+    subst (λ (i : ℕ). level_at (low 4 ++ (high 3 ++ low 4)) i ≡ level_at (low 11) i) place
+    (past_run 4 false (high 3 ++ low 4) (3 + (c - 7)) ∙ past_run 3 true (low 4) (c - 7) ∙ all_low 4 (c - 7)
+    ∙ sym (all_low 11 (4 + (3 + (c - 7)))))
 
-three_over : (c : ℕ) → 4 ≤ c → c < 7 → level_at (low 4 ++ (high 3 ++ low 5)) c ≡ not (level_at (low 12) c)
+three_over : (c : ℕ) → 4 ≤ c → c < 7 → level_at (low 4 ++ (high 3 ++ low 4)) c ≡ not (level_at (low 11) c)
 three_over c from to =
     let place : 4 + (c - 4) ≡ c = omega arith in
-    subst (λ (i : ℕ). level_at (low 4 ++ (high 3 ++ low 5)) i ≡ not (level_at (low 12) i)) place
-    (past_run 4 false (high 3 ++ low 5) (c - 4) ∙ in_run 3 true (low 5) (c - 4) (omega arith)
-    ∙ ap not (sym (all_low 12 (4 + (c - 4)))))
+    subst (λ (i : ℕ). level_at (low 4 ++ (high 3 ++ low 4)) i ≡ not (level_at (low 11) i)) place
+    (past_run 4 false (high 3 ++ low 4) (c - 4) ∙ in_run 3 true (low 4) (c - 4) (omega arith)
+    ∙ ap not (sym (all_low 11 (4 + (c - 4)))))
 
 -- three columns are one, with four equal ones on either side
-pub three_glitch : HasGlitches 1 (low 12) (low 4 ++ (high 3 ++ low 5))
+pub three_glitch : HasGlitches 1 (low 11) (low 4 ++ (high 3 ++ low 4))
 three_glitch = (
-  low 12,
+  low 11,
   refl,
   record {
     g = 4;
@@ -139,7 +139,7 @@ three_glitch = (
     few = lit≤ tt;
     before = lit≤ tt;
     behind = lit≤ tt;
-    equal = λ c from to. all_low 12 c ∙ sym (all_low 12 4);
+    equal = λ c from to. all_low 11 c ∙ sym (all_low 11 4);
     same_length = refl;
     others = three_others;
     over = three_over;
@@ -147,11 +147,11 @@ three_glitch = (
 )
 
 -- four are none
-pub four_no_glitch : HasGlitches 1 (low 12) (low 4 ++ (high 4 ++ low 4)) → ⊥
+pub four_no_glitch : HasGlitches 1 (low 11) (low 4 ++ (high 4 ++ low 3)) → ⊥
 four_no_glitch (before, e, x) = go (cases_lt 4 x.g) (cases_lt 7 (x.g + x.m))
   where
     low_before : (c : ℕ) → level_at before c ≡ false
-    low_before c = ap (λ (t : List Bool). level_at t c) e ∙ all_low 12 c
+    low_before c = ap (λ (t : List Bool). level_at t c) e ∙ all_low 11 c
 
     go : (4 < x.g) ⊎ (x.g ≤ 4) → (7 < x.g + x.m) ⊎ (x.g + x.m ≤ 7) → ⊥
     go (inl l) b = let bad : true ≡ false = x.others 4 (inl l) ∙ low_before 4 in cc

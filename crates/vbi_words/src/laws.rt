@@ -185,8 +185,8 @@ pub fn worked_tolerance()
     ensures jittered { IsJittered little_row little_early }
     ensures alone { IsBlurred little_row little_spiked × (NoneAlone little_spiked → ⊥) }
     ensures late { IsBlurred little_row little_late → ⊥ }
-    ensures glitch { HasGlitches 1 (low 12) (low 4 ++ (high 3 ++ low 5)) }
-    ensures no_glitch { HasGlitches 1 (low 12) (low 4 ++ (high 4 ++ low 4)) → ⊥ }
+    ensures glitch { HasGlitches 1 (low 11) (low 4 ++ (high 3 ++ low 4)) }
+    ensures no_glitch { HasGlitches 1 (low 11) (low 4 ++ (high 4 ++ low 3)) → ⊥ }
     ensures amply { ShowsAmply Ntsc (ones_and_five 13 16) 16777215 × ShowsAmply Pal (ones_and_five 16 20) 16777215 }
     ensures not_amply { ShowsAmply Ntsc (ones_and_five 11 11) 16777215 → ⊥ }
     ensures read { ReadsWord Ntsc ones_of_11 16777215 }
