@@ -42,8 +42,8 @@ pub record ReadsWord (system : System) (levels : List Bool) (word : ℕ) : Type 
   pub reading : IsReading system levels (record { outcome = Word word; pass = pass })
   pub first : (pass ≡ 1) ↔ NoneAlone levels
 
--- so many glitches, one after the other: each turns over one to three columns, on either side of which four have one
--- level before it
+-- n glitches, one after the other, make these levels the turned ones: each turns over one to three columns that have
+-- four equal columns on either side, as the glitches before it left them
 abbrev pub HasGlitches : ℕ → List Bool → List Bool → Type 0
 HasGlitches zero levels turned = turned ≡ levels
 HasGlitches (suc n) levels turned = (before : List Bool) × HasGlitches n levels before × Glitch before turned
