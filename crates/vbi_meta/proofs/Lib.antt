@@ -3,7 +3,11 @@ pub mod DocumentTells
 pub mod DocumentTexts
 pub mod Lengths
 pub mod LineFeeds
+pub mod PlainBytes
+pub mod PlainDocument
+pub mod PlainTokens
 pub mod RecordTexts
 pub mod Refusals
 pub mod ShownLines
 pub mod ValueReads
+pub mod WorkedPlain

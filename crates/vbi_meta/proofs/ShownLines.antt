@@ -119,7 +119,7 @@ short_line : (system : System) → line_bytes system < 2 ^ 64
 short_line Ntsc = lit< tt
 short_line Pal = lit< tt
 
-short_levels : (c : ConfigView) (z : List ℕ) (i r : ℕ) → length (row_levels c.levels (line_at c.system z i r)) < 2 ^ 64
+pub short_levels : (c : ConfigView) (z : List ℕ) (i r : ℕ) → length (row_levels c.levels (line_at c.system z i r)) < 2 ^ 64
 short_levels c z i r =
     let row = line_at c.system z i r in
     let long : length row ≤ line_bytes c.system =

@@ -5,6 +5,9 @@ ghost use Rattle.serde_json.specs.Data.{Data};
 ghost use Rattle.vbi_field.specs.ConfigView.{ConfigView};
 ghost use Rattle.vbi_field.specs.Extracts.{ExtractsAll};
 ghost use Rattle.vbi_field.specs.Kinds.{document};
+ghost use Rattle.vbi_meta.specs.Plain.{IsSmall, IsPlainText};
+ghost use Rattle.json.specs.Token.{number};
+ghost use Rattle.std.specs.Prelude.{[], ◌∷◌, codes};
 ghost use Rattle.vbi_field.specs.Ran.{Counts};
 ghost use Rattle.vbi_field.specs.Texts.{whole_text};
 ghost use Rattle.vbi_field.specs.declared.summary.Summary.{Summary};
@@ -42,4 +45,26 @@ pub fn document_is_metadata()
         → IsMetadata text value → value ≡ document_value c z }
     ensures fault { (c : ConfigView) (z text : List ℕ) (fault : MetaFault) → IsOfRun c z
         → text ≡ whole_text document c z → IsUnread text fault → fault ≡ OutOfMemory }
+{}
+
+/// The document of a stream is plain: its bytes are printed ASCII without a backslash, so without escapes, and line
+/// feeds; each number in it is written in decimal digits alone and is below 2 ^ 24. So a reader that knows ASCII alone,
+/// or keeps numbers as floats of 32 bits or more, loses nothing.
+pub fn plain_document()
+    ensures text { (c : ConfigView) (z : List ℕ) → IsOfRun c z → IsPlainText (whole_text document c z) }
+    ensures extracted { (c : ConfigView) (input : Option (List ℕ)) (n : Counts) (z text : List ℕ) (summary : Summary)
+        → IsConfig c → ExtractsAll document c input n z text summary → IsPlainText text }
+{}
+
+/// Numbers that are small, and such as aren't: one with a point, an exponent or a sign, and 2 ^ 24. A text that is
+/// plain, and such as aren't: one with an escape, and one with a byte that isn't printed.
+pub fn worked_plain()
+    ensures small { IsSmall (number (codes "0")) × IsSmall (number (codes "16777215")) }
+    ensures point { IsSmall (number (codes "1.5")) → ⊥ }
+    ensures exponent { IsSmall (number (codes "1e3")) → ⊥ }
+    ensures sign { IsSmall (number (codes "-1")) → ⊥ }
+    ensures big { IsSmall (number (codes "16777216")) → ⊥ }
+    ensures plain { IsPlainText (codes "[\" ~\"]\n") }
+    ensures escape { IsPlainText (codes "\"\\n\"") → ⊥ }
+    ensures unprinted { (IsPlainText (34 ∷ 127 ∷ 34 ∷ []) → ⊥) × (IsPlainText (34 ∷ 31 ∷ 34 ∷ []) → ⊥) }
 {}

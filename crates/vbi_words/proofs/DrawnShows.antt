@@ -14,6 +14,7 @@ use Rattle.vbi_words.specs.Geometry.{width_of, least_half, greatest_half}
 use Rattle.vbi_words.specs.Levels.{LevelsView, is_high_of, levels_of}
 use Rattle.vbi_words.specs.Words.{IsWord, halves_of, lowest_bits, cell_of}
 use Rattle.vbi_words.specs.Shows.{Shows, Spells}
+use Rattle.vbi_words.specs.Jitter.{ShowsAmply}
 use Rattle.vbi_words.specs.Outcomes.{AllLow}
 use Rattle.vbi_words.specs.Drawn.{boundary, DrawnHigh, IsDrawnRow}
 use Rattle.vbi_words.proofs.Bits.{length-lowest_bits}
@@ -21,8 +22,9 @@ use Rattle.vbi_words.proofs.Runs.{equal_from}
 
 -- ---- the boundaries
 
-gaps_of : (system : System) (j : ℕ) → (least_half system + boundary system j ≤ boundary system (j + 1))
-    × (boundary system (j + 1) ≤ boundary system j + greatest_half system)
+-- with two columns to spare
+gaps_of : (system : System) (j : ℕ) → (least_half system + 2 + boundary system j ≤ boundary system (j + 1))
+    × (boundary system (j + 1) ≤ boundary system j + (greatest_half system - 2))
 gaps_of Ntsc j = omega arith
 gaps_of Pal j = omega arith
 
@@ -38,6 +40,13 @@ length-halves : (bits : List Bool) → length (flat_map cell_of bits) ≡ 2 * le
 length-halves [] = refl
 length-halves (true ∷ bits) = omega (arith, length-halves bits)
 length-halves (false ∷ bits) = omega (arith, length-halves bits)
+
+-- halves are also spelled within wider limits
+spells_wider : (lo hi least greatest : ℕ) → least ≤ lo → hi ≤ greatest → (halves drawn : List Bool)
+    → Spells lo hi halves drawn → Spells least greatest halves drawn
+spells_wider lo hi least greatest less more [] drawn e = e
+spells_wider lo hi least greatest less more (h ∷ halves) drawn (n, rest, low, high, e, spelled) =
+    (n, rest, omega arith, omega arith, e, spells_wider lo hi least greatest less more halves rest spelled)
 
 -- ---- levels from boundary to boundary
 
@@ -65,7 +74,7 @@ module _ (system : System) (s : List Bool) (after : ℕ) (long : length s ≡ wi
       (subst (λ (m : ℕ). begin m ≤ k) e low) (subst (λ (m : ℕ). k < begin (m + 1)) e high)
 
   spelled : (halves : List Bool) (j : ℕ) → j + length halves ≡ 48 → HasHalves halves j
-      → (drawn : List Bool) × Spells (least_half system) (greatest_half system) halves drawn
+      → (drawn : List Bool) × Spells (least_half system + 2) (greatest_half system - 2) halves drawn
       × (drop (begin j) s ≡ drawn ++ replicate after false)
   spelled [] j e each = ([], refl, ap (λ (k : ℕ). drop (begin k) s) (sym (add-zero j) ∙ e) ∙ behind)
   spelled (h ∷ halves) j e each =
@@ -84,6 +93,18 @@ module _ (system : System) (s : List Bool) (after : ℕ) (long : length s ≡ wi
       )
 
 -- ---- the levels of a drawn row
+
+amply_shows : (system : System) (levels : List Bool) (word : ℕ) → ShowsAmply system levels word
+    → Shows system levels word
+amply_shows system levels word s = record {
+  is_word = s.is_word;
+  before = s.before;
+  drawn = s.drawn;
+  after = s.after;
+  spelled = spells_wider (least_half system + 2) (greatest_half system - 2) (least_half system) (greatest_half system)
+      (omega arith) (omega arith) (halves_of word) s.drawn s.spelled;
+  whole = s.whole;
+}
 
 module _ (system : System) (slicing : LevelsView) (word : ℕ) (order : slicing.black < slicing.white) (samples : List ℕ)
     (row : IsDrawnRow system slicing (Some word) samples) where
@@ -169,17 +190,26 @@ module _ (system : System) (slicing : LevelsView) (word : ℕ) (order : slicing.
       in_half i k (omega (arith, l, many_halves)) (subst (λ (m : ℕ). edge m ≤ k) e low)
       (subst (λ (m : ℕ). k < edge (m + 1)) e high) (half i) refl
 
-  pub drawn_shows : IsWord word → Shows system levels word
-  drawn_shows is_word =
+  some_left : (system : System) → 5 ≤ width_of system - boundary system 48
+  some_left Ntsc = omega arith
+  some_left Pal = omega arith
+
+  -- there are two columns to spare in each half cell
+  pub drawn_amply : IsWord word → ShowsAmply system levels word
+  drawn_amply is_word =
       let d = spelled system levels left same_length back (halves_of word) 0 (omega (arith, many_halves)) has_halves in
       record {
         is_word = is_word;
         before = edge 0;
         drawn = d.0;
         after = left;
+        lows = some_left system;
         spelled = d.1;
         whole = front ∙ ap (λ (t : List Bool). replicate (edge 0) false ++ t) d.2;
       }
+
+  pub drawn_shows : IsWord word → Shows system levels word
+  drawn_shows is_word = amply_shows system levels word (drawn_amply is_word)
 
 -- the drawn row of no word has no high level
 module _ (system : System) (slicing : LevelsView) (order : slicing.black < slicing.white) (samples : List ℕ)

@@ -14,10 +14,10 @@ use Rattle.vbi_words.proofs.Machine.{State, lead, first, second, tail, dead, lev
 use Rattle.vbi_words.proofs.SystemMachine.{next_of, ending_of, state_after, state_at, state_next, dead_later}
 use Rattle.vbi_words.proofs.Shown
 
-dead_none : (system : System) (levels : List Bool) → state_after system levels ≡ dead → ShowsNone system levels
+pub dead_none : (system : System) (levels : List Bool) → state_after system levels ≡ dead → ShowsNone system levels
 dead_none system levels e = Shown.ended_none system levels (ap (ending_of system) e)
 
-dead_high : (system : System) (levels : List Bool) → state_after system levels ≡ dead → AllLow levels → ⊥
+pub dead_high : (system : System) (levels : List Bool) → state_after system levels ≡ dead → AllLow levels → ⊥
 dead_high system levels e low = let f : false ≡ true = ap is_lead (sym e) ∙ Shown.low_lead system levels low in cc
 
 -- a state that isn't dead has the level of the column before it

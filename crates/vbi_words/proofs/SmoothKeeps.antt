@@ -33,7 +33,7 @@ steady_four true false s = refl
 steady_four false true s = refl
 steady_four false false s = refl
 
-steady_run : (v h : Bool) (k : ℕ) (s : List Bool) → 4 ≤ k
+pub steady_run : (v h : Bool) (k : ℕ) (s : List Bool) → 4 ≤ k
     → steady v (replicate k h ++ s) ≡ replicate 3 v ++ (replicate (k - 3) h ++ steady h s)
 steady_run v h (suc (suc (suc (suc k)))) s l =
     let e : suc k ≡ suc (suc (suc (suc k))) - 3 = omega arith in

@@ -1,5 +1,5 @@
 -- What smoothing does to a list that shows a word, and to one with a glitch.
-use Rattle.std.proofs.Common.{◌≡◌, ℕ, ◌≤◌, ◌<◌, ◌+◌, ◌-◌, Bool, false, List, ◌++◌, ◌⊎◌, inl}
+use Rattle.std.proofs.Common.{◌≡◌, ℕ, suc, ◌≤◌, ◌<◌, ◌+◌, ◌-◌, Bool, false, List, ◌++◌, ◌⊎◌, inl}
 use Rattle.std.proofs.Common.{inr, refl, ap, sym, ◌∙◌, subst, arith, length, take, drop}
 use Rattle.std.proofs.Math.ListN.{replicate, take-append-drop}
 use Rattle.std.proofs.lemmas.List.{ext_get_or, get_or_append_left, get_or-append-add}
@@ -12,11 +12,11 @@ use Rattle.vbi_words.specs.Words.{halves_of}
 use Rattle.vbi_words.specs.Shows.{Shows, ShowsNone}
 use Rattle.vbi_words.specs.Levels.{level_at}
 use Rattle.vbi_words.specs.Outcomes.{AllLow}
-use Rattle.vbi_words.specs.Smooth.{smooth_of, Glitch}
+use Rattle.vbi_words.specs.Smooth.{latest, smooth_of, Glitch}
 use Rattle.vbi_words.specs.declared.outcome.Outcome.TheVariants.{Word}
 use Rattle.vbi_words.specs.Readings.{IsReading}
 use Rattle.vbi_words.proofs.Runs.{not_same, equal_from}
-use Rattle.vbi_words.proofs.Smoothing.{length-smooth_of}
+use Rattle.vbi_words.proofs.Smoothing.{length-smooth_of, smooth_level, four_next}
 use Rattle.vbi_words.proofs.SmoothKeeps.{between, moved, later, same_smooth}
 
 least_four : (system : System) → 4 ≤ least_half system
@@ -60,7 +60,7 @@ level_later system levels word s c inside =
     ∙ ap (λ (t : List Bool). level_at t (c + 3)) r.2 ∙ get_or_append_left (smooth_of levels) r.0 false (c + 3) within
 
 -- two shown lists that are smoothed to the same differ in their last three columns at most
-shown_alike : (system : System) (s t : List Bool) (v w : ℕ) → Shows system s v → Shows system t w
+pub shown_alike : (system : System) (s t : List Bool) (v w : ℕ) → Shows system s v → Shows system t w
     → smooth_of s ≡ smooth_of t → (c : ℕ) → c + 3 < length s → level_at s c ≡ level_at t c
 shown_alike system s t v w a b same c inside =
     let long : length (smooth_of s) ≡ length (smooth_of t) = ap length same in
@@ -140,10 +140,18 @@ module _ (levels turned : List Bool) (x : Glitch levels turned) where
       ∙ ap (λ (t : List Bool). take (g - 4) levels ++ between v (replicate m (not v)) t) same_back in
       ap smooth_of here ∙ same_smooth (take (g - 4) levels) (drop end levels) v m x.few ∙ ap smooth_of (sym there)
 
-  pub turned_none : (system : System) (word : ℕ) → Shows system levels word → ShowsNone system turned
-  turned_none system word s w t =
-      let alike : level_at turned g ≡ v = shown_alike system turned levels w word t s smooth_same g
-      (omega (arith, x.same_length, x.behind, x.some)) in
+  -- the smoothed level three columns behind the glitch's first column is that of the columns around it
+  smooth_there : level_at (smooth_of levels) (g + 3) ≡ v
+  smooth_there =
+      let place : g + 3 - 2 ≡ suc g = omega arith in
+      smooth_level levels (g + 3) (omega (arith, x.behind, x.some)) ∙ ap (latest levels) place
+      ∙ four_next levels g v (λ i l. x.equal (g + i) (omega arith) (omega (arith, x.some)))
+
+  pub turned_none : (system : System) → ShowsNone system turned
+  turned_none system w t =
+      let alike : level_at turned g ≡ v
+      = level_later system turned w t g (omega (arith, x.same_length, x.behind, x.some))
+      ∙ ap (λ (s : List Bool). level_at s (g + 3)) smooth_same ∙ smooth_there in
       not_same v (sym alike ∙ x.over g (omega arith) (omega (arith, x.some)))
 
   -- one of its levels is high
@@ -170,7 +178,7 @@ pub glitch_gone : (system : System) (levels turned : List Bool) (word : ℕ) (cu
     × IsReading system turned (record { outcome = Word word; pass = 2 })
 glitch_gone system levels turned word cut l x =
     let same : smooth_of turned ≡ smooth_of levels = smooth_same levels turned x in
-    let none : ShowsNone system turned = turned_none levels turned x system word cut in
+    let none : ShowsNone system turned = turned_none levels turned x system in
     let shown : Shows system (smooth_of turned) word
     = subst (λ (t : List Bool). Shows system t word) (sym same) (smooth_shows system levels word cut l) in
     (same, none, inr (refl, none, turned_high levels turned x, shown))

@@ -133,7 +133,7 @@ NoneAt s d = (u : Bool) → FourEqual s d u → ⊥
 abbrev FourOrStay : List Bool → ℕ → Type 0
 FourOrStay s d = ((v : Bool) × FourEqual s d v) ⊎ ((latest s (suc d) ≡ latest s d) × NoneAt s d)
 
-four_next : (s : List Bool) (d : ℕ) → (v : Bool) → FourEqual s d v → latest s (suc d) ≡ v
+pub four_next : (s : List Bool) (d : ℕ) → (v : Bool) → FourEqual s d v → latest s (suc d) ≡ v
 unfolding latest
 four_next s d v four =
     let one : level_at s d ≡ v = ap (level_at s) (sym (add-zero d)) ∙ four 0 (omega arith) in

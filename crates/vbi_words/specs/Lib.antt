@@ -7,7 +7,9 @@ pub mod RunLimits
 pub mod Smooth
 pub mod Readings
 pub mod Drawn
+pub mod Jitter
 pub mod WorkedLines
+pub mod Distance
 pub mod Codes
 pub mod Formats
 pub mod CodeTable

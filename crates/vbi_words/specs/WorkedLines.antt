@@ -1,4 +1,4 @@
--- A few NTSC lines, run by run, at which the definitions can be seen at work.
+-- A few lines, run by run, at which the definitions can be seen at work.
 use Rattle.std.specs.Prelude.{ℕ, Bool, true, false, List, ◌++◌, replicate}
 use Rattle.std.specs.List.{flat_map}
 
@@ -9,6 +9,8 @@ low n = replicate n false
 -- n high columns
 abbrev pub high : ℕ → List Bool
 high n = replicate n true
+
+-- ---- five lines of NTSC
 
 -- 20 high columns are more than one half cell and fewer than two, so the change behind them, at column 34, is hopeless
 abbrev pub run_of_20 : List Bool
@@ -30,3 +32,37 @@ late_high = low 900 ++ high 10
 -- 24 ones, each half cell of the fewest columns
 abbrev pub ones_of_11 : List Bool
 ones_of_11 = flat_map (λ (cell : Bool). low 11 ++ high 11) (replicate 24 true) ++ low 382
+
+-- ---- one run of another length, in lines of either system
+
+-- 24 ones, each half cell of n columns but the last, a high one of m
+abbrev pub ones_ending : ℕ → ℕ → List Bool
+ones_ending n m =
+    flat_map (λ (cell : Bool). low n ++ high n) (replicate 23 true) ++ (low n ++ (high m ++ low 14))
+
+-- a one and 23 zeros, each half cell of n columns but the second and the third, which are one high run of m
+abbrev pub zeros_behind : ℕ → ℕ → List Bool
+zeros_behind n m =
+    low n ++ (high m ++ (low n ++ (flat_map (λ (cell : Bool). high n ++ low n) (replicate 22 true) ++ low 14)))
+
+-- ---- a few columns, for tolerance
+
+-- a row with changes of level at columns 3 and 7, which may be blurred in columns 2, 3, 6 and 7
+abbrev pub little_row : List Bool
+little_row = low 3 ++ (high 4 ++ low 3)
+
+-- its first change a column early
+abbrev pub little_early : List Bool
+little_early = low 2 ++ (high 5 ++ low 3)
+
+-- the two columns beside its first change turned over, so that they stand alone
+abbrev pub little_spiked : List Bool
+little_spiked = low 2 ++ (high 1 ++ (low 1 ++ (high 3 ++ low 3)))
+
+-- its first change two columns late
+abbrev pub little_late : List Bool
+little_late = low 5 ++ (high 2 ++ low 3)
+
+-- 24 ones, each low half cell of m columns and each high one of n, and five lows
+abbrev pub ones_and_five : ℕ → ℕ → List Bool
+ones_and_five m n = flat_map (λ (cell : Bool). low m ++ high n) (replicate 24 true) ++ low 5

@@ -1,0 +1,68 @@
+-- Texts of plain bytes.
+use Rattle.std.proofs.Common.{◌≡◌, ℕ, ◌<◌, ◌^◌, ◌&&◌, ◌||◌, not, Bool, true, false, List, [], ◌∷◌}
+use Rattle.std.proofs.Common.{◌++◌, ◌⊎◌, inl, inr, decimal, refl, subst, arith, leb, eqb}
+use Rattle.std.proofs.lemmas.Bool.{leb-true, eqb-true, and_parts}
+use Rattle.std.proofs.lemmas.Fmt.{decimal_is_IsNumeral}
+use Rattle.std.proofs.lemmas.Str.Parse.{digit_from_value}
+use Rattle.std.specs.List.{AllByRecursion}
+use Rattle.std.specs.Str.Parse.{AllDigits}
+use Rattle.vbi_meta.specs.Plain.{IsPlain}
+
+-- each byte of the text is plain
+pub record Plain (text : List ℕ) : Type 0 where
+  pub all : AllByRecursion IsPlain text
+
+-- ---- texts
+
+append : (a b : List ℕ) → AllByRecursion IsPlain a → AllByRecursion IsPlain b → AllByRecursion IsPlain (a ++ b)
+append [] b h k = k
+append (x ∷ a) b h k = (h.0, append a b h.1 k)
+
+-- one text behind the other
+pub then : {a b : List ℕ} → Plain a → Plain b → Plain (a ++ b)
+then {a} {b} h k = record { all = append a b h.all k.all }
+
+-- the same as a test
+abbrev pub is_plain : ℕ → Bool
+is_plain byte = (leb 32 byte && (leb byte 126 && not (eqb byte 92))) || eqb byte 10
+
+abbrev pub are_plain : List ℕ → Bool
+are_plain [] = true
+are_plain (x ∷ text) = is_plain x && are_plain text
+
+either : (p q : Bool) → (p || q) ≡ true → (p ≡ true) ⊎ (q ≡ true)
+either true q e = inl refl
+either false q e = inr e
+
+passes : (byte : ℕ) → is_plain byte ≡ true → IsPlain byte
+passes byte e = go (either (leb 32 byte && (leb byte 126 && not (eqb byte 92))) (eqb byte 10) e)
+  where
+    go : ((leb 32 byte && (leb byte 126 && not (eqb byte 92))) ≡ true) ⊎ (eqb byte 10 ≡ true) → IsPlain byte
+    go (inl h) =
+        let low = and_parts (leb 32 byte) (leb byte 126 && not (eqb byte 92)) h in
+        let high = and_parts (leb byte 126) (not (eqb byte 92)) low.1 in
+        inl (
+          leb-true 32 byte low.0,
+          leb-true byte 126 high.0,
+          λ same. let bad : false ≡ true = subst (λ (k : ℕ). not (eqb k 92) ≡ true) same high.1 in cc,
+        )
+    go (inr h) = inr (eqb-true byte 10 h)
+
+tested : (text : List ℕ) → are_plain text ≡ true → AllByRecursion IsPlain text
+tested [] e = tt
+tested (x ∷ text) e =
+    let parts = and_parts (is_plain x) (are_plain text) e in
+    (passes x parts.0, tested text parts.1)
+
+-- a text that is known
+pub known : (text : List ℕ) → are_plain text ≡ true → Plain text
+known text e = record { all = tested text e }
+
+digits_plain : (ds : List ℕ) → AllDigits 10 ds → AllByRecursion IsPlain ds
+digits_plain [] h = tt
+digits_plain (d ∷ ds) h =
+    let range = digit_from_value d h.0 in
+    (inl (omega arith, omega arith, λ e. omega arith), digits_plain ds h.1)
+
+pub count : (n : ℕ) → n < 2 ^ 64 → Plain (decimal n)
+count n h = record { all = digits_plain (decimal n) (decimal_is_IsNumeral n h).0.1 }

@@ -1,0 +1,129 @@
+-- The document of a run is plain.
+use Rattle.std.proofs.Common.{◌≡◌, ℕ, ◌<◌, ◌^◌, ◌%◌, Bool, false, List, [], ◌∷◌, ◌++◌, length, refl}
+use Rattle.std.proofs.Common.{inl, inr, ◌∙◌, sym, subst, arith, lit<}
+use Rattle.std.proofs.lemmas.List.Elements.{All-from_recursion}
+use Rattle.std.specs.List.{AllByRecursion, range_with_len}
+use Rattle.std.specs.Prelude.{codes}
+use Rattle.json.proofs.Printed.Tokens.{tokens-print_spaced}
+use Rattle.json.proofs.Printed.Trees.{ArePrintable-json_tokens}
+use Rattle.json.specs.Lex.{tokens}
+use Rattle.json.specs.Print.{ArePrintable}
+use Rattle.json.specs.Spaced.{print_spaced}
+use Rattle.json.specs.Token.{Token}
+use Rattle.json.specs.Tree.{json_tokens}
+use Rattle.vbi_words.specs.declared.outcome.Outcome.{Outcome}
+use Rattle.vbi_words.specs.declared.outcome.Outcome.TheVariants.{Word, Blank, Unfinished, Change, Hold}
+use Rattle.vbi_words.specs.declared.system.System.{System}
+use Rattle.vbi_words.specs.declared.system.System.TheVariants.{Ntsc, Pal}
+use Rattle.vbi_words.specs.Geometry.{field_bytes}
+use Rattle.vbi_words.specs.Levels.{row_levels}
+use Rattle.vbi_words.specs.Readings.{Reads}
+use Rattle.vbi_line.proofs.OneReading.{is_reading}
+use Rattle.vbi_field.specs.ConfigView.{ConfigView}
+use Rattle.vbi_field.specs.Kinds.{document}
+use Rattle.vbi_field.specs.Stream.{line_at, fields_of, rest_of, reading_at, readings_at}
+use Rattle.vbi_field.specs.Texts.{text_before_tail, whole_text}
+use Rattle.vbi_meta.specs.DocumentValue.{IsOfRun}
+use Rattle.vbi_meta.specs.Plain.{IsPlain, IsSmall, IsPlainText}
+use Rattle.vbi_meta.proofs.DocumentReads.{few_fields}
+use Rattle.vbi_meta.proofs.DocumentTexts.{tokens_of, document_json, pieces, pieces_tokens, pieces_gaps, pieces_print}
+use Rattle.vbi_meta.proofs.LineFeeds.{tokens-line_feed}
+use Rattle.vbi_meta.proofs.PlainBytes.{Plain, then, known, count}
+use Rattle.vbi_meta.proofs.PlainTokens.{ArePlainTokens, IsPlainReading, ArePlainReadings, printed, document_tokens}
+use Rattle.vbi_meta.proofs.ShownLines.{IsShown, short_levels, field_shown}
+use Rattle.vbi_meta.proofs.ValueReads.{stream_reads}
+
+-- ---- the readings of a stream
+
+small_rest : (system : System) (bytes : ℕ) → bytes % field_bytes system < 2 ^ 24
+small_rest Ntsc bytes = omega arith
+small_rest Pal bytes = omega arith
+
+-- a cause is plain, and its column is within a line
+plain_reading : (system : System) (levels : List Bool) → length levels < 2 ^ 64 → (outcome : Outcome) (pass : ℕ)
+    → Reads system levels outcome pass → IsShown (record { outcome = outcome; pass = pass })
+    → IsPlainReading (record { outcome = outcome; pass = pass })
+plain_reading system levels short (Word w) pass (inl (p, shows)) shown = record {
+  value = shows.is_word.1;
+  pass = omega arith;
+  free = shown.free;
+  cause = known (codes "word") refl;
+}
+plain_reading system levels short (Word w) pass (inr (p, none, high, shows)) shown = record {
+  value = shows.is_word.1;
+  pass = omega arith;
+  free = shown.free;
+  cause = known (codes "word") refl;
+}
+plain_reading system levels short Blank pass (p, is) shown =
+    record { value = lit< tt; pass = omega arith; free = shown.free; cause = known (codes "blank") refl }
+plain_reading system levels short Unfinished pass (p, is, none) shown =
+    record { value = lit< tt; pass = omega arith; free = shown.free; cause = known (codes "unfinished") refl }
+plain_reading system levels short (Change c) pass (p, is, none) shown =
+    let inside : c < length levels = is.2.inside in
+    record {
+      value = lit< tt;
+      pass = omega arith;
+      free = shown.free;
+      cause = then (known (codes "change ") refl) (count c (omega arith));
+    }
+plain_reading system levels short (Hold c) pass (p, is, none) shown =
+    let inside : c < length levels = is.2.inside in
+    record {
+      value = lit< tt;
+      pass = omega arith;
+      free = shown.free;
+      cause = then (known (codes "hold ") refl) (count c (omega arith));
+    }
+
+row_plain : (c : ConfigView) (z : List ℕ) (i r : ℕ) → IsShown (reading_at c z i r) → IsPlainReading (reading_at c z i r)
+row_plain c z i r =
+    plain_reading c.system _ (short_levels c z i r) _ _
+    (is_reading c.system (row_levels c.levels (line_at c.system z i r)))
+
+field_plain : (c : ConfigView) (z : List ℕ) (i : ℕ) → ArePlainReadings (readings_at c z i)
+field_plain c z i =
+    let shown = field_shown c z i in
+    record {
+      first = row_plain c z i 15 shown.first;
+      second = row_plain c z i 16 shown.second;
+      third = row_plain c z i 17 shown.third;
+    }
+
+-- ---- the text
+
+both : (ts : List Token) → ArePlainTokens ts → AllByRecursion IsSmall ts
+both [] h = tt
+both (t ∷ ts) h = (h.0.1, both ts h.1)
+
+pub plain_document : (c : ConfigView) (z : List ℕ) → IsOfRun c z → IsPlainText (whole_text document c z)
+unfolding text_before_tail
+plain_document c z run =
+    let readings = readings_at c z in
+    let fields = fields_of c z in
+    let rest = rest_of c z in
+    let is = range_with_len 0 fields in
+    let black = run.config.black in
+    let white = run.config.white in
+    let few = few_fields c z run in
+    let small : rest < 2 ^ 24 = small_rest c.system (length z) in
+    let ps = pieces c readings fields rest is in
+    let gaps = pieces_gaps c readings fields rest is in
+    let tree = document_json c readings fields rest is in
+    let same : tokens_of ps ≡ json_tokens tree = pieces_tokens c readings fields rest is in
+    let plain : ArePlainTokens (json_tokens tree)
+    = document_tokens c readings fields rest (omega arith) (omega arith) (field_plain c z) (omega arith) small in
+    let reads = stream_reads c readings fields rest (omega arith) (omega arith) (field_shown c z) (omega arith)
+    (omega arith) in
+    let printable : ArePrintable (tokens_of ps)
+    = subst ArePrintable (sym same) (ArePrintable-json_tokens tree reads.numbers) in
+    let line : List ℕ = print_spaced false ps ++ 10 ∷ [] in
+    let lexed : tokens line ≡ json_tokens tree
+    = tokens-line_feed (print_spaced false ps) ∙ tokens-print_spaced ps gaps printable ∙ same in
+    let bytes : Plain line = then (printed false ps gaps (subst ArePlainTokens (sym same) plain))
+    (known (10 ∷ []) refl) in
+    subst IsPlainText (pieces_print c readings fields rest (field_shown c z) is) (record {
+      bytes = All-from_recursion IsPlain line bytes.all;
+      numbers = All-from_recursion IsSmall (tokens line)
+          (subst (AllByRecursion IsSmall) (sym lexed) (both (json_tokens tree) plain));
+    })

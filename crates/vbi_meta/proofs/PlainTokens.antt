@@ -1,0 +1,193 @@
+-- Trees of JSON whose tokens are printed in plain bytes and have small numbers, and those of a document.
+use Rattle.std.proofs.Common.{◌≡◌, ℕ, suc, zero, ◌+◌, ◌<◌, ◌^◌, ◌==◌, ◌&&◌, Bool, true, false, cond, List, [], ◌∷◌}
+use Rattle.std.proofs.Common.{◌++◌, ◌⊎◌, inl, inr, decimal, refl, sym, subst, arith, lit<}
+use Rattle.std.specs.Fmt.{digits}
+use Rattle.std.specs.List.{AllByRecursion, range_with_len}
+use Rattle.std.specs.Prelude.{codes}
+use Rattle.json.specs.Json as json
+use Rattle.json.specs.Print.{escape, escape_byte, quoted, token_text, begins, ends}
+use Rattle.json.specs.Spaced.{IsGap, AreGaps, print_spaced}
+use Rattle.json.specs.Token.{Token}
+use Rattle.json.specs.Tree.{json_tokens, items_tokens, members_tokens}
+use Rattle.vbi_words.specs.declared.outcome.Reading.{Reading}
+use Rattle.vbi_words.specs.declared.system.System.{System}
+use Rattle.vbi_words.specs.declared.system.System.TheVariants.{Ntsc, Pal}
+use Rattle.vbi_words.specs.Geometry.{width_of, height_of, name_of}
+use Rattle.vbi_field.specs.CauseTexts.{cause_text_of}
+use Rattle.vbi_field.specs.ConfigView.{ConfigView}
+use Rattle.vbi_field.specs.Document.{value_of}
+use Rattle.vbi_field.specs.declared.readings.FieldReadings.{FieldReadings}
+use Rattle.vbi_meta.specs.Plain.{IsPlain, IsSmall}
+use Rattle.vbi_meta.proofs.DocumentTexts.{tokens_of, parameters_json, cut_json, entries_json, document_json}
+use Rattle.vbi_meta.proofs.PlainBytes.{Plain, then, known, are_plain, count}
+use Rattle.vbi_meta.proofs.RecordTexts.{Pieces, count_json, lines_json, words_json, record_json}
+
+-- the token is printed in plain bytes, and is no number or a small one
+abbrev pub IsPlainToken : Token → Type 0
+IsPlainToken t = Plain (token_text t) × IsSmall t
+
+abbrev pub ArePlainTokens : List Token → Type 0
+ArePlainTokens ts = AllByRecursion IsPlainToken ts
+
+append : (ts us : List Token) → ArePlainTokens ts → ArePlainTokens us → ArePlainTokens (ts ++ us)
+append [] us h k = k
+append (t ∷ ts) us h k = (h.0, append ts us h.1 k)
+
+-- ---- what is printed
+
+comma_or_none : (b : Bool) → Plain (cond b (44 ∷ []) [])
+comma_or_none true = known (44 ∷ []) refl
+comma_or_none false = known [] refl
+
+gap_plain : (g : List ℕ) → IsGap g → Plain g
+gap_plain [] h = known [] refl
+gap_plain (x ∷ g) h = record { all = (one h.0, (gap_plain g h.1).all) }
+  where
+    one : (x ≡ 32) ⊎ (x ≡ 10) → IsPlain x
+    one (inl e) = inl (omega arith, omega arith, λ same. omega arith)
+    one (inr e) = inr e
+
+pub printed : (before : Bool) (ps : Pieces) → AreGaps ps → ArePlainTokens (tokens_of ps)
+    → Plain (print_spaced before ps)
+unfolding print_spaced
+printed before [] gaps h = known [] refl
+printed before (p ∷ ps) gaps h =
+    then (comma_or_none (before && begins p.1)) (then (gap_plain p.0 gaps.0)
+    (then h.0.0 (printed (ends p.1) ps gaps.1 h.1)))
+
+-- ---- trees
+
+record Tree (j : json.Json) : Type 0 where
+  all : ArePlainTokens (json_tokens j)
+
+record Items (js : json.Items) : Type 0 where
+  all : ArePlainTokens (items_tokens js)
+
+record Members (ms : json.Members) : Type 0 where
+  all : ArePlainTokens (members_tokens ms)
+
+small_count : (n : ℕ) → n < 2 ^ 24 → Tree (count_json n)
+small_count n h = record { all = ((count n (omega arith), (n, h, refl)), tt) }
+
+plain_string : (s : List ℕ) → escape s ≡ s → Plain s → Tree (json.string s)
+plain_string s free h =
+    let text : Plain (34 ∷ (s ++ 34 ∷ [])) = then (known (34 ∷ []) refl) (then h (known (34 ∷ []) refl)) in
+    record { all = ((subst (λ (t : List ℕ). Plain (34 ∷ (t ++ 34 ∷ []))) (sym free) text, tt), tt) }
+
+null_tree : Tree json.null
+null_tree = record { all = ((known (codes "null") refl, tt), tt) }
+
+no_item : Items json.no_items
+no_item = record { all = ((known (codes "]") refl, tt), tt) }
+
+with_item : {j : json.Json} {js : json.Items} → Tree j → Items js → Items (json.item j js)
+with_item {j} {js} one rest = record { all = append (json_tokens j) (items_tokens js) one.all rest.all }
+
+array_tree : {js : json.Items} → Items js → Tree (json.array js)
+array_tree h = record { all = ((known (codes "[") refl, tt), h.all) }
+
+no_member : Members json.no_members
+no_member = record { all = ((known (codes "}") refl, tt), tt) }
+
+with_member : (k : List ℕ) → are_plain (quoted k ++ 58 ∷ []) ≡ true → {j : json.Json} {ms : json.Members} → Tree j
+    → Members ms → Members (json.member k j ms)
+with_member k plain {j} {ms} one rest = record {
+  all = ((known (quoted k ++ 58 ∷ []) plain, tt), append (json_tokens j) (members_tokens ms) one.all rest.all);
+}
+
+object_tree : {ms : json.Members} → Members ms → Tree (json.object ms)
+object_tree h = record { all = ((known (codes "{") refl, tt), h.all) }
+
+-- ---- a field
+
+-- what a document has of a reading
+pub record IsPlainReading (reading : Reading) : Type 0 where
+  pub value : value_of reading.outcome < 2 ^ 24
+  pub pass : reading.pass < 2 ^ 24
+  pub free : escape (cause_text_of reading.outcome) ≡ cause_text_of reading.outcome
+  pub cause : Plain (cause_text_of reading.outcome)
+
+pub record ArePlainReadings (readings : FieldReadings) : Type 0 where
+  pub first : IsPlainReading readings.first
+  pub second : IsPlainReading readings.second
+  pub third : IsPlainReading readings.third
+
+lines_tree : (tree : Reading → json.Json) (readings : FieldReadings) → Tree (tree readings.first)
+    → Tree (tree readings.second) → Tree (tree readings.third) → Tree (lines_json tree readings)
+lines_tree tree readings a b c = array_tree (with_item a (with_item b (with_item c no_item)))
+
+words_tree : (readings : FieldReadings) → ArePlainReadings readings → Tree (words_json readings)
+unfolding escape_byte
+words_tree readings h =
+    object_tree (with_member (codes "vbiData") refl
+    (lines_tree (λ x. count_json (value_of x.outcome)) readings (small_count _ h.first.value)
+    (small_count _ h.second.value) (small_count _ h.third.value)) no_member)
+
+field_tree : (n : ℕ) (readings : FieldReadings) → n < 2 ^ 24 → ArePlainReadings readings → Tree (record_json n readings)
+unfolding escape_byte
+field_tree n readings small h =
+    object_tree
+    (with_member (codes "seqNo") refl (small_count n small)
+    (with_member (codes "vbi") refl (words_tree readings h)
+    (with_member (codes "vbiCause") refl
+    (lines_tree (λ x. json.string (cause_text_of x.outcome)) readings (plain_string _ h.first.free h.first.cause)
+    (plain_string _ h.second.free h.second.cause) (plain_string _ h.third.free h.third.cause))
+    (with_member (codes "vbiPass") refl
+    (lines_tree (λ x. count_json x.pass) readings (small_count _ h.first.pass) (small_count _ h.second.pass)
+    (small_count _ h.third.pass)) no_member))))
+
+-- ---- the document
+
+small_width : (system : System) → width_of system < 2 ^ 24
+small_width Ntsc = lit< tt
+small_width Pal = lit< tt
+
+small_height : (system : System) → height_of system < 2 ^ 24
+small_height Ntsc = lit< tt
+small_height Pal = lit< tt
+
+name_tree : (system : System) → Tree (json.string (name_of system))
+unfolding escape_byte
+name_tree Ntsc = plain_string (codes "NTSC") refl (known (codes "NTSC") refl)
+name_tree Pal = plain_string (codes "PAL") refl (known (codes "PAL") refl)
+
+parameters_tree : (c : ConfigView) → c.levels.black < 2 ^ 24 → c.levels.white < 2 ^ 24 → Tree (parameters_json c)
+unfolding escape_byte
+parameters_tree c black white =
+    object_tree
+    (with_member (codes "system") refl (name_tree c.system)
+    (with_member (codes "fieldWidth") refl (small_count (width_of c.system) (small_width c.system))
+    (with_member (codes "fieldHeight") refl (small_count (height_of c.system) (small_height c.system))
+    (with_member (codes "black16bIre") refl (small_count c.levels.black black)
+    (with_member (codes "white16bIre") refl (small_count c.levels.white white) no_member)))))
+
+cut_tree : (whole : Bool) (n bytes : ℕ) → n < 2 ^ 24 → bytes < 2 ^ 24 → Tree (cut_json whole n bytes)
+unfolding escape_byte
+cut_tree true n bytes hn hb = null_tree
+cut_tree false n bytes hn hb =
+    object_tree (with_member (codes "seqNo") refl (small_count n hn)
+    (with_member (codes "bytes") refl (small_count bytes hb) no_member))
+
+two : decimal 2 ≡ codes "2"
+unfolding digits
+two = refl
+
+entries_tree : (readings : ℕ → FieldReadings) → ((i : ℕ) → ArePlainReadings (readings i)) → (i n : ℕ)
+    → i + n < 2 ^ 24 → Items (entries_json readings (range_with_len i n))
+entries_tree readings h i zero small = no_item
+entries_tree readings h i (suc n) small =
+    with_item (field_tree (i + 1) (readings i) (omega arith) (h i)) (entries_tree readings h (i + 1) n (omega arith))
+
+pub document_tokens : (c : ConfigView) (readings : ℕ → FieldReadings) (fields rest : ℕ)
+    → c.levels.black < 2 ^ 24 → c.levels.white < 2 ^ 24 → ((i : ℕ) → ArePlainReadings (readings i))
+    → fields + 1 < 2 ^ 24 → rest < 2 ^ 24
+    → ArePlainTokens (json_tokens (document_json c readings fields rest (range_with_len 0 fields)))
+unfolding escape_byte
+document_tokens c readings fields rest black white h few small =
+    let tree = object_tree
+    (with_member (codes "version") refl
+    (subst (λ (s : List ℕ). Tree (json.number s)) two (small_count 2 (lit< tt)))
+    (with_member (codes "videoParameters") refl (parameters_tree c black white)
+    (with_member (codes "fields") refl (array_tree (entries_tree readings h 0 fields (omega arith)))
+    (with_member (codes "cutField") refl (cut_tree (rest == 0) (fields + 1) rest few small) no_member)))) in
+    tree.all

@@ -1,0 +1,72 @@
+-- A row that is blurred at its changes of level, without its columns that stand alone.
+use Rattle.std.proofs.Common.{◌≡◌, ◌≤◌, ◌+◌, ◌-◌, Bool, false, List, ◌++◌, length, drop, subst, sym, ap, ◌∙◌, arith}
+use Rattle.std.proofs.Common.{ℕ, refl}
+use Rattle.std.proofs.Math.ListN.{replicate}
+use Rattle.std.proofs.lemmas.List.{length-append}
+use Rattle.std.specs.List.{flat_map}
+use Rattle.vbi_words.specs.declared.system.System.{System}
+use Rattle.vbi_words.specs.declared.system.System.TheVariants.{Ntsc, Pal}
+use Rattle.vbi_words.specs.Geometry.{least_half, greatest_half}
+use Rattle.vbi_words.specs.Words.{IsWord, halves_of, cell_of}
+use Rattle.vbi_words.specs.Smooth.{smooth_of}
+use Rattle.vbi_words.specs.Shows.{Shows}
+use Rattle.vbi_words.specs.Jitter.{ShowsAmply, IsBlurred, NoneAlone, IsJittered}
+use Rattle.vbi_words.proofs.HalfCells.{first, whole_goes}
+use Rattle.vbi_words.proofs.Smoothing.{smooth_window}
+use Rattle.vbi_words.proofs.SmoothKeeps.{steady_same}
+use Rattle.vbi_words.proofs.Shown.{word_bits}
+
+-- a word's first half cell is low
+pub begins_low : (word : ℕ) → IsWord word → first (halves_of word) ≡ false
+begins_low word is_word =
+    let begun = (word_bits word is_word).1 in
+    ap (λ (bits : List Bool). first (flat_map cell_of bits)) begun.1
+
+-- the row without its turned columns
+pub record Mended (system : System) (levels : List Bool) (word : ℕ) : Type 0 where
+  pub mended : List Bool
+  pub shows : Shows system mended word
+  pub three : 3 ≤ shows.after
+  pub long : length levels ≡ length mended
+  pub alike : smooth_of levels ≡ smooth_of mended
+  pub same : NoneAlone levels → levels ≡ mended
+
+pub mend : (system : System) (drawn levels : List Bool) (word : ℕ) → ShowsAmply system drawn word
+    → IsBlurred drawn levels → Mended system levels word
+mend system drawn levels word s blurred =
+    let sizes = sizes_fit system in
+    let r = whole_goes drawn levels blurred (least_half system + 2) (greatest_half system - 2)
+    (least_half system) (greatest_half system) sizes.0 (omega arith) sizes.1 (halves_of word) s.drawn s.before s.after
+    s.lows (begins_low word s.is_word) s.spelled s.whole in
+    let x = r.0 in
+    let rest : List Bool = x.drawn ++ replicate x.after false in
+    record {
+      mended = replicate s.before false ++ rest;
+      shows = record {
+        is_word = s.is_word;
+        before = s.before;
+        drawn = x.drawn;
+        after = x.after;
+        spelled = x.spelled;
+        whole = refl;
+      };
+      three = x.three;
+      long = ap length r.1 ∙ length-append (replicate s.before false) (drop s.before levels)
+          ∙ ap (λ (i : ℕ). length (replicate s.before false) + i) x.long
+          ∙ sym (length-append (replicate s.before false) rest);
+      alike = ap smooth_of r.1 ∙ smooth_window (replicate s.before false ++ drop s.before levels)
+          ∙ steady_same false s.before (drop s.before levels)
+          ∙ ap (λ (t : List Bool). replicate s.before false ++ t) (x.alike false)
+          ∙ sym (steady_same false s.before rest) ∙ sym (smooth_window (replicate s.before false ++ rest));
+      same = λ none. r.1 ∙ ap (λ (t : List Bool). replicate s.before false ++ t) (x.whole none);
+    }
+  where
+    sizes_fit : (system : System) → (6 ≤ least_half system + 2) × (greatest_half system - 2 + 2 ≤ greatest_half system)
+    sizes_fit Ntsc = (omega arith, omega arith)
+    sizes_fit Pal = (omega arith, omega arith)
+
+pub jittered_shows : (system : System) (drawn levels : List Bool) (word : ℕ) → ShowsAmply system drawn word
+    → IsJittered drawn levels → Shows system levels word
+jittered_shows system drawn levels word s (blurred, none_alone) =
+    let m = mend system drawn levels word s blurred in
+    subst (λ (t : List Bool). Shows system t word) (sym (m.same none_alone)) m.shows

@@ -1,0 +1,49 @@
+-- Rows that differ a little from a drawn one (this project's own rules): a change of level may lie a column early or
+-- late, as jitter has it; the two samples beside it may lie on either side of the middle; there may be glitches.
+use Rattle.std.specs.Prelude.{◌≡◌, ◌↔◌, ℕ, suc, zero, ◌≤◌, ◌+◌, ◌-◌, ◌⊎◌, Bool, false, List, length, ◌++◌, replicate}
+use Rattle.vbi_words.specs.declared.system.System.{System}
+use Rattle.vbi_words.specs.declared.outcome.Outcome.TheVariants.{Word}
+use Rattle.vbi_words.specs.Geometry.{least_half, greatest_half}
+use Rattle.vbi_words.specs.Levels.{level_at}
+use Rattle.vbi_words.specs.Words.{IsWord, halves_of}
+use Rattle.vbi_words.specs.Shows.{Spells}
+use Rattle.vbi_words.specs.Smooth.{Glitch}
+use Rattle.vbi_words.specs.Readings.{IsReading}
+
+-- the levels show the word with two columns to spare in each half cell, and have five lows behind it
+pub record ShowsAmply (system : System) (levels : List Bool) (word : ℕ) : Type 0 where
+  pub is_word : IsWord word
+  pub before : ℕ
+  pub drawn : List Bool
+  pub after : ℕ
+  pub lows : 5 ≤ after
+  pub spelled : Spells (least_half system + 2) (greatest_half system - 2) (halves_of word) drawn
+  pub whole : levels ≡ replicate before false ++ (drawn ++ replicate after false)
+
+-- the levels are those of the row drawn, but perhaps in the two columns beside each change of its level: the last
+-- before it and the first behind it
+pub record IsBlurred (drawn levels : List Bool) : Type 0 where
+  pub same_length : length levels ≡ length drawn
+  pub others : (c : ℕ) → level_at drawn (c - 1) ≡ level_at drawn c → level_at drawn (c + 1) ≡ level_at drawn c
+      → level_at levels c ≡ level_at drawn c
+
+-- no column stands alone: each has the level of the one before it or of the one behind it
+abbrev pub NoneAlone : List Bool → Type 0
+NoneAlone levels =
+    (c : ℕ) → (level_at levels c ≡ level_at levels (c - 1)) ⊎ (level_at levels c ≡ level_at levels (c + 1))
+
+-- each change of the row drawn lies where it was, or one column before or behind, and there is no other
+abbrev pub IsJittered : List Bool → List Bool → Type 0
+IsJittered drawn levels = IsBlurred drawn levels × NoneAlone levels
+
+-- the reading of the levels is the word: in the first pass exactly where no column stands alone, else in the second
+pub record ReadsWord (system : System) (levels : List Bool) (word : ℕ) : Type 0 where
+  pub pass : ℕ
+  pub reading : IsReading system levels (record { outcome = Word word; pass = pass })
+  pub first : (pass ≡ 1) ↔ NoneAlone levels
+
+-- n glitches, one after the other, make these levels the turned ones: each turns over one to three columns that have
+-- four equal columns on either side, as the glitches before it left them
+abbrev pub HasGlitches : ℕ → List Bool → List Bool → Type 0
+HasGlitches zero levels turned = turned ≡ levels
+HasGlitches (suc n) levels turned = (before : List Bool) × HasGlitches n levels before × Glitch before turned
