@@ -63,11 +63,11 @@ fn told_code(word: Word24) -> LdvbiCode
 /// What a word says, by its six hexadecimal digits.
 #[unsafe(no_mangle)]
 pub extern "C" fn ldvbi_classify(word: u32, code: &mut LdvbiCode) -> u8
-    ensures done { (result ≡ DONE) ↔ IsWord word }
-    ensures refused { result ≢ DONE → result ≡ BAD_WORD }
-    ensures classifies { result ≡ DONE → code.new ≡ code_for_c (code_of word) }
-    ensures tells { result ≡ DONE → TellsCode word code.new }
-    ensures unwritten { result ≢ DONE → code.new ≡ code.old }
+    ensures done { (result ≡ 0) ↔ IsWord word }
+    ensures refused { result ≢ 0 → result ≡ 4 }
+    ensures classifies { result ≡ 0 → code.new ≡ code_for_c (code_of word) }
+    ensures tells { result ≡ 0 → TellsCode word code.new }
+    ensures unwritten { result ≢ 0 → code.new ≡ code.old }
 {
     match Word24::new(word) {
         Ok(word) => {

@@ -68,7 +68,7 @@ pub extern "C" fn ldvbi_draw_line(
         IsDrawnLine drawing bytes.new) }
     ensures reads { IfOk (drawing_of system black white word (length bytes.old)) (λ drawing.
         line_reading drawing.setup bytes.new ≡ reading_for_c (drawn_reading drawing.word)) }
-    ensures unwritten { result ≢ DONE → bytes.new ≡ bytes.old }
+    ensures unwritten { result ≢ 0 → bytes.new ≡ bytes.old }
 {
     match find_drawing(system, black, white, word, bytes.len()) {
         Ok(drawing) => {

@@ -76,7 +76,7 @@ pub extern "C" fn ldvbi_read_field(
         readings.new ≡ field_reading setup bytes.now) }
     ensures tells { IfOk (fields_setup system black white (length bytes.now) 1) (λ setup.
         TellsField setup bytes.now readings.new) }
-    ensures unwritten { result ≢ DONE → readings.new ≡ readings.old }
+    ensures unwritten { result ≢ 0 → readings.new ≡ readings.old }
 {
     match find_fields_setup(system, black, white, bytes.len(), 1) {
         Ok(setup) => {
@@ -100,7 +100,7 @@ pub extern "C" fn ldvbi_read_fields(
     ensures status { result ≡ status_of (fields_setup system black white (length bytes.now) (length readings.old)) }
     ensures reads { IfOk (fields_setup system black white (length bytes.now) (length readings.old)) (λ setup.
         readings.new ≡ fields_reading setup bytes.now (length readings.old)) }
-    ensures unwritten { result ≢ DONE → readings.new ≡ readings.old }
+    ensures unwritten { result ≢ 0 → readings.new ≡ readings.old }
 {
     match find_fields_setup(system, black, white, bytes.len(), readings.len()) {
         Ok(setup) => {

@@ -46,7 +46,7 @@ pub extern "C" fn ldvbi_format(first: u32, second: u32, third: u32, format: &mut
     ensures value { IfOk (three_words first second third) (λ lines.
         format.new ≡ format_for_c (format_of_lines lines)) }
     ensures tells { IfOk (three_words first second third) (λ lines. TellsFormat lines format.new) }
-    ensures unwritten { result ≢ DONE → format.new ≡ format.old }
+    ensures unwritten { result ≢ 0 → format.new ≡ format.old }
 {
     match find_words(first, second, third) {
         Ok(words) => {

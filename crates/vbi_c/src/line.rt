@@ -24,7 +24,7 @@ pub extern "C" fn ldvbi_read_line(
         reading.new ≡ line_reading setup bytes.now) }
     ensures tells { IfOk (line_setup system black white (length bytes.now)) (λ setup.
         TellsLine setup bytes.now reading.new) }
-    ensures unwritten { result ≢ DONE → reading.new ≡ reading.old }
+    ensures unwritten { result ≢ 0 → reading.new ≡ reading.old }
 {
     match find_line_setup(system, black, white, bytes.len()) {
         Ok(setup) => {
