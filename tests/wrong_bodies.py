@@ -230,17 +230,25 @@ class Crate:
         shutil.rmtree(copy)
         return ran.stdout
 
+    def verdict(self, said):
+        """Returns 'proved' or 'not-proved', or None where the check came to no verdict on this crate. Those on crates
+        below it, which are built first where they have changed, aren't it."""
+        own = re.search(rf"^crate {self.name}: modules .*", said, re.M)
+        found = own and re.search(r"^logic=(proved|not-proved)", said[own.end():], re.M)
+        return found and found[1]
+
     def proved(self):
         """Returns whether the crate is proved as it stands, and the end of what the check says."""
         said = self.check({})
-        return bool(re.search(r"^logic=proved ", said, re.M)), said[-300:]
+        return self.verdict(said) == "proved", said[-300:]
 
     def judged(self, edit, said):
         """Returns by what the check refused the edit's own function, 'goal', 'proof' or 'name' (or None, where it
         didn't, and 'bad', where there was no check of it), and the first line that says why."""
-        if re.search(r"^logic=proved ", said, re.M):
+        verdict = self.verdict(said)
+        if verdict == "proved":
             return None, "the crate is proved with it"
-        if not re.search(r"^logic=not-proved", said, re.M):
+        if verdict is None:
             return "bad", next((line for line in said.split("\n") if "error" in line), said[-300:])
         for name in edit.refuses:
             whole = re.escape(f"{self.name}::{name}") if name != "*" else r"\S+"
@@ -256,7 +264,7 @@ class Crate:
     def tried(self, one):
         """Checks a round, and returns each of its edits with the verdict on it."""
         said = self.check(one.texts)
-        if len(one.edits) > 1 and not re.search(r"^logic=", said, re.M):
+        if len(one.edits) > 1 and self.verdict(said) is None:
             # One of them doesn't compile, so half of them is tried at a time
             half = len(one.edits) // 2
             parts = (one.edits[:half], one.edits[half:])

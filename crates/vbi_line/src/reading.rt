@@ -86,6 +86,7 @@ fn read_both(packed: &Packed, system: System) -> Reading
 
 /// The word that the smoothed levels show. The first three columns of a run keep the smoothed level of the columns
 /// before it, and a run of three columns or fewer changes nothing.
+#[tactic(auto, using(crate::proofs::SmoothRuns::begins))]
 fn smoothed_word(packed: &Packed, system: System) -> Option<Word24>
     requires { length packed.now < 2 ^ 16 }
     ensures some { IfSome result (λ w. Shows system (smooth_of packed.now) w) }

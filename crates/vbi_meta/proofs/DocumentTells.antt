@@ -25,7 +25,7 @@ use Rattle.vbi_field.specs.Stream.{fields_of, rest_of, line_at, reading_at, read
 use Rattle.vbi_field.specs.Texts.{whole_text}
 use Rattle.vbi_meta.specs.DocumentValue.{IsOfRun, document_value, field_value, cut_field_value, cut_value}
 use Rattle.vbi_meta.specs.Metadata.{most_bytes, IsMetadata, IsUnread}
-use Rattle.vbi_meta.specs.ReadBack.{IsReadAs, field_in, word_in, cut_in, TellsLine, TellsCut, ShowsWord, Tells}
+use Rattle.vbi_meta.specs.ReadBack.{IsReadAs, field_in, word_in, cut_in, TellsLine, TellsCut, ReadsWord, Tells}
 use Rattle.vbi_meta.specs.ReadBack.{ReadsBack}
 use Rattle.vbi_meta.specs.Settings.{whole, member_of}
 use Rattle.vbi_meta.specs.declared.fault.MetaFault.{MetaFault}
@@ -168,10 +168,10 @@ module _ (c : ConfigView) (z text : List ℕ) (is : read text ≡ Some (document
       (row_levels c.levels (line_at c.system z i (15 + k))) reading reads in
       subst (TellsLine text i k) (sym same) (tells_told i k inside line)
 
-  shows_word : (i k word : ℕ) → word_in text i k ≡ Some word → 0 < word → ShowsWord c z i k word
-  shows_word i k word e some = go (cases_lt i (fields_of c z)) (cases_lt k 3)
+  reads_word : (i k word : ℕ) → word_in text i k ≡ Some word → 0 < word → ReadsWord c z text i k word
+  reads_word i k word e some = go (cases_lt i (fields_of c z)) (cases_lt k 3)
     where
-      go : (i < fields_of c z) ⊎ (fields_of c z ≤ i) → (k < 3) ⊎ (3 ≤ k) → ShowsWord c z i k word
+      go : (i < fields_of c z) ⊎ (fields_of c z ≤ i) → (k < 3) ⊎ (3 ≤ k) → ReadsWord c z text i k word
       go (inr past) line =
           let none : 0 ≡ word = ap value_or (sym (ap (word_of_field k) (not_found i past)) ∙ e) in absurd (omega arith)
       go (inl inside) (inr past) =
@@ -186,6 +186,7 @@ module _ (c : ConfigView) (z text : List ℕ) (is : read text ≡ Some (document
             field = inside;
             line = line;
             pass = reading.pass;
+            found = let tells = tells_told i k inside line in tells.pass;
             reads = word_of_value c.system levels reading.outcome reading.pass word
                 (is_reading c.system levels) same some;
           }
@@ -205,7 +206,7 @@ module _ (c : ConfigView) (z text : List ℕ) (is : read text ≡ Some (document
     nothing = not_found;
     each = λ i k inside line. (told c z i k, is_reading c.system _, tells_told i k inside line);
     lines = tells_line;
-    words = shows_word;
+    words = reads_word;
     cut = tells_cut;
   }
 

@@ -55,7 +55,7 @@ cut_in text = member_of (read text) (codes "cutField")
 abbrev pub cut_number_in : List ℕ → List ℕ → Option ℕ
 cut_number_in text name = option_and_then whole (member_of (cut_in text) name)
 
--- ---- what is found is what the lines show
+-- ---- what is found is how the lines are read
 
 -- for line 16 + k of field i this reading is found: its word or 0, its cause with the column, and its pass
 pub record TellsLine (text : List ℕ) (i k : ℕ) (reading : Reading) : Type 0 where
@@ -69,14 +69,16 @@ pub record TellsCut (text : List ℕ) (fields rest : ℕ) : Type 0 where
   pub number : 0 < rest → cut_number_in text (codes "seqNo") ≡ Some (fields + 1)
   pub bytes : 0 < rest → cut_number_in text (codes "bytes") ≡ Some rest
 
--- line 16 + k of field i is there, and shows this word
-pub record ShowsWord (c : ConfigView) (z : List ℕ) (i k word : ℕ) : Type 0 where
+-- line 16 + k of field i is there and is read as this word, in the pass that is found: in pass 1 its levels show the
+-- word, in pass 2 they show none, and the smoothed levels show it
+pub record ReadsWord (c : ConfigView) (z text : List ℕ) (i k word : ℕ) : Type 0 where
   pub field : i < fields_of c z
   pub line : k < 3
   pub pass : ℕ
+  pub found : pass_in text i k ≡ Some pass
   pub reads : RowReads c z i (15 + k) (record { outcome = Word word; pass = pass })
 
--- What is found in the text is what the lines of the stream show, by the relation between a row's levels and its
+-- What is found in the text is how the lines of the stream are read, by the relation between a row's levels and its
 -- reading. Fields are counted from 0 here; line 16 + k is row 15 + k.
 pub record Tells (c : ConfigView) (z text : List ℕ) : Type 0 where
   -- each whole field has its number from 1, and nothing stands behind the last
@@ -87,8 +89,8 @@ pub record Tells (c : ConfigView) (z text : List ℕ) : Type 0 where
       → (reading : Reading) × RowReads c z i (15 + k) reading × TellsLine text i k reading
   pub lines : (i k : ℕ) (reading : Reading) → i < fields_of c z → k < 3 → RowReads c z i (15 + k) reading
       → TellsLine text i k reading
-  -- a number other than 0 among the words is a word that is shown
-  pub words : (i k word : ℕ) → word_in text i k ≡ Some word → 0 < word → ShowsWord c z i k word
+  -- a number other than 0 among the words is the word of that line, in pass 1 or 2
+  pub words : (i k word : ℕ) → word_in text i k ≡ Some word → 0 < word → ReadsWord c z text i k word
   pub cut : TellsCut text (fields_of c z) (rest_of c z)
 
 -- the text is read as the stream's document, tells what its lines show, and is metadata of that value

@@ -3,16 +3,12 @@ use Rattle.std.proofs.lemmas.Option.{IfSome_then}
 use Rattle.vbi_line.specs.declared.decoder.Decoder.{Decoder}
 use Rattle.vbi_line.specs.Decoder.{state_of, IsSound, run_of}
 use Rattle.vbi_line.proofs.RunLoop.{counted}
-use Rattle.vbi_line.proofs.SmoothRuns.{begins, fits, short_on, short_dies, first_dies}
+use Rattle.vbi_line.proofs.SmoothRuns.{fits, short_on, short_dies, first_dies}
 use Rattle.vbi_line.proofs.SmoothRuns.{middle_fits, long_on, second_dies, fits_end, shows, none}
 use Rattle.vbi_line.proofs.SmoothRuns.{Halfway}
 use Rattle.vbi_line.proofs.reading.smoothed_word.Goals as goal
 use Rattle.vbi_line.proofs.reading.smoothed_word.Goals.{then-count-lt4+in-Ok}
 use Rattle.vbi_line.proofs.reading.smoothed_word.Goals.{else-count-lt4+in-Ok-read_run+in-Ok-read_run-2}
-
-pub loop-column-init : goal.loop-column-init
-loop-column-init c =
-    record { inside = omega arith; halfway = begins c.args.system c.args.packed.now; sound = tt; run = omega arith }
 
 pub read_run-requires-clause-fit : goal.read_run-requires-clause-fit
 read_run-requires-clause-fit c =
