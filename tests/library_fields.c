@@ -1,6 +1,9 @@
 /* Reads fields by the library for C: a stream, one field, its three lines alone, each at lengths one off. The stream
    lies in pages that can't be written, and ends where no page follows. */
 #include "library.h"
+#include <signal.h>
+#include <sys/wait.h>
+#include <unistd.h>
 
 enum { FIELDS = 2 };
 
@@ -108,8 +111,35 @@ static void test_fields(const Television *tv)
     test_rows(&fields);
 }
 
+/* A file that is cut off while it is mapped: reading it ends the process by SIGBUS, and fetching its lines does not. */
+static void test_cut_file(void)
+{
+    FILE *file = tmpfile();
+    size_t field = ldvbi_field_bytes(LDVBI_NTSC);
+    LdvbiFieldReadings readings;
+    uint8_t rows[3 * 1820];
+    int ended = 0;
+
+    CHECK(file != NULL && ftruncate(fileno(file), (off_t)field) == 0);
+    uint8_t *mapped = mmap(NULL, field, PROT_READ, MAP_SHARED, fileno(file), 0);
+    CHECK(mapped != MAP_FAILED);
+    CHECK(ldvbi_read_field(LDVBI_NTSC, 1, 2, mapped, field, &readings) == LDVBI_DONE);
+    CHECK(pread(fileno(file), rows, sizeof rows, 15 * 1820) == sizeof rows);
+    CHECK(ftruncate(fileno(file), 0) == 0);
+    pid_t child = fork();
+    if (child == 0) {
+        signal(SIGBUS, SIG_DFL);
+        _exit(ldvbi_read_field(LDVBI_NTSC, 1, 2, mapped, field, &readings) == LDVBI_DONE);
+    }
+    CHECK(waitpid(child, &ended, 0) == child && WIFSIGNALED(ended) && WTERMSIG(ended) == SIGBUS);
+    CHECK(pread(fileno(file), rows, sizeof rows, 15 * 1820) == 0);
+    munmap(mapped, field);
+    fclose(file);
+}
+
 int main(void)
 {
+    test_cut_file();
     for (size_t i = 0; i < 2; i++)
         test_fields(&televisions[i]);
     printf("%d wrong\n", wrong);
