@@ -120,7 +120,7 @@ def _library():
 
 
 _reading = struct.Struct("=BBHI")
-_readings = struct.Struct("=BBHIBBHIBBHI")
+PACKED_FIELD = struct.Struct("=BBHIBBHIBBHI")  # LdvbiFieldReadings of ldvbi.h
 _causes = tuple(Cause)
 
 
@@ -204,7 +204,7 @@ def read_line(samples, system, black, white):
 def read_field(samples, system, black, white):
     """The readings of a field's lines 16, 17 and 18."""
     setup = _setup(system, black, white)
-    out = ctypes.create_string_buffer(_readings.size)
+    out = ctypes.create_string_buffer(PACKED_FIELD.size)
     with Samples(samples) as memory:
         status = _library().ldvbi_read_fields(*setup, memory.address, memory.length, out, 1)
         setup.check_length(status, "field", field_bytes, memory.length)
@@ -213,7 +213,7 @@ def read_field(samples, system, black, white):
 
 def _unpacked(readings):
     """Fields' readings, as the library writes them, one by one."""
-    for a, b, c, d, e, f, g, h, i, j, k, l in _readings.iter_unpack(readings):
+    for a, b, c, d, e, f, g, h, i, j, k, l in PACKED_FIELD.iter_unpack(readings):
         yield FieldReadings(Reading(_causes[a], b, c, d), Reading(_causes[e], f, g, h), Reading(_causes[i], j, k, l))
 
 
@@ -297,7 +297,7 @@ class Stream:
     def _packed_block(self, first, count):
         if self._samples is None:
             raise ValueError("the stream is closed")
-        out = ctypes.create_string_buffer(_readings.size * count)
+        out = ctypes.create_string_buffer(PACKED_FIELD.size * count)
         address = self._samples.address + first * self._size
         self._setup.check(_library().ldvbi_read_fields(*self._setup, address, count * self._size, out, count))
         return out
