@@ -336,8 +336,13 @@ def main(words=None):
     """The command `python3 -m ldvbi`. The answer is its exit status."""
     # What was started by that name isn't to be loaded a second time by the command's parts.
     sys.modules.setdefault("ldvbi", sys.modules[__name__])
-    from ldvbi_side.command import main as command
-    return command(words)
+    try:
+        from ldvbi_side.command import main as command
+        return command(words)
+    except KeyboardInterrupt:
+        from ldvbi_side.outputs import drop_standard_output
+        drop_standard_output()
+        return 130  # as a shell has it for a program that Ctrl-C ended
 
 
 if __name__ == "__main__":

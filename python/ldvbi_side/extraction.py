@@ -2,7 +2,7 @@
 are those of the library, which is proved; that the text is the program's is shown by tests alone."""
 
 from ldvbi import BLOCK, PACKED_FIELD
-from .side import Cut, size_of
+from .side import cut_of, size_of
 
 MAX_FIELDS = 1000000  # the program has the same limit
 
@@ -11,11 +11,6 @@ _LONGEST = 1135  # samples of a line
 # Of each cause, by its number, the texts by column
 _CAUSES = [["word"], ["blank"], ["unfinished"], ["change %d" % column for column in range(_LONGEST)],
            ["hold %d" % column for column in range(_LONGEST)]]
-
-
-def cut_of(stream):
-    """The field inside which a stream ends, or None."""
-    return Cut(len(stream) + 1, stream.cut_bytes) if stream.cut_bytes else None
 
 
 def write_document(stream, file, progress):

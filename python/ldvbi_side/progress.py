@@ -24,6 +24,9 @@ class Progress:
 
     def over(self, items, step=1):
         """Yields the items, each of which has so many fields, and says how many fields have come with them."""
+        if not self._is_shown:
+            yield from items
+            return
         done = 0
         for item in items:
             yield item
@@ -40,7 +43,7 @@ class Progress:
 
     def _write(self, text):
         if self._is_shown:
-            # The column after the text, and what is right of it, are emptied.
+            # What an older message has to the right of this one is emptied.
             sys.stderr.write("\r%s\x1b[K" % text)
             sys.stderr.flush()
 
