@@ -26,7 +26,6 @@ this module and of the command:
 
 import ctypes
 import enum
-import functools
 import mmap
 import operator
 import os
@@ -35,20 +34,15 @@ import struct
 import sys
 from typing import NamedTuple
 
-from ldvbi_side.classes import Code, Format, Kind, classify, format_of, whole_number
+from ldvbi_side.classes import Code, Format, Kind, classify, format_of
+from ldvbi_side.library import BAD_LENGTH, System, library, number_of, setup_of, system_of
 from ldvbi_side.samples import Samples
 
 __all__ = ["System", "Cause", "Kind", "Format", "Reading", "FieldReadings", "Code", "Stream", "line_bytes",
-           "field_bytes", "read_line", "read_field", "fields", "classify", "format_of", "draw_line"]
+           "field_bytes", "read_line", "read_rows", "read_field", "fields", "classify", "format_of", "draw_line"]
 
-ABI = 1
+__version__ = "0.1.0"
 BLOCK = 64  # fields to a call of the library; of a mapped file the pages of so many are fetched ahead
-
-
-class System(enum.IntEnum):
-    """A television system."""
-    NTSC = 1
-    PAL = 2
 
 
 class Cause(enum.IntEnum):
@@ -77,152 +71,71 @@ class FieldReadings(NamedTuple):
     third: Reading
 
 
-# ---- The library
-
-def _library_file():
-    here = os.path.dirname(os.path.abspath(__file__))
-    name = "libldvbi.so.%d" % ABI
-    above = os.path.join(here, os.pardir)
-    # as installed, this file is in PREFIX/share/ldvbi/python
-    installed = os.path.join(above, os.pardir, os.pardir, "lib")
-    places = [os.path.join(folder, name) for folder in (here, above, installed)]
-    return os.environ.get("LDVBI_LIBRARY") or next((place for place in places if os.path.exists(place)), name)
-
-
-def _declare(library):
-    number, size, memory, status = ctypes.c_uint32, ctypes.c_size_t, ctypes.c_void_p, ctypes.c_uint8
-    setup = [number, number, number]
-    calls = {
-        "ldvbi_abi": (number, []),
-        "ldvbi_read_line": (status, setup + [memory, size, memory]),
-        "ldvbi_read_fields": (status, setup + [memory, size, memory, size]),
-        "ldvbi_draw_line": (status, setup + [number, memory, size]),
-    }
-    for call, (result, arguments) in calls.items():
-        function = getattr(library, call)
-        function.restype, function.argtypes = result, arguments
-
-
-@functools.lru_cache(maxsize=None)
-def _library():
-    """The library, loaded at the first call. An OSError in one line where there is none that fits."""
-    file = _library_file()
-    try:
-        library = ctypes.CDLL(file)
-        _declare(library)
-    except (OSError, AttributeError) as error:
-        raise OSError("no library to read samples with (%s): `make lib` builds it, LDVBI_LIBRARY names its file"
-                      % error) from None
-    if library.ldvbi_abi() != ABI:
-        raise OSError("%s has the interface %d, not %d: `make lib` builds the one that fits, LDVBI_LIBRARY names its file"
-                      % (file, library.ldvbi_abi(), ABI))
-    return library
-
-
-_reading = struct.Struct("=BBHI")
-PACKED_FIELD = struct.Struct("=BBHIBBHIBBHI")  # LdvbiFieldReadings of ldvbi.h
-_causes = tuple(Cause)
-
-
-# ---- Arguments
-
+_PACKED_LINE = struct.Struct("=BBHI")  # LdvbiReading of ldvbi.h
+PACKED_FIELD = struct.Struct("=BBHIBBHIBBHI")  # LdvbiFieldReadings
+_CAUSES = tuple(Cause)
 _SIZES = {System.NTSC: (910, 263), System.PAL: (1135, 313)}  # samples of a line, lines of a field
-_SYSTEMS = "system is neither NTSC nor PAL"
-_MOST = 0xFFFFFFFF
-
-
-def _number(name, value):
-    """A whole number as the library takes it. One that has no 32 bits becomes the greatest that has, which is refused
-    like it."""
-    number = whole_number(name, value)
-    return number if 0 <= number <= _MOST else _MOST
-
-
-class _Setup(NamedTuple):
-    """The three numbers that a call of the library begins with."""
-    system: int
-    black: int
-    white: int
-
-    def check(self, status):
-        """Raises a ValueError for a status that isn't 0, in the library's order of refusals."""
-        if status == 1:
-            raise ValueError(_SYSTEMS)
-        if status == 2:
-            wide = [name for name in ("black", "white") if getattr(self, name) > 65535]
-            raise ValueError("%s is not from 0 to 65535" % wide[0] if wide else "black is not below white")
-        if status == 4:
-            raise ValueError("number is no code word")
-
-    def check_length(self, status, name, wanted, length):
-        self.check(status)
-        if status:
-            raise ValueError("a %s has %d bytes, not %d" % (name, wanted(self.system), length))
-
-
-def _system_number(system):
-    if isinstance(system, str):
-        if system not in System.__members__:
-            raise ValueError(_SYSTEMS)
-        return System[system]
-    try:
-        return _number("system", system)
-    except ValueError:
-        raise ValueError(_SYSTEMS) from None
-
-
-def _setup(system, black, white):
-    return _Setup(_system_number(system), _number("black", black), _number("white", white))
 
 
 # ---- Calls
 
 def line_bytes(system):
     """The bytes of a line."""
-    number = _system_number(system)
-    if number not in _SIZES:
-        raise ValueError(_SYSTEMS)
-    return 2 * _SIZES[number][0]
+    return 2 * _SIZES[system_of(system)][0]
 
 
 def field_bytes(system):
     """The bytes of a field."""
-    return line_bytes(system) * _SIZES[_system_number(system)][1]
+    return line_bytes(system) * _SIZES[system_of(system)][1]
 
 
 def read_line(samples, system, black, white):
     """The reading of a line."""
-    setup = _setup(system, black, white)
-    out = ctypes.create_string_buffer(_reading.size)
-    with Samples(samples) as memory:
-        status = _library().ldvbi_read_line(*setup, memory.address, memory.length, out)
-        setup.check_length(status, "line", line_bytes, memory.length)
-    cause, pass_, column, word = _reading.unpack(out)
-    return Reading(_causes[cause], pass_, column, word)
+    read = library().ldvbi_read_line
+    out = _read(read, samples, setup_of(system, black, white), _PACKED_LINE, "a line has", line_bytes)
+    cause, pass_, column, word = _PACKED_LINE.unpack(out)
+    return Reading(_CAUSES[cause], pass_, column, word)
+
+
+def read_rows(samples, system, black, white):
+    """The readings of a field's lines 16, 17 and 18 alone, which lie one after the other, as os.pread fetches them: they
+    begin 15 lines after their field."""
+    read, size = library().ldvbi_read_rows, lambda system: 3 * line_bytes(system)
+    out = _read(read, samples, setup_of(system, black, white), PACKED_FIELD, "three lines have", size)
+    return next(_unpacked(out))
 
 
 def read_field(samples, system, black, white):
     """The readings of a field's lines 16, 17 and 18."""
-    setup = _setup(system, black, white)
-    out = ctypes.create_string_buffer(PACKED_FIELD.size)
-    with Samples(samples) as memory:
-        status = _library().ldvbi_read_fields(*setup, memory.address, memory.length, out, 1)
-        setup.check_length(status, "field", field_bytes, memory.length)
+    read = library().ldvbi_read_field
+    out = _read(read, samples, setup_of(system, black, white), PACKED_FIELD, "a field has", field_bytes)
     return next(_unpacked(out))
+
+
+def _read(read, samples, setup, packed, owner, wanted_bytes):
+    """What a call of the library writes, which is of this packed form. `owner` and `wanted_bytes` are for the text of an
+    exception."""
+    out = ctypes.create_string_buffer(packed.size)
+    with Samples(samples) as memory:
+        status = read(*setup, memory.address, memory.length, out)
+        if status == BAD_LENGTH:
+            raise ValueError("%s %d bytes, not %d" % (owner, wanted_bytes(setup.system), memory.length))
+        setup.check(status)
+    return out
 
 
 def _unpacked(readings):
     """Fields' readings, as the library writes them, one by one."""
     for a, b, c, d, e, f, g, h, i, j, k, l in PACKED_FIELD.iter_unpack(readings):
-        yield FieldReadings(Reading(_causes[a], b, c, d), Reading(_causes[e], f, g, h), Reading(_causes[i], j, k, l))
+        yield FieldReadings(Reading(_CAUSES[a], b, c, d), Reading(_CAUSES[e], f, g, h), Reading(_CAUSES[i], j, k, l))
 
 
 def draw_line(word, system, black, white):
     """The samples of a line that shows the word, or of a blank line for 0."""
-    setup = _setup(system, black, white)
+    setup = setup_of(system, black, white)
     size = line_bytes(system)
     out = ctypes.create_string_buffer(size)
-    setup.check(_library().ldvbi_draw_line(*setup, _number("word", word), out, size))
+    setup.check(library().ldvbi_draw_line(*setup, number_of("word", word), out, size))
     return out.raw
 
 
@@ -238,9 +151,8 @@ class Stream:
     gives file or buffer back; what is asked for then raises a ValueError."""
 
     def __init__(self, source, system, black, white):
-        self._setup = _setup(system, black, white)
-        nothing = ctypes.create_string_buffer(1)
-        self._setup.check(_library().ldvbi_read_fields(*self._setup, nothing, 0, nothing, 0))
+        self._setup = setup_of(system, black, white)
+        self._setup.check(library().ldvbi_read_fields(*self._setup, None, 0, None, 0))
         self.system, self.black, self.white = System(self._setup.system), self._setup.black, self._setup.white
         self._size = field_bytes(self.system)
         self._file = None
@@ -299,7 +211,7 @@ class Stream:
             raise ValueError("the stream is closed")
         out = ctypes.create_string_buffer(PACKED_FIELD.size * count)
         address = self._samples.address + first * self._size
-        self._setup.check(_library().ldvbi_read_fields(*self._setup, address, count * self._size, out, count))
+        self._setup.check(library().ldvbi_read_fields(*self._setup, address, count * self._size, out, count))
         return out
 
     def _fetch(self, begin, end):
