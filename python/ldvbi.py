@@ -157,7 +157,8 @@ class Stream:
         self._size = field_bytes(self.system)
         self._file = None
         if isinstance(source, (str, os.PathLike)):
-            source = self._file = _mapped(source)
+            self._file = _mapped(source)
+            source = b"" if self._file is None else self._file
         elif isinstance(source, bytes) and 0 < len(source) < line_bytes(self.system):
             raise ValueError("%d bytes are less than a line; a path is a str or a path object, as os.fsdecode makes of bytes"
                              % len(source))
@@ -168,8 +169,9 @@ class Stream:
         if self._samples is not None:
             self._samples.release()
             self._samples = None
-            if self._file:
+            if self._file is not None:
                 self._file.close()
+                self._file = None
 
     def __enter__(self):
         return self
@@ -216,7 +218,7 @@ class Stream:
 
     def _fetch(self, begin, end):
         """Has the system fetch the pages of lines 16, 17 and 18 of these fields, of all of them at once."""
-        if not self._file or self._samples is None:
+        if self._file is None:
             return
         line, page = line_bytes(self.system), mmap.PAGESIZE
         for field in range(begin, end):
@@ -225,13 +227,13 @@ class Stream:
 
 
 def _mapped(path):
-    """The bytes of a file, mapped, or none where it is empty."""
+    """A file's bytes, mapped, or None where there are none."""
     with open(path, "rb") as file:
         status = os.fstat(file.fileno())
         if not stat.S_ISREG(status.st_mode):
             raise ValueError("%s is no file that can be mapped" % path)
         if status.st_size == 0:
-            return b""
+            return None
         mapped = mmap.mmap(file.fileno(), 0, access=mmap.ACCESS_READ)
         # Few pages of a field are wanted, so the system shall not read ahead on its own.
         mapped.madvise(mmap.MADV_RANDOM)
