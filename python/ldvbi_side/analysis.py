@@ -1,11 +1,9 @@
 """What the words of a side mean: its numbers, what is missing, lost, repeated or doubtful, and where. Plain data in, plain
 data out; docs/SIDES.md has the rules and the form of the answer. All else that speaks of a side prints this."""
 
-import contextlib
-import gc
-
 from ldvbi import Kind
 from .chapters import chapters_of
+from .collector import paused
 from .doubts import Doubts
 from .ends import stretches_of
 from .lines import bad_lines_of, levels_of, rates_of
@@ -18,26 +16,10 @@ from .times import times_of
 VERSION = 1  # of the answer's form
 
 
-@contextlib.contextmanager
-def _no_collection():
-    """Nothing here is a cycle, and looking for them would cost half of the time."""
-    was_enabled = gc.isenabled()
-    gc.disable()
-    try:
-        yield
-    finally:
-        if was_enabled:
-            gc.enable()
-
-
+@paused()
 def analyse(fields):
     """The answer for a side, of its `said.Fields`."""
-    with _no_collection():
-        return _answer(Said(fields))
-
-
-def _answer(said):
-    fields = said.fields
+    said = Said(fields)
     doubts = Doubts(said)
     find = {"cav": pictures_of, "clv": times_of}.get(said.format)
     numbers = find(said, doubts) if find else no_numbers(fields.system)

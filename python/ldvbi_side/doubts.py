@@ -4,7 +4,6 @@ from .chain import chain
 from .paces import price
 
 WIDEST = price(1 << 18)  # more than the widest break of a side costs
-LEAST_ROW = 3  # readings of a row
 
 
 class Doubts:
@@ -51,15 +50,13 @@ class Doubts:
                                   None if right is None else text_of(right))
 
     def find_second_row(self, numbers, readings):
-        """Readings that aren't believed, but fit each other: as of a line on which one digit is always read wrong, or of
-        a second disc. Which of two rows is the right one isn't known where their weights are near."""
+        """Readings that aren't believed, but most of which fit each other: as of a line on which one digit is always
+        read wrong, or of a second disc. Which of two rows is the right one isn't known where their weights are near."""
         taken = {(reading.field, reading.number) for reading in numbers.believed}
         row = chain([one for one in readings if (one.field, one.number) not in taken], numbers.pace)
-        if len(row) < LEAST_ROW:
-            return
+        offs = [numbers.off(*pair) for pair in zip(row, row[1:])]
         weight = sum(one.weight for one in row)
-        spent = sum(price(numbers.off(*pair) or 0) for pair in zip(row, row[1:]))
-        if weight - spent <= WIDEST:
+        if weight - sum(map(price, offs)) <= WIDEST or 2 * offs.count(0) < len(offs):
             return
         fields = {reading.field for reading in row}
         text_of = numbers.unit.text_of

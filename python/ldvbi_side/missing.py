@@ -81,14 +81,16 @@ def _add_parity(lost, field):
 
 
 def repeated_of(steps):
-    """The showings of numbers that were shown before, in stretches."""
+    """Numbers that are shown again, in stretches. A number that is due in a damaged field counts as shown there, so that
+    damage doesn't break a stretch."""
+    shown = steps.showings + [[number, field, field] for number, field in steps.due]
     seen, stretches = {}, []
     is_open = False  # whether the last stretch may go on
-    for number, first, last in steps.showings:
+    for number, first, last in sorted(shown, key=lambda showing: showing[1]):
         if number not in seen:
             seen[number] = first
             is_open = False
-        elif is_open and number - stretches[-1]["last"] in (0, 1):
+        elif is_open and number >= stretches[-1]["last"]:
             stretches[-1].update({"last": number, "lastField": last})
         else:
             stretches.append({"first": number, "last": number, "field": first, "lastField": last,
