@@ -35,7 +35,7 @@ def analyse(fields):
     ends = {"leadIn": stretches_of(said, Kind.lead_in, numbers), "leadOut": stretches_of(said, Kind.lead_out, numbers)}
     answer.update({
         "doubtful": sorted(doubts.doubtful, key=_place), "conflicts": sorted(doubts.conflicts, key=_place),
-        "secondRows": doubts.second_rows, "chapters": chapters, "stops": _stops(said, steps, begin), **ends,
+        "chapterConflicts": sorted(doubts.chapter_conflicts, key=_place), "secondRows": doubts.second_rows, "chapters": chapters, "stops": _stops(said, steps, begin), **ends,
         "stray": sorted(said.stray, key=_place)})
     bad, rates = bad_lines_of(fields), rates_of(fields)
     answer.update({"badLines": bad, "lines": rates, "levels": levels_of(rates, bad, said.count)})

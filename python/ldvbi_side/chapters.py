@@ -19,10 +19,7 @@ def chapters_of(said, steps, doubts):
     believed = chain(readings, ChapterPace())
     if LEAST_SHARE * len(believed) < said.count:
         believed = []
-    taken = {reading.field: reading.number for reading in believed}
-    for reading in readings:
-        if taken.get(reading.field) != reading.number:
-            doubts.add(reading.field, reading.lines, reading.number % 100, "chapter")
+    doubts.add_chapters(readings, {reading.field: reading.number % 100 for reading in believed})
     return _stretches(believed, steps)
 
 

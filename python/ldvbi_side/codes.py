@@ -59,6 +59,16 @@ def code(word):
     return {"kind": name, **dict(zip(members, numbers))}
 
 
+def codes_by_kind(words):
+    """Of a field's three words the codes that stand on a line of their kind, each with its lines. Two of one kind are two
+    lines that differ."""
+    found = {}
+    for line, word in zip(LINES, words):
+        if word and line in STANDARD_LINES.get(code_of(word).kind, ()):
+            found.setdefault(code_of(word), dict(code(word), lines=[]))["lines"].append(line)
+    return list(found.values())
+
+
 def name_of(kind):
     """The name of a kind, as `ldvbi show` has it."""
     return KINDS[kind][0]

@@ -11,7 +11,7 @@ class Doubts:
 
     def __init__(self, said):
         self.said = said
-        self.doubtful, self.conflicts, self.second_rows = [], [], []
+        self.doubtful, self.conflicts, self.chapter_conflicts, self.second_rows = [], [], [], []
 
     def add(self, field, lines, text, why, around=((None, None), None)):
         """Names the words of these lines, whose number is this text. `around` are the believed readings before and
@@ -26,8 +26,19 @@ class Doubts:
 
     def add_conflict(self, field, said, taken):
         """A field whose lines 17 and 18 have these numbers, each with its lines, of which one was taken, or none."""
-        lines = {line: text for text, ones in said.items() for line in ones}
-        self.conflicts.append({"field": field, "line17": lines.get(17), "line18": lines.get(18), "taken": taken})
+        self.conflicts.append(_conflict(field, said, taken))
+
+    def add_chapters(self, readings, taken):
+        """Names the chapters that aren't believed, and the fields whose lines differ. `taken` are the believed ones by
+        field."""
+        said = {}
+        for reading in readings:
+            chapter = reading.number % 100
+            said.setdefault(reading.field, {})[chapter] = reading.lines
+            if taken.get(reading.field) != chapter:
+                self.add(reading.field, reading.lines, chapter, "chapter")
+        self.chapter_conflicts += [_conflict(field, ones, taken.get(field)) for field, ones in said.items()
+                                   if len(ones) > 1]
 
     def set_aside(self, numbers, readings):
         """Names the readings that aren't believed, and the fields whose lines differ."""
@@ -64,3 +75,8 @@ class Doubts:
             "first": text_of(row[0].number), "last": text_of(row[-1].number), "field": row[0].field,
             "lastField": row[-1].field, "count": len(row), "weight": weight,
             "against": sum(one.weight for one in numbers.believed if one.field in fields)})
+
+
+def _conflict(field, said, taken):
+    lines = {line: text for text, ones in said.items() for line in ones}
+    return {"field": field, "line17": lines.get(17), "line18": lines.get(18), "taken": taken}

@@ -1,5 +1,7 @@
 """Numbers that no field has, fields that are lost, and numbers that are shown again."""
 
+import bisect
+
 
 def missing_of(steps, count):
     """The numbers between the least and the greatest that no field has, in stretches of one reason; and those that were
@@ -52,21 +54,29 @@ def lost_fields(steps, first):
             for one in steps.breaks if one["kind"] == "lost"]
     pace = steps.numbers.pace
     if pace and pace.kind == "both":
-        _widen(lost, steps.showings)
+        for one in lost:
+            if one["fields"] == 1:
+                _widen(one, steps.numbers)
     for field in range(2, len(first or ()) + 1):
         if first[field - 1] == first[field - 2]:
             _add_parity(lost, field)
     return sorted(lost, key=lambda one: one["after"])
 
 
-def _widen(lost, showings):
-    """Where a picture beside the loss has one field of two, it isn't known which of its two is the lost one."""
-    single = {first for _, first, last in showings if first == last}
-    for one in lost:
-        if one["fields"] == 1 and one["after"] in single:
-            one["after"] -= 1
-        elif one["fields"] == 1 and one["before"] in single:
-            one["before"] += 1
+def _widen(one, numbers):
+    """Of a picture that was read in one of its two fields it isn't known in which. So where one field is lost, all such
+    pictures beside the loss may stand on the other side of it: those before it whose field is taken for the first one,
+    and those behind it whose field is taken for the second one."""
+    believed, fields = numbers.believed, numbers.fields
+    place = bisect.bisect(fields, one["after"]) - 1
+    while place > 0 and believed[place].variant == 0 and numbers.off(believed[place - 1], believed[place]) == 0:
+        place -= 1
+    one["after"] = fields[place]
+    place = bisect.bisect(fields, one["before"]) - 1
+    while place + 1 < len(fields) and believed[place].variant == 1 and (
+            numbers.off(believed[place], believed[place + 1]) == 0):
+        place += 1
+    one["before"] = fields[place]
 
 
 def _add_parity(lost, field):

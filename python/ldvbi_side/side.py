@@ -7,8 +7,11 @@ from typing import List, NamedTuple, Optional
 
 from ldvbi import Cause, FieldReadings, System, field_bytes, fields, format_of, line_bytes
 from .analysis import analyse
-from .codes import code
+from .codes import code, codes_by_kind
 from .said import Fields
+
+_CAUSES = tuple(cause.name for cause in Cause)
+_FIRST_WITH_COLUMN = int(Cause.change)  # and the only other one behind it is hold
 
 
 def size_of(system):
@@ -63,10 +66,12 @@ class Side:
         return analyse(self.plain())
 
     def codes(self):
-        """For each field its number, its format, and the codes of lines 16, 17 and 18."""
+        """For each field its number, its format, the codes of lines 16, 17 and 18, and those that stand on a line of
+        their kind, each with its lines: `codes` of contrib/ldvbi.jq."""
         for number, readings in self.numbered():
             words = [line.word for line in readings]
-            yield {"seqNo": number, "format": format_of(*words).name, "codes": [code(word) for word in words]}
+            yield {"seqNo": number, "format": format_of(*words).name, "codes": [code(word) for word in words],
+                   "byKind": codes_by_kind(words)}
 
     def pictures(self):
         """The first field of each believed picture number. A seek table of a CAV side."""
@@ -104,9 +109,8 @@ def _firsts(pairs):
 
 def cause_text(reading):
     """What a line shows, as the document of `ldvbi extract` has it: `word`, `blank`, `change 170`."""
-    if reading.cause in (Cause.change, Cause.hold):
-        return "%s %d" % (reading.cause.name, reading.column)
-    return reading.cause.name
+    name = _CAUSES[reading.cause]
+    return "%s %d" % (name, reading.column) if reading.cause >= _FIRST_WITH_COLUMN else name
 
 
 def side_of_tbc(path, system, black, white, first=None):

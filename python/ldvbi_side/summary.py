@@ -90,7 +90,8 @@ def _missing_text(missing):
 
 
 def _doubt_lines(answer):
-    doubtful, conflicts = answer["doubtful"], answer["conflicts"]
+    doubtful = answer["doubtful"]
+    conflicts = sorted(answer["conflicts"] + answer["chapterConflicts"], key=lambda one: one["field"])
     yield "doubtful, set aside: " + _listed(len(doubtful), (
         "%s %s in field %d line %d" % (one["kind"], one["word"] if one["number"] is None else one["number"],
                                        one["field"], one["line"]) for one in doubtful))
