@@ -1,18 +1,22 @@
 """The command `python3 -m ldvbi`: what the words of a side mean."""
 
 import argparse
+import contextlib
 import csv
 import json
 import os
 import sys
 
-from ldvbi import System
+from ldvbi import Stream, System, field_bytes
 from .document import is_document, side_of_document
+from .extraction import write_document
 from .metadata import settings_of
+from .outputs import drop_standard_output, refuse_inputs, whole_file
 from .parity import first_fields_of
 from .plot import plot_command
+from .progress import Progress
 from .seek import seek, text_of, wanted_of
-from .side import side_of_tbc
+from .side import Side, cut_of, side_of_stream
 from .summary import is_whole, summary
 from .tables import BAD_LINE_COLUMNS, FIELD_COLUMNS, bad_line_rows, field_rows
 
@@ -47,13 +51,17 @@ def _parser():
                         "chapter, as 'chapter 3'; status 1 where there is none")
     output.add_argument("--summary", action="store_true", help="print what to look at first, in at most 20 lines; status "
                         "1 where a picture is missing, none is there, or the last field is cut")
+    output.add_argument("--document", action="store_true", help="print the document that `ldvbi extract` writes of the TBC "
+                        "file, the same byte for byte")
+    parser.add_argument("-o", "--output", metavar="FILE", help="print into this file, which gets its name only when it is "
+                        "whole")
     parser.add_argument("--svg", metavar="FILE", help="draw the side into this file; with one of the others, that is "
                         "printed too")
     return parser
 
 
-def _side(options):
-    """The side that the options name."""
+def _source(options):
+    """The side of the document that the options name, or the stream of the TBC file."""
     given = [options.system, options.black, options.white]
     is_standard_input = options.side == "-"
     with open(0 if is_standard_input else options.side, "rb", closefd=not is_standard_input) as file:
@@ -64,7 +72,21 @@ def _side(options):
     settings = settings_of(options.meta, *given)
     for note in settings.notes:
         _note(note)
-    return side_of_tbc(options.side, settings.system, settings.black, settings.white)
+    return Stream(options.side, settings.system, settings.black, settings.white)
+
+
+def _print_document(stream):
+    # Between the lines of a document on the same terminal, messages would be of no use.
+    with Progress(len(stream), is_wanted=not sys.stdout.isatty()) as progress:
+        write_document(stream, sys.stdout, progress)
+
+
+def _side_of(source):
+    """The side of either source."""
+    if isinstance(source, Side):
+        return source
+    with Progress(len(source)) as progress:
+        return side_of_stream(source, progress)
 
 
 def _add_parity(side, path):
@@ -84,15 +106,40 @@ def _print_table(columns, rows):
     table.writerows(rows)
 
 
+def _cut_status(cut, system):
+    """The status of what is printed of all whole fields: 3 where the last field is cut, which is said then."""
+    if cut is None:
+        return 0
+    _note("the last field is cut: field %d has %d of %d bytes" % (*cut, field_bytes(system)))
+    return 3
+
+
 def _draw(side, options):
     from .drawing import drawing_of
-    with open(options.svg, "w", encoding="utf-8") as file:
+    with whole_file(options.svg) as file:
         file.write(drawing_of(side, os.path.basename(options.side)))
 
 
 def _run(options):
     """What the options ask for. The answer is the exit status."""
-    side = _side(options)
+    inputs = [0 if options.side == "-" else options.side, options.meta]
+    refuse_inputs([1 if options.output is None else options.output, options.svg], inputs)
+    if options.output is None:
+        return _answer(options)
+    with whole_file(options.output) as file, contextlib.redirect_stdout(file):
+        return _answer(options)
+
+
+def _answer(options):
+    """Prints and draws what the options ask for."""
+    source = _source(options)
+    if options.document:
+        if isinstance(source, Side):
+            raise ValueError("--document is of a TBC file, and this is a document")
+        _print_document(source)
+        if not options.svg:
+            return _cut_status(cut_of(source), source.system)
+    side = _side_of(source)
     if options.meta:
         _add_parity(side, options.meta)
     if options.svg:
@@ -109,9 +156,9 @@ def _run(options):
         print()
     elif options.bad_lines:
         _print_table(BAD_LINE_COLUMNS, bad_line_rows(side.answer))
-    elif options.csv or not options.svg:
+    elif options.csv or not (options.svg or options.document):
         _print_table(FIELD_COLUMNS, field_rows(side))
-    return 0
+    return _cut_status(side.cut, side.system)
 
 
 def main(words=None):
@@ -121,8 +168,7 @@ def main(words=None):
         sys.stdout.flush()
         return status
     except BrokenPipeError:
-        # Nobody reads on. What is still held must not be written at the end.
-        os.dup2(os.open(os.devnull, os.O_WRONLY), sys.stdout.fileno())
+        drop_standard_output()
         return 1
     except (OSError, ValueError) as error:
         print("ldvbi: %s" % error, file=sys.stderr)

@@ -1,9 +1,12 @@
 """What is set aside, by name: doubtful numbers, lines that differ, and rows of numbers that weren't taken."""
 
+import bisect
+
 from .chain import chain
 from .paces import price
 
 WIDEST = price(1 << 18)  # more than the widest break of a side costs
+SHARE = 10  # believed readings to one of a second row, at most
 
 
 class Doubts:
@@ -61,13 +64,16 @@ class Doubts:
                                   None if right is None else text_of(right))
 
     def find_second_row(self, numbers, readings):
-        """Readings that aren't believed, but most of which fit each other: as of a line on which one digit is always
-        read wrong, or of a second disc. Which of two rows is the right one isn't known where their weights are near."""
+        """Readings that aren't believed, but fit each other for long: as of a line on which one digit is always read
+        wrong, or of a second disc. Which of two rows is the right one isn't known where their weights are near. A few of
+        many wrong numbers always fit, so a row has at least a tenth of the readings that are believed beside it."""
         taken = {(reading.field, reading.number) for reading in numbers.believed}
         row = chain([one for one in readings if (one.field, one.number) not in taken], numbers.pace)
-        offs = [numbers.off(*pair) for pair in zip(row, row[1:])]
         weight = sum(one.weight for one in row)
-        if weight - sum(map(price, offs)) <= WIDEST or 2 * offs.count(0) < len(offs):
+        if weight - sum(price(numbers.off(*pair)) for pair in zip(row, row[1:])) <= WIDEST:
+            return
+        beside = bisect.bisect(numbers.fields, row[-1].field) - bisect.bisect_left(numbers.fields, row[0].field)
+        if SHARE * len(row) < beside:
             return
         fields = {reading.field for reading in row}
         text_of = numbers.unit.text_of

@@ -2,12 +2,12 @@
 from a document that `ldvbi extract` wrote (`ldvbi_side.document`). Fields are counted from 1."""
 
 import functools
-import os
 from typing import List, NamedTuple, Optional
 
-from ldvbi import Cause, FieldReadings, System, field_bytes, fields, format_of, line_bytes
+from ldvbi import Cause, FieldReadings, Stream, System, field_bytes, format_of, line_bytes
 from .analysis import analyse
 from .codes import code, codes_by_kind
+from .progress import Progress
 from .said import Fields
 
 _CAUSES = tuple(cause.name for cause in Cause)
@@ -113,9 +113,18 @@ def cause_text(reading):
     return "%s %d" % (name, reading.column) if reading.cause >= _FIRST_WITH_COLUMN else name
 
 
+def cut_of(stream):
+    """The field inside which a `Stream` ends, or None."""
+    return Cut(len(stream) + 1, stream.cut_bytes) if stream.cut_bytes else None
+
+
+def side_of_stream(stream, progress, first=None):
+    """The side that a `Stream` holds."""
+    readings = list(progress.over(stream))
+    return Side(stream.system, readings, cut_of(stream), Levels(stream.black, stream.white), first)
+
+
 def side_of_tbc(path, system, black, white, first=None):
     """The side that a TBC file holds. Only lines 16, 17 and 18 are read from it."""
-    readings = list(fields(path, system, black, white))
-    rest = os.path.getsize(path) % field_bytes(system)
-    cut = Cut(len(readings) + 1, rest) if rest else None
-    return Side(System[system], readings, cut, Levels(black, white), first)
+    with Stream(path, system, black, white) as stream, Progress(len(stream), is_wanted=False) as progress:
+        return side_of_stream(stream, progress, first)

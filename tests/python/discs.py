@@ -3,8 +3,10 @@
 A row has the items of lines 16, 17 and 18: six hexadecimal digits (with * behind them for a word of pass 2), or a line
 without a word: - (blank), ~ (unfinished), ? (change 170), ! (hold 200)."""
 
+from ldvbi import Cause, FieldReadings, Reading, System
 from ldvbi_side.analysis import analyse
 from ldvbi_side.said import Fields
+from ldvbi_side.side import Levels, Side
 
 CAUSES = {"-": "blank", "~": "unfinished", "?": "change 170", "!": "hold 200"}
 BLANK = "- - -"
@@ -63,7 +65,7 @@ def item(text):
     return int(text[:6], 16), 2 if text.endswith("*") else 1, "word"
 
 
-def side(rows, system="PAL", first=None, cut=None):
+def plain(rows, system="PAL", first=None, cut=None):
     """The plain data of a side with these rows."""
     fields = [list(zip(*map(item, row.split(" ")))) for row in rows]
     words, passes, causes = ([field[part] for field in fields] for part in range(3))
@@ -71,4 +73,17 @@ def side(rows, system="PAL", first=None, cut=None):
 
 
 def answer(rows, system="PAL", first=None, cut=None):
-    return analyse(side(rows, system, first, cut))
+    """What the analysis says of a side with these rows."""
+    return analyse(plain(rows, system, first, cut))
+
+
+def _reading(text):
+    word, of_pass, cause = item(text)
+    name, _, column = cause.partition(" ")
+    return Reading(Cause[name], of_pass, int(column or 0), word)
+
+
+def side(rows, system="PAL", first=None, cut=None):
+    """The `Side` with these rows, read with the levels 16384 and 51200."""
+    readings = [FieldReadings(*map(_reading, row.split(" "))) for row in rows]
+    return Side(System[system], readings, cut, Levels(16384, 51200), first)

@@ -26,7 +26,7 @@ def fields_of(side, parity=False):
                   side.first if parity else None)
 
 
-def measured(seed, parity=False, tell=lambda name, text: None):
+def measured(seed, parity=False, tell=lambda text: None):
     """The kind of the side of this seed, and the counts of what is found of it."""
     side = simulated(seed)
     fields = fields_of(side, parity)
