@@ -174,7 +174,8 @@ check 'the drawing of a TBC file' [ "$(sed 's/side.tbc/side.vbi.json/g' side.svg
 check 'the summary is printed too' grep -qx 'system: NTSC, CAV' out
 check 'its status' [ "$status" = 1 ]
 told side.vbi.json --svg absent/side.svg
-judge 'a drawing that cannot be written' 1 empty "ldvbi: [Errno 2] No such file or directory: 'absent/side.svg'"
+check 'a drawing that cannot be written' [ "$status $(wc -l < err)" = '1 1' ]
+check 'what is said of it' grep -q 'ldvbi: .* No such file or directory: .*absent/side.svg' err
 
 # A CLV disc of PAL: 40 fields, 24 pixels each, from 0:59:59.15 to 1:00:00.09. Its mark is on line 17, the minutes of
 # one field are wrong, those of another no clock shows, the picture of a third no clock shows, and three times are lost.
@@ -216,12 +217,8 @@ axis 630 674 field
 END
 
 # Minutes alone: each stands on all its fields. 48 fields, 20 pixels each; the last minute stays to the end.
-{
-    for field in 1 2 3 4 5 6 7 8 9 10 11 12 13 14 15 16 17 18 19 20; do echo '- 87FFFF F0DD59'; done
-    for field in 1 2 3 4 5 6 7 8 9 10 11 12 13 14 15 16 17 18 19 20 21 22 23 24 25 26 27 28; do
-        echo '- 87FFFF F1DD00'
-    done
-} > minute_words
+awk 'BEGIN { for (field = 1; field <= 48; field++) print "- 87FFFF", (field <= 20 ? "F0DD59" : "F1DD00") }' \
+    > minute_words
 side_of "$ntsc" < minute_words
 drawn side.vbi.json
 shows 'a disc with minutes alone' << 'END'

@@ -93,10 +93,11 @@ def _draw_no_numbers(svg, answer):
     texts = ["no picture number and no time"]
     levels = answer["levels"]
     if levels:
-        texts.append("lines 17 and 18 have %(words)d words, %(bad)d are bad, %(blank)d blank: are black and white right?"
-                     % levels)
+        texts.append("lines 17 and 18 have %(words)d words, %(bad)d are bad, %(blank)d blank: "
+                     "are black and white right?" % levels)
+    y = CURVE_TOP + CURVE_HEIGHT / 2
     for place, text in enumerate(texts):
-        svg.text(LEFT + WIDTH / 2, CURVE_TOP + CURVE_HEIGHT / 2 + 24 * place, text, text_anchor="middle", class_="empty")
+        svg.text(LEFT + WIDTH / 2, y + 24 * place, text, text_anchor="middle", class_="empty")
 
 
 def _draw_disc(svg, axis, answer):
@@ -107,7 +108,8 @@ def _draw_disc(svg, axis, answer):
     stretches += [("lead-out", "lead-out", one, "") for one in answer["leadOut"]]
     for one in answer["chapters"]:
         place = "" if one["number"] is None else ", from %s" % one["number"]
-        stretches.append(("chapter", "chapter %d" % one["chapter"], {"first": one["field"], "last": one["last"]}, place))
+        stretch = {"first": one["field"], "last": one["last"]}
+        stretches.append(("chapter", "chapter %d" % one["chapter"], stretch, place))
     chapters = 0
     for kind, name, one, place in sorted(stretches, key=lambda stretch: stretch[2]["first"]):
         fill = END_COLOUR
@@ -133,8 +135,8 @@ def _draw_stops(svg, axis, answer):
         if round(x / 2) not in drawn:
             drawn.add(round(x / 2))
             number = "" if one["number"] is None else " of %s" % one["number"]
-            lines = " and ".join(str(line) for line in sorted(one["lines"]))
-            title = "picture stop%s in field %d, line%s %s" % (number, one["field"], "s" * (len(one["lines"]) > 1), lines)
+            lines = ("lines " if len(one["lines"]) > 1 else "line ") + " and ".join(map(str, sorted(one["lines"])))
+            title = "picture stop%s in field %d, %s" % (number, one["field"], lines)
             svg.path("M%.1f %dl4 6l-4 6l-4 -6z" % (x, STOPS_TOP), title, class_="stop", data_field=one["field"],
                      fill="#b91c1c")
 
