@@ -194,10 +194,10 @@ def draw_titles(drawing, title, said):
     if not title:
         drawing.text(LEFT, 28, said, ' class="title" font-size="17"')
         return
-    # The middle of a title that is too wide is left out; a character of this size is about 10 pixels wide
-    most = WIDTH // 10
-    if len(title) > most:
-        title = title[:most // 2 - 1] + "\u2026" + title[-most // 2:]
+    # The middle of a title that may be too wide is left out; a bold character of this size has up to 12 pixels
+    kept = WIDTH // 24
+    if len(title) > 2 * kept + 1:
+        title = title[:kept] + "\u2026" + title[-kept:]
     drawing.text(LEFT, 24, title, ' class="title" font-size="17" font-weight="bold"')
     drawing.text(LEFT, 46, said, ' class="said"')
 

@@ -304,7 +304,7 @@ side_of "$pal" < one_field
 cp side.vbi.json "$long.vbi.json"
 drawn "$long.vbi.json"
 shows 'a long name' << END
-title 150 28 a long name 01 a long name 02 a long name 03 a…name 10 a long name 11 a long name 12 .vbi.json = $long.vbi.json
+title 150 28 a long name 01 a long name 02 a long name … 10 a long name 11 a long name 12 .vbi.json = $long.vbi.json
 system PAL, CAV, 1 field, 1 picture, 9 to 9
 run 1-1 1 630 368 630 368 = 9 in field 1
 END

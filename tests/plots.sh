@@ -104,7 +104,7 @@ plotted 910 $ntsc --title 'side <1> & 2.tbc, field 7, line 16'
 check 'a title' [ "$(head -n 1 found)" = 'side <1> & 2.tbc, field 7, line 16' ]
 check 'what is said, too' grep -q '>82CFFF, by the samples as they are (pass 1)<' out
 plotted 910 $ntsc --title "$(printf '%0120d' 5)"
-check 'a long title' [ "$(head -n 1 found)" = "$(printf '%049d…%050d' 0 5)" ]
+check 'a long title' [ "$(head -n 1 found)" = "$(printf '%041d…%041d' 0 5)" ]
 
 # What it refuses
 echo 82CFFF | signal NTSC 0 | ntsc_samples > line.raw

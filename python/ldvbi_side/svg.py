@@ -3,7 +3,7 @@
 from xml.sax.saxutils import escape, quoteattr
 
 # About the width of a character, in pixels at a font size of 1; the widest letters are wider
-CHARACTER = 0.6
+CHARACTER = 0.65
 
 
 def text_width(text, size):
