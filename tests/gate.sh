@@ -47,6 +47,7 @@ if [ -e libldvbi.so.1 ]; then
     sh tests/jq_and_python.sh "$program"
     sh tests/python_side.sh "$program"
     sh tests/python_glance.sh "$program"
+    sh tests/drawing.sh "$program"
 else
     echo "library: left out, since it isn't built"
 fi

@@ -179,6 +179,8 @@ as many fields of CAV as of CLV|cav|- 87FFFF -|- F00001 -
 both in one field|cav|82CFFF F0DD01 F0DD01|- - -
 one more field of CLV|clv|- 87FFFF F00001|8AE000 - -
 a mark on line 18|clv|- - 87FFFF|- - -
+minutes alone|clv|- F0DD01 -|- - -
+seconds alone|clv|8AE000 - -|- - -
 a stop on line 18|cav|- - 82CFFF|- - -
 lines that aren't theirs|neither|F00001 8AE000 8AE000|87FFFF - -
 neither|neither|- 88FFFF -|83D001 801DDD -

@@ -19,11 +19,12 @@ LEAST_SHARE = 4  # pixels of a band for what is neither a word of pass 1 nor bla
 
 
 def draw_legend(svg, x, y):
-    """The colours with their names, from left to right."""
+    """The colours with their names, from left to right. The answer is where the next one would stand."""
     for name, fill in SHOWN.items():
         svg.box(x, y - 11, 14, 14, fill)
         svg.text(x + 20, y + 1, name)
         x += 7 * len(name) + 44
+    return x
 
 
 def draw_bands(svg, fields, axis, top):

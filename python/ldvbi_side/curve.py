@@ -127,8 +127,11 @@ def draw_doubts(svg, axis, scale, answer):
             svg.path("M%.1f %.1fl-5 %dh10z" % (x, y - 5 * beyond, 9 * beyond), doubt_text(one), class_="doubt",
                      data_field=one["field"], fill=DOUBTFUL_COLOUR)
         else:
-            svg.element("circle", doubt_text(one), class_="doubt", data_field=one["field"], cx=x, cy=y, r=4,
-                        fill="#ffffff", stroke=DOUBTFUL_COLOUR, stroke_width=2)
+            draw_ring(svg, x, y, doubt_text(one), class_="doubt", data_field=one["field"])
+
+
+def draw_ring(svg, x, y, title=None, **attributes):
+    svg.element("circle", title, cx=x, cy=y, r=4, fill="#ffffff", stroke=DOUBTFUL_COLOUR, stroke_width=2, **attributes)
 
 
 def round_steps():

@@ -7,7 +7,7 @@ from .marks import LANES, Mark, counts_of, fields_text, marks_of
 from .svg import Svg, shortened, text_width
 
 # The drawing's own measures, in pixels
-LEFT, WIDTH, RIGHT = 140, 960, 30
+LEFT, WIDTH, RIGHT = 150, 960, 30
 TITLE_Y, SYSTEM_Y, LEGEND_Y = 28, 50, 76
 BANDS_TOP = 94
 DISC_TOP, DISC_HEIGHT = 200, 18
@@ -16,7 +16,7 @@ CURVE_TOP, CURVE_HEIGHT = 248, 240
 LANES_TOP, LANE_STEP, LANE_HEIGHT = 502, 18, 12
 AXIS_TOP = LANES_TOP + LANE_STEP * len(LANES) + 4
 MOST_UPRIGHTS = 60  # of a lane, or of chapters: with more of them the curve couldn't be seen
-DISC_COLOURS = {"lead-in": "#cbd5e1", "lead-out": "#cbd5e1", "chapter": ("#e0e7ff", "#c7d2fe")}
+END_COLOUR, CHAPTER_COLOURS = "#94a3b8", ("#e0e7ff", "#c7d2fe")
 
 
 def drawing_of(side, title):
@@ -37,8 +37,7 @@ def drawing_of(side, title):
         curve.draw_doubts(svg, axis, scale, answer)
     else:
         _draw_lanes(svg, axis, answer)
-        svg.text(LEFT + WIDTH / 2, CURVE_TOP + CURVE_HEIGHT / 2, "no picture number and no time", text_anchor="middle",
-                 class_="empty")
+        _draw_no_numbers(svg, answer)
     _draw_fields_axis(svg, axis, answer["fields"])
     return svg.render()
 
@@ -81,7 +80,24 @@ def _draw_head(svg, answer, title):
             answer["numbers"]["count"], name, "" if answer["numbers"]["count"] == 1 else "s",
             answer["numbers"]["least"], answer["numbers"]["greatest"]))
     svg.text(LEFT, SYSTEM_Y, ", ".join(parts), class_="system")
-    bands.draw_legend(svg, LEFT, LEGEND_Y)
+    x = bands.draw_legend(svg, LEFT, LEGEND_Y)
+    svg.box(x, LEGEND_Y - 11, 14, 14, END_COLOUR)
+    svg.text(x + 20, LEGEND_Y + 1, "lead-in, lead-out")
+    x += 160
+    curve.draw_ring(svg, x + 7, LEGEND_Y - 4)
+    svg.text(x + 20, LEGEND_Y + 1, "doubtful number")
+
+
+def _draw_no_numbers(svg, answer):
+    """What is said in the place of the curve, where there is none."""
+    texts = ["no picture number and no time"]
+    levels = answer["levels"]
+    if levels:
+        texts.append("lines 17 and 18 have %(words)d words, %(bad)d are bad, %(blank)d blank: "
+                     "are black and white right?" % levels)
+    y = CURVE_TOP + CURVE_HEIGHT / 2
+    for place, text in enumerate(texts):
+        svg.text(LEFT + WIDTH / 2, y + 24 * place, text, text_anchor="middle", class_="empty")
 
 
 def _draw_disc(svg, axis, answer):
@@ -92,12 +108,13 @@ def _draw_disc(svg, axis, answer):
     stretches += [("lead-out", "lead-out", one, "") for one in answer["leadOut"]]
     for one in answer["chapters"]:
         place = "" if one["number"] is None else ", from %s" % one["number"]
-        stretches.append(("chapter", "chapter %d" % one["chapter"], {"first": one["field"], "last": one["last"]}, place))
+        stretch = {"first": one["field"], "last": one["last"]}
+        stretches.append(("chapter", "chapter %d" % one["chapter"], stretch, place))
     chapters = 0
     for kind, name, one, place in sorted(stretches, key=lambda stretch: stretch[2]["first"]):
-        fill = DISC_COLOURS[kind]
+        fill = END_COLOUR
         if kind == "chapter":
-            fill = fill[chapters % 2]
+            fill = CHAPTER_COLOURS[chapters % 2]
             chapters += 1
         begin, end = axis.extent(one["first"], one["last"])
         title = "%s: %s%s" % (name, fields_text(one["first"], one["last"]), place)
@@ -118,8 +135,8 @@ def _draw_stops(svg, axis, answer):
         if round(x / 2) not in drawn:
             drawn.add(round(x / 2))
             number = "" if one["number"] is None else " of %s" % one["number"]
-            lines = " and ".join(str(line) for line in sorted(one["lines"]))
-            title = "picture stop%s in field %d, line%s %s" % (number, one["field"], "s" * (len(one["lines"]) > 1), lines)
+            lines = ("lines " if len(one["lines"]) > 1 else "line ") + " and ".join(map(str, sorted(one["lines"])))
+            title = "picture stop%s in field %d, %s" % (number, one["field"], lines)
             svg.path("M%.1f %dl4 6l-4 6l-4 -6z" % (x, STOPS_TOP), title, class_="stop", data_field=one["field"],
                      fill="#b91c1c")
 

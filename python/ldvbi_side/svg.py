@@ -2,8 +2,8 @@
 
 from xml.sax.saxutils import escape, quoteattr
 
-# About the width of a character, in pixels at a font size of 1. The widest letters are wider, so texts are cut with room
-CHARACTER = 0.6
+# About the width of a character, in pixels at a font size of 1; the widest letters are wider
+CHARACTER = 0.65
 
 
 def text_width(text, size):
