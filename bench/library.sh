@@ -1,8 +1,8 @@
 #!/bin/sh
-# Times the library for C and in Python, each call beside a plain way to do the same in C; then a drawn stream of FIELDS
-# fields (2,240, which are 1.07 GB, unless it is given), first where it is not in memory, then where it is, read in
-# several ways in turn. Works in a folder of its own on DISK (/var/tmp unless it is given), since a folder of /tmp may lie
-# in memory.
+# Times the library for C and in Python, each call beside a plain way to do the same in C; then a drawn stream of
+# FIELDS fields (2,240, which are 1.07 GB, unless it is given), first where it is not in memory, then where it is, read
+# in several ways in turn. Works in a folder of its own on DISK (/var/tmp unless it is given), since a folder of /tmp
+# may lie in memory.
 # usage: sh bench/library.sh [FIELDS]
 set -eu
 top=$(cd "$(dirname "$0")/.." && pwd)

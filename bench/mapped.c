@@ -172,7 +172,9 @@ static size_t resident(const Stream *stream)
 /* Puts the stream out of memory, of which no page may be left. */
 static void make_cold(const Stream *stream)
 {
-    if (fsync(stream->file) != 0 || posix_fadvise(stream->file, 0, 0, POSIX_FADV_DONTNEED) != 0 || resident(stream) != 0) {
+    int is_put_out = fsync(stream->file) == 0 && posix_fadvise(stream->file, 0, 0, POSIX_FADV_DONTNEED) == 0;
+
+    if (!is_put_out || resident(stream) != 0) {
         fprintf(stderr, "bench: the file stays in memory\n");
         exit(1);
     }

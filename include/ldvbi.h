@@ -11,7 +11,8 @@
  *
  * Samples have 16 bits, the low byte first, as in ld-decode's TBC files: line after line, field after field. So an
  * array of uint16_t goes in as it is on a little-endian machine, as x86-64 is; it need not be aligned. Black and white
- * are samples too: black16bIre and white16bIre of the capture's .tbc.json. A sample above the middle of the two is high.
+ * are samples too: black16bIre and white16bIre of the capture's .tbc.json. A sample above the middle of the two is
+ * high.
  *
  * Threads: no call allocates, takes a lock, prints, or keeps anything between two calls, so that any thread may call at
  * any time, in a signal handler too.

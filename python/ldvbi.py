@@ -10,16 +10,16 @@
     print(len(side), side[7], side[-1], side.cut_bytes)
 
 A line, a field or a stream is anything with the buffer protocol that holds samples of 16 bits, the low byte first, as
-ld-decode's TBC files do: a numpy array of uint16, an array of "H"; or the bytes of such samples: bytes, a mapped file, a
-memoryview of these. Items of another kind raise a ValueError, as do all arguments that can't be right, and nothing is
+ld-decode's TBC files do: a numpy array of uint16, an array of "H"; or the bytes of such samples: bytes, a mapped file,
+a memoryview of these. Items of another kind raise a ValueError, as do all arguments that can't be right, and nothing is
 read then. `system` is a `System` or its name; `black` and `white` are samples, black16bIre and white16bIre of the
 capture's .tbc.json. They are handed to the library as they are, and it is the library that refuses them.
 
 The library is loaded with the first samples that are read, and is the file that the environment variable LDVBI_LIBRARY
 names; else libldvbi.so.1 in the folder of this file or in the one above it; else the one in lib/ of the folder that
 `make install` installed both to; else the one that the system's loader finds. `classify` and `format_of` need none.
-Only CPython and its standard library are needed beside it. `ldvbi_side`, the folder beside this file, holds the parts of
-this module and of the command:
+Only CPython and its standard library are needed beside it. `ldvbi_side`, the folder beside this file, holds the parts
+of this module and of the command:
 
     python3 -m ldvbi side.tbc --system NTSC --black 16384 --white 51200 > pictures.csv
 """
@@ -98,8 +98,8 @@ def read_line(samples, system, black, white):
 
 
 def read_rows(samples, system, black, white):
-    """The readings of a field's lines 16, 17 and 18 alone, which lie one after the other, as os.pread fetches them: they
-    begin 15 lines after their field."""
+    """The readings of a field's lines 16, 17 and 18 alone, which lie one after the other, as os.pread fetches them:
+    they begin 15 lines after their field."""
     read, size = library().ldvbi_read_rows, lambda system: 3 * line_bytes(system)
     out = _read(read, samples, setup_of(system, black, white), PACKED_FIELD, "three lines have", size)
     return next(_unpacked(out))
@@ -113,8 +113,8 @@ def read_field(samples, system, black, white):
 
 
 def _read(read, samples, setup, packed, owner, wanted_bytes):
-    """What a call of the library writes, which is of this packed form. `owner` and `wanted_bytes` are for the text of an
-    exception."""
+    """What a call of the library writes, which is of this packed form. `owner` and `wanted_bytes` are for the text of
+    an exception."""
     out = ctypes.create_string_buffer(packed.size)
     with Samples(samples) as memory:
         status = read(*setup, memory.address, memory.length, out)
@@ -142,13 +142,13 @@ def draw_line(word, system, black, white):
 # ---- Streams
 
 class Stream:
-    """A stream of fields: a TBC file, given by its path, or a buffer. It is a sequence of the `FieldReadings` of its whole
-    fields, each of which is read when it is asked for: `len`, an index from 0 (or from -1, backwards), a slice, which is
-    a list, and a loop over all. `cut_bytes` is the number of bytes past the last whole field.
+    """A stream of fields: a TBC file, given by its path, or a buffer. It is a sequence of the `FieldReadings` of its
+    whole fields, each of which is read when it is asked for: `len`, an index from 0 (or from -1, backwards), a slice,
+    which is a list, and a loop over all. `cut_bytes` is the number of bytes past the last whole field.
 
-    A file is mapped, and only the pages with lines 16, 17 and 18 are read from it, those of the next fields ahead of the
-    loop. Whoever makes the file shorter meanwhile ends this process (SIGBUS). `close`, or the end of a `with` block,
-    gives file or buffer back; what is asked for then raises a ValueError."""
+    A file is mapped, and only the pages with lines 16, 17 and 18 are read from it, those of the next fields ahead of
+    the loop. Whoever makes the file shorter meanwhile ends this process (SIGBUS). `close`, or the end of a `with`
+    block, gives file or buffer back; what is asked for then raises a ValueError."""
 
     def __init__(self, source, system, black, white):
         self._setup = setup_of(system, black, white)
@@ -160,8 +160,8 @@ class Stream:
             self._file = _mapped(source)
             source = b"" if self._file is None else self._file
         elif isinstance(source, bytes) and 0 < len(source) < line_bytes(self.system):
-            raise ValueError("%d bytes are less than a line; a path is a str or a path object, as os.fsdecode makes of bytes"
-                             % len(source))
+            raise ValueError("%d bytes are less than a line; a path is a str or a path object, as os.fsdecode makes of "
+                             "bytes" % len(source))
         self._samples = Samples(source)
         self._count, self.cut_bytes = divmod(self._samples.length, self._size)
 

@@ -336,6 +336,7 @@ static void test_texts(void)
                                      "length does not fit the system", "number is no code word"};
     static const uint32_t unknown[] = {256, 257, 65536, UINT32_MAX};
 
+    CHECK(strcmp(ldvbi_cause_text(LDVBI_WORD), "word") == 0);
     for (uint32_t status = 0; status < 5; status++)
         CHECK(strcmp(ldvbi_status_text(status), statuses[status]) == 0);
     for (uint32_t number = 0; number < 256 + 4; number++) {

@@ -1,5 +1,5 @@
-/* What the tests of the library in C share: memory with a page behind it that can't be touched, drawn lines that are made
-   here, from half cells of one microsecond, and the count of what was wrong. */
+/* What the tests of the library in C share: memory with a page behind it that can't be touched, drawn lines that are
+   made here, from half cells of one microsecond, and the count of what was wrong. */
 #define _DEFAULT_SOURCE
 #include <ldvbi.h>
 #include <stddef.h>

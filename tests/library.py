@@ -102,8 +102,8 @@ def test_refusals():
 
 
 def test_wide_numbers():
-    """Numbers at the edges of 8, 16 and 32 bits, and beyond them: each is refused by what it is, and never by what is left
-    of it in fewer bits."""
+    """Numbers at the edges of 8, 16 and 32 bits, and beyond them: each is refused by what it is, and never by what is
+    left of it in fewer bits."""
     line = ldvbi.draw_line(0xF12345, "NTSC", 16384, 65535)
     calls = {
         "read_line": lambda *setup: ldvbi.read_line(line, *setup),

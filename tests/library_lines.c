@@ -13,7 +13,7 @@ typedef struct {
 
 static const double ntsc_line = 572.0 / 9, pal_line = 64;
 
-/* The column of the boundary before a half cell, from 0 to 48, of a word that begins 10.5 microseconds into its line. */
+/* The column of the boundary before a half cell, 0 to 48, of a word that begins 10.5 microseconds into its line. */
 static size_t boundary(unsigned kilohertz, unsigned half)
 {
     return (10500 + 1000 * half) * (size_t)kilohertz / 1000000;
@@ -24,8 +24,8 @@ static int is_high(uint32_t word, unsigned half)
     return (word >> (23 - half / 2) & 1) == half % 2;
 }
 
-/* A line that shows the word, where each change of level comes up to `early_or_late` samples before or after its place.
-   Returns the number of samples. */
+/* A line that shows the word, where each change of level comes up to `early_or_late` samples before or after its
+   place. Returns the number of samples. */
 static size_t draw_capture(Capture capture, uint32_t word, unsigned early_or_late, uint8_t *line)
 {
     static uint32_t state = 54321;

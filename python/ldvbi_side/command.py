@@ -21,7 +21,8 @@ from .summary import is_whole, summary
 from .tables import BAD_LINE_COLUMNS, FIELD_COLUMNS, bad_line_rows, field_rows
 
 DESCRIPTION = """Reads a side from a TBC file, or from a document that `ldvbi extract` wrote, and says what its words
-mean. A file is taken for a document where its name ends with .json or its text begins as a document's does."""
+mean. A file is taken for a document where its name ends with .json or its text begins as a document's does. Statuses: 0
+done, 1 a fault, 2 the command line was refused, 3 done and the last field is cut, 130 ended by Ctrl-C."""
 LEVELS = "the sample of %s, 0 to 65535, and black below white"
 
 
@@ -35,26 +36,26 @@ def _wanted(text):
 def _parser():
     parser = argparse.ArgumentParser(prog="python3 -m ldvbi", description=DESCRIPTION)
     parser.add_argument("side", help="the TBC file, or the document; - is standard input, for a document")
-    parser.add_argument("--meta", metavar="FILE", help="system and levels of a TBC file from ld-decode's .tbc.json; "
-                        "levels with decimals are rounded to the next whole number; its isFirstField, which is used of a "
-                        "document, too, shows single lost fields")
+    parser.add_argument("--meta", metavar="FILE", help="system and levels of a TBC file from ld-decode's .tbc.json or "
+                        ".tbc.db; levels with decimals are rounded to the next whole number; the .tbc.json's "
+                        "isFirstField, which is used of a document, too, shows single lost fields")
     parser.add_argument("--system", choices=list(System.__members__))
     parser.add_argument("--black", type=int, help=LEVELS % "black")
     parser.add_argument("--white", type=int, help=LEVELS % "white")
     output = parser.add_mutually_exclusive_group()
     output.add_argument("--csv", action="store_true", help="print a row for each field with any code (the default)")
     output.add_argument("--json", action="store_true", help="print all that is known of the side, every list in full")
-    output.add_argument("--bad-lines", action="store_true", help="print a row for each line that shows no word and isn't "
-                        "blank, with its cause and its offset in the TBC file")
-    output.add_argument("--seek", metavar="WANTED", type=_wanted, help="print the first field of a picture, which is given "
-                        "by its number or as a CLV time h:mm:ss.pp, of a minute h:mm, of a second h:mm:ss, or of a "
-                        "chapter, as 'chapter 3'; status 1 where there is none")
-    output.add_argument("--summary", action="store_true", help="print what to look at first, in at most 20 lines; status "
-                        "1 where a picture is missing, none is there, or the last field is cut")
-    output.add_argument("--document", action="store_true", help="print the document that `ldvbi extract` writes of the TBC "
-                        "file, the same byte for byte")
-    parser.add_argument("-o", "--output", metavar="FILE", help="print into this file, which gets its name only when it is "
-                        "whole")
+    output.add_argument("--bad-lines", action="store_true", help="print a row for each line that shows no word and "
+                        "isn't blank, with its cause and its offset in the TBC file")
+    output.add_argument("--seek", metavar="WANTED", type=_wanted, help="print the first field of a picture, which is "
+                        "given by its number or as a CLV time h:mm:ss.pp, of a minute h:mm, of a second h:mm:ss, or of "
+                        "a chapter, as 'chapter 3'; status 1 where there is none")
+    output.add_argument("--summary", action="store_true", help="print what to look at first, in at most 20 lines; "
+                        "status 1 where a picture is missing, none is there, or the last field is cut")
+    output.add_argument("--document", action="store_true", help="print the document that `ldvbi extract` writes of the "
+                        "TBC file, the same byte for byte")
+    parser.add_argument("-o", "--output", metavar="FILE", help="print into this file, which gets its name only when it "
+                        "is whole")
     parser.add_argument("--svg", metavar="FILE", help="draw the side into this file; with one of the others, that is "
                         "printed too")
     return parser

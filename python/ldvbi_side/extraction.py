@@ -1,5 +1,5 @@
-"""The document of `ldvbi extract`, version 2, from a mapped TBC file: the same bytes as the program's. The readings in it
-are those of the library, which is proved; that the text is the program's is shown by tests alone."""
+"""The document of `ldvbi extract`, version 2, from a mapped TBC file: the same bytes as the program's. The readings in
+it are those of the library, which is proved; that the text is the program's is shown by tests alone."""
 
 from ldvbi import BLOCK, PACKED_FIELD
 from .side import cut_of, size_of

@@ -1,4 +1,4 @@
-"""The library libldvbi.so: where it is, its calls, and its refusals as exceptions. It is loaded when it is first called."""
+"""The library libldvbi.so: where it is, its calls, its refusals as exceptions. It is loaded when it is first called."""
 
 import ctypes
 import enum
@@ -60,8 +60,8 @@ def library():
         raise OSError("no library to read samples with (%s): `make lib` builds it, LDVBI_LIBRARY names its file"
                       % error) from None
     if calls.ldvbi_abi() != ABI:
-        raise OSError("%s has the interface %d, not %d: `make lib` builds the one that fits, LDVBI_LIBRARY names its file"
-                      % (file, calls.ldvbi_abi(), ABI))
+        raise OSError("%s has the interface %d, not %d: `make lib` builds the one that fits, LDVBI_LIBRARY names its "
+                      "file" % (file, calls.ldvbi_abi(), ABI))
     return calls
 
 

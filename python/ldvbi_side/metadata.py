@@ -1,5 +1,5 @@
-"""System, black and white of a run, from ld-decode's metadata, JSON or SQLite. JSON is read as `ldvbi` reads it, but for
-this: levels with decimals are rounded here to the next whole number, a half upwards."""
+"""System, black and white of a run, from ld-decode's metadata, JSON or SQLite. JSON is read as `ldvbi` reads it, but
+for this: levels with decimals are rounded here to the next whole number, a half upwards."""
 
 import json
 import math

@@ -9,8 +9,8 @@ import sys
 
 @contextlib.contextmanager
 def whole_file(path):
-    """A text file to write to. It gets its name, which may be that of an older file, when the block has ended without an
-    exception; else nothing is left of it. What is no file, as a pipe or a terminal, is written to as it is."""
+    """A text file to write to. It gets its name, which may be that of an older file, when the block has ended without
+    an exception; else nothing is left of it. What is no file, as a pipe or a terminal, is written to as it is."""
     target = os.path.realpath(path)
     if os.path.exists(target) and not os.path.isfile(target):
         with open(target, "w", encoding="utf-8") as file:
@@ -45,7 +45,7 @@ def refuse_inputs(outputs, inputs):
 
 
 def drop_standard_output():
-    """Lets go of what was printed and isn't written yet, since nobody reads it, so that nothing is written at the end."""
+    """Lets go of what was printed and isn't written yet, since nobody reads it: nothing is written at the end."""
     os.dup2(os.open(os.devnull, os.O_WRONLY), sys.stdout.fileno())
 
 

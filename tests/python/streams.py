@@ -21,8 +21,8 @@ def line_with(word, setup, changes=()):
 
 
 def write_stream(path, setup, fields, rest=0):
-    """Makes a TBC file of fields, each of which is a list of lines 16, 17 and 18: words, 0 for a blank line, or samples.
-    `rest` bytes of one more field come behind them."""
+    """Makes a TBC file of fields, each of which is a list of lines 16, 17 and 18: words, 0 for a blank line, or
+    samples. `rest` bytes of one more field come behind them."""
     size, line = ldvbi.field_bytes(setup[0]), ldvbi.line_bytes(setup[0])
     with open(path, "wb") as file:
         for number, lines in enumerate(fields):

@@ -141,8 +141,10 @@ class Database(Metadata):
         many = [(INSERT, ("PAL", 1, 2))] * 2
         rows = [("FILE: no table capture; there are: fields, video", [other % "video", other % "fields"]),
                 ("FILE: no table capture; there are: none", ["PRAGMA user_version = 1"]),
-                ("FILE: no table capture; there are: video", [other % "video", "CREATE VIEW capture AS SELECT * FROM video"]),
-                ("FILE: table capture has no column white_16b_ire; there are: system, black_16b_ire", [other % "capture"]),
+                ("FILE: no table capture; there are: video",
+                 [other % "video", "CREATE VIEW capture AS SELECT * FROM video"]),
+                ("FILE: table capture has no column white_16b_ire; there are: system, black_16b_ire",
+                 [other % "capture"]),
                 ("FILE: table capture has no row, not one", [CAPTURE]),
                 ("FILE: table capture has more rows, not one", [CAPTURE] + many),
                 ("unknown system", [CAPTURE, (INSERT, ("PAL_M", 1, 2))]),

@@ -58,8 +58,8 @@ class Kinds(unittest.TestCase):
                 for one in (source, of_these):
                     with self.assertRaises(ValueError) as caught:
                         ldvbi.read_line(one, *NTSC)
-                    self.assertEqual(str(caught.exception), "samples are of the format %s, not H (16 bits without sign, "
-                                     "the low byte first)" % kind)
+                    self.assertEqual(str(caught.exception), "samples are of the format %s, not H (16 bits without "
+                                     "sign, the low byte first)" % kind)
         with self.assertRaisesRegex(ValueError, "^samples are of the format d, not H"):
             ldvbi.read_line(memoryview(array.array("d", bytes(1820 + 4))).cast("B")[:1820], *NTSC)
 

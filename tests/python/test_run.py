@@ -63,7 +63,7 @@ class WithoutLibrary(Runs):
         self.absent = dict(os.environ, LDVBI_LIBRARY="/absent")
 
     def test_documents(self):
-        for words in (["--summary"], ["--csv"], ["--json"], ["--seek", "3"], ["--bad-lines"], ["--svg", "side.svg"], []):
+        for words in (["--summary"], ["--csv"], ["--json"], ["--seek", "3"], ["--bad-lines"], ["--svg", "svg"], []):
             with self.subTest(words):
                 status, text, said = self.run_command("side.vbi.json", *words, env=self.absent)
                 self.assertEqual((status, said), (0, ""))
@@ -76,8 +76,9 @@ class WithoutLibrary(Runs):
             with self.subTest(words):
                 status, text, said = self.run_command("side.tbc", *LEVELS, *words, env=self.absent)
                 self.assertEqual((status, text), (1, b""))
-                self.assertEqual(said, "ldvbi: no library to read samples with (/absent: cannot open shared object file: No "
-                                 "such file or directory): `make lib` builds it, LDVBI_LIBRARY names its file\n")
+                self.assertEqual(said, "ldvbi: no library to read samples with (/absent: cannot open shared object "
+                                 "file: No such file or directory): `make lib` builds it, LDVBI_LIBRARY names its "
+                                 "file\n")
 
 
 class Documents(Runs):
@@ -103,7 +104,8 @@ class Documents(Runs):
         self.assertEqual(self.run_command("side.tbc", "--meta", "side.tbc.db", "--seek", "3")[0], 0)
 
     def test_with_a_drawing(self):
-        self.assertEqual(self.run_command("side.tbc", *LEVELS, "--document", "--svg", "one.svg"), (0, self.document, ""))
+        words = ["side.tbc", *LEVELS, "--document", "--svg", "one.svg"]
+        self.assertEqual(self.run_command(*words), (0, self.document, ""))
         self.run_command("side.tbc", *LEVELS, "--svg", "two.svg")
         self.assertEqual(self.read("one.svg"), self.read("two.svg"))
         self.assertIn(b"<svg", self.read("one.svg"))
@@ -233,12 +235,14 @@ class Terminals(Runs):
 
 
 class Interrupted(Runs):
+    def started(self, *words):
+        return subprocess.Popen(COMMAND + list(words), cwd=self.folder, stdout=subprocess.PIPE, stderr=subprocess.PIPE)
+
     def test_while_it_reads(self):
         os.mkfifo(self.path("meta.json"))
         for words in ([], ["-o", "out"], ["--document", "-o", "out"]):
             with self.subTest(words):
-                process = subprocess.Popen(COMMAND + ["side.tbc", "--meta", "meta.json"] + words, cwd=self.folder,
-                                           stdout=subprocess.PIPE, stderr=subprocess.PIPE)
+                process = self.started("side.tbc", "--meta", "meta.json", *words)
                 with open(self.path("meta.json"), "wb"):  # opened as soon as the command opens it
                     if words:
                         self.assertEqual(sum(name.endswith(".part") for name in os.listdir(self.folder)), 1)
@@ -249,8 +253,7 @@ class Interrupted(Runs):
 
     def test_while_nobody_reads(self):
         write_stream(self.path("side.tbc"), NTSC, [[0, 0, 0]], 2000 * SIZE)
-        process = subprocess.Popen(COMMAND + ["side.tbc", *LEVELS, "--document"], cwd=self.folder, stdout=subprocess.PIPE,
-                                   stderr=subprocess.PIPE)
+        process = self.started("side.tbc", *LEVELS, "--document")
         begin = process.stdout.read(100)
         process.send_signal(signal.SIGINT)
         process.stdout.close()
@@ -261,8 +264,7 @@ class Interrupted(Runs):
 
     def test_a_reader_that_has_seen_enough(self):
         write_stream(self.path("side.tbc"), NTSC, [[0, 0, 0]], 2000 * SIZE)
-        process = subprocess.Popen(COMMAND + ["side.tbc", *LEVELS, "--document"], cwd=self.folder, stdout=subprocess.PIPE,
-                                   stderr=subprocess.PIPE)
+        process = self.started("side.tbc", *LEVELS, "--document")
         process.stdout.read(100)
         process.stdout.close()
         said = process.stderr.read()

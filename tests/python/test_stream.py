@@ -107,8 +107,8 @@ class Refused(Streams):
             for call in (ldvbi.Stream, ldvbi.fields):
                 with self.assertRaises(ValueError) as caught:
                     call(path, *NTSC)
-                self.assertEqual(str(caught.exception), "%d bytes are less than a line; a path is a str or a path object, "
-                                 "as os.fsdecode makes of bytes" % len(path))
+                self.assertEqual(str(caught.exception), "%d bytes are less than a line; a path is a str or a path "
+                                 "object, as os.fsdecode makes of bytes" % len(path))
         self.assertEqual(ldvbi.Stream(b"x" * 1820, *NTSC).cut_bytes, 1820)
 
 
