@@ -120,6 +120,7 @@ def test_wide_numbers():
         for number in wide:
             assert reason(call, "NTSC", number, 65535) == "black is not from 0 to 65535", (name, number)
             assert reason(call, "NTSC", 100, number) == "white is not from 0 to 65535", (name, number)
+        assert reason(call, "NTSC", 65536, 65537) == "black is not from 0 to 65535", name
         assert reason(call, "NTSC", 65535, 65535) == "black is not below white", name
         assert reason(call, "NTSC", 257, 256) == "black is not below white", name
         for black, white in ((256, 257), (257, 65535), (0, 65535), (16384, 65535)):

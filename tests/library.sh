@@ -311,19 +311,67 @@ tail -c +29121 said.tbc | head -c 1820 > line.raw
 check 'the program in README' prints 0 'picture 12345' sh -c './say < line.raw'
 
 # Installed without the toolchain, linked from there, and removed
-installs() {
-    does env PATH=/usr/bin:/bin make -C "$top" "$1" DESTDIR="$work/root" PREFIX=/usr
+# makes WORD..: `make` with these words, at the top
+makes() {
+    does env PATH=/usr/bin:/bin make -s -C "$top" "$@"
 }
-check 'make install' installs install
+# says_with FOLDER: what the program in README prints, built by the line in README as it stands with what this folder
+# has, whose library the loader is told of here, as it is by `ldconfig`
+readme_line=$(sed -n 's|^#include <ldvbi.h> */\* \(.*\) \*/$|\1|p' "$top/README.md")
+says_with() {
+    prints 0 'picture 12345' env PKG_CONFIG_PATH="$1/pkgconfig" LD_LIBRARY_PATH="$1" sh -c "$readme_line"
+}
+check 'make install' makes install DESTDIR="$work/root" PREFIX=/usr
 check 'seek is built with what is installed' does $cc -std=c99 -I root/usr/include -o seek "$top/examples/seek.c" \
     -L root/usr/lib -lldvbi
 check 'seek runs with what is installed' prints 0 'field 7' env LD_LIBRARY_PATH=root/usr/lib ./seek cav.tbc $on_cav 3
-check 'the description for pkg-config' [ "$(head -n 1 root/usr/lib/pkgconfig/ldvbi.pc)" = prefix=/usr ]
+check 'the line in README' says_with "$work/root/usr/lib"
+cp -r root/usr moved
+check 'what is installed is moved' says_with "$work/moved/lib"
+check 'the description is of what is beside it' \
+    [ "$(PKG_CONFIG_PATH=$work/moved/lib/pkgconfig pkg-config --variable=libdir ldvbi)" -ef moved/lib ]
+check 'the version for pkg-config' \
+    [ "$(PKG_CONFIG_PATH=$work/moved/lib/pkgconfig pkg-config --modversion ldvbi)" = "$(header_version)" ]
+check 'the recipes are installed' cmp -s root/usr/share/doc/ldvbi/docs/RECIPES.md "$top/docs/RECIPES.md"
 check 'the installed Python module' prints 0 'field 7' env -u LDVBI_LIBRARY \
     PYTHONPATH=root/usr/share/ldvbi/python python3 -m ldvbi cav.tbc $ntsc --seek 3
 check 'the installed program' prints 0 'ldvbi 0.1.0' root/usr/bin/ldvbi --version
-check 'make uninstall' installs uninstall
+check 'make uninstall' makes uninstall DESTDIR="$work/root" PREFIX=/usr
 check 'nothing is left' [ -z "$(find root -type f -o -type l)" ]
+
+# As Debian's packages have it: the library below its architecture
+debian='PREFIX=/usr LIBDIR=/usr/lib/x86_64-linux-gnu'
+check "Debian's make install" makes install DESTDIR="$work/debian" $debian
+(cd debian && find . ! -type d ! -path './usr/share/*' | sort) > found
+cat > wanted << 'END'
+./usr/bin/ldvbi
+./usr/include/ldvbi.h
+./usr/lib/x86_64-linux-gnu/libldvbi.a
+./usr/lib/x86_64-linux-gnu/libldvbi.so
+./usr/lib/x86_64-linux-gnu/libldvbi.so.1
+./usr/lib/x86_64-linux-gnu/pkgconfig/ldvbi.pc
+END
+check 'where a package of Debian has files' cmp -s found wanted
+check 'the line in README with them' says_with "$work/debian/usr/lib/x86_64-linux-gnu"
+check "Debian's make uninstall" makes uninstall DESTDIR="$work/debian" $debian
+check 'nothing of it is left' [ -z "$(find debian -type f -o -type l)" ]
+check 'a library outside the prefix' makes install-lib DESTDIR="$work/outside" PREFIX=/usr LIBDIR=/opt/lib
+check 'is described by its own place' [ "$(sed -n 's/^libdir=//p' outside/opt/lib/pkgconfig/ldvbi.pc)" = /opt/lib ]
+
+# The archive of what is built, unpacked anywhere
+mkdir tree unpacked
+(cd "$top" && tar --exclude=.git --exclude=out --exclude=./dist -cf - .) | tar -xf - -C tree
+(
+    cd tree && git init -q && git add . &&
+        git -c user.name=test -c user.email=test@localhost commit -qm source
+) > git.log 2>&1
+check 'make dist' does env PATH=/usr/bin:/bin make -s -C tree dist
+tar -xzf "tree/dist/ldvbi-$(header_version)-x86_64-linux.tar.gz" -C unpacked --strip-components=1
+check 'the line in README with the archive' says_with "$work/unpacked/lib"
+for document in README.md CHANGELOG.md docs/RECIPES.md docs/SPEED.md examples/player.cpp; do
+    check "the archive has $document" cmp -s "unpacked/share/doc/ldvbi/$document" "$top/$document"
+done
+check 'the archive has the manual page' cmp -s unpacked/share/man/man1/ldvbi.1 "$top/docs/ldvbi.1"
 
 # The document of Python's readings: drawn discs, a cut one, and a field with each cause and pass
 { cat cav.tbc; head -c 100000 clv.tbc; } > cut.tbc

@@ -17,8 +17,9 @@ def whole_file(path):
             yield file
         return
     part = "%s.%d.part" % (target, os.getpid())
+    file = open(part, "x", encoding="utf-8")
     try:
-        with open(part, "x", encoding="utf-8") as file:
+        with file:
             yield file
             file.flush()
             # Else the name could come through a loss of power, and the text not.
@@ -27,8 +28,7 @@ def whole_file(path):
             shutil.copymode(target, part)
         os.replace(part, target)
     except BaseException:
-        with contextlib.suppress(FileNotFoundError):
-            os.unlink(part)
+        os.unlink(part)
         raise
 
 

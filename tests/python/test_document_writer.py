@@ -36,7 +36,8 @@ def causes(setup):
     last = ldvbi.line_bytes(setup[0]) // 2 - 1
     return [[line_with(0x82CFFF, setup), line_with(0x82CFFF, setup, glitch), line_with(0x82CFFF, setup, damage)],
             [line_with(0, setup, [(last - 10, last, True)]), line_with(0, setup, [(164, last, True)]), 0],
-            [line_with(0, setup, [(0, last, True)]), line_with(0xF12345, setup, [(0, 0, True)]), 0xF12345]]
+            [line_with(0, setup, [(0, last, True)]), line_with(0xF12345, setup, [(0, 0, True)]), 0xF12345],
+            [line_with(0, setup, [(last - 1, last - 1, True)]), 0, 0]]
 
 
 class Many:
@@ -78,7 +79,8 @@ class Documents(unittest.TestCase):
         for setup in (NTSC, PAL, ("NTSC", 0, 65535), ("PAL", 65534, 65535)):
             with self.subTest(setup):
                 text = self.compare(setup, causes(setup))
-                for part in ('"word"', '"blank"', '"unfinished"', '"change ', '"hold ', '"vbiPass":[1,2,0]'):
+                last = {"NTSC": '"change 909"', "PAL": '"change 1134"'}[setup[0]]
+                for part in ('"word"', '"blank"', '"unfinished"', '"change ', '"hold ', '"vbiPass":[1,2,0]', last):
                     self.assertIn(part, text)
 
     def test_counts_of_fields(self):

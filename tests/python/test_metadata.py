@@ -136,6 +136,27 @@ class Database(Metadata):
             self.assertEqual(file.read(), before)
         self.assertEqual(os.listdir(self.folder), ["side.tbc.db"])
 
+    def test_an_unfinished_change_is_left_alone(self):
+        """A database whose writer ended before it was done: the journal that is needed to undo the change is here."""
+        path = self.write(CAPTURE, (INSERT, ("PAL", 1, 2)), name="open.db")
+        with contextlib.closing(sqlite3.connect(path, isolation_level=None)) as database:
+            database.execute("PRAGMA cache_size = 1")
+            database.execute("BEGIN")
+            for number in range(2000):
+                database.execute(INSERT, ("PAL", number, "x" * 100))
+            copies = {}
+            for name in ("open.db", "open.db-journal"):
+                with open(self.path(name), "rb") as file:
+                    copies[name.replace("open", "copy")] = file.read()
+        for name, data in copies.items():
+            with open(self.path(name), "wb") as file:
+                file.write(data)
+        with self.assertRaisesRegex(ValueError, "copy.db: "):
+            settings_of(self.path("copy.db"))
+        for name, data in copies.items():
+            with open(self.path(name), "rb") as file:
+                self.assertEqual(file.read(), data)
+
     def test_other_forms(self):
         other = "CREATE TABLE %s (system TEXT, black_16b_ire INTEGER)"
         many = [(INSERT, ("PAL", 1, 2))] * 2

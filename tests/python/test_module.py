@@ -12,6 +12,7 @@ import tempfile
 import unittest
 
 import ldvbi
+from ldvbi_side.samples import Samples
 from streams import NTSC, TOP, line_with
 
 WORD = (ldvbi.Cause.word, 1, 0, 0xF12345)
@@ -77,6 +78,15 @@ class Kinds(unittest.TestCase):
             with self.assertRaises(ValueError) as caught:
                 ldvbi.fields(source, *NTSC)
             self.assertEqual(str(caught.exception), text)
+
+    def test_a_buffer_is_held(self):
+        line = bytearray(self.line)
+        with Samples(line) as memory:
+            self.assertEqual(ctypes.string_at(memory.address, memory.length), self.line)
+            with self.assertRaises(BufferError):
+                line.append(0)
+        line.append(0)
+        self.assertEqual(memory.length, 1820)  # it is there still, and holds nothing any more
 
     def test_a_buffer_is_given_back(self):
         line = bytearray(self.line)

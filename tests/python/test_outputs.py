@@ -82,6 +82,13 @@ class WholeFiles(Outputs):
         self.assertEqual(texts, ["new"])
         self.assertTrue(stat.S_ISFIFO(os.stat(self.path).st_mode))
 
+    def test_the_part_of_another_run(self):
+        part = self.holding("side.vbi.json.%d.part" % os.getpid())
+        with self.assertRaises(FileExistsError):
+            with whole_file(self.path):
+                self.fail("there is a file")
+        self.assertEqual(self.text(part), "old")
+
     def test_no_place_for_it(self):
         with self.assertRaises(FileNotFoundError):
             with whole_file(self.named("absent/side.vbi.json")):

@@ -37,9 +37,9 @@ class Messages(unittest.TestCase):
         self.assertIn("\r1 of 1000 fields, 0 %, 166:30 left\x1b[K", self.run_over(1000, range(1000), 1, 10.0))
 
     def test_few_messages_a_second(self):
-        text = self.run_over(1000, range(1000), 1, 0.01)
-        self.assertEqual(text.count("\r"), 2 + 10 * 5)  # the first, five a second, and the empty line
-        self.assertIn("\r1000 of 1000 fields, 100 %\x1b[K", text)
+        text = self.run_over(1003, range(1003), 1, 0.01)
+        self.assertEqual(text.count("\r"), 3 + 10 * 5)  # the first, the last, the empty line, and five a second
+        self.assertTrue(text.endswith("\r1003 of 1003 fields, 100 %\x1b[K\r\x1b[K"), text[-80:])
 
     def test_no_fields(self):
         self.assertEqual(self.run_over(0, [], 64, 1.0), "\r0 of 0 fields, 100 %\x1b[K\r\x1b[K")
