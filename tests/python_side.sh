@@ -192,7 +192,8 @@ picture stops: 1 (field 1)
 lead-in: none, lead-out: none
 stray codes: none' $source --summary
     told $source --bad-lines
-    printf '%s\n' field,line,cause,offset 2,16,unfinished,505960 2,17,change\ 170,507780 2,18,hold\ 200,509600 > wanted_text
+    printf '%s\n' field,line,cause,offset 2,16,unfinished,505960 '2,17,change 170,507780' '2,18,hold 200,509600' \
+        > wanted_text
     judge "the bad lines of $source" 3 wanted_text 'ldvbi: the last field is cut: field 3 has 5 of 478660 bytes'
     told $source --json
     jq -c '[.stops[0].lines, .badLines[1].offset, .cutField, .lines["17"].pass2, .format]' out > found

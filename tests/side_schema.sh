@@ -37,7 +37,8 @@ check 'there are 21 answers' [ "$status $(find answers -name '*.json' | wc -l)" 
 "$python" validate.py "$schema" answers/*.json > said 2> err || status=$?
 check 'all of them are valid' [ "$status $(grep -c ' valid$' said)" = '0 21' ]
 # each list of the schema has an item in one of them, so that its form was looked at
-jq -s -r '[.[] | to_entries[] | select(.value | type == "array" and length > 0) | .key] | unique[]' answers/*.json > full
+jq -s -r '[.[] | to_entries[] | select(.value | type == "array" and length > 0) | .key] | unique[]' \
+    answers/*.json > full
 jq -r '.properties | to_entries[] | select(.value.type == "array") | .key' "$schema" | sort > lists
 check 'each list has an item somewhere' cmp full lists
 

@@ -1,8 +1,8 @@
 """Which readings are believed: of all choices of at most one reading a field the one with the greatest weight less the
 price of its breaks. A number that stays (a still) is one break however long it does.
 
-For each reading the best chain that ends with it is looked for among those that end with a reading before it: one in each
-state, which is a variant, moving or (from `variants` on) still."""
+For each reading the best chain that ends with it is looked for among those that end with a reading before it: one in
+each state, which is a variant, moving or (from `variants` on) still."""
 
 from .paces import price
 
@@ -56,8 +56,8 @@ class _Chains:
         return True
 
     def _best_before(self, index):
-        """For each state the greatest value of a chain before this reading less the price of going on from it, and where
-        that chain ends."""
+        """For each state the greatest value of a chain before this reading less the price of going on from it, and
+        where that chain ends."""
         best, origin = list(self.nowhere), [None] * (2 * self.variants)
         limit = max(index - REACH, 0)
         before = index - 1
@@ -75,7 +75,8 @@ class _Chains:
         apart = reading.field - other.field
         if not apart:
             return
-        for v, moving_price, still_price, moving, still in self._prices(apart, other.number, reading.number - other.number):
+        prices = self._prices(apart, other.number, reading.number - other.number)
+        for v, moving_price, still_price, moving, still in prices:
             worth = value[v] - moving_price
             if worth > best[moving]:  # of equals the one with more readings
                 best[moving], origin[moving] = worth, (before, v)

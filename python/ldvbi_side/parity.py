@@ -4,8 +4,8 @@ import json
 
 
 def first_fields_of(path, count):
-    """The members `isFirstField` of a .tbc.json's `fields`, one for each of the side's `count` fields, and what is to be
-    told where they can't be used. None where the metadata has no such list, which needs no word."""
+    """The members `isFirstField` of a .tbc.json's `fields`, one for each of the side's `count` fields, and what is to
+    be told where they can't be used. None where the metadata has no such list, which needs no word."""
     with open(path, "rb") as file:
         try:
             metadata = json.loads(file.read().decode("utf-8"))

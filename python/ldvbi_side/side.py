@@ -32,11 +32,11 @@ class Levels(NamedTuple):
 
 
 class Side:
-    """The whole fields of a side in their order, and the field in which it was cut. `first` says of each field whether it
-    is the first one of its frame, or is None where that isn't known.
+    """The whole fields of a side in their order, and the field in which it was cut. `first` says of each field whether
+    it is the first one of its frame, or is None where that isn't known.
 
-    `answer` is what the words mean, as docs/SIDES.md describes it; `pictures`, `times`, `chapters`, `stops` and `format`
-    are parts of it. `codes` is what each field says, judged by nothing."""
+    `answer` is what the words mean, as docs/SIDES.md describes it; `pictures`, `times`, `chapters`, `stops` and
+    `format` are parts of it. `codes` is what each field says, judged by nothing."""
 
     def __init__(self, system: System, readings: List[FieldReadings], cut: Optional[Cut] = None,
                  levels: Optional[Levels] = None, first: Optional[List[bool]] = None):

@@ -1,6 +1,6 @@
 #!/usr/bin/env python3
-"""Writes the answers for sides of every kind to a folder: a simulated side of each kind, and sides by hand that have what
-the simulated ones lack.
+"""Writes the answers for sides of every kind to a folder: a simulated side of each kind, and sides by hand that have
+what the simulated ones lack.
 
 usage: answers.py FOLDER"""
 
