@@ -85,6 +85,11 @@ class Marks(unittest.TestCase):
                           ("place", "it stands between two numbers that fit each other")):
             self.check("stray codes", "stray", stray(why), 7, 7, "stray: clv in field 7, line 16, pass 1: " + text)
 
+    def test_stills_and_what_is_shown_again(self):
+        self.check("stills", "stills", {"number": 5, "first": 9, "last": 15}, 9, 15, "5 stands still in fields 9 to 15")
+        one = {"first": 5, "last": 6, "field": 21, "lastField": 23, "before": 9}
+        self.check("shown again", "repeated", one, 21, 23, "5 to 6 again in fields 21 to 23; first shown in field 9")
+
     def test_counts(self):
         counts = counts_of(answer_with(missing=[missing("lost", 3), missing("damaged")],
                                        lost=[lost("number", 6), lost("parity", None)]))
@@ -168,6 +173,15 @@ class Drawings(unittest.TestCase):
         self.assertEqual(of_class(found, "run"), ["9 in field 1"])
         self.assertEqual(of_class(found, "system"),
                          ["PAL, CAV, 1 field, field 2 is cut: 5 bytes of it, 1 picture, 9 to 9"])
+
+    def test_doubtful_numbers_beyond_the_scale(self):
+        # each of them stands on both lines, which is one mark on the curve and two in the lane's count
+        for number in (79999, 1):
+            found = drawn(discs.pictures(list(range(10, 20)) + [number] + list(range(21, 30))))
+            self.assertEqual(of_class(found, "number-label"), ["10", "15", "20", "25"])
+            self.assertEqual([words.partition(" in ")[0] for words in of_class(found, "doubt")],
+                             ["doubtful: picture %d" % number])
+            self.assertIn("doubtful: 2", of_class(found, "count"))
 
     def test_film(self):
         found = drawn(discs.film(range(1, 40)), system="NTSC")
