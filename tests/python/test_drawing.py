@@ -1,5 +1,5 @@
-"""What a drawing marks and says, of answers by hand and of sides whose words are known. tests/drawing.sh has the places of
-what is drawn, by the command."""
+"""What a drawing marks and says, of answers by hand and of sides whose words are known. tests/drawing.sh has the
+places of what is drawn, by the command."""
 
 import unittest
 import xml.etree.ElementTree as xml
@@ -71,14 +71,14 @@ class Marks(unittest.TestCase):
     def test_doubtful(self):
         begin = "doubtful: picture 79999 in field 7, line 18, pass 2: "
         for why, text in (("neighbours", "the numbers around it fit each other"),
-                          ("alone", "it fits none of the numbers around it"), ("lines", "lines 17 and 18 differ"),
+                          ("alone", "there is a break, or the end of the side, here too"), ("lines", "lines 17 and 18 differ"),
                           ("minute", "no minutes are there to join it"),
                           ("chapter", "it doesn't fit the chapters around it")):
             self.check("doubtful", "doubtful", doubt(why), 7, 7, begin + text)
         self.check("doubtful", "doubtful", doubt("clock", number=None, kind="time", word="F0DD75"), 7, 7,
                    "doubtful: time F0DD75 in field 7, line 18, pass 2: no clock shows it")
-        self.check("doubtful", "doubtful", doubt("alone", before={"field": 5, "number": 3}), 7, 7,
-                   begin + "it fits none of the numbers around it (3 in field 5)")
+        self.check("doubtful", "doubtful", doubt("lines", before={"field": 5, "number": 3}), 7, 7,
+                   begin + "lines 17 and 18 differ (3 in field 5)")
 
     def test_stray(self):
         for why, text in (("line", "no disc has it on this line"), ("format", "a code of the other format"),
@@ -183,9 +183,32 @@ class Drawings(unittest.TestCase):
                              ["doubtful: picture %d" % number])
             self.assertIn("doubtful: 2", of_class(found, "count"))
 
+    def test_fields_too_many_break_the_curve(self):
+        found = drawn(discs.pictures(range(1, 12)) + [discs.BLANK] * 10 + discs.pictures(range(12, 24)))
+        self.assertEqual(of_class(found, "run"), ["1 to 11 in fields 1 to 21", "12 to 23 in fields 33 to 55"])
+        self.assertEqual(of_class(found, "jumps"), ["10 fields too many, from 11 in field 21 to 12 in field 33"])
+
     def test_film(self):
         found = drawn(discs.film(range(1, 40)), system="NTSC")
         self.assertIn("film (2 and 3 fields a picture)", of_class(found, "system")[0])
+
+    def test_more_chapters_than_can_cross_the_curve(self):
+        rows = []
+        for number in range(1, 71):
+            for word in (discs.picture(number), discs.chapter(number)):
+                rows.append("- %s %s" % (word, word))
+        for count, lines in ((60, 60), (70, 0)):
+            found = drawn(rows[:2 * count])
+            self.assertEqual((len(of_class(found, "chapter")), len(of_class(found, "chapter-line"))), (count, lines))
+
+    def test_stops_that_fall_together_are_one_mark(self):
+        rows = discs.pictures(range(1, 1501))
+        for field in (1001, 1003, 2001):
+            rows[field - 1] = discs.STOP + rows[field - 1][1:]
+        found = drawn(rows)
+        self.assertIn("stops: 3", of_class(found, "count"))
+        self.assertEqual(of_class(found, "stop"), ["picture stop of 501 in field 1001, line 16",
+                                                   "picture stop of 1001 in field 2001, line 16"])
 
     def test_more_marks_than_can_cross_the_curve(self):
         rows = discs.pictures(range(1, 601))
