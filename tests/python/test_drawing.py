@@ -71,7 +71,8 @@ class Marks(unittest.TestCase):
     def test_doubtful(self):
         begin = "doubtful: picture 79999 in field 7, line 18, pass 2: "
         for why, text in (("neighbours", "the numbers around it fit each other"),
-                          ("alone", "there is a break, or the end of the side, here too"), ("lines", "lines 17 and 18 differ"),
+                          ("alone", "there is a break, or the end of the side, here too"),
+                          ("lines", "lines 17 and 18 differ"),
                           ("minute", "no minutes are there to join it"),
                           ("chapter", "it doesn't fit the chapters around it")):
             self.check("doubtful", "doubtful", doubt(why), 7, 7, begin + text)
@@ -200,6 +201,8 @@ class Drawings(unittest.TestCase):
         for count, lines in ((60, 60), (70, 0)):
             found = drawn(rows[:2 * count])
             self.assertEqual((len(of_class(found, "chapter")), len(of_class(found, "chapter-line"))), (count, lines))
+        # a strip of 16 pixels has room for one digit, but not for `chapter 5` nor for two
+        self.assertEqual(of_class(drawn(rows[:60]), "disc-label"), list("123456789"))
 
     def test_stops_that_fall_together_are_one_mark(self):
         rows = discs.pictures(range(1, 1501))
