@@ -26,6 +26,7 @@ class _Chains:
         self.pairs = [(v, w) for v in range(self.variants) for w in range(self.variants)]
         self.nowhere = [0] * self.variants + [NEVER] * self.variants
         self.values, self.origins = [], []  # of each reading, by state
+        self.prices = {}
         self.greatest = []  # of all readings up to each the best value and its reading
 
     def add(self, index):
@@ -71,23 +72,33 @@ class _Chains:
     def _join(self, before, reading, best, origin):
         """Goes on to a reading from the chains that end with an earlier one, where that is better."""
         other, value, variants = self.readings[before], self.values[before], self.variants
-        apart, step = reading.field - other.field, reading.number - other.number
+        apart = reading.field - other.field
         if not apart:
             return
-        for v, w in self.pairs:
-            off = self.pace.off(apart, other.number, step, v, w)
-            turn = self.pace.change if v != w else 0
-            if off is None:  # it stays: a break, or nothing where it stayed before
-                moving, still, goal = value[v] - price(apart) - turn, value[variants + v] - turn, variants + w
-            else:
-                cost = price(off) + turn if off else turn
-                moving, still, goal = value[v] - cost, value[variants + v] - cost, w
-            if moving > best[goal]:  # of equals the one with more readings
-                best[goal], origin[goal] = moving, (before, v)
-            if not step:
-                goal = variants + w
-            if still > best[goal]:
-                best[goal], origin[goal] = still, (before, variants + v)
+        for v, moving_price, still_price, moving, still in self._prices(apart, other.number, reading.number - other.number):
+            worth = value[v] - moving_price
+            if worth > best[moving]:  # of equals the one with more readings
+                best[moving], origin[moving] = worth, (before, v)
+            worth = value[variants + v] - still_price
+            if worth > best[still]:
+                best[still], origin[still] = worth, (before, variants + v)
+
+    def _prices(self, apart, number, step):
+        """What it costs to go on from this number by so many fields and numbers, for each pair of variants: the variant
+        from which, the price from moving and from still, and the states to which these go."""
+        key = apart, step, number % self.pace.period
+        if key not in self.prices:
+            self.prices[key] = [self._price(apart, number, step, v, w) for v, w in self.pairs]
+        return self.prices[key]
+
+    def _price(self, apart, number, step, v, w):
+        off = self.pace.off(apart, number, step, v, w)
+        turn = self.pace.change if v != w else 0
+        still = self.variants + w
+        if off is None:  # it stays: a break, or nothing where it stayed before
+            return v, price(apart) + turn, turn, still, still
+        cost = price(off) + turn
+        return v, cost, cost, w, w if step else still
 
     def best(self):
         """The readings of the best chain of all by their places, each with its variant."""
