@@ -3,6 +3,7 @@
 import os
 import struct
 import subprocess
+import sys
 import tempfile
 import unittest
 
@@ -66,6 +67,9 @@ class Classes(unittest.TestCase):
             program = os.path.join(folder, "all_codes")
             subprocess.run([os.environ.get("CC", "cc"), "-std=c99", "-O2", "-o", program, "-I" + TOP + "/include",
                             TOP + "/tests/python/all_codes.c", TOP + "/libldvbi.a"], check=True)
+            # Where the lines that run are recorded, these calls would take minutes, and show no new line.
+            self.addCleanup(sys.settrace, sys.gettrace())
+            sys.settrace(None)
             compared = 0
             with subprocess.Popen([program], stdout=subprocess.PIPE) as codes:
                 for begin in range(0x800000, 0x1000000, BLOCK):

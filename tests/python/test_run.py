@@ -66,7 +66,7 @@ class WithoutLibrary(Runs):
         self.absent = dict(os.environ, LDVBI_LIBRARY="/absent")
 
     def test_documents(self):
-        for words in (["--summary"], ["--csv"], ["--json"], ["--seek", "3"], ["--bad-lines"], ["--svg", "svg"], []):
+        for words in (["--summary"], ["--json"], ["--seek", "3"], ["--svg", "svg"], []):
             with self.subTest(words):
                 status, text, said = self.run_command("side.vbi.json", *words, env=self.absent)
                 self.assertEqual((status, said), (0, ""))
@@ -123,14 +123,14 @@ class Documents(Runs):
 
 class Files(Runs):
     def test_outputs_into_a_file(self):
-        for words, status in ((["--document"], 0), (["--csv"], 0), ([], 0), (["--summary"], 0), (["--seek", "99"], 1)):
-            for option in ("-o", "--output"):
-                with self.subTest((words, option)):
-                    printed = self.run_command("side.tbc", *LEVELS, *words)
-                    self.assertEqual(printed[0], status)
-                    self.assertEqual(self.run_command("side.tbc", *LEVELS, *words, option, "out"), (status, b"", ""))
-                    self.assertEqual(self.read("out"), printed[1])
-                    os.unlink(self.path("out"))
+        for words, status, option in ((["--document"], 0, "-o"), ([], 0, "--output"), (["--summary"], 0, "-o"),
+                                      (["--seek", "99"], 1, "--output")):
+            with self.subTest((words, option)):
+                printed = self.run_command("side.tbc", *LEVELS, *words)
+                self.assertEqual(printed[0], status)
+                self.assertEqual(self.run_command("side.tbc", *LEVELS, *words, option, "out"), (status, b"", ""))
+                self.assertEqual(self.read("out"), printed[1])
+                os.unlink(self.path("out"))
 
     def test_nothing_is_left_of_what_fails(self):
         before = sorted(os.listdir(self.folder))
@@ -168,22 +168,30 @@ class Files(Runs):
 
 
 class CutSides(Runs):
+    def cut(self, size):
+        """Cuts the TBC file, and returns what is said of it then."""
+        os.truncate(self.path("side.tbc"), size)
+        self.write("side.vbi.json", self.extracted("side.tbc"))
+        return "ldvbi: the last field is cut: field %d has %d of %d bytes\n" % (size // SIZE + 1, size % SIZE, SIZE)
+
     def test_cut_and_too_short(self):
-        for size, whole, rest in ((4 * SIZE + 85360, 4, 85360), (SIZE - 1, 0, SIZE - 1), (1, 0, 1)):
-            with open(self.path("side.tbc"), "r+b") as file:
-                file.truncate(size)
-            self.write("side.vbi.json", self.extracted("side.tbc"))
-            said = "ldvbi: the last field is cut: field %d has %d of %d bytes\n" % (whole + 1, rest, SIZE)
-            for words in (["--csv"], ["--json"], ["--bad-lines"], ["--svg", "side.svg"], []):
-                for source in (["side.tbc", *LEVELS], ["side.vbi.json"]):
-                    with self.subTest((size, words, source)):
-                        status, text, errors = self.run_command(*source, *words)
-                        self.assertEqual((status, errors), (3, said))
-                        self.assertEqual(text.count(b"\ncav") + text.count(b",cav,"), whole if not words or
-                                         words == ["--csv"] else 0)
-            self.assertEqual(self.run_command("side.tbc", *LEVELS, "--summary")[0], 1)
+        for size, whole in ((4 * SIZE + 85360, 4), (SIZE - 1, 0), (1, 0)):
+            said = self.cut(size)
+            for source in (["side.tbc", *LEVELS], ["side.vbi.json"]):
+                with self.subTest((size, source)):
+                    status, text, errors = self.run_command(*source, "--csv")
+                    self.assertEqual((status, errors), (3, said))
+                    self.assertEqual(text.count(b",cav,"), whole)
             self.assertEqual(self.run_command("side.tbc", *LEVELS, "--document"), (3, self.read("side.vbi.json"), said))
-            os.truncate(self.path("side.tbc"), 5 * SIZE)
+
+    def test_all_that_is_printed_of_whole_fields(self):
+        said = self.cut(4 * SIZE + 85360)
+        for words in ([], ["--json"], ["--bad-lines"], ["--svg", "side.svg"]):
+            with self.subTest(words):
+                status, _, errors = self.run_command("side.tbc", *LEVELS, *words)
+                self.assertEqual((status, errors), (3, said))
+        self.assertEqual(self.run_command("side.tbc", *LEVELS, "--summary")[0], 1)
+        self.assertEqual(self.run_command("side.tbc", *LEVELS, "--seek", "3")[0], 0)
 
     def test_no_field_at_all(self):
         self.write("side.tbc", b"")
