@@ -128,6 +128,10 @@ told side.vbi.json --meta shorter.json --seek 3
 echo 'field 7, frame 4' > wanted_text
 judge 'metadata of another count of fields' 0 wanted_text \
     "ldvbi: shorter.json has 10 fields, not 11: its isFirstField isn't used"
+jq -c '.fields |= map({seqNo})' meta.json > without.json
+told side.vbi.json --meta without.json --seek 3
+echo 'field 7, frame 4' > wanted_text
+judge 'metadata without isFirstField' 0 wanted_text 'ldvbi: without.json has no isFirstField of each field'
 
 # Levels that can't be right are recognised, and the command that looks at a line is printed
 # levels_said NAME TEXT LEVELS: checks how the line of the summary that speaks of levels begins

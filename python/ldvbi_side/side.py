@@ -9,6 +9,7 @@ from .analysis import analyse
 from .codes import code, codes_by_kind
 from .progress import Progress
 from .said import Fields
+from .seek import seek, wanted_of
 
 _CAUSES = tuple(cause.name for cause in Cause)
 _FIRST_WITH_COLUMN = int(Cause.change)  # and the only other one behind it is hold
@@ -88,6 +89,11 @@ class Side:
     def stops(self):
         """The numbers of the fields that have a picture stop."""
         return [one["field"] for one in self.answer["stops"]]
+
+    def seek(self, text):
+        """Where `123`, `1:09`, `1:09:30`, `1:09:30.12` or `chapter 3` begins: a dict of its field, its frame and
+        whether the number was read there; None where it isn't there."""
+        return seek(self.answer, wanted_of(text))
 
     def format(self):
         """cav, clv or neither, by the codes of most fields."""

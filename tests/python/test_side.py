@@ -253,6 +253,11 @@ class Sides(unittest.TestCase):
         self.assertEqual([cav.times(), cav.chapters(), cav.stops(), cav.format()], [{}, {0: 2}, [5], "cav"])
         self.assertEqual([clv.pictures(), clv.times()["0:00:00.07"], clv.format()], [{}, 15, "clv"])
 
+    def test_seeking(self):
+        one = side(pictures(range(5, 25)))
+        self.assertEqual(one.seek("7"), {"field": 5, "frame": 3, "read": True})
+        self.assertIsNone(one.seek("25"))
+
     def test_codes_are_judged_by_nothing(self):
         codes = list(side(["- F00001 F79999"]).codes())
         self.assertEqual(codes, [{"seqNo": 1, "format": "cav", "codes": [
@@ -284,6 +289,9 @@ class FirstFields(unittest.TestCase):
     def test_another_count_of_fields_is_said(self):
         self.assertEqual(self.first_fields('{"fields":[{"isFirstField":true}]}'),
                          (None, "meta.json has 1 fields, not 2: its isFirstField isn't used"))
+
+    def test_of_a_database_it_is_not_read(self):
+        self.assertEqual(self.first_fields("SQLite format 3\0" + 100 * "x"), (None, None))
 
     def test_without_it_nothing_is_said(self):
         for text in ('{}', '[]', '{"fields":[]}', '{"fields":5}', '{"fields":[{},{}]}',
