@@ -60,8 +60,8 @@ def line_codes:
   | ($second | code) as $code
   | [($first | code), $code, (if $third == $second then $code else $third | code end)];
 
-# Which kinds a disc has on which lines (IEC 60857, IEC 60856). A picture stop belongs on lines 16 and 17, and a CLV mark
-# on line 17; both are let pass on line 18.
+# Which kinds a disc has on which lines (IEC 60857, IEC 60856). A picture stop belongs on lines 16 and 17, and a CLV
+# mark on line 17; both are let pass on line 18.
 def is_of_line_16: . == "picture stop" or . == "clv picture" or . == "cx on" or . == "cx off" or . == "users";
 def is_of_lines_17_and_18:
   . == "picture" or . == "chapter" or . == "time" or . == "picture stop" or . == "clv" or . == "lead-in"

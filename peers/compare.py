@@ -25,7 +25,7 @@ WIDTH, HEIGHT = 910, 263
 OPTIONS = ["--system=NTSC", f"--black={BLACK}", f"--white={WHITE}"]
 SEED = 60857
 DROPOUT_ROUNDS = 10
-DROPOUT_SHARES = (20, 40)  # percent of the lines
+DROPOUTS = [("noise", 20), ("noise", 40), ("black", 20), ("black", 40)]  # of what, in how many percent of the lines
 
 
 def drawn_words(fields, chance):
@@ -85,15 +85,15 @@ def with_glitch(line, columns, chance):
     return line[:start] + array.array("H", turned) + line[start + columns:]
 
 
-def with_dropout(line, percent, chance):
-    """In so many percent of the lines 10 to 30 columns of noise, at one place within the word: each sample is any from
-    black to white."""
+def with_dropout(line, what, percent, chance):
+    """In so many percent of the lines 10 to 30 columns of noise or of black, at one place within the word. Each sample
+    of noise is any from black to white."""
     if 100 * chance.random() >= percent:
         return line
     columns = chance.randint(10, 30)
     start = chance.randrange(150, 837 - columns)
-    noise = array.array("H", (chance.randint(BLACK, WHITE) for _ in range(columns)))
-    return line[:start] + noise + line[start + columns:]
+    lost = [chance.randint(BLACK, WHITE) if what == "noise" else BLACK for _ in range(columns)]
+    return line[:start] + array.array("H", lost) + line[start + columns:]
 
 
 def rounded(line, columns, _chance):
@@ -233,11 +233,11 @@ def compare_dropouts(program, zvbi, fields, chance):
     """Prints the table of dropouts, of ten thousand words."""
     print("\n| Lines with a dropout | `ldvbi` | pass 1 | pass 2 | MAME | libzvbi |")
     print("|---|---|---|---|---|---|")
-    for percent in DROPOUT_SHARES:
+    for what, percent in DROPOUTS:
         words, passes, answers = [], [], [[], [], []]
         for _ in range(DROPOUT_ROUNDS):
             drawn = drawn_words(fields, chance)
-            lines = [with_dropout(line, percent, chance) for line in drawn_lines(program, drawn)]
+            lines = [with_dropout(line, what, percent, chance) for line in drawn_lines(program, drawn)]
             records = records_by_ldvbi(program, lines)
             words += drawn
             passes += [number for record in records for number in record["vbiPass"]]
@@ -249,7 +249,7 @@ def compare_dropouts(program, zvbi, fields, chance):
         # a line of the other pass isn't one that this pass didn't read
         by_pass = [text.rpartition("/")[0] for text in by_pass]
         cells = [score(words, answers[0], 10000), *by_pass] + [score(words, answer, 10000) for answer in answers[1:]]
-        print(f"| {percent} % | " + " | ".join(cells) + " |", flush=True)
+        print(f"| {percent} %, {what} | " + " | ".join(cells) + " |", flush=True)
 
 
 def main():

@@ -1,6 +1,7 @@
 #!/bin/sh
 # Checks the drawing that the Python package makes of drawn discs whose faults are known: what each line shows, the
-# disc's parts, marks with their fields and reasons, and the curve. It is read as XML. Then README's pictures, made again.
+# disc's parts, marks with their fields and reasons, and the curve. It is read as XML. Then README's pictures, made
+# again.
 # Needs libldvbi.so.1 at the top of the repository (`make lib`).
 # usage: sh tests/drawing.sh PROGRAM
 # shellcheck disable=SC2086

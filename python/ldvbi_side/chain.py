@@ -1,8 +1,8 @@
 """Which readings are believed: of all choices of at most one reading a field the one with the greatest weight less the
 price of its breaks. A number that stays (a still) is one break however long it does.
 
-For each reading the best chain that ends with it is looked for among those that end with a reading before it: one in each
-state, which is a variant, moving or (from `variants` on) still."""
+For each reading the best chain that ends with it is looked for among those that end with a reading before it: one in
+each state, which is a variant, moving or (from `variants` on) still."""
 
 from .paces import price
 
@@ -26,6 +26,7 @@ class _Chains:
         self.pairs = [(v, w) for v in range(self.variants) for w in range(self.variants)]
         self.nowhere = [0] * self.variants + [NEVER] * self.variants
         self.values, self.origins = [], []  # of each reading, by state
+        self.prices = {}
         self.greatest = []  # of all readings up to each the best value and its reading
 
     def add(self, index):
@@ -55,8 +56,8 @@ class _Chains:
         return True
 
     def _best_before(self, index):
-        """For each state the greatest value of a chain before this reading less the price of going on from it, and where
-        that chain ends."""
+        """For each state the greatest value of a chain before this reading less the price of going on from it, and
+        where that chain ends."""
         best, origin = list(self.nowhere), [None] * (2 * self.variants)
         limit = max(index - REACH, 0)
         before = index - 1
@@ -71,23 +72,34 @@ class _Chains:
     def _join(self, before, reading, best, origin):
         """Goes on to a reading from the chains that end with an earlier one, where that is better."""
         other, value, variants = self.readings[before], self.values[before], self.variants
-        apart, step = reading.field - other.field, reading.number - other.number
+        apart = reading.field - other.field
         if not apart:
             return
-        for v, w in self.pairs:
-            off = self.pace.off(apart, other.number, step, v, w)
-            turn = self.pace.change if v != w else 0
-            if off is None:  # it stays: a break, or nothing where it stayed before
-                moving, still, goal = value[v] - price(apart) - turn, value[variants + v] - turn, variants + w
-            else:
-                cost = price(off) + turn if off else turn
-                moving, still, goal = value[v] - cost, value[variants + v] - cost, w
-            if moving > best[goal]:  # of equals the one with more readings
-                best[goal], origin[goal] = moving, (before, v)
-            if not step:
-                goal = variants + w
-            if still > best[goal]:
-                best[goal], origin[goal] = still, (before, variants + v)
+        prices = self._prices(apart, other.number, reading.number - other.number)
+        for v, moving_price, still_price, moving, still in prices:
+            worth = value[v] - moving_price
+            if worth > best[moving]:  # of equals the one with more readings
+                best[moving], origin[moving] = worth, (before, v)
+            worth = value[variants + v] - still_price
+            if worth > best[still]:
+                best[still], origin[still] = worth, (before, variants + v)
+
+    def _prices(self, apart, number, step):
+        """What it costs to go on from this number by so many fields and numbers, for each pair of variants: the variant
+        from which, the price from moving and from still, and the states to which these go."""
+        key = apart, step, number % self.pace.period
+        if key not in self.prices:
+            self.prices[key] = [self._price(apart, number, step, v, w) for v, w in self.pairs]
+        return self.prices[key]
+
+    def _price(self, apart, number, step, v, w):
+        off = self.pace.off(apart, number, step, v, w)
+        turn = self.pace.change if v != w else 0
+        still = self.variants + w
+        if off is None:  # it stays: a break, or nothing where it stayed before
+            return v, price(apart) + turn, turn, still, still
+        cost = price(off) + turn
+        return v, cost, cost, w, w if step else still
 
     def best(self):
         """The readings of the best chain of all by their places, each with its variant."""

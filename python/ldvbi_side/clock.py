@@ -36,8 +36,9 @@ class Clock:
 
     def _judge_singles(self, singles):
         clear = [one for one in singles if len(_between(*one)) == 1]
-        spacing, found = max(((spacing, _fellows(singles, anchor, spacing)) for anchor in clear for spacing in SPACINGS),
-                             key=lambda one: len(one[1]), default=(1, []))
+        spacing, found = max(
+            ((spacing, _fellows(singles, anchor, spacing)) for anchor in clear for spacing in SPACINGS),
+            key=lambda one: len(one[1]), default=(1, []))
         keeps = len(found) >= LEAST_PLACES and 3 * 1000 * len(found) >= 2 * self.span
         phases = Counter((one[0].number + 1) % spacing for one in found if one in clear)
         for one in singles:

@@ -60,8 +60,8 @@ def code(word):
 
 
 def codes_by_kind(words):
-    """Of a field's three words the codes that stand on a line of their kind, each with its lines. Two of one kind are two
-    lines that differ."""
+    """Of a field's three words the codes that stand on a line of their kind, each with its lines. Two of one kind are
+    two lines that differ."""
     found = {}
     for line, word in zip(LINES, words):
         if word and line in STANDARD_LINES.get(code_of(word).kind, ()):
@@ -75,8 +75,8 @@ def name_of(kind):
 
 
 def value_of(code):
-    """What a code says of its field: a picture number, a chapter, the minutes from the disc's start (None where no clock
-    shows them), or a second with its picture. None for the kinds without a number that counts."""
+    """What a code says of its field: a picture number, a chapter, the minutes from the disc's start (None where no
+    clock shows them), or a second with its picture. None for the kinds without a number that counts."""
     kind, first, second = code
     if kind in (Kind.picture, Kind.chapter):
         return first

@@ -90,11 +90,11 @@ def _side_of(source):
         return side_of_stream(source, progress)
 
 
-def _add_parity(side, path):
-    """Adds the metadata's isFirstField to the side."""
+def _add_parity(side, path, is_all):
+    """Adds the metadata's isFirstField to the side. `is_all` says that nothing else is wanted of this metadata."""
     side.first, note = first_fields_of(path, len(side.readings))
-    if note:
-        _note(note)
+    if note or is_all and side.first is None:
+        _note(note or "%s has no isFirstField of each field" % path)
 
 
 def _note(text):
@@ -142,7 +142,7 @@ def _answer(options):
             return _cut_status(cut_of(source), source.system)
     side = _side_of(source)
     if options.meta:
-        _add_parity(side, options.meta)
+        _add_parity(side, options.meta, isinstance(source, Side))
     if options.svg:
         _draw(side, options)
     if options.seek:

@@ -112,22 +112,25 @@ def _draw_run(svg, axis, scale, run):
 
 
 def draw_doubts(svg, axis, scale, answer):
-    """The numbers that were set aside, as rings off the curve; as triangles on the edge where they are beyond it."""
+    """The numbers that were set aside, as rings off the curve, or as triangles on the edge where they are beyond it.
+    Those that would cover each other are one."""
     drawn = set()
     for one in answer["doubtful"]:
         place = scale.place_of(one)
-        if place is None:
-            continue
-        (y, beyond), x = place, axis.x(one["field"] + 0.5)
-        key = (round(x / 3), round(y / 3))
-        if key in drawn:  # rings that would cover each other
-            continue
-        drawn.add(key)
-        if beyond:
-            svg.path("M%.1f %.1fl-5 %dh10z" % (x, y - 5 * beyond, 9 * beyond), doubt_text(one), class_="doubt",
-                     data_field=one["field"], fill=DOUBTFUL_COLOUR)
-        else:
-            draw_ring(svg, x, y, doubt_text(one), class_="doubt", data_field=one["field"])
+        if place is not None:
+            (y, beyond), x = place, axis.x(one["field"] + 0.5)
+            key = (round(x / 3), round(y / 3))
+            if key not in drawn:
+                drawn.add(key)
+                _draw_doubt(svg, x, y, beyond, one)
+
+
+def _draw_doubt(svg, x, y, beyond, one):
+    marked = {"title": doubt_text(one), "class_": "doubt", "data_field": one["field"]}
+    if beyond:
+        svg.path("M%.1f %.1fl-5 %dh10z" % (x, y - 5 * beyond, 9 * beyond), fill=DOUBTFUL_COLOUR, **marked)
+    else:
+        draw_ring(svg, x, y, **marked)
 
 
 def draw_ring(svg, x, y, title=None, **attributes):

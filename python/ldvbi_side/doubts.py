@@ -65,8 +65,8 @@ class Doubts:
 
     def find_second_row(self, numbers, readings):
         """Readings that aren't believed, but fit each other for long: as of a line on which one digit is always read
-        wrong, or of a second disc. Which of two rows is the right one isn't known where their weights are near. A few of
-        many wrong numbers always fit, so a row has at least a tenth of the readings that are believed beside it."""
+        wrong, or of a second disc. Which of two rows is the right one isn't known where their weights are near. A few
+        of many wrong numbers always fit, so a row has at least a tenth of the readings that are believed beside it."""
         taken = {(reading.field, reading.number) for reading in numbers.believed}
         row = chain([one for one in readings if (one.field, one.number) not in taken], numbers.pace)
         weight = sum(one.weight for one in row)

@@ -26,7 +26,7 @@ _LOST = {
 }
 _DOUBTFUL = {
     "neighbours": "the numbers around it fit each other",
-    "alone": "it fits none of the numbers around it",
+    "alone": "there is a break, or the end of the side, here too",
     "lines": "lines 17 and 18 differ",
     "clock": "no clock shows it",
     "minute": "no minutes are there to join it",

@@ -5,8 +5,8 @@ import bisect
 
 def missing_of(steps, count):
     """The numbers between the least and the greatest that no field has, in stretches of one reason; and those that were
-    left out by the disc's clock. A gap of more than 4 numbers to each of the side's `count` fields isn't looked at number
-    by number."""
+    left out by the disc's clock. A gap of more than 4 numbers to each of the side's `count` fields isn't looked at
+    number by number."""
     firsts = _first_fields(steps.showings)
     numbers = sorted(firsts)
     due = {number for number, _ in steps.due}
@@ -47,8 +47,8 @@ def _stretch(first, last, why, fields, unit):
 
 
 def lost_fields(steps, first):
-    """Where fields are lost: by numbers that come too early, and by two fields of one parity in a row, where `first` says
-    of each field whether it is the first one of its frame."""
+    """Where fields are lost: by numbers that come too early, and by two fields of one parity in a row, where `first`
+    says of each field whether it is the first one of its frame."""
     lost = [{"after": one["after"], "before": one["before"], "fields": one["fields"],
              "by": "undecided" if one["from"] + 1 in steps.clock.open and one["fields"] == 2 else "number"}
             for one in steps.breaks if one["kind"] == "lost"]
@@ -91,8 +91,8 @@ def _add_parity(lost, field):
 
 
 def repeated_of(steps):
-    """Numbers that are shown again, in stretches. A number that is due in a damaged field counts as shown there, so that
-    damage doesn't break a stretch."""
+    """Numbers that are shown again, in stretches. A number that is due in a damaged field counts as shown there, so
+    that damage doesn't break a stretch."""
     shown = steps.showings + [[number, field, field] for number, field in steps.due]
     seen, stretches = {}, []
     is_open = False  # whether the last stretch may go on

@@ -1,4 +1,5 @@
-"""How far apart on the disc two numbers stand, in fields, and what it costs where a capture has more or fewer."""
+"""How far apart on the disc two numbers stand, in fields, and what it costs where a capture has more or fewer. Numbers
+that are alike modulo a pace's `period` stand in the same way."""
 
 
 def price(off):
@@ -16,6 +17,7 @@ class Pace:
     def __init__(self, kind):
         self.kind = kind
         self.variants = {"video": 1, "both": 2, "film": 3}[kind]
+        self.period = 2 if kind == "film" else 1
         self.change = price(1) if kind == "film" else 0
 
     def between(self, number, step, variant, other):
@@ -33,7 +35,7 @@ class Pace:
 
 class MinutePace:
     """The pace of minutes, each of which stands on all its fields, of which it has so many."""
-    kind, variants, change = "minute", 1, 0
+    kind, variants, change, period = "minute", 1, 0, 1
 
     def __init__(self, fields):
         self.fields = fields
@@ -48,7 +50,7 @@ class ChapterPace:
     picture would, and going back as all 80 would, since without a break of the pictures' numbers that can't be. The
     numbers here are 100 times the breaks of those up to the field, and the chapter: at such a break any chapter may
     follow, for the least price."""
-    kind, variants, change = "chapter", 1, 0
+    kind, variants, change, period = "chapter", 1, 0, 100
     ALL = 80  # chapters, 0 to 79
 
     def off(self, fields, number, step, variant=0, other=0):

@@ -2,11 +2,15 @@
 
 import json
 
+_DATABASE = b"SQLite format 3\0"  # how metadata in SQLite begins, of which isFirstField isn't read
+
 
 def first_fields_of(path, count):
-    """The members `isFirstField` of a .tbc.json's `fields`, one for each of the side's `count` fields, and what is to be
-    told where they can't be used. None where the metadata has no such list, which needs no word."""
+    """The members `isFirstField` of a .tbc.json's `fields`, one for each of the side's `count` fields, and what is to
+    be told where they can't be used. None where the metadata has no such list, which needs no word."""
     with open(path, "rb") as file:
+        if file.peek(len(_DATABASE)).startswith(_DATABASE):
+            return None, None
         try:
             metadata = json.loads(file.read().decode("utf-8"))
         except (ValueError, RecursionError):

@@ -1,4 +1,5 @@
-"""What the lines of a side say, by kind of code: the plain data that the analysis takes in, and the codes found in it."""
+"""What the lines of a side say, by kind of code: the plain data that the analysis takes in, and the codes found in
+it."""
 
 from typing import List, NamedTuple, Optional, Tuple
 
@@ -10,8 +11,8 @@ WEIGHTS = (0, 2, 1)  # of a line without a word, with one of pass 1, with one of
 
 class Fields(NamedTuple):
     """The whole fields of a side as plain data: of each field the words, passes and causes of lines 16, 17 and 18, as
-    the document of `ldvbi extract` has them. `cut` is the document's `cutField`. `first` says of each field whether it is
-    the first one of its frame (`isFirstField` of ld-decode's metadata), or is None where that isn't known."""
+    the document of `ldvbi extract` has them. `cut` is the document's `cutField`. `first` says of each field whether it
+    is the first one of its frame (`isFirstField` of ld-decode's metadata), or is None where that isn't known."""
     system: str
     words: List[Tuple[int, int, int]]
     passes: List[Tuple[int, int, int]]

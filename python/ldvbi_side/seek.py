@@ -27,9 +27,10 @@ def wanted_of(text):
 
 
 def seek(answer, wanted):
-    """The first field of what is wanted on a side with this answer, as a dict of `field`, `frame` and `read`; None where
-    it isn't there. `read` is false where the number wasn't read in that field, but is due there by its neighbours. A
-    number that was set aside is never answered with. Of a part of a time the first field that has any of it counts."""
+    """The first field of what is wanted on a side with this answer, as a dict of `field`, `frame` and `read`; None
+    where it isn't there. `read` is false where the number wasn't read in that field, but is due there by its
+    neighbours. A number that was set aside is never answered with. Of a part of a time the first field that has any of
+    it counts."""
     if wanted.kind == "chapter":
         found = [(one["field"], True) for one in answer["chapters"] if one["chapter"] == wanted.numbers[0]]
     else:

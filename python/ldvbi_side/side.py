@@ -9,6 +9,7 @@ from .analysis import analyse
 from .codes import code, codes_by_kind
 from .progress import Progress
 from .said import Fields
+from .seek import seek, wanted_of
 
 _CAUSES = tuple(cause.name for cause in Cause)
 _FIRST_WITH_COLUMN = int(Cause.change)  # and the only other one behind it is hold
@@ -32,11 +33,11 @@ class Levels(NamedTuple):
 
 
 class Side:
-    """The whole fields of a side in their order, and the field in which it was cut. `first` says of each field whether it
-    is the first one of its frame, or is None where that isn't known.
+    """The whole fields of a side in their order, and the field in which it was cut. `first` says of each field whether
+    it is the first one of its frame, or is None where that isn't known.
 
-    `answer` is what the words mean, as docs/SIDES.md describes it; `pictures`, `times`, `chapters`, `stops` and `format`
-    are parts of it. `codes` is what each field says, judged by nothing."""
+    `answer` is what the words mean, as docs/SIDES.md describes it; `pictures`, `times`, `chapters`, `stops` and
+    `format` are parts of it. `codes` is what each field says, judged by nothing."""
 
     def __init__(self, system: System, readings: List[FieldReadings], cut: Optional[Cut] = None,
                  levels: Optional[Levels] = None, first: Optional[List[bool]] = None):
@@ -88,6 +89,11 @@ class Side:
     def stops(self):
         """The numbers of the fields that have a picture stop."""
         return [one["field"] for one in self.answer["stops"]]
+
+    def seek(self, text):
+        """Where `123`, `1:09`, `1:09:30`, `1:09:30.12` or `chapter 3` begins: a dict of its field, its frame and
+        whether the number was read there; None where it isn't there."""
+        return seek(self.answer, wanted_of(text))
 
     def format(self):
         """cav, clv or neither, by the codes of most fields."""

@@ -1,4 +1,5 @@
-"""The times of a CLV disc. A time is joined of the minutes on lines 17 and 18 and of the second and picture on line 16."""
+"""The times of a CLV disc. A time is joined of the minutes on lines 17 and 18 and of the second and picture on line
+16."""
 
 from ldvbi import Kind
 from .chain import chain

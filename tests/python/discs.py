@@ -48,8 +48,8 @@ def film(numbers, odd=1):
 
 
 def times(numbers, rate=25):
-    """The two fields of each of these CLV pictures, counted from the disc's start: its time, with a mark on line 17 beside
-    it, then a mark and its chapter, as 60857 and 60856 have the lines."""
+    """The two fields of each of these CLV pictures, counted from the disc's start: its time, with a mark on line 17
+    beside it, then a mark and its chapter, as 60857 and 60856 have the lines."""
     rows = []
     for number in numbers:
         seconds, part = divmod(number, rate)

@@ -1,7 +1,7 @@
 """Which lines of the package run: recorded while Python runs, here or in a process of its own.
 
-A process records them where the environment variable LDVBI_LINES names a folder and this file's folder has its subfolder
-`site` on the PYTHONPATH. At its end it writes them to a file there."""
+A process records them where the environment variable LDVBI_LINES names a folder and this file's folder has its
+subfolder `site` on the PYTHONPATH. At its end it writes them to a file there."""
 
 import atexit
 import dis

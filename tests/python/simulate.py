@@ -1,6 +1,6 @@
 #!/usr/bin/env python3
-"""Sides with their truth: what stood on the disc, what the capture lost or repeated, and which words were lost or misread.
-The same seed makes the same side.
+"""Sides with their truth: what stood on the disc, what the capture lost or repeated, and which words were lost or
+misread. The same seed makes the same side.
 
 usage: simulate.py SEED [KIND [WRONG [PICTURES]]] > side.vbi.json
 
@@ -17,10 +17,10 @@ CX_ON, CX_OFF = 0x8DC0A1, 0x8BA0A1
 
 
 class Simulated(NamedTuple):
-    """A side. `document` is what `ldvbi extract` writes of it, `first` says of each field whether it is the first one of
-    its frame. Of the truth: `numbers` has the number of each field, or None; `on_disc` are all numbers of the disc;
-    `order` has the place on the disc of each field; `misread` are the field, the line and the true word of each word that
-    was misread."""
+    """A side. `document` is what `ldvbi extract` writes of it, `first` says of each field whether it is the first one
+    of its frame. Of the truth: `numbers` has the number of each field, or None; `on_disc` are all numbers of the disc;
+    `order` has the place on the disc of each field; `misread` are the field, the line and the true word of each word
+    that was misread."""
     kind: str
     settings: str
     document: dict
@@ -156,8 +156,8 @@ def misread(rng, word):
 
 
 class _Damage:
-    """What a capture reads of its fields: `wrong` of the words are misread, `lost` of the lines show none, `second` of the
-    words are of pass 2, many of which are wrong; in bursts most lines show none."""
+    """What a capture reads of its fields: `wrong` of the words are misread, `lost` of the lines show none, `second` of
+    the words are of pass 2, many of which are wrong; in bursts most lines show none."""
 
     def __init__(self, rng, wrong, lost, second):
         self.rng, self.wrong, self.lost, self.second = rng, wrong, lost, second
@@ -186,8 +186,8 @@ class _Damage:
         if not true:
             return 0, 0, "blank", both
         if rng.random() < lost:
-            cause = rng.choice(("change %d" % rng.randrange(150, 800), "hold %d" % rng.randrange(190, 800), "unfinished",
-                                "blank"))
+            cause = rng.choice(("change %d" % rng.randrange(150, 800), "hold %d" % rng.randrange(190, 800),
+                                "unfinished", "blank"))
             return 0, 0, cause, both
         if line == 18 and both and true == both[0]:
             return both[1], both[2], "word", both

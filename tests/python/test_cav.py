@@ -14,7 +14,8 @@ def doubtful(found):
 
 
 def breaks(found):
-    return [(one["kind"], one["after"], one["before"], one["from"], one["to"], one["fields"]) for one in found["breaks"]]
+    members = "kind", "after", "before", "from", "to", "fields"
+    return [tuple(one[member] for member in members) for one in found["breaks"]]
 
 
 def numbered(rows, number, line17, line18):

@@ -91,7 +91,8 @@ class Chains(unittest.TestCase):
 
     def test_of_two_that_fit_equally_well_none(self):
         self.assertEqual(believed([Reading(1, 5, 2, (17,)), Reading(1, 6, 2, (18,))]), [])
-        ones = [Reading(1, 5, 4, (17, 18)), Reading(3, 7, 2, (17,)), Reading(3, 5, 2, (18,)), Reading(5, 7, 4, (17, 18))]
+        ones = [Reading(1, 5, 4, (17, 18)), Reading(3, 7, 2, (17,)), Reading(3, 5, 2, (18,)),
+                Reading(5, 7, 4, (17, 18))]
         self.assertNotIn(3, dict(believed(ones)))
 
     def test_pass_1_counts_for_more_than_pass_2(self):

@@ -75,8 +75,9 @@ class Stops(unittest.TestCase):
         rows[11] = "- %s 800DDD" % STOP
         found = answer(rows)
         self.assertEqual(found["stops"], [
-            {"field": 5, "frame": 3, "number": 3, "lines": [16, 17]}, {"field": 7, "frame": 4, "number": 4, "lines": [16]},
-            {"field": 9, "frame": 5, "number": 5, "lines": [18]}, {"field": 12, "frame": 6, "number": 6, "lines": [17]}])
+            {"field": 5, "frame": 3, "number": 3, "lines": [16, 17]},
+            {"field": 7, "frame": 4, "number": 4, "lines": [16]}, {"field": 9, "frame": 5, "number": 5, "lines": [18]},
+            {"field": 12, "frame": 6, "number": 6, "lines": [17]}])
         self.assertEqual(missing(found) + found["doubtful"] + found["stray"], [])
         self.assertEqual(found["chapters"][0]["last"], 20)
 
@@ -114,19 +115,21 @@ class Ends(unittest.TestCase):
         self.assertIsNone(found["levels"])
 
     def test_on_line_16_they_are_stray(self):
-        self.assertEqual([(one["line"], one["why"]) for one in answer(["88FFFF 88FFFF 88FFFF"])["stray"]], [(16, "line")])
+        stray = answer(["88FFFF 88FFFF 88FFFF"])["stray"]
+        self.assertEqual([(one["line"], one["why"]) for one in stray], [(16, "line")])
 
 
 class BadLines(unittest.TestCase):
     def test_cause_column_and_offset(self):
         rows = ["- F00001 F00001", "? ! ~"]
         ntsc, pal = (answer(rows, system)["badLines"] for system in ("NTSC", "PAL"))
-        # field 2 begins at byte 263 * 1820, line 16 of it 15 lines of 1,820 bytes later; in PAL 313 lines of 2,270 bytes
+        # field 2 begins at byte 263 * 1820, line 16 of it 15 lines of 1,820 bytes later; PAL has 313 lines of 2,270
         self.assertEqual(ntsc, [
             {"field": 2, "line": 16, "cause": "change 170", "column": 170, "offset": 505960, "bytes": 1820},
             {"field": 2, "line": 17, "cause": "hold 200", "column": 200, "offset": 507780, "bytes": 1820},
             {"field": 2, "line": 18, "cause": "unfinished", "column": None, "offset": 509600, "bytes": 1820}])
-        self.assertEqual([(one["offset"], one["bytes"]) for one in pal], [(744560, 2270), (746830, 2270), (749100, 2270)])
+        self.assertEqual([(one["offset"], one["bytes"]) for one in pal],
+                         [(744560, 2270), (746830, 2270), (749100, 2270)])
 
     def test_rates(self):
         found = answer(["- F00001 F00001*", "? ! ~", "82CFFF 82CFFF* ?"])

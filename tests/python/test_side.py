@@ -42,7 +42,8 @@ class Seeking(unittest.TestCase):
 
     def test_times_minutes_and_seconds(self):
         known = answer(times(range(25 * 4138, 25 * 4142)))  # 1:08:58.00 to 1:09:01.24
-        self.assertEqual([found(known, text) for text in ("1:08", "1:09", "1:09:01", "1:09:01.24", "1:08:59.25", "1:9:1.3")],
+        texts = "1:08", "1:09", "1:09:01", "1:09:01.24", "1:08:59.25", "1:9:1.3"
+        self.assertEqual([found(known, text) for text in texts],
                          ["field 1, frame 1", "field 101, frame 51", "field 151, frame 76", "field 199, frame 100",
                           "not found", "field 157, frame 79"])
         self.assertEqual([found(known, text) for text in ("11:09", "1:10", "69", "0:01:09.00")], ["not found"] * 4)
@@ -87,7 +88,8 @@ class Tables(unittest.TestCase):
             [1, 1, "neither", "", "", "", "", ""],
             [3, 2, "cav", 1, "", "", "", ""], [4, 2, "neither", "", 0, "", "", ""],
             [5, 3, "cav", 2, "", "", "stop", ""], [6, 3, "neither", "", 0, "", "", ""],
-            [7, 4, "cav", 3, "", "", "", "picture 79999 on line 18, pass 1: lines"], [8, 4, "neither", "", 0, "", "", ""],
+            [7, 4, "cav", 3, "", "", "", "picture 79999 on line 18, pass 1: lines"],
+            [8, 4, "neither", "", 0, "", "", ""],
             [9, 5, "neither", "", "", "", "", ""], [10, 5, "neither", "", 0, "", "", ""]])
 
     def test_a_doubtful_field_and_a_stray_code(self):
@@ -176,7 +178,8 @@ class Summaries(unittest.TestCase):
             "picture stops: none", "lead-in: 1 (fields 1), lead-out: none", "stray codes: none"])
 
     def test_film_and_clv(self):
-        self.assertEqual(lines_of(side(film(range(1, 31)), "NTSC"))[0], "system: NTSC, CAV, film (2 and 3 fields a picture)")
+        self.assertEqual(lines_of(side(film(range(1, 31)), "NTSC"))[0],
+                         "system: NTSC, CAV, film (2 and 3 fields a picture)")
         lines = lines_of(side(times([0, 1, 3, 4], 30), "NTSC"))
         self.assertEqual([lines[0], lines[5], lines[6]], [
             "system: NTSC, CLV", "times: 4, from 0:00:00.00 to 0:00:00.04",
@@ -250,6 +253,11 @@ class Sides(unittest.TestCase):
         self.assertEqual([cav.times(), cav.chapters(), cav.stops(), cav.format()], [{}, {0: 2}, [5], "cav"])
         self.assertEqual([clv.pictures(), clv.times()["0:00:00.07"], clv.format()], [{}, 15, "clv"])
 
+    def test_seeking(self):
+        one = side(pictures(range(5, 25)))
+        self.assertEqual(one.seek("7"), {"field": 5, "frame": 3, "read": True})
+        self.assertIsNone(one.seek("25"))
+
     def test_codes_are_judged_by_nothing(self):
         codes = list(side(["- F00001 F79999"]).codes())
         self.assertEqual(codes, [{"seqNo": 1, "format": "cav", "codes": [
@@ -282,9 +290,12 @@ class FirstFields(unittest.TestCase):
         self.assertEqual(self.first_fields('{"fields":[{"isFirstField":true}]}'),
                          (None, "meta.json has 1 fields, not 2: its isFirstField isn't used"))
 
+    def test_of_a_database_it_is_not_read(self):
+        self.assertEqual(self.first_fields("SQLite format 3\0" + 100 * "x"), (None, None))
+
     def test_without_it_nothing_is_said(self):
-        for text in ('{}', '[]', '{"fields":[]}', '{"fields":5}', '{"fields":[{},{}]}', '{"fields":[{"isFirstField":1},5]}',
-                     'x', '[' * 100000):
+        for text in ('{}', '[]', '{"fields":[]}', '{"fields":5}', '{"fields":[{},{}]}',
+                     '{"fields":[{"isFirstField":1},5]}', 'x', '[' * 100000):
             self.assertEqual(self.first_fields(text), (None, None))
 
 

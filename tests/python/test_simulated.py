@@ -1,5 +1,5 @@
-"""Simulated sides beside their truth: bounds for the seeds 2000 to 2069, ten sides of each kind, and for damage of other
-kinds on sides whose truth is known."""
+"""Simulated sides beside their truth: bounds for the seeds 2000 to 2069, ten sides of each kind, and for damage of
+other kinds on sides whose truth is known."""
 
 import random
 import unittest
@@ -53,7 +53,8 @@ class Bounds(unittest.TestCase):
         self.assertGreater(self.all["lost"], 460)
 
     def test_lists_that_are_exact(self):
-        for name, least in (("stops", 70), ("missing", 69), ("left out", 70), ("first fields", 69), ("chapter table", 69)):
+        for name, least in (("stops", 70), ("missing", 69), ("left out", 70), ("first fields", 69),
+                            ("chapter table", 69)):
             self.assertGreaterEqual(self.all[name], least, self.told)
 
     def test_each_kind_has_something_to_find(self):
@@ -67,7 +68,8 @@ class Parity(unittest.TestCase):
         for seed in range(2000, 2007):
             side = simulated(seed)
             truth = Truth(side)
-            without, with_parity = (Comparison(truth, analyse(fields_of(side, parity))).counts for parity in (False, True))
+            without, with_parity = (Comparison(truth, analyse(fields_of(side, parity))).counts
+                                    for parity in (False, True))
             for name in ("missing", "first fields", "lost places found", "backs found"):
                 self.assertGreaterEqual(with_parity[name], without[name])
 
@@ -125,8 +127,8 @@ def damaged(rows, places, change):
 
 
 class OtherDamage(unittest.TestCase):
-    """Damage that the simulator doesn't have, on sides of 400 pictures. In each the numbers that can't be read are known,
-    and no other may be missing, nor any be believed in another field."""
+    """Damage that the simulator doesn't have, on sides of 400 pictures. In each the numbers that can't be read are
+    known, and no other may be missing, nor any be believed in another field."""
 
     SIDES = (("cav", "PAL", pictures(range(1, 401))), ("cav far on", "NTSC", pictures(range(53000, 53400))),
              ("film", "NTSC", film(range(1, 401))), ("clv", "PAL", times(range(1300, 1700))))

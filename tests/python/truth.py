@@ -22,9 +22,9 @@ def number_of(text, rate, unit):
 
 class Truth:
     """`read` is the first field in which each number can be read, `chapters` that of each chapter; `right` and
-    `right_chapters` are the lines whose word says a number or a chapter rightly, `wrong` and `wrong_chapters` those that
-    say one wrongly; `missing` the numbers of the disc that can't be read, `left_out` those that the disc hasn't; `lost`
-    how many fields are lost behind which field, `backs` the fields behind which the disc's order is broken."""
+    `right_chapters` are the lines whose word says a number or a chapter rightly, `wrong` and `wrong_chapters` those
+    that say one wrongly; `missing` the numbers of the disc that can't be read, `left_out` those that the disc hasn't;
+    `lost` how many fields are lost behind which field, `backs` the fields behind which the disc's order is broken."""
 
     def __init__(self, side):
         self.side = side
@@ -86,8 +86,8 @@ class Truth:
 
 
 class Comparison:
-    """An answer beside its truth. `counts` has what was found of what there is, and 1 for each list that is exact; `tell`
-    is called with a name and a text for each difference."""
+    """An answer beside its truth. `counts` has what was found of what there is, and 1 for each list that is exact;
+    `tell` is called with a name and a text for each difference."""
 
     def __init__(self, truth, answer, tell=lambda name, text: None):
         self.truth, self.answer, self.tell = truth, answer, tell
