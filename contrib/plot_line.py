@@ -11,6 +11,7 @@ import itertools
 import subprocess
 import sys
 from collections import namedtuple
+from xml.sax.saxutils import escape
 
 # Samples of a line, the fewest and the most of a half cell, and those of a microsecond
 System = namedtuple("System", "width least most microsecond")
@@ -85,7 +86,7 @@ class Drawing:
         self.parts.append(part)
 
     def text(self, x, y, words, more=""):
-        self.add(f'<text x="{x:.1f}" y="{y:.1f}"{more}>{words}</text>')
+        self.add(f'<text x="{x:.1f}" y="{y:.1f}"{more}>{escape(str(words))}</text>')
 
     def box(self, start, end, fill, more=""):
         x, width = self.x(start), self.x(end) - self.x(start)
@@ -153,7 +154,7 @@ def draw_samples(drawing, samples):
 
 
 def draw_no_word(drawing, answer):
-    """The first hopeless column of a line without a word, where it has one. The answer is the title."""
+    """Draws the first hopeless column of a line without a word, where it has one. The answer is that as a sentence."""
     cause, _, column = answer.partition(" ")
     if cause == "blank":
         return "no word: blank (no sample is high)"
@@ -168,7 +169,7 @@ def draw_no_word(drawing, answer):
 
 
 def draw_answer(drawing, answer, samples, arguments):
-    """What `ldvbi line` said of the samples. The answer is the title."""
+    """Draws what `ldvbi line` said of the samples. The answer is that as a sentence."""
     if answer.split(" ")[0] in ("blank", "unfinished", "change", "hold"):
         return draw_no_word(drawing, answer)
     word, system = int(answer, 16), SYSTEMS[arguments.system]
@@ -188,15 +189,28 @@ def draw_answer(drawing, answer, samples, arguments):
     return f"{answer}, by the smoothed levels (pass 2); what was smoothed away is red"
 
 
+def draw_titles(drawing, title, said):
+    """The title that was given, where one was, and what was said of the line."""
+    if not title:
+        drawing.text(LEFT, 28, said, ' class="title" font-size="17"')
+        return
+    # The middle of a title that may be too wide is left out; a bold character of this size has up to 12 pixels
+    kept = WIDTH // 24
+    if len(title) > 2 * kept + 1:
+        title = title[:kept] + "\u2026" + title[-kept:]
+    drawing.text(LEFT, 24, title, ' class="title" font-size="17" font-weight="bold"')
+    drawing.text(LEFT, 46, said, ' class="said"')
+
+
 def picture(samples, answer, arguments):
     """The SVG of these samples, of which `ldvbi line` said `answer`."""
     greatest, least = max(samples + [arguments.white]), min(samples + [arguments.black])
     room = (greatest - least) / 10
     drawing = Drawing(arguments.first, arguments.last, least - room, greatest + room)
-    title = draw_answer(drawing, answer, samples, arguments)
+    said = draw_answer(drawing, answer, samples, arguments)
     draw_axes(drawing, arguments.black, arguments.white)
     draw_samples(drawing, samples)
-    drawing.text(LEFT, 28, title, ' class="title" font-size="17"')
+    draw_titles(drawing, arguments.title, said)
     width, height = LEFT + WIDTH + 20, TOP + HEIGHT + BOTTOM
     head = f'<svg xmlns="http://www.w3.org/2000/svg" viewBox="0 0 {width} {height}" width="{width}" height="{height}"'
     return "\n".join(
@@ -213,6 +227,7 @@ def read_arguments():
     parser.add_argument("--white", required=True, type=int, metavar="N", help="the sample of white")
     parser.add_argument("--first", default=0, type=int, metavar="N", help="the first column that is seen")
     parser.add_argument("--last", type=int, metavar="N", help="the last column that is seen")
+    parser.add_argument("--title", metavar="TEXT", help="what stands above the drawing, as file, field and line")
     parser.add_argument("--program", default="ldvbi", metavar="PATH", help="the program, if it isn't on the PATH")
     arguments = parser.parse_args()
     width = SYSTEMS[arguments.system].width

@@ -1,7 +1,8 @@
 #!/usr/bin/env python3
 """Has three readers read the same lines, drawn by `ldvbi draw` and then made worse in ways that are seeded: `ldvbi
 extract`, MAME's decoder (by `chdman`, of mame-tools), and libzvbi's bit slicer (by peers/zvbi.c). Prints a table of the
-words that each read right, read wrong, and didn't read.
+words that each read right, read wrong, and didn't read; and one of lines with dropouts, with the passes of `ldvbi`,
+which has DROPOUT_ROUNDS times as many fields, since wrong words are few.
 
 usage: compare.py PROGRAM ZVBI FIELDS
 
@@ -23,6 +24,8 @@ BLACK, WHITE = 16384, 51200
 WIDTH, HEIGHT = 910, 263
 OPTIONS = ["--system=NTSC", f"--black={BLACK}", f"--white={WHITE}"]
 SEED = 60857
+DROPOUT_ROUNDS = 10
+DROPOUTS = [("noise", 20), ("noise", 40), ("black", 20), ("black", 40)]  # of what, in how many percent of the lines
 
 
 def drawn_words(fields, chance):
@@ -82,6 +85,17 @@ def with_glitch(line, columns, chance):
     return line[:start] + array.array("H", turned) + line[start + columns:]
 
 
+def with_dropout(line, what, percent, chance):
+    """In so many percent of the lines 10 to 30 columns of noise or of black, at one place within the word. Each sample
+    of noise is any from black to white."""
+    if 100 * chance.random() >= percent:
+        return line
+    columns = chance.randint(10, 30)
+    start = chance.randrange(150, 837 - columns)
+    lost = [chance.randint(BLACK, WHITE) if what == "noise" else BLACK for _ in range(columns)]
+    return line[:start] + array.array("H", lost) + line[start + columns:]
+
+
 def rounded(line, columns, _chance):
     """Edges rounded: each sample is the mean of so many around it."""
     half = columns // 2
@@ -115,7 +129,8 @@ TRIALS = [
 
 # ---- the readers: each answers a word for each line, or 0
 
-def by_ldvbi(program, lines):
+def records_by_ldvbi(program, lines):
+    """The records of the fields that have these lines."""
     black = array.array("H", [BLACK]) * WIDTH
     with subprocess.Popen([program, "extract", *OPTIONS], stdin=subprocess.PIPE, stdout=subprocess.PIPE) as run, \
             tempfile.TemporaryFile() as stream:
@@ -127,7 +142,11 @@ def by_ldvbi(program, lines):
             run.stdin.write(piece)
         run.stdin.close()
         document = json.loads(run.stdout.read())
-    return [word for record in document["fields"] for word in record["vbi"]["vbiData"]]
+    return document["fields"]
+
+
+def by_ldvbi(program, lines):
+    return [word for record in records_by_ldvbi(program, lines) for word in record["vbi"]["vbiData"]]
 
 
 def in_eight_bits(lines):
@@ -180,32 +199,67 @@ def verify_disc(program):
     return by_ldvbi(program, lines) == words and all(part in text for part in found) and "(ERROR)" not in text
 
 
-def score(words, read):
-    """How many of a thousand words were read right, read wrong, and not read."""
+def score(words, read, many=1000):
+    """How many of so many words were read right, read wrong, and not read."""
     assert len(words) == len(read)
     right = sum(word == other for word, other in zip(words, read))
     none = sum(other == 0 for other in read)
-    return "/".join(str(round(1000 * count / len(words))) for count in (right, len(words) - right - none, none))
+    return "/".join(str(round(many * count / len(words))) for count in (right, len(words) - right - none, none))
+
+
+def by_peers(zvbi, lines):
+    """The words that MAME reads, and those that libzvbi reads."""
+    eight = in_eight_bits(lines)
+    with tempfile.TemporaryDirectory() as folder:
+        return [by_mame(folder, eight), by_zvbi(zvbi, eight)]
+
+
+def compare_trials(program, zvbi, fields, chance):
+    """Prints the first table. The answer says whether lines as they were drawn are read alike."""
+    alike = True
+    print("| Lines | `ldvbi` | MAME | libzvbi |")
+    print("|---|---|---|---|")
+    for name, worsened, amount in TRIALS:
+        words = drawn_words(fields, chance)
+        lines = [worsened(line, amount, chance) for line in drawn_lines(program, words)]
+        answers = [by_ldvbi(program, lines)] + by_peers(zvbi, lines)
+        print(f"| {name} | " + " | ".join(score(words, answer) for answer in answers) + " |", flush=True)
+        if worsened is as_drawn:
+            alike = all(answer == words for answer in answers)
+    return alike
+
+
+def compare_dropouts(program, zvbi, fields, chance):
+    """Prints the table of dropouts, of ten thousand words."""
+    print("\n| Lines with a dropout | `ldvbi` | pass 1 | pass 2 | MAME | libzvbi |")
+    print("|---|---|---|---|---|---|")
+    for what, percent in DROPOUTS:
+        words, passes, answers = [], [], [[], [], []]
+        for _ in range(DROPOUT_ROUNDS):
+            drawn = drawn_words(fields, chance)
+            lines = [with_dropout(line, what, percent, chance) for line in drawn_lines(program, drawn)]
+            records = records_by_ldvbi(program, lines)
+            words += drawn
+            passes += [number for record in records for number in record["vbiPass"]]
+            read = [[word for record in records for word in record["vbi"]["vbiData"]]] + by_peers(zvbi, lines)
+            for answer, more in zip(answers, read):
+                answer += more
+        by_pass = [score(words, [word if number == wanted else 0 for word, number in zip(answers[0], passes)], 10000)
+                   for wanted in (1, 2)]
+        # a line of the other pass isn't one that this pass didn't read
+        by_pass = [text.rpartition("/")[0] for text in by_pass]
+        cells = [score(words, answers[0], 10000), *by_pass] + [score(words, answer, 10000) for answer in answers[1:]]
+        print(f"| {percent} %, {what} | " + " | ".join(cells) + " |", flush=True)
 
 
 def main():
     program, zvbi = os.path.abspath(sys.argv[1]), os.path.abspath(sys.argv[2])
     fields = int(sys.argv[3])
     chance = random.Random(SEED)
-    alike = True
     if not verify_disc(program):
         sys.exit("ldverify finds an error on a drawn disc, or ldvbi doesn't read its words")
-    print("| Lines | `ldvbi` | MAME | libzvbi |")
-    print("|---|---|---|---|")
-    for name, worsened, amount in TRIALS:
-        words = drawn_words(fields, chance)
-        lines = [worsened(line, amount, chance) for line in drawn_lines(program, words)]
-        eight = in_eight_bits(lines)
-        with tempfile.TemporaryDirectory() as folder:
-            answers = [by_ldvbi(program, lines), by_mame(folder, eight), by_zvbi(zvbi, eight)]
-        print(f"| {name} | " + " | ".join(score(words, answer) for answer in answers) + " |", flush=True)
-        if worsened is as_drawn:
-            alike = all(answer == words for answer in answers)
+    alike = compare_trials(program, zvbi, fields, chance)
+    compare_dropouts(program, zvbi, fields, chance)
     if not alike:
         sys.exit("the words of lines as they were drawn are not read alike")
 

@@ -1,5 +1,5 @@
 #!/bin/sh
-# Has MAME's decoder and libzvbi's bit slicer read what `ldvbi` reads (see compare.py), and prints the table of
+# Has MAME's decoder and libzvbi's bit slicer read what `ldvbi` reads (see compare.py), and prints the tables of
 # docs/PEERS.md. It needs Debian's packages mame-tools and libzvbi-dev, a C compiler and python3.
 # usage: sh peers/compare.sh PROGRAM [FIELDS]
 set -eu

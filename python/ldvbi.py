@@ -6,40 +6,43 @@
         if field.second.word:
             print(ldvbi.classify(field.second.word))
 
-A line, a field or a stream is anything with the buffer protocol: bytes, a mapped file, a memoryview, a numpy array. It
-holds samples of 16 bits, the low byte first, as ld-decode's TBC files do. `system` is a `System` or its name; `black`
-and `white` are samples, black16bIre and white16bIre of the capture's .tbc.json. Arguments that can't be right raise a
-ValueError, and nothing is read.
+    side = ldvbi.Stream("side.tbc", "NTSC", 16384, 51200)
+    print(len(side), side[7], side[-1], side.cut_bytes)
 
-The library is the file that the environment variable LDVBI_LIBRARY names; else libldvbi.so.1 in the folder of this file
-or in the one above it; else the one in lib/ of the folder that `make install` installed both to; else the one that the
-system's loader finds. Only CPython and its standard library are needed. `ldvbi_side.side` tells what the words of a side
-mean, and so does the command, whose parts are in the folder ldvbi_side beside this file:
+A line, a field or a stream is anything with the buffer protocol that holds samples of 16 bits, the low byte first, as
+ld-decode's TBC files do: a numpy array of uint16, an array of "H"; or the bytes of such samples: bytes, a mapped file,
+a memoryview of these. Items of another kind raise a ValueError, as do all arguments that can't be right, and nothing is
+read then. `system` is a `System` or its name; `black` and `white` are samples, black16bIre and white16bIre of the
+capture's .tbc.json. They are handed to the library as they are, and it is the library that refuses them.
+
+The library is loaded with the first samples that are read, and is the file that the environment variable LDVBI_LIBRARY
+names; else libldvbi.so.1 in the folder of this file or in the one above it; else the one in lib/ of the folder that
+`make install` installed both to; else the one that the system's loader finds. `classify` and `format_of` need none.
+Only CPython and its standard library are needed beside it. `ldvbi_side`, the folder beside this file, holds the parts
+of this module and of the command:
 
     python3 -m ldvbi side.tbc --system NTSC --black 16384 --white 51200 > pictures.csv
 """
 
-import contextlib
 import ctypes
 import enum
 import mmap
+import operator
 import os
 import stat
 import struct
 import sys
 from typing import NamedTuple
 
-__all__ = ["System", "Cause", "Kind", "Format", "Reading", "FieldReadings", "Code", "line_bytes", "field_bytes",
-           "read_line", "read_field", "fields", "classify", "format_of", "draw_line"]
+from ldvbi_side.classes import Code, Format, Kind, classify, format_of
+from ldvbi_side.library import BAD_LENGTH, System, library, number_of, setup_of, system_of
+from ldvbi_side.samples import Samples
 
-ABI = 1
-BLOCK = 1024  # fields to a call of the library
+__all__ = ["System", "Cause", "Kind", "Format", "Reading", "FieldReadings", "Code", "Stream", "line_bytes",
+           "field_bytes", "read_line", "read_rows", "read_field", "fields", "classify", "format_of", "draw_line"]
 
-
-class System(enum.IntEnum):
-    """A television system."""
-    NTSC = 1
-    PAL = 2
+__version__ = "0.1.0"
+BLOCK = 64  # fields to a call of the library; of a mapped file the pages of so many are fetched ahead
 
 
 class Cause(enum.IntEnum):
@@ -49,30 +52,6 @@ class Cause(enum.IntEnum):
     unfinished = 2
     change = 3
     hold = 4
-
-
-class Kind(enum.IntEnum):
-    """The kind of a word."""
-    other = 0
-    picture = 1
-    chapter = 2
-    time = 3
-    clv_picture = 4
-    cx_on = 5
-    cx_off = 6
-    users = 7
-    lead_in = 8
-    lead_out = 9
-    picture_stop = 10
-    clv_mark = 11
-
-
-class Format(enum.IntEnum):
-    """Which discs a field's codes speak of."""
-    neither = 0
-    cav = 1
-    clv = 2
-    both = 3
 
 
 class Reading(NamedTuple):
@@ -92,218 +71,192 @@ class FieldReadings(NamedTuple):
     third: Reading
 
 
-class Code(NamedTuple):
-    """A word's kind and the numbers that go with it, in the order in which ldvbi.h has them; else 0."""
-    kind: Kind
-    first: int
-    second: int
-
-
-# ---- The library
-
-def _load():
-    here = os.path.dirname(os.path.abspath(__file__))
-    name = "libldvbi.so.%d" % ABI
-    above = os.path.join(here, os.pardir)
-    # as installed, this file is in PREFIX/share/ldvbi/python
-    installed = os.path.join(above, os.pardir, os.pardir, "lib")
-    places = [os.path.join(folder, name) for folder in (here, above, installed)]
-    chosen = os.environ.get("LDVBI_LIBRARY") or next((place for place in places if os.path.exists(place)), name)
-    library = ctypes.CDLL(chosen)
-    word, size, memory = ctypes.c_uint32, ctypes.c_size_t, ctypes.c_void_p
-    setup = [word, word, word]
-    calls = {
-        "ldvbi_abi": (word, []),
-        "ldvbi_version": (word, []),
-        "ldvbi_line_bytes": (size, [word]),
-        "ldvbi_field_bytes": (size, [word]),
-        "ldvbi_read_line": (word, setup + [memory, size, memory]),
-        "ldvbi_read_fields": (word, setup + [memory, size, memory, size]),
-        "ldvbi_classify": (word, [word, memory]),
-        "ldvbi_format": (word, [word, word, word, memory]),
-        "ldvbi_draw_line": (word, setup + [word, memory, size]),
-    }
-    for call, (result, arguments) in calls.items():
-        function = getattr(library, call)
-        function.restype, function.argtypes = result, arguments
-    if library.ldvbi_abi() != ABI:
-        raise ImportError("ldvbi: %s has the interface %d, not %d" % (chosen, library.ldvbi_abi(), ABI))
-    return library
-
-
-_library = _load()
-_reading = struct.Struct("=BBHI")
-_readings = struct.Struct("=BBHIBBHIBBHI")
-_code = struct.Struct("=III")
-_causes = tuple(Cause)
-_refusals = {1: "system is neither NTSC nor PAL", 2: "black is not below white", 4: "number is no code word"}
-
-
-def _check(status):
-    if status:
-        raise ValueError(_refusals.get(status, "length does not fit the system"))
-
-
-# ---- Arguments
-
-class _Buffer(ctypes.Structure):
-    """Py_buffer of CPython's C interface."""
-    _fields_ = [("address", ctypes.c_void_p), ("owner", ctypes.py_object), ("length", ctypes.c_ssize_t),
-                ("item", ctypes.c_ssize_t), ("readonly", ctypes.c_int), ("dimensions", ctypes.c_int),
-                ("format", ctypes.c_char_p), ("shape", ctypes.c_void_p), ("strides", ctypes.c_void_p),
-                ("suboffsets", ctypes.c_void_p), ("internal", ctypes.c_void_p)]
-
-
-_get_buffer = ctypes.pythonapi.PyObject_GetBuffer
-_get_buffer.argtypes = [ctypes.py_object, ctypes.POINTER(_Buffer), ctypes.c_int]
-_release_buffer = ctypes.pythonapi.PyBuffer_Release
-_release_buffer.argtypes = [ctypes.POINTER(_Buffer)]
-_release_buffer.restype = None
-
-
-@contextlib.contextmanager
-def _memory(samples):
-    """The address and the length of an object's bytes, which lie one after the other and stay where they are meanwhile.
-    They may be read-only, which ctypes' own from_buffer refuses."""
-    buffer = _Buffer()
-    try:
-        _get_buffer(samples, buffer, 0)
-    except (BufferError, TypeError) as error:
-        raise ValueError("samples are not bytes in one piece: %s" % error) from None
-    try:
-        yield buffer.address, buffer.length
-    finally:
-        _release_buffer(buffer)
-
-
-def _system(system):
-    try:
-        return System[system] if isinstance(system, str) else System(system)
-    except (KeyError, ValueError):
-        raise ValueError(_refusals[1]) from None
-
-
-def _number(name, value, most):
-    try:
-        number = value.__index__()
-    except AttributeError:
-        raise ValueError("%s is not a whole number" % name) from None
-    if not 0 <= number <= most:
-        raise ValueError("%s is not from 0 to %d" % (name, most))
-    return number
-
-
-def _setup(system, black, white):
-    """The three numbers that a call of the library begins with."""
-    system, black, white = _system(system), _number("black", black, 65535), _number("white", white, 65535)
-    if black >= white:
-        raise ValueError(_refusals[2])
-    return system, black, white
+_PACKED_LINE = struct.Struct("=BBHI")  # LdvbiReading of ldvbi.h
+PACKED_FIELD = struct.Struct("=BBHIBBHIBBHI")  # LdvbiFieldReadings
+_CAUSES = tuple(Cause)
+_SIZES = {System.NTSC: (910, 263), System.PAL: (1135, 313)}  # samples of a line, lines of a field
 
 
 # ---- Calls
 
 def line_bytes(system):
     """The bytes of a line."""
-    return _library.ldvbi_line_bytes(_system(system))
+    return 2 * _SIZES[system_of(system)][0]
 
 
 def field_bytes(system):
     """The bytes of a field."""
-    return _library.ldvbi_field_bytes(_system(system))
+    return line_bytes(system) * _SIZES[system_of(system)][1]
 
 
 def read_line(samples, system, black, white):
     """The reading of a line."""
-    setup = _setup(system, black, white)
-    out = ctypes.create_string_buffer(_reading.size)
-    with _memory(samples) as (address, length):
-        if length != line_bytes(system):
-            raise ValueError("a line has %d bytes, not %d" % (line_bytes(system), length))
-        _check(_library.ldvbi_read_line(*setup, address, length, out))
-    cause, pass_, column, word = _reading.unpack(out)
-    return Reading(_causes[cause], pass_, column, word)
+    read = library().ldvbi_read_line
+    out = _read(read, samples, setup_of(system, black, white), _PACKED_LINE, "a line has", line_bytes)
+    cause, pass_, column, word = _PACKED_LINE.unpack(out)
+    return Reading(_CAUSES[cause], pass_, column, word)
+
+
+def read_rows(samples, system, black, white):
+    """The readings of a field's lines 16, 17 and 18 alone, which lie one after the other, as os.pread fetches them:
+    they begin 15 lines after their field."""
+    read, size = library().ldvbi_read_rows, lambda system: 3 * line_bytes(system)
+    out = _read(read, samples, setup_of(system, black, white), PACKED_FIELD, "three lines have", size)
+    return next(_unpacked(out))
 
 
 def read_field(samples, system, black, white):
     """The readings of a field's lines 16, 17 and 18."""
-    setup = _setup(system, black, white)
-    with _memory(samples) as (address, length):
-        if length != field_bytes(system):
-            raise ValueError("a field has %d bytes, not %d" % (field_bytes(system), length))
-        return next(_read_block(setup, address, length, 1))
+    read = library().ldvbi_read_field
+    out = _read(read, samples, setup_of(system, black, white), PACKED_FIELD, "a field has", field_bytes)
+    return next(_unpacked(out))
 
 
-def _read_block(setup, address, length, count):
-    """The readings of that many fields, in one call of the library."""
-    out = ctypes.create_string_buffer(_readings.size * count)
-    _check(_library.ldvbi_read_fields(*setup, address, length, out, count))
-    for a, b, c, d, e, f, g, h, i, j, k, l in _readings.iter_unpack(out):
-        yield FieldReadings(Reading(_causes[a], b, c, d), Reading(_causes[e], f, g, h), Reading(_causes[i], j, k, l))
+def _read(read, samples, setup, packed, owner, wanted_bytes):
+    """What a call of the library writes, which is of this packed form. `owner` and `wanted_bytes` are for the text of
+    an exception."""
+    out = ctypes.create_string_buffer(packed.size)
+    with Samples(samples) as memory:
+        status = read(*setup, memory.address, memory.length, out)
+        if status == BAD_LENGTH:
+            raise ValueError("%s %d bytes, not %d" % (owner, wanted_bytes(setup.system), memory.length))
+        setup.check(status)
+    return out
 
 
-def fields(source, system, black, white):
-    """Yields the readings of each whole field of a TBC file, given by its path, or of a buffer. A file is mapped: only
-    the pages with lines 16, 17 and 18 are read from it. Bytes past the last whole field are left out. The library is
-    called once for a block of fields."""
-    setup = _setup(system, black, white)
-    if isinstance(source, (str, os.PathLike)):
-        return _fields_of_file(source, setup)
-    return _fields_of(source, setup)
-
-
-def _fields_of_file(path, setup):
-    with open(path, "rb") as file:
-        status = os.fstat(file.fileno())
-        if not stat.S_ISREG(status.st_mode):
-            raise ValueError("%s is no file that can be mapped" % path)
-        if status.st_size < field_bytes(setup[0]):
-            return
-        with mmap.mmap(file.fileno(), 0, access=mmap.ACCESS_READ) as mapped:
-            # Few pages of a field are wanted, so the system shall not read ahead.
-            mapped.madvise(mmap.MADV_RANDOM)
-            yield from _fields_of(mapped, setup)
-
-
-def _fields_of(samples, setup):
-    size = field_bytes(setup[0])
-    with _memory(samples) as (address, length):
-        whole = length // size
-        for begin in range(0, whole, BLOCK):
-            count = min(BLOCK, whole - begin)
-            yield from _read_block(setup, address + begin * size, count * size, count)
-
-
-def classify(word):
-    """What a word says."""
-    out = ctypes.create_string_buffer(_code.size)
-    _check(_library.ldvbi_classify(_number("word", word, 0xFFFFFFFF), out))
-    kind, first, second = _code.unpack(out)
-    return Code(Kind(kind), first, second)
-
-
-def format_of(first, second, third):
-    """The format of a field whose lines 16, 17 and 18 have these words, each 0 where there is none."""
-    words = [_number("word", word, 0xFFFFFFFF) for word in (first, second, third)]
-    out = ctypes.c_uint32()
-    _check(_library.ldvbi_format(*words, ctypes.byref(out)))
-    return Format(out.value)
+def _unpacked(readings):
+    """Fields' readings, as the library writes them, one by one."""
+    for a, b, c, d, e, f, g, h, i, j, k, l in PACKED_FIELD.iter_unpack(readings):
+        yield FieldReadings(Reading(_CAUSES[a], b, c, d), Reading(_CAUSES[e], f, g, h), Reading(_CAUSES[i], j, k, l))
 
 
 def draw_line(word, system, black, white):
     """The samples of a line that shows the word, or of a blank line for 0."""
-    setup = _setup(system, black, white)
-    out = ctypes.create_string_buffer(line_bytes(system))
-    _check(_library.ldvbi_draw_line(*setup, _number("word", word, 0xFFFFFFFF), out, len(out)))
+    setup = setup_of(system, black, white)
+    size = line_bytes(system)
+    out = ctypes.create_string_buffer(size)
+    setup.check(library().ldvbi_draw_line(*setup, number_of("word", word), out, size))
     return out.raw
+
+
+# ---- Streams
+
+class Stream:
+    """A stream of fields: a TBC file, given by its path, or a buffer. It is a sequence of the `FieldReadings` of its
+    whole fields, each of which is read when it is asked for: `len`, an index from 0 (or from -1, backwards), a slice,
+    which is a list, and a loop over all. `cut_bytes` is the number of bytes past the last whole field.
+
+    A file is mapped, and only the pages with lines 16, 17 and 18 are read from it, those of the next fields ahead of
+    the loop. Whoever makes the file shorter meanwhile ends this process (SIGBUS). `close`, or the end of a `with`
+    block, gives file or buffer back; what is asked for then raises a ValueError."""
+
+    def __init__(self, source, system, black, white):
+        self._setup = setup_of(system, black, white)
+        self._setup.check(library().ldvbi_read_fields(*self._setup, None, 0, None, 0))
+        self.system, self.black, self.white = System(self._setup.system), self._setup.black, self._setup.white
+        self._size = field_bytes(self.system)
+        self._file = None
+        if isinstance(source, (str, os.PathLike)):
+            self._file = _mapped(source)
+            source = b"" if self._file is None else self._file
+        elif isinstance(source, bytes) and 0 < len(source) < line_bytes(self.system):
+            raise ValueError("%d bytes are less than a line; a path is a str or a path object, as os.fsdecode makes of "
+                             "bytes" % len(source))
+        self._samples = Samples(source)
+        self._count, self.cut_bytes = divmod(self._samples.length, self._size)
+
+    def close(self):
+        if self._samples is not None:
+            self._samples.release()
+            self._samples = None
+            if self._file is not None:
+                self._file.close()
+                self._file = None
+
+    def __enter__(self):
+        return self
+
+    def __exit__(self, *_):
+        self.close()
+
+    def __len__(self):
+        return self._count
+
+    def __iter__(self):
+        return self._readings(0, self._count)
+
+    def __getitem__(self, index):
+        if isinstance(index, slice):
+            wanted = range(self._count)[index]
+            return list(self._readings(wanted.start, wanted.stop)) if wanted.step == 1 else [self[i] for i in wanted]
+        number = operator.index(index)
+        if not -self._count <= number < self._count:
+            raise IndexError("field %d of a stream of %d fields" % (number, self._count))
+        begin = number % self._count
+        return next(self._readings(begin, begin + 1))
+
+    def _readings(self, begin, end):
+        for block in self.packed(begin, end):
+            yield from _unpacked(block)
+
+    def packed(self, begin, end):
+        """Yields the readings of the fields from `begin` to `end` in blocks, as the library writes them: of each field
+        three readings of 8 bytes, `struct`'s "=BBHI": cause, pass, column and word."""
+        self._fetch(begin, min(begin + BLOCK, end))
+        for first in range(begin, end, BLOCK):
+            last = min(first + BLOCK, end)
+            self._fetch(last, min(last + BLOCK, end))
+            yield self._packed_block(first, last - first)
+
+    def _packed_block(self, first, count):
+        if self._samples is None:
+            raise ValueError("the stream is closed")
+        out = ctypes.create_string_buffer(PACKED_FIELD.size * count)
+        address = self._samples.address + first * self._size
+        self._setup.check(library().ldvbi_read_fields(*self._setup, address, count * self._size, out, count))
+        return out
+
+    def _fetch(self, begin, end):
+        """Has the system fetch the pages of lines 16, 17 and 18 of these fields, of all of them at once."""
+        if self._file is None:
+            return
+        line, page = line_bytes(self.system), mmap.PAGESIZE
+        for field in range(begin, end):
+            wanted = field * self._size + 15 * line
+            self._file.madvise(mmap.MADV_WILLNEED, wanted // page * page, wanted % page + 3 * line)
+
+
+def _mapped(path):
+    """A file's bytes, mapped, or None where there are none."""
+    with open(path, "rb") as file:
+        status = os.fstat(file.fileno())
+        if not stat.S_ISREG(status.st_mode):
+            raise ValueError("%s is no file that can be mapped" % path)
+        if status.st_size == 0:
+            return None
+        mapped = mmap.mmap(file.fileno(), 0, access=mmap.ACCESS_READ)
+        # Few pages of a field are wanted, so the system shall not read ahead on its own.
+        mapped.madvise(mmap.MADV_RANDOM)
+        return mapped
+
+
+def fields(source, system, black, white):
+    """Yields the readings of each whole field of a TBC file, given by its path, or of a buffer, as `Stream` has them.
+    Bytes past the last whole field are left out."""
+    return iter(Stream(source, system, black, white))
 
 
 def main(words=None):
     """The command `python3 -m ldvbi`. The answer is its exit status."""
     # What was started by that name isn't to be loaded a second time by the command's parts.
     sys.modules.setdefault("ldvbi", sys.modules[__name__])
-    from ldvbi_side.command import main as command
-    return command(words)
+    try:
+        from ldvbi_side.command import main as command
+        return command(words)
+    except KeyboardInterrupt:
+        from ldvbi_side.outputs import drop_standard_output
+        drop_standard_output()
+        return 130  # as a shell has it for a program that Ctrl-C ended
 
 
 if __name__ == "__main__":

@@ -58,51 +58,149 @@ of_words() {
     output_of draw $1 words | bounded "$program" extract $1 > document.json
 }
 
-# A CAV disc: a picture that comes again, one of line 18 alone, one on which the lines differ, one with the top bit of
-# its second digit, a picture stop, and chapters
+# Which lines carry which kind: of each code on all three lines those that count
+of_words "$ntsc" << 'END'
+88FFFF 88FFFF 88FFFF
+80EEEE 80EEEE 80EEEE
+F12345 F12345 F12345
+82CFFF 82CFFF 82CFFF
+839DDD 839DDD 839DDD
+87FFFF 87FFFF 87FFFF
+F1DD09 F1DD09 F1DD09
+8AE712 8AE712 8AE712
+8DC0A1 8DC0A1 8DC0A1
+8BA0A1 8BA0A1 8BA0A1
+83D0A1 83D0A1 83D0A1
+FABCDE FABCDE FABCDE
+- - -
+END
+lines_of_kinds='[{"kind":"lead-in","lines":[17,18]}]
+[{"kind":"lead-out","lines":[17,18]}]
+[{"kind":"picture","number":12345,"lines":[17,18]}]
+[{"kind":"picture stop","lines":[16,17,18]}]
+[{"kind":"chapter","number":39,"lines":[17,18]}]
+[{"kind":"clv","lines":[17,18]}]
+[{"kind":"time","hours":1,"minutes":9,"lines":[17,18]}]
+[{"kind":"clv picture","seconds":7,"picture":12,"lines":[16]}]
+[{"kind":"cx on","number":161,"lines":[16]}]
+[{"kind":"cx off","number":161,"lines":[16]}]
+[{"kind":"users","digit":3,"number":161,"lines":[16]}]
+[]
+[]'
+told 'the lines of each kind' "$lines_of_kinds" 'codes.byKind'
+told 'the same of records alone' "$lines_of_kinds" '.fields[] | by_kind'
+
+# Codes of lines that differ: each line counts for itself. The top bit of a picture's second digit doesn't matter.
+of_words "$ntsc" << 'END'
+- F00001 F00002
+- F80005 F00005
+82CFFF 82CFFF F00006
+82CFFF F00007 82CFFF
+- 82CFFF 82CFFF
+- F00008 -
+- - F00009
+F00010 F00011 800DDD
+END
+told 'codes of lines that differ' \
+    '[{"kind":"picture","number":1,"lines":[17]},{"kind":"picture","number":2,"lines":[18]}]
+[{"kind":"picture","number":5,"lines":[17,18]}]
+[{"kind":"picture stop","lines":[16,17]},{"kind":"picture","number":6,"lines":[18]}]
+[{"kind":"picture stop","lines":[16,18]},{"kind":"picture","number":7,"lines":[17]}]
+[{"kind":"picture stop","lines":[17,18]}]
+[{"kind":"picture","number":8,"lines":[17]}]
+[{"kind":"picture","number":9,"lines":[18]}]
+[{"kind":"picture","number":11,"lines":[17]},{"kind":"chapter","number":0,"lines":[18]}]' 'codes.byKind'
+told 'what a field has' '[6,"cav",[null,{"kind":"picture","number":8},null],'\
+'[{"kind":"picture","number":8,"lines":[17]}]]' 'codes | select(.seqNo == 6) | [.seqNo, .format, .codes, .byKind]'
+
+# A CAV disc: stops on each line, a picture that comes again, lines that differ in picture and in chapter, a picture on
+# line 16, a chapter on one line
 of_words "$ntsc" << 'END'
 88FFFF 88FFFF 88FFFF
 - F00001 F00001
 - 800DDD 800DDD
-- - F00002
+82CFFF 82CFFF F00002
 82CFFF F00003 F00004
+- 801DDD 82CFFF
 - F80005 F80005
 - F00001 F00001
 82CFFF 8F9DDD 8F9DDD
 F00006 - -
+- 802DDD 803DDD
+- F00007 804DDD
 END
-told 'pictures' '{"1":2,"2":4,"5":6}' pictures
-told 'chapters' '{"0":3,"79":8}' chapters
-told 'stops' '[5,8]' stops
+told 'pictures' '{"1":2,"2":4,"5":7,"7":12}' pictures
+told 'chapters' '{"0":3,"1":6,"79":9,"4":12}' chapters
+told 'stops' '[4,5,6,9]' stops
+told 'conflicts' '[{"field":5,"kind":"picture","line17":3,"line18":4},'\
+'{"field":11,"kind":"chapter","line17":2,"line18":3}]' conflicts
 told 'the format of a CAV disc' '"cav"' format
-told 'the codes of a field where a line has no word' \
-    '[4,"cav",[null,null,{"kind":"picture","number":2}],{"kind":"picture","number":2}]' \
-    'codes | select(.seqNo == 4) | [.seqNo, .format, .codes, .agreed]'
-told 'no agreed code where lines 17 and 18 differ' 'null' 'codes | select(.seqNo == 5) | .agreed'
-told 'no agreed code of line 16' 'null' 'codes | select(.seqNo == 9) | .agreed'
+told 'no times on a CAV disc' '[{},{}]' '[times, minutes]'
 
-# A CLV disc, one with codes of both formats, and one with none
-of_words "$pal" << 'END'
-8AE012 87FFFF 87FFFF
-- F0DD01 F0DD01
-- 801DDD 801DDD
+# A CLV disc of each system: the mark on line 17, hours, a time that comes again, lines that differ, minutes and
+# pictures that no clock shows, a mark on line 18, seconds or minutes alone
+clv_disc() {
+    cat << END
+8AE000 87FFFF F1DD09
+8BE201 87FFFF 802DDD
+8FE9$1 F9DD59 F9DD59
+8FE9$2 F9DD59 F9DD59
+8AE000 87FFFF F1DD09
+8AE003 F1DD10 F1DD11
+8AE004 F1DD60 F1DD12
+8AE005 F1DD61 F1DD61
+8AE006 F1DD13 87FFFF
+8AE007 - -
+- F1DD14 F1DD14
+- F1DD70 F1DD71
 END
-told 'the format of a CLV disc' '"clv"' format
-told 'no pictures on a CLV disc' '{}' pictures
-told 'its agreed codes' \
-    '[{"kind":"clv"},{"kind":"time","hours":0,"minutes":1},{"kind":"chapter","number":1}]' '[codes.agreed]'
-printf '%s\n' '87FFFF - -' '- F00001 -' | of_words "$ntsc"
-told 'the format of CAV codes and CLV codes in two fields' '"both"' format
-printf '%s\n' '87FFFF F00001 -' '- - -' | of_words "$ntsc"
-told 'the format of CAV codes and CLV codes in one field' '"both"' format
-printf '%s\n' '88FFFF - -' '- - -' | of_words "$ntsc"
-told 'the format of neither' '"neither"' format
-told 'no stops' '[]' stops
+}
+for system in NTSC PAL; do
+    case $system in
+        NTSC) options=$ntsc; last=29; beyond=30 ;;
+        PAL) options=$pal; last=24; beyond=25 ;;
+    esac
+    clv_disc $last $beyond > clv_words
+    of_words "$options" < clv_words
+    told "$system: times" "{\"1:09:00.00\":1,\"9:59:59.$last\":3,\"1:12:00.04\":7,\"1:13:00.06\":9}" times
+    told "$system: minutes" '{"1:09":1,"9:59":3,"1:12":7,"1:13":9,"1:14":11}' minutes
+    told "$system: minutes that differ" '[{"field":6,"kind":"time","line17":"1:10","line18":"1:11"}]' conflicts
+    told "$system: chapters" '{"2":2}' chapters
+    told "$system: no pictures and no stops" '[{},[]]' '[pictures, stops]'
+    told "$system: the format" '"clv"' format
+done
+
+# The format, by what more fields say on the lines of these kinds: two fields, each of three words
+while IFS='|' read -r name wanted_format one other; do
+    printf '%s\n' "$one" "$other" > format_words
+    of_words "$ntsc" < format_words
+    told "the format: $name" "\"$wanted_format\"" format
+done << 'END'
+as many fields of CAV as of CLV|cav|- 87FFFF -|- F00001 -
+both in one field|cav|82CFFF F0DD01 F0DD01|- - -
+one more field of CLV|clv|- 87FFFF F00001|8AE000 - -
+a mark on line 18|clv|- - 87FFFF|- - -
+minutes alone|clv|- F0DD01 -|- - -
+seconds alone|clv|8AE000 - -|- - -
+a stop on line 18|cav|- - 82CFFF|- - -
+lines that aren't theirs|neither|F00001 8AE000 8AE000|87FFFF - -
+neither|neither|- 88FFFF -|83D001 801DDD -
+END
+
+# Sides of one field and of none
+echo '82CFFF F00009 F00009' > one_field
+of_words "$pal" < one_field
+told 'a side of one field' '[[1],{"9":1},[1],"cav"]' '[[codes | .seqNo], pictures, stops, format]'
+of_words "$pal" < empty
+told 'a side of no field' '[[],{},{},{},{},[],[],"neither"]' \
+    '[[codes], pictures, times, minutes, chapters, stops, conflicts, format]'
 
 # What it refuses: a number that is no word, and what isn't a document of version 2
 for number in 1 8388607 16777216 -1 8572927.5 null '"82CFFF"'; do
     told "$number is no word" '"refused"' "try ($number | code) catch \"refused\""
 done
 told 'the least and the greatest word' '[{"kind":"other"},{"kind":"other"}]' '[8388608, 16777215 | code]'
-told 'a document of another version' '"no document of version 2"' 'try (.version = 3 | [codes]) catch .'
+for answer in codes pictures times minutes chapters stops conflicts format; do
+    told "$answer of another version" '"no document of version 2"' "try (.version = 3 | [$answer]) catch ."
+done
 finish

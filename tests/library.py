@@ -4,14 +4,13 @@ program's `extract` writes. The module is found by PYTHONPATH, the library by LD
 
 usage: library.py refusals | document SYSTEM BLACK WHITE FILE < DOCUMENT"""
 
-import array
 import mmap
 import os
 import sys
+import unittest
 
 import ldvbi
 
-NTSC = ("NTSC", 16384, 51200)
 SIZES = {"NTSC": (910, 263), "PAL": (1135, 313)}
 
 
@@ -37,7 +36,7 @@ def document(system, black, white, readings, rest):
 
 
 def test_document(system, black, white, path):
-    """The file by its path, mapped, as bytes and field by field."""
+    """The file by its path, mapped, as bytes, field by field, by three lines and line by line."""
     wanted = sys.stdin.read()
     width, height = SIZES[system]
     field = 2 * width * height
@@ -49,64 +48,23 @@ def test_document(system, black, white, path):
             all_readings = [list(ldvbi.fields(source, system, black, white)) for source in (path, mapped, stream)]
     cuts = range(0, len(stream) - rest, field)
     all_readings.append([ldvbi.read_field(stream[cut:cut + field], system, black, white) for cut in cuts])
+    rows = [stream[cut + 15 * 2 * width:][:3 * 2 * width] for cut in cuts]
+    all_readings.append([ldvbi.read_rows(three, system, black, white) for three in rows])
     lines = [[stream[cut + 2 * width * row:][:2 * width] for row in (15, 16, 17)] for cut in cuts]
     all_readings.append([[ldvbi.read_line(line, system, black, white) for line in three] for three in lines])
     for readings in all_readings:
         assert document(system, black, white, readings, rest) == wanted
 
 
-def reason(call, *words):
-    """Why a call raised a ValueError."""
-    try:
-        call(*words)
-    except ValueError as error:
-        return str(error)
-    return None
-
-
 def test_refusals():
-    line = ldvbi.draw_line(0xF12345, *NTSC)
-    blank = bytes(ldvbi.field_bytes("NTSC"))
-    wanted = [
-        (ldvbi.read_line, (line, "ntsc", 1, 2), "system is neither NTSC nor PAL"),
-        (ldvbi.read_line, (line, 3, 1, 2), "system is neither NTSC nor PAL"),
-        (ldvbi.read_line, (line, "NTSC", 2, 2), "black is not below white"),
-        (ldvbi.read_line, (line, "NTSC", -1, 2), "black is not from 0 to 65535"),
-        (ldvbi.read_line, (line, "NTSC", 1, 65536 + 2), "white is not from 0 to 65535"),
-        (ldvbi.read_line, (line, "NTSC", 1.0, 2), "black is not a whole number"),
-        (ldvbi.read_line, (line[1:], "NTSC", 1, 2), "a line has 1820 bytes, not 1819"),
-        (ldvbi.read_line, (line, "PAL", 1, 2), "a line has 2270 bytes, not 1820"),
-        (ldvbi.read_field, (blank + b"x", "NTSC", 1, 2), "a field has 478660 bytes, not 478661"),
-        (ldvbi.read_field, (b"", "PAL", 1, 2), "a field has 710510 bytes, not 0"),
-        (ldvbi.fields, (blank, "NTSC", 3, 2), "black is not below white"),
-        (ldvbi.classify, (0x7FFFFF,), "number is no code word"),
-        (ldvbi.classify, (2 ** 32 + 0x800000,), "word is not from 0 to 4294967295"),
-        (ldvbi.format_of, (0, 0, 5), "number is no code word"),
-        (ldvbi.draw_line, (5, *NTSC), "number is no code word"),
-    ]
-    for call, words, text in wanted:
-        assert reason(call, *words) == text, (call.__name__, words[1:], text)
-    assert reason(ldvbi.read_line, "text", *NTSC).startswith("samples are not bytes in one piece")
-    assert reason(ldvbi.read_line, memoryview(line * 2)[::2], *NTSC).startswith("samples are not bytes in one piece")
-    assert list(ldvbi.fields(b"", *NTSC)) == [] and list(ldvbi.fields(blank[1:], *NTSC)) == []
-
-
-def test_values():
-    """Other kinds of buffers, and each result's type."""
-    samples = array.array("H")
-    samples.frombytes(ldvbi.draw_line(0xF12345, *NTSC))
-    for line in (samples, memoryview(samples), bytearray(samples.tobytes())):
-        reading = ldvbi.read_line(line, ldvbi.System.NTSC, 16384, 51200)
-        assert reading == (ldvbi.Cause.word, 1, 0, 0xF12345) and reading.cause is ldvbi.Cause.word
-    assert ldvbi.classify(0xF9DD59) == ldvbi.Code(ldvbi.Kind.time, 9, 59)
-    assert ldvbi.format_of(0x82CFFF, 0x87FFFF, 0) is ldvbi.Format.both
-    assert ldvbi.read_line(ldvbi.draw_line(0, *NTSC), *NTSC) == (ldvbi.Cause.blank, 0, 0, 0)
+    """The rows of tests/python/test_refusals.py."""
+    sys.path.insert(0, os.path.join(os.path.dirname(os.path.abspath(__file__)), "python"))
+    unittest.main("test_refusals", argv=sys.argv[:1])
 
 
 def main():
     if sys.argv[1:] == ["refusals"]:
         test_refusals()
-        test_values()
     else:
         system, black, white, path = sys.argv[2:]
         test_document(system, int(black), int(white), path)

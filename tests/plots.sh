@@ -98,6 +98,14 @@ PAL|800000/22/48|800000, by the samples|800000|
 PAL|L207 H928|no word: hold 251||251
 END
 
+# A title of one's own, above what is said of the line; a long one loses its middle
+echo 82CFFF | signal NTSC 0 | ntsc_samples > line.raw
+plotted 910 $ntsc --title 'side <1> & 2.tbc, field 7, line 16'
+check 'a title' [ "$(head -n 1 found)" = 'side <1> & 2.tbc, field 7, line 16' ]
+check 'what is said, too' grep -q '>82CFFF, by the samples as they are (pass 1)<' out
+plotted 910 $ntsc --title "$(printf '%0120d' 5)"
+check 'a long title' [ "$(head -n 1 found)" = "$(printf '%041d…%041d' 0 5)" ]
+
 # What it refuses
 echo 82CFFF | signal NTSC 0 | ntsc_samples > line.raw
 for columns in '--first -1' '--first 910' '--last 910' '--first 20 --last 19'; do

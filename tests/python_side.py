@@ -1,9 +1,8 @@
 #!/usr/bin/env python3
-"""Tells of a side what the report of `show` or contrib/ldvbi.jq tells, by the Python module.
+"""Prints of a side what the report of `show` prints, without its first line and its last, by the Python module.
 
-usage: python_side.py report|tables FILE [SYSTEM BLACK WHITE]"""
+usage: python_side.py FILE [SYSTEM BLACK WHITE]"""
 
-import json
 import sys
 
 from ldvbi_side.document import side_of_document
@@ -32,22 +31,15 @@ def print_report(side):
             print(line_text(line, reading, code))
 
 
-def print_tables(side):
-    for codes in side.codes():
-        print(json.dumps(codes, separators=(",", ":")))
-    for table in (side.pictures(), side.chapters(), side.stops(), side.format().name):
-        print(json.dumps(table, separators=(",", ":")))
-
-
 def main():
-    output, path, *settings = sys.argv[1:]
+    path, *settings = sys.argv[1:]
     if settings:
         system, black, white = settings
         side = side_of_tbc(path, system, int(black), int(white))
     else:
         with open(path, "rb") as file:
             side = side_of_document(file.read())
-    {"report": print_report, "tables": print_tables}[output](side)
+    print_report(side)
 
 
 if __name__ == "__main__":

@@ -1,105 +1,165 @@
 """The command `python3 -m ldvbi`: what the words of a side mean."""
 
 import argparse
+import contextlib
 import csv
+import json
 import os
-import re
 import sys
 
-from ldvbi import Kind, System, format_of
+from ldvbi import Stream, System, field_bytes
 from .document import is_document, side_of_document
-from .drawing import drawing_of
+from .extraction import write_document
 from .metadata import settings_of
-from .side import agreed_word, code_of, side_of_tbc
-from .summary import Summary
+from .outputs import drop_standard_output, refuse_inputs, whole_file
+from .parity import first_fields_of
+from .plot import plot_command
+from .progress import Progress
+from .seek import seek, text_of, wanted_of
+from .side import Side, cut_of, side_of_stream
+from .summary import is_whole, summary
+from .tables import BAD_LINE_COLUMNS, FIELD_COLUMNS, bad_line_rows, field_rows
 
-DESCRIPTION = """Reads a side from a TBC file, or from a document that `ldvbi extract` wrote, and tells what its words
-mean. A file is taken for a document where its name ends with .json or its text begins as a document's does."""
+DESCRIPTION = """Reads a side from a TBC file, or from a document that `ldvbi extract` wrote, and says what its words
+mean. A file is taken for a document where its name ends with .json or its text begins as a document's does. Statuses: 0
+done, 1 a fault, 2 the command line was refused, 3 done and the last field is cut, 130 ended by Ctrl-C."""
 LEVELS = "the sample of %s, 0 to 65535, and black below white"
 
 
 def _wanted(text):
-    """What --seek looks for: the number of a picture, or the four numbers of a CLV time."""
-    match = re.fullmatch(r"([0-9]+)|([0-9]+):([0-9]+):([0-9]+)\.([0-9]+)", text)
-    if not match:
-        raise argparse.ArgumentTypeError("neither a picture number nor a time h:mm:ss.pp: %r" % text)
-    return tuple(int(part) for part in match.groups() if part)
+    try:
+        return wanted_of(text)
+    except ValueError as error:
+        raise argparse.ArgumentTypeError(str(error)) from None
 
 
 def _parser():
     parser = argparse.ArgumentParser(prog="python3 -m ldvbi", description=DESCRIPTION)
     parser.add_argument("side", help="the TBC file, or the document; - is standard input, for a document")
-    parser.add_argument("--meta", metavar="FILE", help="system and levels of a TBC file from ld-decode's .tbc.json; "
-                        "levels with decimals are rounded to the next whole number")
+    parser.add_argument("--meta", metavar="FILE", help="system and levels of a TBC file from ld-decode's .tbc.json or "
+                        ".tbc.db; levels with decimals are rounded to the next whole number; the .tbc.json's "
+                        "isFirstField, which is used of a document, too, shows single lost fields")
     parser.add_argument("--system", choices=list(System.__members__))
     parser.add_argument("--black", type=int, help=LEVELS % "black")
     parser.add_argument("--white", type=int, help=LEVELS % "white")
     output = parser.add_mutually_exclusive_group()
-    output.add_argument("--csv", action="store_true",
-                        help="print the fields that have a picture number or a CLV time (the default)")
-    output.add_argument("--seek", metavar="PICTURE", type=_wanted, help="print the first field of a picture, which is "
-                        "given by its number or as a CLV time h:mm:ss.pp; status 1 where there is none")
-    output.add_argument("--summary", action="store_true", help="print what to look at first, in a line each; status 1 "
-                        "where a picture is missing, none is there, or the last field is cut")
+    output.add_argument("--csv", action="store_true", help="print a row for each field with any code (the default)")
+    output.add_argument("--json", action="store_true", help="print all that is known of the side, every list in full")
+    output.add_argument("--bad-lines", action="store_true", help="print a row for each line that shows no word and "
+                        "isn't blank, with its cause and its offset in the TBC file")
+    output.add_argument("--seek", metavar="WANTED", type=_wanted, help="print the first field of a picture, which is "
+                        "given by its number or as a CLV time h:mm:ss.pp, of a minute h:mm, of a second h:mm:ss, or of "
+                        "a chapter, as 'chapter 3'; status 1 where there is none")
+    output.add_argument("--summary", action="store_true", help="print what to look at first, in at most 20 lines; "
+                        "status 1 where a picture is missing, none is there, or the last field is cut")
+    output.add_argument("--document", action="store_true", help="print the document that `ldvbi extract` writes of the "
+                        "TBC file, the same byte for byte")
+    parser.add_argument("-o", "--output", metavar="FILE", help="print into this file, which gets its name only when it "
+                        "is whole")
     parser.add_argument("--svg", metavar="FILE", help="draw the side into this file; with one of the others, that is "
                         "printed too")
     return parser
 
 
-def _side(options):
-    """The side that the options name."""
-    given = [options.meta, options.system, options.black, options.white]
+def _source(options):
+    """The side of the document that the options name, or the stream of the TBC file."""
+    given = [options.system, options.black, options.white]
     is_standard_input = options.side == "-"
     with open(0 if is_standard_input else options.side, "rb", closefd=not is_standard_input) as file:
         if is_standard_input or is_document(options.side, file.peek(64)):
             if any(value is not None for value in given):
                 raise ValueError("a document has its system and levels; they are options of a TBC file")
             return side_of_document(file.read())
-    settings = settings_of(*given)
+    settings = settings_of(options.meta, *given)
     for note in settings.notes:
-        print("ldvbi: " + note, file=sys.stderr)
-    return side_of_tbc(options.side, settings.system, settings.black, settings.white)
+        _note(note)
+    return Stream(options.side, settings.system, settings.black, settings.white)
 
 
-def _print_csv(side):
+def _print_document(stream):
+    # Between the lines of a document on the same terminal, messages would be of no use.
+    with Progress(len(stream), is_wanted=not sys.stdout.isatty()) as progress:
+        write_document(stream, sys.stdout, progress)
+
+
+def _side_of(source):
+    """The side of either source."""
+    if isinstance(source, Side):
+        return source
+    with Progress(len(source)) as progress:
+        return side_of_stream(source, progress)
+
+
+def _add_parity(side, path, is_all):
+    """Adds the metadata's isFirstField to the side. `is_all` says that nothing else is wanted of this metadata."""
+    side.first, note = first_fields_of(path, len(side.readings))
+    if note or is_all and side.first is None:
+        _note(note or "%s has no isFirstField of each field" % path)
+
+
+def _note(text):
+    print("ldvbi: " + text, file=sys.stderr)
+
+
+def _print_table(columns, rows):
     table = csv.writer(sys.stdout, lineterminator="\n")
-    table.writerow(["field", "format", "picture", "time", "stop"])
-    stops = set(side.stops())
-    times = {field: (minutes, pictures) for field, minutes, pictures in side.clv_times()}
-    for field, readings in side.numbered():
-        agreed = code_of(agreed_word(readings))
-        picture = agreed.first if agreed and agreed.kind == Kind.picture else ""
-        minutes, pictures = times.get(field, (None, None))
-        if picture != "" or minutes or pictures:
-            time = [text % numbers for text, numbers in (("%d:%02d", minutes), ("%02d.%02d", pictures)) if numbers]
-            table.writerow([field, format_of(*(line.word for line in readings)).name, picture, ":".join(time),
-                            "stop" if field in stops else ""])
+    table.writerow(columns)
+    table.writerows(rows)
 
 
-def _sought(side, wanted):
-    """The first field of a picture, or None."""
-    if len(wanted) == 1:
-        return side.pictures().get(wanted[0])
-    return next((field for field, *time in side.clv_times() if tuple(time) == (wanted[:2], wanted[2:])), None)
+def _cut_status(cut, system):
+    """The status of what is printed of all whole fields: 3 where the last field is cut, which is said then."""
+    if cut is None:
+        return 0
+    _note("the last field is cut: field %d has %d of %d bytes" % (*cut, field_bytes(system)))
+    return 3
+
+
+def _draw(side, options):
+    from .drawing import drawing_of
+    with whole_file(options.svg) as file:
+        file.write(drawing_of(side, os.path.basename(options.side)))
 
 
 def _run(options):
     """What the options ask for. The answer is the exit status."""
-    side = _side(options)
+    inputs = [0 if options.side == "-" else options.side, options.meta]
+    refuse_inputs([1 if options.output is None else options.output, options.svg], inputs)
+    if options.output is None:
+        return _answer(options)
+    with whole_file(options.output) as file, contextlib.redirect_stdout(file):
+        return _answer(options)
+
+
+def _answer(options):
+    """Prints and draws what the options ask for."""
+    source = _source(options)
+    if options.document:
+        if isinstance(source, Side):
+            raise ValueError("--document is of a TBC file, and this is a document")
+        _print_document(source)
+        if not options.svg:
+            return _cut_status(cut_of(source), source.system)
+    side = _side_of(source)
+    if options.meta:
+        _add_parity(side, options.meta, isinstance(source, Side))
     if options.svg:
-        with open(options.svg, "w", encoding="utf-8") as file:
-            file.write(drawing_of(side, os.path.basename(options.side)))
+        _draw(side, options)
     if options.seek:
-        field = _sought(side, options.seek)
-        print("not found" if field is None else "field %d" % field)
-        return int(field is None)
+        found = seek(side.answer, options.seek)
+        print(text_of(found))
+        return int(found is None)
     if options.summary:
-        summary = Summary(side)
-        print(*summary.lines(), sep="\n")
-        return 0 if summary.is_whole else 1
-    if options.csv or not options.svg:
-        _print_csv(side)
-    return 0
+        print(*summary(side.answer, lambda *line: plot_command(side, options.side, *line)), sep="\n")
+        return 0 if is_whole(side.answer) else 1
+    if options.json:
+        json.dump(side.answer, sys.stdout)
+        print()
+    elif options.bad_lines:
+        _print_table(BAD_LINE_COLUMNS, bad_line_rows(side.answer))
+    elif options.csv or not options.svg:
+        _print_table(FIELD_COLUMNS, field_rows(side))
+    return _cut_status(side.cut, side.system)
 
 
 def main(words=None):
@@ -109,8 +169,7 @@ def main(words=None):
         sys.stdout.flush()
         return status
     except BrokenPipeError:
-        # Nobody reads on. What is still held must not be written at the end.
-        os.dup2(os.open(os.devnull, os.O_WRONLY), sys.stdout.fileno())
+        drop_standard_output()
         return 1
     except (OSError, ValueError) as error:
         print("ldvbi: %s" % error, file=sys.stderr)

@@ -5,7 +5,8 @@ import json
 import re
 
 from ldvbi import Cause, FieldReadings, Reading, System, field_bytes
-from .side import Cut, Side, size_of
+from .collector import paused
+from .side import Cut, Levels, Side, size_of
 
 # What a document begins with, also where it was written anew by another program
 _BEGIN = re.compile(rb'\s*\{\s*"version"')
@@ -17,6 +18,7 @@ def is_document(path, begin):
     return str(path).endswith(".json") or _BEGIN.match(begin) is not None
 
 
+@paused()
 def side_of_document(data):
     """The side of a document, given by its bytes."""
     document = _parsed(data)
@@ -26,13 +28,15 @@ def side_of_document(data):
     records = document.get("fields")
     if not isinstance(records, list):
         raise ValueError("fields is no list")
-    readings = []
+    readings, known = [], _KnownLines(size_of(system)[0])
     for number, record in enumerate(records, 1):
         try:
-            readings.append(_field(record, number, system))
+            readings.append(_quick_field(record, number, known) or _field(record, number, known))
         except ValueError as error:
             raise ValueError("field %d: %s" % (number, error)) from None
-    return Side(system, readings, _cut(document, len(readings) + 1, system))
+    levels = document["videoParameters"]
+    return Side(system, readings, _cut(document, len(readings) + 1, system),
+                Levels(levels["black16bIre"], levels["white16bIre"]))
 
 
 def _no_number(name):
@@ -71,7 +75,34 @@ def _system(parameters):
     return system
 
 
-def _field(record, number, system):
+class _KnownLines(dict):
+    """The readings of word, cause and pass together. Each is checked once: a side has few that differ."""
+
+    def __init__(self, width):
+        super().__init__()
+        self.width = width
+
+    def __missing__(self, line):
+        self[line] = _line(*line, self.width)
+        return self[line]
+
+
+def _quick_field(record, number, known):
+    """The readings of a record without a fault; of others they are, or None, and `_field` says what is wrong."""
+    try:
+        words, causes, passes = record["vbi"]["vbiData"], record["vbiCause"], record["vbiPass"]
+        first, second, third = zip(words, causes, passes)
+        # true and 1.0 are 1 to a dict
+        is_whole = type(record["seqNo"]) is int and set(map(type, words + passes)) == {int}
+        if is_whole and record["seqNo"] == number and len(words) == len(causes) == len(passes) == 3:
+            return FieldReadings(known[first], known[second], known[third])
+    except (KeyError, TypeError, ValueError):
+        pass
+    return None
+
+
+def _field(record, number, known):
+    """The same of any record, each part of which is checked."""
     if not _is_number(_member(record, "seqNo", None), number, number):
         raise ValueError("seqNo is not %d" % number)
     lists = {"vbiData": _member(_member(record, "vbi", None), "vbiData", "vbi")}
@@ -79,11 +110,11 @@ def _field(record, number, system):
     for name, values in lists.items():
         if not isinstance(values, list) or len(values) != 3:
             raise ValueError("%s is no list of three" % name)
-    width, _ = size_of(system)
-    return FieldReadings(*(_line(*line, width) for line in zip(*lists.values())))
+    return FieldReadings(*(_line(*line, known.width) for line in zip(*lists.values())))
 
 
 def _line(word, text, number_of_pass, width):
+    """The reading of a line, each number of which is checked."""
     if not _is_number(word, 0, 0) and not _is_number(word, 0x800000, 0xFFFFFF):
         raise ValueError("%s is no word" % json.dumps(word))
     match = _CAUSE.fullmatch(text) if isinstance(text, str) else None

@@ -1,241 +1,192 @@
-"""A side drawn as an SVG: fields along, what each of the three lines shows in colour, and the picture numbers as a
-curve with marks where one is missing, comes again or comes before its turn."""
+"""A side drawn as an SVG: fields along, what each of the three lines shows in colour, lead-in, chapters, lead-out and
+picture stops, the numbers as a curve, and below it a lane for each kind of what there is to look at. It draws the
+answer of `analysis`, and each mark has a title that says its fields and why it is there."""
 
-import itertools
-from collections import Counter
-from xml.sax.saxutils import escape
-
-from .sequence import Unit
-from .summary import Summary
-
-# What a line can show, from the top of its band to the bottom: its name and its colour
-SHOWN = {
-    "change": "#dc2626",
-    "hold": "#9333ea",
-    "unfinished": "#ea580c",
-    "word of the second reading": "#eab308",
-    "word": "#86bf91",
-    "blank": "#e2e8f0",
-}
-MARKS = {"missing": "#dc2626", "repeated": "#0284c7", "out of order": "#0f766e"}
+from . import bands, curve
+from .marks import LANES, Mark, counts_of, fields_text, marks_of
+from .svg import Svg, shortened, text_width
 
 # The drawing's own measures, in pixels
-LEFT, WIDTH, RIGHT = 90, 960, 30
-BANDS_TOP, BAND_HEIGHT, BAND_STEP = 84, 30, 38
-CURVE_TOP, CURVE_HEIGHT, BOTTOM = 222, 240, 64
-LEAST_SHARE = 4  # pixels of a band for what isn't a word of the first reading, nor blank
+LEFT, WIDTH, RIGHT = 150, 960, 30
+TITLE_Y, SYSTEM_Y, LEGEND_Y = 28, 50, 76
+BANDS_TOP = 94
+DISC_TOP, DISC_HEIGHT = 200, 18
+STOPS_TOP, STOPS_HEIGHT = 224, 12
+CURVE_TOP, CURVE_HEIGHT = 248, 240
+LANES_TOP, LANE_STEP, LANE_HEIGHT = 502, 18, 12
+AXIS_TOP = LANES_TOP + LANE_STEP * len(LANES) + 4
+MOST_UPRIGHTS = 60  # of a lane, or of chapters: with more of them the curve couldn't be seen
+END_COLOUR, CHAPTER_COLOURS = "#94a3b8", ("#e0e7ff", "#c7d2fe")
 
 
 def drawing_of(side, title):
-    """The text of the SVG."""
-    return _Drawing(side, title).text()
+    """The text of the SVG of a `ldvbi_side.side.Side`."""
+    svg = Svg(LEFT + WIDTH + RIGHT, AXIS_TOP + 56)
+    answer, fields = side.answer, side.plain()
+    axis = Axis(answer["fields"])
+    _draw_head(svg, answer, title)
+    bands.draw_bands(svg, fields, axis, BANDS_TOP)
+    _draw_disc(svg, axis, answer)
+    _draw_stops(svg, axis, answer)
+    if answer["unit"]:
+        scale = curve.Scale(answer, CURVE_TOP, CURVE_HEIGHT)
+        curve.draw_numbers_axis(svg, axis, scale)
+        _draw_chapter_lines(svg, axis, answer)
+        _draw_lanes(svg, axis, answer)
+        curve.draw_curve(svg, axis, scale, answer)
+        curve.draw_doubts(svg, axis, scale, answer)
+    else:
+        _draw_lanes(svg, axis, answer)
+        _draw_no_numbers(svg, answer)
+    _draw_fields_axis(svg, axis, answer["fields"])
+    return svg.render()
 
 
-def _shown(line):
-    return "word of the second reading" if line.pass_ == 2 else line.cause.name
+class Axis:
+    """The fields of a side from left to right. `step` fields share a column of pixels: whole pairs where they are more
+    than one, since of each two fields one usually lacks a number."""
 
-
-class _Drawing:
-    def __init__(self, side, title):
-        self.side = side
-        self.summary = Summary(side)
-        self.sequence = self.summary.sequence
-        self.count = max(len(side.readings), 1)
-        # the fields that share a column of pixels: whole pairs, since of each two one usually lacks a word
+    def __init__(self, count):
+        self.left, self.width = LEFT, WIDTH
+        self.count = max(count, 1)
         fields = -(-self.count // WIDTH)
         self.step = fields if fields == 1 else 2 * -(-fields // 2)
-        self.parts = []
-        self._draw_title(title)
-        self._draw_bands()
-        self._draw_fields_axis()
-        if self.sequence.showings:
-            self._draw_numbers_axis()
-            self._draw_chapters()
-            self._draw_marks()
-            self._draw_curve()
-        else:
-            self._text(LEFT + WIDTH / 2, CURVE_TOP + CURVE_HEIGHT / 2, "no picture number and no time", "middle")
 
-    def text(self):
-        width, height = LEFT + WIDTH + RIGHT, CURVE_TOP + CURVE_HEIGHT + BOTTOM
-        head = ('<svg xmlns="http://www.w3.org/2000/svg" width="%d" height="%d" viewBox="0 0 %d %d" '
-                'font-family="sans-serif" font-size="13" fill="#1e293b">' % (width, height, width, height))
-        return "\n".join([head, '<rect width="100%" height="100%" fill="#ffffff"/>'] + self.parts + ["</svg>", ""])
-
-    # ---- Parts
-
-    def _x(self, field):
+    def x(self, field):
         """Where a field begins; the one behind the last is the end."""
         return LEFT + WIDTH * (field - 1) / self.count
 
-    def _y(self, number):
-        least, greatest = self.sequence.numbers[0], self.sequence.numbers[-1]
-        return CURVE_TOP + CURVE_HEIGHT * (greatest - number + 0.5) / (greatest - least + 1)
+    def pixel(self, field):
+        """The whole pixel of that, so that nothing shows between two columns."""
+        return round(self.x(field))
 
-    def _text(self, x, y, words, anchor="start", more=""):
-        self.parts.append('<text x="%.1f" y="%.1f" text-anchor="%s"%s>%s</text>' % (x, y, anchor, more, escape(words)))
-
-    def _box(self, x, y, width, height, fill, more=""):
-        self.parts.append('<rect x="%.2f" y="%.2f" width="%.2f" height="%.2f" fill="%s"%s/>'
-                          % (x, y, width, height, fill, more))
-
-    def _line(self, x1, y1, x2, y2, stroke, more=""):
-        self.parts.append('<line x1="%.1f" y1="%.1f" x2="%.1f" y2="%.1f" stroke="%s"%s/>'
-                          % (x1, y1, x2, y2, stroke, more))
-
-    # ---- What lines show
-
-    def _draw_title(self, title):
-        sequence = self.sequence
-        self._text(LEFT, 26, title, more=' class="title" font-size="17" font-weight="bold"')
-        counts = [("missing", sum(gap.count() for gap in sequence.missing)), ("repeated", len(sequence.repeated)),
-                  ("out of order", len(sequence.turned_back))]
-        x = LEFT + WIDTH
-        for name, count in reversed(counts):
-            words = "%s: %d" % (name, count)
-            self._text(x, 26, words, "end", ' class="count" font-weight="bold" fill="%s"' % MARKS[name] if count else
-                       ' class="count"')
-            x -= 8 * len(words) + 16
-        x = LEFT
-        for name, fill in SHOWN.items():
-            self._box(x, 46, 14, 14, fill)
-            self._text(x + 20, 58, name)
-            x += 7 * len(name) + 44
-
-    def _draw_bands(self):
-        """What each line shows. Where fields share a column of pixels, each cause has its share of the band's height,
-        and what stands out has a few pixels at least."""
-        for band, line in enumerate((16, 17, 18)):
-            top = BANDS_TOP + BAND_STEP * band
-            self._text(LEFT - 10, top + BAND_HEIGHT / 2 + 5, "line %d" % line, "end")
-            shown = [_shown(readings[band]) for readings in self.side.readings]
-            begin, before = 1, None
-            for field in range(1, len(shown) + 1, self.step):
-                shares = Counter(shown[field - 1:field - 1 + self.step])
-                if shares != before and before is not None:
-                    self._draw_column(line, top, begin, field, before)
-                    begin = field
-                before = shares
-            if before is not None:
-                self._draw_column(line, top, begin, len(shown) + 1, before)
-
-    def _draw_column(self, line, top, begin, end, shares):
-        heights = _heights(shares)
-        # whole pixels, so that nothing shows between two columns
-        y, x, right = top, round(self._x(begin)), round(self._x(end))
-        for name, fill in SHOWN.items():
-            if name in heights:
-                self._box(x, y, max(right - x, 1), heights[name], fill,
-                          ' class="line-%d" data-shown="%s" data-fields="%d-%d" shape-rendering="crispEdges"'
-                          % (line, name, begin, end - 1))
-                y += heights[name]
-
-    def _draw_fields_axis(self):
-        bottom = CURVE_TOP + CURVE_HEIGHT
-        self._line(LEFT, bottom, LEFT + WIDTH, bottom, "#475569")
-        for field in _ticks(1, len(self.side.readings), 10, _round_steps()):
-            x = self._x(field + 0.5)
-            self._line(x, bottom, x, bottom + 5, "#475569")
-            self._text(x, bottom + 20, str(field), "middle")
-        self._text(LEFT + WIDTH / 2, bottom + 42, "field", "middle")
-
-    # ---- Pictures
-
-    def _draw_numbers_axis(self):
-        sequence = self.sequence
-        name = "picture" if sequence.unit == Unit.picture else "time"
-        self._text(LEFT - 10, CURVE_TOP - 14, name, "end")
-        minute = 60 * sequence.rate if sequence.unit == Unit.time else 1
-        times = [1, 5, sequence.rate, 5 * sequence.rate, 15 * sequence.rate] if minute > 1 else []
-        times += [minute * minutes for minutes in (1, 5, 10, 15, 30, 60)]
-        steps = _round_steps() if sequence.unit == Unit.picture else iter(times)
-        for number in _ticks(sequence.numbers[0], sequence.numbers[-1], 5, steps):
-            self._line(LEFT, self._y(number), LEFT + WIDTH, self._y(number), "#e2e8f0")
-            self._text(LEFT - 10, self._y(number) + 4, sequence.text_of(number), "end")
-
-    def _draw_chapters(self):
-        free = 0
-        for chapter, field in sorted(self.side.chapters().items(), key=lambda pair: pair[1]):
-            x = self._x(field)
-            self._line(x, CURVE_TOP - 10, x, CURVE_TOP + CURVE_HEIGHT, "#94a3b8",
-                       ' class="chapter" stroke-dasharray="2 4"')
-            if x >= free:
-                self._text(x + 4, CURVE_TOP - 2, "chapter %d" % chapter, more=' font-size="11" fill="#64748b"')
-                free = x + 72
-
-    def _draw_marks(self):
-        """An upright over the fields at which the curve breaks, and a triangle above it."""
-        sequence = self.sequence
-        # where the number behind a gap comes by first
-        following = {}
-        for showing in sequence.showings:
-            following.setdefault(showing.number, showing.first)
-        marks = [("missing", following[gap.greatest + 1]) for gap in sequence.missing]
-        marks += [("repeated", showing.first) for showing in sequence.repeated]
-        marks += [("out of order", showing.first) for showing in sequence.turned_back]
-        drawn = set()
-        for name, field in marks:
-            x = self._x(field)
-            # marks of one kind that fall together are one
-            if (name, round(x)) not in drawn:
-                drawn.add((name, round(x)))
-                self._line(x, CURVE_TOP, x, CURVE_TOP + CURVE_HEIGHT, MARKS[name],
-                           ' class="%s" data-field="%d" stroke-opacity="0.45"' % (name.replace(" ", "-"), field))
-                y = CURVE_TOP + CURVE_HEIGHT
-                self.parts.append('<path d="M%.1f %.1fl-5 -9h10z" fill="%s"/>' % (x, y, MARKS[name]))
-
-    def _draw_curve(self):
-        """A polyline of each run of showings in which every number is the next one, with a point for each column of
-        pixels; where that is too short to be seen, a dot."""
-        run = []
-        for showing in self.sequence.showings:
-            if run and showing.number != run[-1].number + 1:
-                self._draw_run(run)
-                run = []
-            run.append(showing)
-        self._draw_run(run)
-
-    def _draw_run(self, run):
-        points = [(self._x(showing.first + 0.5), self._y(showing.number)) for showing in run]
-        kept = [point for place, point in enumerate(points)
-                if place in (0, len(points) - 1) or int(point[0]) != int(points[place - 1][0])]
-        texts = ["%.1f %.1f" % point for point in kept]
-        # eight points to a line of text
-        lines = [" ".join(texts[place:place + 8]) for place in range(0, len(texts), 8)]
-        data = "M" + "\n".join(lines) + ("h0" if len(kept) == 1 else "")
-        thickness = 5 if len(kept) == 1 else 3
-        self.parts.append('<path class="run" data-fields="%d-%d" fill="none" stroke="#0f172a" stroke-width="%d" '
-                          'stroke-linecap="round" stroke-linejoin="round" d="%s"/>'
-                          % (run[0].first, run[-1].last, thickness, data))
+    def extent(self, first, last):
+        """The pixels of fields, and two at least."""
+        begin = min(self.pixel(first), LEFT + WIDTH - 2)
+        return begin, max(self.pixel(last + 1), begin + 2)
 
 
-def _heights(shares):
-    """The height of each share of a band."""
-    total = sum(shares.values())
-    heights = {name: BAND_HEIGHT * count / total for name, count in shares.items()}
-    raised = {name: max(height, LEAST_SHARE) for name, height in heights.items() if name not in ("word", "blank")}
-    rest = sum(height for name, height in heights.items() if name not in raised)
-    if rest:
-        factor = (BAND_HEIGHT - sum(raised.values())) / rest
-        raised.update((name, heights[name] * factor) for name in heights if name not in raised)
-        return raised
-    factor = BAND_HEIGHT / sum(raised.values())
-    return {name: height * factor for name, height in raised.items()}
+def _draw_head(svg, answer, title):
+    """The side's name, its system and format, and the colours of the bands."""
+    svg.text(LEFT, TITLE_Y, shortened(title, WIDTH, 17), title, class_="title", font_size=17, font_weight="bold")
+    cut = answer["cutField"]
+    parts = [answer["system"], {"neither": "no code of CAV or CLV"}.get(answer["format"], answer["format"].upper())]
+    parts += ["film (2 and 3 fields a picture)"] if answer["pace"] == "film" else []
+    parts += ["%d field%s" % (answer["fields"], "" if answer["fields"] == 1 else "s")]
+    parts += ["field %(seqNo)d is cut: %(bytes)d bytes of it" % cut] if cut else []
+    if answer["numbers"]["count"]:
+        name = "picture" if answer["unit"] == "picture" else answer["unit"]
+        parts.append("%d %s%s, %s to %s" % (
+            answer["numbers"]["count"], name, "" if answer["numbers"]["count"] == 1 else "s",
+            answer["numbers"]["least"], answer["numbers"]["greatest"]))
+    svg.text(LEFT, SYSTEM_Y, ", ".join(parts), class_="system")
+    x = bands.draw_legend(svg, LEFT, LEGEND_Y)
+    svg.box(x, LEGEND_Y - 11, 14, 14, END_COLOUR)
+    svg.text(x + 20, LEGEND_Y + 1, "lead-in, lead-out")
+    x += 160
+    curve.draw_ring(svg, x + 7, LEGEND_Y - 4)
+    svg.text(x + 20, LEGEND_Y + 1, "doubtful number")
 
 
-def _round_steps():
-    """1, 2, 5, 10, 20, 50 and so on."""
-    for power in itertools.count():
-        yield from (factor * 10 ** power for factor in (1, 2, 5))
+def _draw_no_numbers(svg, answer):
+    """What is said in the place of the curve, where there is none."""
+    texts = ["no picture number and no time"]
+    levels = answer["levels"]
+    if levels:
+        texts.append("lines 17 and 18 have %(words)d words, %(bad)d are bad, %(blank)d blank: "
+                     "are black and white right?" % levels)
+    y = CURVE_TOP + CURVE_HEIGHT / 2
+    for place, text in enumerate(texts):
+        svg.text(LEFT + WIDTH / 2, y + 24 * place, text, text_anchor="middle", class_="empty")
 
 
-def _ticks(least, greatest, count, steps):
-    """Numbers from the least to the greatest, at most about so many, at multiples of one of these ascending steps: the
-    first that is large enough, or the last."""
-    if greatest < least:
-        return []
-    for step in steps:
-        if step * count >= greatest - least:
-            break
-    first = -(-least // step) * step
-    return sorted({least} | {tick for tick in range(first, greatest + 1, step) if tick - least >= step / 2})
+def _draw_disc(svg, axis, answer):
+    """A strip with lead-in, chapters and lead-out, in the order of the disc."""
+    svg.text(LEFT - 10, DISC_TOP + 14, "disc", text_anchor="end")
+    svg.box(LEFT, DISC_TOP, WIDTH, DISC_HEIGHT, "#f8fafc")
+    stretches = [("lead-in", "lead-in", one, "") for one in answer["leadIn"]]
+    stretches += [("lead-out", "lead-out", one, "") for one in answer["leadOut"]]
+    for one in answer["chapters"]:
+        place = "" if one["number"] is None else ", from %s" % one["number"]
+        stretch = {"first": one["field"], "last": one["last"]}
+        stretches.append(("chapter", "chapter %d" % one["chapter"], stretch, place))
+    chapters = 0
+    for kind, name, one, place in sorted(stretches, key=lambda stretch: stretch[2]["first"]):
+        fill = END_COLOUR
+        if kind == "chapter":
+            fill = CHAPTER_COLOURS[chapters % 2]
+            chapters += 1
+        begin, end = axis.extent(one["first"], one["last"])
+        title = "%s: %s%s" % (name, fields_text(one["first"], one["last"]), place)
+        svg.box(begin, DISC_TOP, end - begin, DISC_HEIGHT, fill, title, class_=kind,
+                data_fields="%(first)d-%(last)d" % one)
+        short = name.rpartition(" ")[2]
+        label = next((text for text in (name, short) if text_width(text, 11) + 6 <= end - begin), None)
+        if label:
+            svg.text((begin + end) / 2, DISC_TOP + 13, label, text_anchor="middle", font_size=11, class_="disc-label",
+                     pointer_events="none")
+
+
+def _draw_stops(svg, axis, answer):
+    svg.text(LEFT - 10, STOPS_TOP + 11, "stops: %d" % len(answer["stops"]), text_anchor="end", class_="count")
+    drawn = set()
+    for one in answer["stops"]:
+        x = axis.x(one["field"] + 0.5)
+        if round(x / 2) not in drawn:
+            drawn.add(round(x / 2))
+            number = "" if one["number"] is None else " of %s" % one["number"]
+            lines = ("lines " if len(one["lines"]) > 1 else "line ") + " and ".join(map(str, sorted(one["lines"])))
+            title = "picture stop%s in field %d, %s" % (number, one["field"], lines)
+            svg.path("M%.1f %dl4 6l-4 6l-4 -6z" % (x, STOPS_TOP), title, class_="stop", data_field=one["field"],
+                     fill="#b91c1c")
+
+
+def _draw_chapter_lines(svg, axis, answer):
+    """An upright at each chapter's begin, below the strip that names it, where these are few."""
+    pixels = sorted({axis.pixel(one["field"]) for one in answer["chapters"]})
+    for x in pixels if len(pixels) <= MOST_UPRIGHTS else []:
+        svg.line(x, CURVE_TOP, x, CURVE_TOP + CURVE_HEIGHT, "#94a3b8", class_="chapter-line", stroke_dasharray="2 4")
+
+
+def _draw_lanes(svg, axis, answer):
+    """A lane for each kind of mark, with how many there are; marks that fall together are one. Where the curve breaks,
+    faint uprights cross it, as long as they are few."""
+    counts, marks = counts_of(answer), marks_of(answer)
+    for place, (lane, colour) in enumerate(LANES.items()):
+        y = LANES_TOP + LANE_STEP * place
+        count = counts[lane]
+        svg.text(LEFT - 10, y + 11, "%s: %d" % (lane, count), text_anchor="end", class_="count",
+                 fill=colour if count else "#64748b", font_weight="bold" if count else None)
+        svg.box(LEFT, y, WIDTH, LANE_HEIGHT, "#f8fafc")
+        joined = list(_joined(axis, marks[lane]))
+        has_uprights = lane in ("missing", "lost fields", "jumps") and len(joined) <= MOST_UPRIGHTS
+        for begin, end, (first, last, text) in joined:
+            fields = "%d-%d" % (first, last)
+            if has_uprights:
+                svg.box(begin, CURVE_TOP, end - begin, CURVE_HEIGHT, colour, text, opacity=0.2, class_="upright",
+                        data_fields=fields)
+            svg.box(begin, y, end - begin, LANE_HEIGHT, colour, text, class_=lane.replace(" ", "-"), data_fields=fields)
+
+
+def _joined(axis, marks):
+    """The marks of a lane with their pixels; those that touch are one, of which the first one's text is said."""
+    joined = []
+    for mark in marks:
+        begin, end = axis.extent(mark.first, mark.last)
+        if joined and begin < joined[-1][1]:
+            joined[-1][1] = max(joined[-1][1], end)
+            joined[-1][2].append(mark)
+        else:
+            joined.append([begin, end, [mark]])
+    for begin, end, ones in joined:
+        more = "; and %d more up to field %d" % (len(ones) - 1, ones[-1].last) if len(ones) > 1 else ""
+        yield begin, end, Mark(ones[0].first, max(one.last for one in ones), ones[0].text + more)
+
+
+def _draw_fields_axis(svg, axis, count):
+    svg.line(LEFT, AXIS_TOP, LEFT + WIDTH, AXIS_TOP, "#475569")
+    for field in curve.ticks(1, count, 10, curve.round_steps()):
+        x = axis.x(field + 0.5)
+        svg.line(x, AXIS_TOP, x, AXIS_TOP + 5, "#475569")
+        svg.text(x, AXIS_TOP + 20, str(field), text_anchor="middle")
+    svg.text(LEFT + WIDTH / 2, AXIS_TOP + 42, "field", text_anchor="middle", class_="axis")

@@ -1,5 +1,5 @@
-"""System, black and white of a run, from ld-decode's metadata. It is read as `ldvbi` reads it, but for this: levels
-with decimals are rounded here to the next whole number, a half upwards."""
+"""System, black and white of a run, from ld-decode's metadata, JSON or SQLite. JSON is read as `ldvbi` reads it, but
+for this: levels with decimals are rounded here to the next whole number, a half upwards."""
 
 import json
 import math
@@ -33,6 +33,10 @@ def settings_of(path, system=None, black=None, white=None):
 
 def _parameters(path):
     with open(path, "rb") as file:
+        # A pipe begins with less, perhaps, and is no database.
+        if file.peek(16).startswith(b"SQLite format 3\0"):
+            from .database import parameters_of_database  # sqlite3 is no part of the smallest Pythons
+            return parameters_of_database(path)
         try:
             parameters = json.loads(file.read().decode("utf-8"))["videoParameters"]
         except (KeyError, TypeError, ValueError, RecursionError):

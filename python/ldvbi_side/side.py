@@ -1,31 +1,18 @@
 """A side: what lines 16, 17 and 18 of each of its fields show, and what their words mean. It comes from a TBC file or
-from a document that `ldvbi extract` wrote (`ldvbi_side.document`). Fields are counted from 1. Names and results are those of
-contrib/ldvbi.jq."""
+from a document that `ldvbi extract` wrote (`ldvbi_side.document`). Fields are counted from 1."""
 
 import functools
-import os
 from typing import List, NamedTuple, Optional
 
-from ldvbi import FieldReadings, Format, Kind, System, classify, field_bytes, fields, format_of, line_bytes
+from ldvbi import Cause, FieldReadings, Stream, System, field_bytes, format_of, line_bytes
+from .analysis import analyse
+from .codes import code, codes_by_kind
+from .progress import Progress
+from .said import Fields
+from .seek import seek, wanted_of
 
-# The names of a kind and of its numbers, as `ldvbi show` and contrib/ldvbi.jq have them
-KINDS = {
-    Kind.lead_in: ("lead-in",),
-    Kind.lead_out: ("lead-out",),
-    Kind.picture_stop: ("picture stop",),
-    Kind.picture: ("picture", "number"),
-    Kind.chapter: ("chapter", "number"),
-    Kind.clv_mark: ("clv",),
-    Kind.time: ("time", "hours", "minutes"),
-    Kind.clv_picture: ("clv picture", "seconds", "picture"),
-    Kind.cx_on: ("cx on", "number"),
-    Kind.cx_off: ("cx off", "number"),
-    Kind.users: ("users", "digit", "number"),
-    Kind.other: ("other",),
-}
-
-# A disc has few different words besides its pictures.
-_classify = functools.lru_cache(maxsize=None)(classify)
+_CAUSES = tuple(cause.name for cause in Cause)
+_FIRST_WITH_COLUMN = int(Cause.change)  # and the only other one behind it is hold
 
 
 def size_of(system):
@@ -39,93 +26,111 @@ class Cut(NamedTuple):
     bytes: int
 
 
-def code_of(word):
-    """The `ldvbi.Code` of a word, or None for 0, which stands for a line without a word."""
-    return _classify(word) if word else None
-
-
-def code(word):
-    """What a word means: its kind and the numbers that this kind has, by name. None for 0."""
-    if not word:
-        return None
-    kind, *numbers = _classify(word)
-    name, *members = KINDS[kind]
-    return {"kind": name, **dict(zip(members, numbers))}
-
-
-def agreed_word(readings):
-    """The word of a field's lines 17 and 18: a disc has the same word on both. Where only one of the lines has a word,
-    it is that one; where neither has, or they differ, it is 0."""
-    words = {readings.second.word, readings.third.word} - {0}
-    return words.pop() if len(words) == 1 else 0
+class Levels(NamedTuple):
+    """The samples of black and of white that a side was read with."""
+    black: int
+    white: int
 
 
 class Side:
-    """The whole fields of a side in their order, and the field in which it was cut."""
+    """The whole fields of a side in their order, and the field in which it was cut. `first` says of each field whether
+    it is the first one of its frame, or is None where that isn't known.
 
-    def __init__(self, system: System, readings: List[FieldReadings], cut: Optional[Cut]):
+    `answer` is what the words mean, as docs/SIDES.md describes it; `pictures`, `times`, `chapters`, `stops` and
+    `format` are parts of it. `codes` is what each field says, judged by nothing."""
+
+    def __init__(self, system: System, readings: List[FieldReadings], cut: Optional[Cut] = None,
+                 levels: Optional[Levels] = None, first: Optional[List[bool]] = None):
         self.system = system
         self.readings = readings
         self.cut = cut
+        self.levels = levels
+        self.first = first
 
     def numbered(self):
         """Each field's number and readings."""
         return enumerate(self.readings, 1)
 
-    def agreed(self):
-        """Each field's number and the code on which its lines 17 and 18 agree, where they do."""
-        for number, readings in self.numbered():
-            word = agreed_word(readings)
-            if word:
-                yield number, _classify(word)
+    def plain(self):
+        """The side as plain data, for the analysis."""
+        words, passes, causes = [], [], []
+        for one, two, three in self.readings:
+            words.append((one.word, two.word, three.word))
+            passes.append((one.pass_, two.pass_, three.pass_))
+            causes.append((cause_text(one), cause_text(two), cause_text(three)))
+        cut = self.cut and {"seqNo": self.cut.field, "bytes": self.cut.bytes}
+        return Fields(self.system.name, words, passes, causes, cut, self.first)
+
+    @functools.cached_property
+    def answer(self):
+        """What the words of the side mean, as plain data."""
+        return analyse(self.plain())
 
     def codes(self):
-        """For each field its number, its format, the codes of lines 16, 17 and 18, and the one on which 17 and 18
-        agree."""
+        """For each field its number, its format, the codes of lines 16, 17 and 18, and those that stand on a line of
+        their kind, each with its lines: `codes` of contrib/ldvbi.jq."""
         for number, readings in self.numbered():
             words = [line.word for line in readings]
             yield {"seqNo": number, "format": format_of(*words).name, "codes": [code(word) for word in words],
-                   "agreed": code(agreed_word(readings))}
-
-    def _first_fields(self, kind):
-        found = {}
-        for field, agreed in self.agreed():
-            if agreed.kind == kind:
-                found.setdefault(agreed.first, field)
-        return found
+                   "byKind": codes_by_kind(words)}
 
     def pictures(self):
-        """The first field of each picture number. A seek table of a CAV side."""
-        return self._first_fields(Kind.picture)
+        """The first field of each believed picture number. A seek table of a CAV side."""
+        return self._first_fields("picture")
+
+    def times(self):
+        """The first field of each believed CLV time `h:mm:ss.pp`."""
+        return self._first_fields("time")
 
     def chapters(self):
-        """The first field of each chapter."""
-        return self._first_fields(Kind.chapter)
+        """The first field of each believed chapter."""
+        return _firsts((one["chapter"], one["field"]) for one in self.answer["chapters"])
 
     def stops(self):
-        """The numbers of the fields that have a picture stop on one of their lines."""
-        return [number for number, readings in self.numbered()
-                if any(line.word and _classify(line.word).kind == Kind.picture_stop for line in readings)]
+        """The numbers of the fields that have a picture stop."""
+        return [one["field"] for one in self.answer["stops"]]
+
+    def seek(self, text):
+        """Where `123`, `1:09`, `1:09:30`, `1:09:30.12` or `chapter 3` begins: a dict of its field, its frame and
+        whether the number was read there; None where it isn't there."""
+        return seek(self.answer, wanted_of(text))
 
     def format(self):
-        """cav, clv, both or neither, by the codes of all fields."""
-        formats = {format_of(*(line.word for line in readings)) for readings in self.readings}
-        told = formats - {Format.neither}
-        return Format.neither if not told else told.pop() if len(told) == 1 else Format.both
+        """cav, clv or neither, by the codes of most fields."""
+        return self.answer["format"]
 
-    def clv_times(self):
-        """Each field's number with its CLV time: the hours and minutes on which lines 17 and 18 agree, or None, and
-        the seconds and pictures of line 16, or None. Fields with neither are left out."""
-        for number, readings in self.numbered():
-            agreed, first = code_of(agreed_word(readings)), code_of(readings.first.word)
-            minutes = agreed[1:] if agreed and agreed.kind == Kind.time else None
-            pictures = first[1:] if first and first.kind == Kind.clv_picture else None
-            if minutes or pictures:
-                yield number, minutes, pictures
+    def _first_fields(self, unit):
+        if self.answer["unit"] != unit:
+            return {}
+        return _firsts((number, field) for number, field, _ in self.answer["showings"])
 
 
-def side_of_tbc(path, system, black, white):
+def _firsts(pairs):
+    """The first field of each number, of pairs of a number and a field."""
+    found = {}
+    for number, field in pairs:
+        found.setdefault(number, field)
+    return found
+
+
+def cause_text(reading):
+    """What a line shows, as the document of `ldvbi extract` has it: `word`, `blank`, `change 170`."""
+    name = _CAUSES[reading.cause]
+    return "%s %d" % (name, reading.column) if reading.cause >= _FIRST_WITH_COLUMN else name
+
+
+def cut_of(stream):
+    """The field inside which a `Stream` ends, or None."""
+    return Cut(len(stream) + 1, stream.cut_bytes) if stream.cut_bytes else None
+
+
+def side_of_stream(stream, progress, first=None):
+    """The side that a `Stream` holds."""
+    readings = list(progress.over(stream))
+    return Side(stream.system, readings, cut_of(stream), Levels(stream.black, stream.white), first)
+
+
+def side_of_tbc(path, system, black, white, first=None):
     """The side that a TBC file holds. Only lines 16, 17 and 18 are read from it."""
-    readings = list(fields(path, system, black, white))
-    rest = os.path.getsize(path) % field_bytes(system)
-    return Side(System[system], readings, Cut(len(readings) + 1, rest) if rest else None)
+    with Stream(path, system, black, white) as stream, Progress(len(stream), is_wanted=False) as progress:
+        return side_of_stream(stream, progress, first)

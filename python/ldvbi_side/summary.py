@@ -1,117 +1,113 @@
-"""A side at a glance: what to look at first, in a line each."""
+"""A side at a glance: what to look at first, in at most 20 lines."""
 
 from collections import Counter
 
-from ldvbi import Cause, Format
-from .sequence import Sequence
-from .side import KINDS, code_of
+from .codes import LINES
 
-MOST_LISTED = 6  # fields, pictures or gaps in a line
-
-
-def _spans(numbers):
-    """Numbers in ascending order as spans, each with its least and its greatest number."""
-    found = []
-    for number in numbers:
-        if found and number == found[-1][1] + 1:
-            found[-1][1] = number
-        else:
-            found.append([number, number])
-    return found
+MOST_LISTED = 4  # places in a line
+UNITS = {"picture": "pictures", "time": "times", "minute": "minutes"}
 
 
-def _span_text(span):
-    return "%d-%d" % tuple(span) if span[0] < span[1] else "%d" % span[0]
+def is_whole(answer):
+    """Whether nothing of the side is missing: it has a number, none is missing between the least and the greatest, and
+    the last field isn't cut."""
+    return answer["numbers"]["count"] > 0 and not answer["missing"] and answer["cutField"] is None
 
 
-def _fields_text(spans):
-    is_one = len(spans) == 1 and spans[0][0] == spans[0][1]
-    return ("field " if is_one else "fields ") + ", ".join(map(_span_text, spans))
+def summary(answer, plot_command):
+    """The lines of the summary. `plot_command` makes the command that draws a line, of its field and its number."""
+    cut = answer["cutField"]
+    film = ", film (2 and 3 fields a picture)" if answer["pace"] == "film" else ""
+    yield "system: %s, %s%s" % (answer["system"], _FORMATS[answer["format"]], film)
+    yield "fields: %d, cut: %s" % (answer["fields"], "field %(seqNo)d, of %(bytes)d bytes" % cut if cut else "none")
+    for line in LINES:
+        yield _line_text(line, answer["lines"][str(line)])
+    if answer["levels"]:
+        yield _levels_text(answer["levels"], plot_command)
+    if answer["numbers"]["count"]:
+        yield from _number_lines(answer)
+    else:
+        yield "pictures: none"
+    yield from _doubt_lines(answer)
+    yield from _part_lines(answer)
 
 
-def _listed(texts):
-    """The first texts, and how many more there are."""
+_FORMATS = {"cav": "CAV", "clv": "CLV", "neither": "no code of CAV or CLV"}
+
+
+def _line_text(line, rates):
+    words, bad = rates["pass1"] + rates["pass2"], rates["change"] + rates["hold"] + rates["unfinished"]
+    share = 100 * bad / (words + bad) if bad else 0
+    return "line %d: %d words, %d of them of pass 2; %d bad (%.2f %%), %d blank" % (
+        line, words, rates["pass2"], bad, share, rates["blank"])
+
+
+def _levels_text(levels, plot_command):
+    if levels["shows"] == "blank":
+        why = "black and white may be too high, or the side has no codes"
+    else:
+        why = "black and white may be wrong, or the signal is noise"
+    return "levels: lines 17 and 18 have %d words, %d are bad, %d blank: %s. Look at one: %s" % (
+        levels["words"], levels["bad"], levels["blank"], why, plot_command(levels["field"], levels["line"]))
+
+
+def _listed(count, texts):
+    """How many there are, and the first ones of them."""
     texts = list(texts)
     more = len(texts) - MOST_LISTED
-    return ", ".join(texts[:MOST_LISTED]) + (" and %d more" % more if more > 0 else "")
+    shown = ", ".join(texts[:MOST_LISTED]) + (" and %d more" % more if more > 0 else "")
+    return "%d (%s)" % (count, shown) if count else "none"
 
 
-def _counted(count, details):
-    return "%d (%s)" % (count, details) if count else "none"
+def _span(first, last):
+    return str(first) if first == last else "%s to %s" % (first, last)
 
 
-def _fields(numbers):
-    """How many fields these are, and which; where they are too many stretches to list, the longest one."""
-    spans = _spans(numbers)
-    if len(spans) > MOST_LISTED:
-        longest = max(spans, key=lambda span: span[1] - span[0])
-        return "%d (in %d stretches; the longest: %s)" % (len(numbers), len(spans), _fields_text([longest]))
-    return _counted(len(numbers), _fields_text(spans))
+def _number_lines(answer):
+    yield "%s: %d, from %s to %s" % ((UNITS[answer["unit"]],) + tuple(answer["numbers"].values()))
+    yield "missing: " + _missing_text(answer["missing"])
+    if answer["leftOut"]:
+        yield "left out by the disc's clock: %d" % sum(one["count"] for one in answer["leftOut"])
+    lost = answer["lost"]
+    yield "lost fields: " + _listed(sum(one["fields"] or 1 for one in lost), (
+        "%s after field %d" % (one["fields"] or "1 or more", one["after"]) for one in lost))
+    jumps = [one for one in answer["breaks"] if one["kind"] != "lost"]
+    yield "jumps: " + _listed(len(jumps), ("%(from)s to %(to)s in field %(before)d" % one for one in jumps))
+    stills, repeated = answer["stills"], answer["repeated"]
+    yield "stills: " + _listed(len(stills), ("%(number)s in fields %(first)d to %(last)d" % one for one in stills))
+    yield "shown again: " + _listed(len(repeated), (
+        "%s in field %d" % (_span(one["first"], one["last"]), one["field"]) for one in repeated))
 
 
-def _by_name(counts, names):
-    told = ["%s %d" % (name, counts[key]) for key, name in names if counts[key]]
-    return _counted(sum(counts.values()), ", ".join(told))
+def _missing_text(missing):
+    counts = Counter()
+    for one in missing:
+        counts[one["why"]] += one["count"]
+    whys = ", ".join("%s %d" % (why, counts[why]) for why in ("damaged", "lost", "undecided") if counts[why])
+    places = _listed(sum(counts.values()), (
+        "%s after field %d" % (_span(one["first"], one["last"]), one["after"]) for one in missing))
+    return places.replace("(", "(%s: " % whys, 1)
 
 
-class Summary:
-    """What there is to tell of a side. `is_whole` says that nothing of it is missing: it has a picture number or a
-    time, none is missing between the least and the greatest, and the last field isn't cut."""
-
-    def __init__(self, side):
-        self.side = side
-        self.sequence = Sequence(side)
-        self.kinds = Counter()
-        self.causes = Counter()
-        self.second_readings = 0
-        for readings in side.readings:
-            for line in readings:
-                self.causes[line.cause] += 1
-                self.second_readings += line.pass_ == 2
-                if line.word:
-                    self.kinds[code_of(line.word).kind] += 1
-        words = [(number, readings.second.word, readings.third.word) for number, readings in side.numbered()]
-        self.neither = [number for number, second, third in words if not second and not third]
-        self.differing = [number for number, second, third in words if second and third and second != third]
-        self.is_whole = bool(self.sequence.showings) and not self.sequence.missing and side.cut is None
-
-    def lines(self):
-        side = self.side
-        words = _by_name(self.kinds, [(kind, names[0]) for kind, names in KINDS.items()])
-        causes = Counter({cause: count for cause, count in self.causes.items() if cause != Cause.word})
-        chapters = sorted(side.chapters())
-        yield "system: %s, %s" % (side.system.name, _FORMATS[side.format()])
-        yield "fields: %d, cut: %s" % (len(side.readings), "field %d, of %d bytes" % side.cut if side.cut else "none")
-        yield "words: " + words
-        yield "words of the second reading: %d" % self.second_readings
-        yield "lines without a word: " + _by_name(causes, [(cause, cause.name) for cause in Cause])
-        yield "fields with neither line 17 nor 18: " + _fields(self.neither)
-        yield "fields whose lines 17 and 18 differ: " + _fields(self.differing)
-        yield from self._sequence_lines()
-        yield "chapters: " + (", ".join(map(_span_text, _spans(chapters))) or "none")
-        yield "picture stops: " + _fields(side.stops())
-
-    def _sequence_lines(self):
-        sequence = self.sequence
-        text_of, name = sequence.text_of, sequence.unit.value
-        if not sequence.showings:
-            yield "pictures: none"
-            return
-        least, greatest = text_of(sequence.numbers[0]), text_of(sequence.numbers[-1])
-        yield "%s: %d, from %s to %s" % (name, len(sequence.numbers), least, greatest)
-        yield "missing: " + self._gaps(sequence.missing)
-        if sequence.left_out:
-            yield "left out by the disc's clock: " + self._gaps(sequence.left_out)
-        for title, showings in (("repeated", sequence.repeated), ("out of order", sequence.turned_back)):
-            yield "%s: %s" % (title, _counted(len(showings), _listed(
-                "%s in field %d" % (text_of(showing.number), showing.first) for showing in showings)))
-
-    def _gaps(self, gaps):
-        text_of = self.sequence.text_of
-        return _counted(sum(gap.count() for gap in gaps), _listed(
-            (text_of(gap.least) if gap.count() == 1 else "%s to %s" % (text_of(gap.least), text_of(gap.greatest)))
-            + " after field %d" % gap.field for gap in gaps))
+def _doubt_lines(answer):
+    doubtful = answer["doubtful"]
+    conflicts = sorted(answer["conflicts"] + answer["chapterConflicts"], key=lambda one: one["field"])
+    yield "doubtful, set aside: " + _listed(len(doubtful), (
+        "%s %s in field %d line %d" % (one["kind"], one["word"] if one["number"] is None else one["number"],
+                                       one["field"], one["line"]) for one in doubtful))
+    yield "lines 17 and 18 differ: " + _listed(len(conflicts), (
+        "field %d: %s and %s, %s taken" % (one["field"], one["line17"], one["line18"],
+                                           "none" if one["taken"] is None else one["taken"]) for one in conflicts))
+    for one in answer["secondRows"]:
+        yield "a second row of numbers, not taken: %(first)s to %(last)s in fields %(field)d to %(lastField)d" % one
 
 
-_FORMATS = {Format.cav: "CAV", Format.clv: "CLV", Format.both: "codes of CAV and of CLV",
-            Format.neither: "no code of CAV or CLV"}
+def _part_lines(answer):
+    chapters, stops, stray = answer["chapters"], answer["stops"], answer["stray"]
+    yield "chapters: " + _listed(len(chapters), ("%(chapter)d in field %(field)d" % one for one in chapters))
+    yield "picture stops: " + _listed(len(stops), (
+        "field %d" % one["field"] if one["number"] is None else "%(number)s in field %(field)d" % one for one in stops))
+    yield ", ".join("%s: %s" % (name, _listed(sum(one["count"] for one in stretches), (
+        "fields " + _span(one["first"], one["last"]) for one in stretches)))
+        for name, stretches in (("lead-in", answer["leadIn"]), ("lead-out", answer["leadOut"])))
+    yield "stray codes: " + _listed(len(stray), ("%(kind)s in field %(field)d line %(line)d" % one for one in stray))

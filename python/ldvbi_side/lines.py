@@ -1,0 +1,53 @@
+"""What the lines of a side show where they show no word, and what that says of the levels they were read with."""
+
+from collections import Counter
+
+from .codes import LINES
+
+SIZES = {"NTSC": (1820, 263), "PAL": (2270, 313)}  # bytes of a line, lines of a field
+BAD = ("change", "hold", "unfinished")
+FEW = 20  # lines to a word: of the lines 17 and 18 of a disc half have one, or a fifth at least
+
+
+def bad_lines_of(fields):
+    """The lines that show no word and aren't blank, each with its place in the TBC file, in bytes."""
+    size, height = SIZES[fields.system]
+    bad = []
+    for field, causes in enumerate(fields.causes, 1):
+        for line, cause in zip(LINES, causes):
+            if cause != "word" and cause != "blank":
+                _, _, column = cause.partition(" ")
+                bad.append({"field": field, "line": line, "cause": cause, "column": int(column) if column else None,
+                            "offset": ((field - 1) * height + line - 1) * size, "bytes": size})
+    return bad
+
+
+def rates_of(fields):
+    """Of each line how many fields show what."""
+    rates = {}
+    for place, line in enumerate(LINES):
+        passes = Counter(passes[place] for passes in fields.passes)
+        counts = {"pass1": passes[1], "pass2": passes[2], "blank": 0, "unfinished": 0, "change": 0, "hold": 0}
+        for cause, count in Counter(causes[place] for causes in fields.causes).items():
+            if cause != "word":
+                counts[cause.partition(" ")[0]] += count
+        rates[str(line)] = counts
+    return rates
+
+
+def levels_of(rates, bad, count):
+    """Whether the side was read with wrong levels: None where lines 17 and 18 have words enough, else what they show
+    instead, and a line to look at."""
+    shown = Counter()
+    for line in ("17", "18"):
+        shown.update(rates[line])
+    words = shown["pass1"] + shown["pass2"]
+    if not count or FEW * words >= 2 * count:
+        return None
+    without = sum(shown[cause] for cause in BAD)
+    if without <= shown["blank"]:
+        return {"shows": "blank", "words": words, "bad": without, "blank": shown["blank"], "field": count // 2 + 1,
+                "line": 17}
+    one = [one for one in bad if one["line"] != 16][without // 2]
+    return {"shows": "bad", "words": words, "bad": without, "blank": shown["blank"], "field": one["field"],
+            "line": one["line"]}

@@ -1,0 +1,88 @@
+"""The numbers of a side that are believed: pictures of a CAV disc, times of a CLV disc, or its minutes alone."""
+
+import bisect
+from collections import Counter
+from typing import NamedTuple
+
+from ldvbi import Kind
+from .chain import chain
+from .paces import Pace
+
+RATES = {"NTSC": 30, "PAL": 25}  # numbers of a second
+
+
+class Unit(NamedTuple):
+    """What numbers count: `picture`, `time` (pictures from the disc's start) or `minute`; None where there are none."""
+    name: str
+    rate: int
+
+    def text_of(self, number):
+        """A number as the answer has it: a picture as it is, a time as text."""
+        if self.name == "time":
+            seconds, picture = divmod(number, self.rate)
+            return "%d:%02d:%02d.%02d" % (seconds // 3600, seconds // 60 % 60, seconds % 60, picture)
+        return minute_text(number) if self.name == "minute" else number
+
+
+def minute_text(minutes):
+    """Minutes from the disc's start as hours and minutes."""
+    return "%d:%02d" % divmod(minutes, 60)
+
+
+class Numbers:
+    """The believed readings of a side by field, what they count, and the pace at which they go on. `completed` are the
+    fields whose minute is another field's."""
+
+    def __init__(self, unit, pace, readings):
+        self.unit, self.pace = unit, pace
+        self.completed = set()
+        self.believe(chain(readings, pace) if pace else [])
+
+    def believe(self, readings):
+        self.believed = readings
+        self.fields = [reading.field for reading in readings]
+
+    def around(self, field):
+        """The believed readings before and behind a field, or None."""
+        before, after = bisect.bisect_left(self.fields, field), bisect.bisect(self.fields, field)
+        return (self.believed[before - 1] if before else None,
+                self.believed[after] if after < len(self.fields) else None)
+
+    def off(self, before, after):
+        """The fields that are too many (or, negative, too few) between two readings; None where the number stays."""
+        return self.pace.off(after.field - before.field, before.number, after.number - before.number, before.variant,
+                             after.variant)
+
+    def fit(self, around):
+        """Whether there is a reading before and behind, and these two fit each other."""
+        before, after = around
+        return bool(before and after) and self.off(before, after) == 0
+
+    def why(self, around):
+        """Why a number between these two is set aside."""
+        return "neighbours" if self.fit(around) else "alone"
+
+
+def no_numbers(system):
+    return Numbers(Unit(None, RATES[system]), None, [])
+
+
+def pictures_of(said, doubts):
+    """The picture numbers of a CAV side."""
+    system = said.fields.system
+    readings = said.readings(Kind.picture)
+    if not readings:
+        return no_numbers(system)
+    numbers = Numbers(Unit("picture", RATES[system]), pace_of(readings, system == "NTSC"), readings)
+    doubts.set_aside(numbers, readings)
+    doubts.find_second_row(numbers, readings)
+    return numbers
+
+
+def pace_of(readings, may_be_film):
+    """The numbers stand on both fields where a third of the steps from reading to reading is to the same number in the
+    next field; a disc that may be film is one where at least one picture in ten has 3 fields."""
+    steps = Counter((other.field - one.field, other.number - one.number) for one, other in zip(readings, readings[1:]))
+    if 3 * steps[1, 0] > len(readings):
+        return Pace("both")
+    return Pace("film" if may_be_film and 9 * steps[3, 1] > steps[2, 1] else "video")

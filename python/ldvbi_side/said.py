@@ -1,0 +1,113 @@
+"""What the lines of a side say, by kind of code: the plain data that the analysis takes in, and the codes found in
+it."""
+
+from typing import List, NamedTuple, Optional, Tuple
+
+from ldvbi import Kind
+from .codes import CAV_KINDS, CLV_KINDS, LINES, STANDARD_LINES, code_of, name_of, value_of
+
+WEIGHTS = (0, 2, 1)  # of a line without a word, with one of pass 1, with one of pass 2
+
+
+class Fields(NamedTuple):
+    """The whole fields of a side as plain data: of each field the words, passes and causes of lines 16, 17 and 18, as
+    the document of `ldvbi extract` has them. `cut` is the document's `cutField`. `first` says of each field whether it
+    is the first one of its frame (`isFirstField` of ld-decode's metadata), or is None where that isn't known."""
+    system: str
+    words: List[Tuple[int, int, int]]
+    passes: List[Tuple[int, int, int]]
+    causes: List[Tuple[str, str, str]]
+    cut: Optional[dict] = None
+    first: Optional[List[bool]] = None
+
+
+class Reading(NamedTuple):
+    """A number that a field's lines say, the lines that say it, and what that weighs. `variant` is what a pace leaves
+    open of a number."""
+    field: int
+    number: int
+    weight: int
+    lines: Tuple[int, ...]
+    variant: int = 0
+
+
+class Said:
+    """The codes of a side. `kinds` has for each kind its fields, and for each of these the values with their lines;
+    `format` is `cav`, `clv` or `neither`; `stray` are the codes that stand where no disc has them."""
+
+    def __init__(self, fields):
+        self.fields = fields
+        self.count = len(fields.words)
+        self.kinds = {kind: {} for kind in STANDARD_LINES}
+        self.stray = []
+        self._collect()
+        self.format = self._settle_format()
+
+    def _collect(self):
+        known = {}  # of a word its kind's fields, its value, its kind's lines
+        for field, words in enumerate(self.fields.words, 1):
+            line = 15
+            for word in words:
+                line += 1
+                if not word:
+                    continue
+                if word not in known:
+                    code = code_of(word)
+                    known[word] = self.kinds.get(code.kind), value_of(code), STANDARD_LINES.get(code.kind)
+                fields, value, lines = known[word]
+                if lines is None:
+                    continue
+                if line not in lines:
+                    self.add_stray(field, line, "line")
+                elif field not in fields:
+                    fields[field] = {value: (line,)}
+                else:
+                    fields[field][value] = fields[field].get(value, ()) + (line,)
+
+    def _settle_format(self):
+        """The format of which more fields have codes; the codes of the other one are stray."""
+        cav, clv = (set().union(*(self.kinds[kind] for kind in kinds)) for kinds in (CAV_KINDS, CLV_KINDS))
+        if not cav and not clv:
+            return "neither"
+        name, others = ("cav", CLV_KINDS) if len(cav) >= len(clv) else ("clv", CAV_KINDS)
+        for kind in others:
+            self.add_all_stray(self.kinds[kind], "format")
+            self.kinds[kind] = {}
+        return name
+
+    def add_all_stray(self, fields, why):
+        """Names each line of these fields of a kind as stray."""
+        for field, values in fields.items():
+            for lines in values.values():
+                for line in lines:
+                    self.add_stray(field, line, why)
+
+    def add_stray(self, field, line, why):
+        self.stray.append(self.entry(field, line, why))
+
+    def entry(self, field, line, why):
+        """A word that is named in the answer: where it stands, what it is, and why it is named."""
+        word = self.fields.words[field - 1][line - LINES[0]]
+        return {"field": field, "line": line, "word": "%06X" % word, "kind": name_of(code_of(word).kind),
+                "pass": self.fields.passes[field - 1][line - LINES[0]], "why": why}
+
+    def weight(self, field, lines):
+        """What the words of these lines of a field weigh together: a word of the line itself more than one of its
+        smoothed levels, many of which are wrong."""
+        passes = self.fields.passes[field - 1]
+        return sum(WEIGHTS[passes[line - LINES[0]]] for line in lines)
+
+    def readings(self, kind):
+        """The values of a kind as readings, by field."""
+        return [Reading(field, value, self.weight(field, lines), lines)
+                for field, values in self.kinds[kind].items() for value, lines in values.items()]
+
+    def minutes(self):
+        """The minutes of CLV times: for each field the values with their lines. Those that no clock shows are left
+        out."""
+        found = {}
+        for field, values in self.kinds[Kind.time].items():
+            shown = {value: lines for value, lines in values.items() if value is not None}
+            if shown:
+                found[field] = shown
+        return found

@@ -1,0 +1,56 @@
+"""A side as tables: the rows of --csv and of --bad-lines."""
+
+from ldvbi import Kind, format_of
+from .analysis import frame_of
+from .codes import LINES, STANDARD_LINES, code_of, value_of
+from .numbers import minute_text
+
+FIELD_COLUMNS = ("field", "frame", "format", "picture", "chapter", "time", "stop", "doubt")
+BAD_LINE_COLUMNS = ("field", "line", "cause", "offset")
+
+
+def field_rows(side):
+    """A row for each field with any code: what is believed of it, and in the last column what isn't."""
+    answer = side.answer
+    numbers = _numbers_by_field(answer)
+    doubts = _doubts_by_field(answer)
+    stops = {one["field"] for one in answer["stops"]}
+    for field, readings in side.numbered():
+        words = [reading.word for reading in readings]
+        codes = [code_of(word) for word in words]
+        if not any(code and code.kind in STANDARD_LINES for code in codes):
+            continue
+        doubtful = doubts.get(field, {})
+        said = {code.kind: value_of(code) for line, code in zip(LINES, codes) if code and line not in doubtful}
+        number = numbers.get(field, "")
+        yield [field, frame_of(field, answer["frameBegin"]), format_of(*words).name,
+               number if answer["unit"] == "picture" else "", said.get(Kind.chapter, ""),
+               "" if answer["unit"] == "picture" else number or _minute_of(said), "stop" if field in stops else "",
+               "; ".join(doubtful.values())]
+
+
+def _numbers_by_field(answer):
+    """The number of each field that shows one. A minute stands in the fields that say it."""
+    if answer["unit"] == "minute":
+        return {}
+    return {field: number for number, first, last in answer["showings"] for field in range(first, last + 1)}
+
+
+def _minute_of(said):
+    minutes = said.get(Kind.time)
+    return "" if minutes is None else minute_text(minutes)
+
+
+def _doubts_by_field(answer):
+    """Of each field the lines whose word isn't believed, each with a text that says why."""
+    found = {}
+    for one in answer["doubtful"] + answer["stray"]:
+        number = "" if one.get("number") is None else " %s" % one["number"]
+        found.setdefault(one["field"], {})[one["line"]] = "%s%s on line %d, pass %d: %s" % (
+            one["kind"], number, one["line"], one["pass"], one["why"])
+    return found
+
+
+def bad_line_rows(answer):
+    """A row for each line that shows no word and isn't blank, with its place in the TBC file, in bytes."""
+    return ([one[column] for column in BAD_LINE_COLUMNS] for one in answer["badLines"])

@@ -1,0 +1,89 @@
+"""Sides by hand, for the tests: rows of words, as `ldvbi draw` reads them, made to the plain data of a side.
+
+A row has the items of lines 16, 17 and 18: six hexadecimal digits (with * behind them for a word of pass 2), or a line
+without a word: - (blank), ~ (unfinished), ? (change 170), ! (hold 200)."""
+
+from ldvbi import Cause, FieldReadings, Reading, System
+from ldvbi_side.analysis import analyse
+from ldvbi_side.said import Fields
+from ldvbi_side.side import Levels, Side
+
+CAUSES = {"-": "blank", "~": "unfinished", "?": "change 170", "!": "hold 200"}
+BLANK = "- - -"
+LEAD_IN, LEAD_OUT = "- 88FFFF 88FFFF", "- 80EEEE 80EEEE"
+STOP, CLV_MARK = "82CFFF", "87FFFF"
+
+
+def picture(number):
+    return "F%05d" % number
+
+
+def chapter(number):
+    return "8%d%dDDD" % divmod(number, 10)
+
+
+def minutes(hours, minute):
+    return "F%dDD%02d" % (hours, minute)
+
+
+def second(seconds, number):
+    """The word of line 16: a second, and the picture in it."""
+    return "8%sE%d%02d" % ("ABCDEF"[seconds // 10], seconds % 10, number)
+
+
+def pictures(numbers):
+    """The two fields of each of these pictures: its number, and chapter 0."""
+    rows = []
+    for number in numbers:
+        rows += ["- %s %s" % (picture(number), picture(number)), "- 800DDD 800DDD"]
+    return rows
+
+
+def film(numbers, odd=1):
+    """The same of film: pictures with an odd number have 3 fields, or, with `odd` 0, those with an even one."""
+    rows = []
+    for number in numbers:
+        rows += ["- %s %s" % (picture(number), picture(number))] + ["- 800DDD 800DDD"] * (1 + (number % 2 == odd))
+    return rows
+
+
+def times(numbers, rate=25):
+    """The two fields of each of these CLV pictures, counted from the disc's start: its time, with a mark on line 17
+    beside it, then a mark and its chapter, as 60857 and 60856 have the lines."""
+    rows = []
+    for number in numbers:
+        seconds, part = divmod(number, rate)
+        at = minutes(seconds // 3600, seconds // 60 % 60)
+        rows += ["%s %s %s" % (second(seconds % 60, part), CLV_MARK, at), "8BA000 %s 800DDD" % CLV_MARK]
+    return rows
+
+
+def item(text):
+    """The word, the pass and the cause of a line."""
+    if text in CAUSES:
+        return 0, 0, CAUSES[text]
+    return int(text[:6], 16), 2 if text.endswith("*") else 1, "word"
+
+
+def plain(rows, system="PAL", first=None, cut=None):
+    """The plain data of a side with these rows."""
+    fields = [list(zip(*map(item, row.split(" ")))) for row in rows]
+    words, passes, causes = ([field[part] for field in fields] for part in range(3))
+    return Fields(system, words, passes, causes, cut, first)
+
+
+def answer(rows, system="PAL", first=None, cut=None):
+    """What the analysis says of a side with these rows."""
+    return analyse(plain(rows, system, first, cut))
+
+
+def _reading(text):
+    word, of_pass, cause = item(text)
+    name, _, column = cause.partition(" ")
+    return Reading(Cause[name], of_pass, int(column or 0), word)
+
+
+def side(rows, system="PAL", first=None, cut=None):
+    """The `Side` with these rows, read with the levels 16384 and 51200."""
+    readings = [FieldReadings(*map(_reading, row.split(" "))) for row in rows]
+    return Side(System[system], readings, cut, Levels(16384, 51200), first)

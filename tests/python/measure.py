@@ -1,0 +1,68 @@
+#!/usr/bin/env python3
+"""The table of docs/SIDES.md: simulated sides, analysed, and the answers beside the truth.
+
+usage: measure.py FROM TO [--parity] [--show N]     the seeds FROM to TO - 1
+
+--parity hands over isFirstField of each field, too; --show prints the first N differences."""
+
+import argparse
+import time
+from collections import Counter, defaultdict
+
+from ldvbi_side.analysis import analyse
+from ldvbi_side.said import Fields
+from simulate import simulated
+from truth import Comparison, Truth
+
+SHARES = ("wrong", "right", "wrong chapters", "right chapters", "numbers", "due", "lost", "lost places", "backs")
+EXACT = ("missing", "left out", "first fields", "stops", "chapter table")
+
+
+def fields_of(side, parity=False):
+    """The plain data of a simulated side."""
+    records = side.document["fields"]
+    return Fields(side.document["videoParameters"]["system"], [record["vbi"]["vbiData"] for record in records],
+                  [record["vbiPass"] for record in records], [record["vbiCause"] for record in records], None,
+                  side.first if parity else None)
+
+
+def measured(seed, parity=False, tell=lambda text: None):
+    """The kind of the side of this seed, and the counts of what is found of it."""
+    side = simulated(seed)
+    fields = fields_of(side, parity)
+    begin = time.process_time()
+    answer = analyse(fields)
+    spent = time.process_time() - begin
+    counts = Comparison(Truth(side), answer, lambda name, text: tell(
+        "seed %d, %s, %s: %s: %s" % (seed, side.kind, side.settings, name, text))).counts
+    counts["microseconds"] = round(1e6 * spent)
+    return side.kind, counts
+
+
+def print_table(totals):
+    for kind, counts in sorted(totals.items()):
+        exact = ", ".join("%s %d" % (name, counts[name]) for name in EXACT)
+        shares = ", ".join("%s %d of %d" % (name, counts[name + " found"], counts[name]) for name in SHARES)
+        print("%s: %d sides; exact: %s; undecided %d" % (kind, counts["sides"], exact, counts["undecided"]))
+        print("    found: %s; %.1f us a field" % (shares, counts["microseconds"] / counts["fields"]))
+
+
+def main():
+    parser = argparse.ArgumentParser()
+    parser.add_argument("begin", type=int)
+    parser.add_argument("end", type=int)
+    parser.add_argument("--parity", action="store_true")
+    parser.add_argument("--show", type=int, default=0)
+    options = parser.parse_args()
+    totals, told = defaultdict(Counter), []
+    for seed in range(options.begin, options.end):
+        kind, counts = measured(seed, options.parity, told.append)
+        for key in (kind, "all"):
+            totals[key].update(counts)
+    for text in told[:options.show]:
+        print(text)
+    print_table(totals)
+
+
+if __name__ == "__main__":
+    main()

@@ -1,0 +1,37 @@
+"""Drawn lines and streams for the tests, and where the repository's parts are. Streams are files with holes: what is no
+drawn line takes no room, and its samples are 0, which is black."""
+
+import os
+
+import ldvbi
+
+TOP = os.path.abspath(os.path.join(os.path.dirname(__file__), os.pardir, os.pardir))
+PROGRAM = os.environ.get("LDVBI_PROGRAM") or os.path.join(TOP, "ldvbi")
+NTSC = ("NTSC", 16384, 51200)
+PAL = ("PAL", 16384, 54016)
+
+
+def line_with(word, setup, changes=()):
+    """A drawn line, of which some columns have been made high or low: (first column, last column, is high)."""
+    line = bytearray(ldvbi.draw_line(word, *setup))
+    _, black, white = setup
+    for first, last, is_high in changes:
+        line[2 * first:2 * last + 2] = (white if is_high else black).to_bytes(2, "little") * (last - first + 1)
+    return bytes(line)
+
+
+def write_stream(path, setup, fields, rest=0):
+    """Makes a TBC file of fields, each of which is a list of lines 16, 17 and 18: words, 0 for a blank line, or
+    samples. `rest` bytes of one more field come behind them."""
+    size, line = ldvbi.field_bytes(setup[0]), ldvbi.line_bytes(setup[0])
+    with open(path, "wb") as file:
+        for number, lines in enumerate(fields):
+            for row, shown in enumerate(lines, 15):
+                file.seek(number * size + row * line)
+                file.write(shown if isinstance(shown, bytes) else ldvbi.draw_line(shown, *setup))
+        file.truncate(len(fields) * size + rest)
+
+
+def pictures(count):
+    """The words of so many fields, from picture 0 on, each of which says its number on all three lines."""
+    return [[0xF00000 + int(str(number), 16)] * 3 for number in range(count)]

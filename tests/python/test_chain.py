@@ -1,0 +1,120 @@
+"""What breaks cost, how far apart numbers stand, and which readings are believed."""
+
+import unittest
+
+from ldvbi_side.chain import chain
+from ldvbi_side.paces import ChapterPace, MinutePace, Pace, price
+from ldvbi_side.said import Reading
+
+
+class Prices(unittest.TestCase):
+    def test_a_break_costs_1_and_its_binary_digits(self):
+        # fields too many or too few: none, one field, one picture, two pictures, ten pictures, 10,000 pictures
+        for off, cost in ((0, 0), (1, 2), (2, 3), (4, 4), (20, 6), (20000, 16), (-1, 2), (-20, 6), (None, 0)):
+            self.assertEqual(price(off), cost)
+
+
+class Paces(unittest.TestCase):
+    def test_a_video_picture_has_2_fields(self):
+        pace = Pace("video")
+        self.assertEqual(pace.between(7, 5, 0, 0), 10)
+        self.assertEqual([pace.off(fields, 7, 5) for fields in (10, 12, 9)], [0, 2, -1])
+        self.assertIsNone(pace.off(4, 7, 0))
+
+    def test_of_both_fields_the_second_is_one_behind(self):
+        pace = Pace("both")
+        self.assertEqual([pace.off(1, 7, 0, 0, 1), pace.off(1, 7, 1, 1, 0), pace.off(3, 7, 1, 0, 1)], [0, 0, 0])
+        self.assertIsNone(pace.off(2, 7, 0, 0, 0))
+
+    def test_film_has_2_and_3_fields_in_turn(self):
+        pace = Pace("film")
+        # pictures with an odd number have 3 fields: 1 to 2 is 3 fields, 2 to 3 is 2
+        self.assertEqual([pace.between(1, 1, 0, 0), pace.between(2, 1, 0, 0), pace.between(1, 4, 0, 0)], [3, 2, 10])
+        # those with an even one
+        self.assertEqual([pace.between(1, 1, 1, 1), pace.between(2, 1, 1, 1)], [2, 3])
+        # none: video in between
+        self.assertEqual([pace.between(1, 1, 2, 2), pace.between(1, 3, 2, 2)], [2, 6])
+
+    def test_minutes_fit_within_one_minute(self):
+        pace = MinutePace(3000)
+        self.assertEqual([pace.off(10, 4, 0), pace.off(2999, 4, 0), pace.off(1, 4, 1), pace.off(5999, 4, 1)], [0] * 4)
+        self.assertEqual([pace.off(6001, 4, 1), pace.off(1, 4, 3), pace.off(5, 4, -1)], [3001, -8999, 3005])
+
+    def test_chapters_go_on_by_one(self):
+        pace = ChapterPace()
+        self.assertEqual([pace.off(9, 7, step) for step in (0, 1, 2, 4, -1)], [0, 0, 2, 6, 160])
+        # at a break of the pictures' numbers, which 100 stands for, any chapter may follow
+        self.assertEqual([pace.off(9, 7, 100), pace.off(9, 7, 101), pace.off(9, 7, 140), pace.off(9, 7, 97)],
+                         [0, 0, 1, 1])
+
+
+def readings(*numbers, weight=4, first=1):
+    """Readings of these numbers in each second field; None is a field without one."""
+    return [Reading(first + 2 * place, number, weight, (17, 18))
+            for place, number in enumerate(numbers) if number is not None]
+
+
+def believed(ones, kind="video"):
+    return [(one.field, one.number) for one in chain(ones, Pace(kind))]
+
+
+class Chains(unittest.TestCase):
+    def test_nothing(self):
+        self.assertEqual(chain([], Pace("video")), [])
+
+    def test_a_row_is_believed(self):
+        self.assertEqual(believed(readings(5, 6, 7)), [(1, 5), (3, 6), (5, 7)])
+
+    def test_a_wrong_number_between_two_that_fit(self):
+        self.assertEqual(believed(readings(5, 6, 70000, 8, 9)), [(1, 5), (3, 6), (7, 8), (9, 9)])
+
+    def test_a_jump_that_many_follow(self):
+        self.assertEqual(len(believed(readings(*range(1, 20), *range(40000, 40020)))), 39)
+
+    def test_a_wild_number_at_the_end_is_not_followed(self):
+        self.assertEqual(believed(readings(*range(1, 20), 40000))[-1], (37, 19))
+
+    def test_a_long_row_of_wrong_numbers_that_do_not_fit(self):
+        numbers = list(range(1, 101))
+        for place in range(30, 60):  # beyond the reach of 40 with those behind
+            numbers[place] = (place * 7919) % 79999
+        ones = believed(readings(*numbers))
+        self.assertEqual([number for _, number in ones], list(range(1, 31)) + list(range(61, 101)))
+
+    def test_a_still_is_one_break_however_long(self):
+        ones = believed(readings(1, 2, 3, *[4] * 50, 5, 6, 7))
+        self.assertEqual(len(ones), 56)
+
+    def test_of_two_of_a_field_the_one_that_fits(self):
+        ones = readings(5, 6, 7) + [Reading(3, 80, 2, (18,))]
+        self.assertEqual(believed(sorted(ones)), [(1, 5), (3, 6), (5, 7)])
+
+    def test_of_two_that_fit_equally_well_none(self):
+        self.assertEqual(believed([Reading(1, 5, 2, (17,)), Reading(1, 6, 2, (18,))]), [])
+        ones = [Reading(1, 5, 4, (17, 18)), Reading(3, 7, 2, (17,)), Reading(3, 5, 2, (18,)),
+                Reading(5, 7, 4, (17, 18))]
+        self.assertNotIn(3, dict(believed(ones)))
+
+    def test_pass_1_counts_for_more_than_pass_2(self):
+        ones = [Reading(1, 5, 2, (17,)), Reading(1, 6, 1, (18,))]
+        self.assertEqual(believed(ones), [(1, 5)])
+
+    def test_both_fields_of_a_picture(self):
+        ones = [Reading(field, 10 + field // 2, 4, (17, 18)) for field in range(2, 12)]
+        found = chain(ones, Pace("both"))
+        self.assertEqual([(one.number, one.variant) for one in found],
+                         [(number, variant) for number in range(11, 16) for variant in (0, 1)])
+
+    def test_film_with_pictures_of_3_fields_by_turns(self):
+        for odd in (0, 1):
+            field, ones = 1, []
+            for number in range(1, 31):
+                ones.append(Reading(field, number, 4, (17, 18)))
+                field += 2 + (number % 2 == odd)
+            found = chain(ones, Pace("film"))
+            self.assertEqual(len(found), 30)
+            self.assertEqual({one.variant for one in found}, {1 - odd})
+
+
+if __name__ == "__main__":
+    unittest.main()

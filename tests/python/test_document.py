@@ -1,0 +1,153 @@
+"""Documents as they are and broken ones, each by one change of a sound one."""
+
+import copy
+import json
+import unittest
+
+from ldvbi import Cause
+from ldvbi_side.document import is_document, side_of_document
+from ldvbi_side.said import Fields
+from ldvbi_side.side import Levels
+
+PICTURE = 0xF00001
+
+
+def record(number, words, causes, passes):
+    return {"seqNo": number, "vbi": {"vbiData": words}, "vbiCause": causes, "vbiPass": passes}
+
+
+def document():
+    """Four fields of an NTSC side that is cut in the fifth; in the third line 17 and 18 have picture 1."""
+    blank = [0, 0, 0], ["blank"] * 3, [0, 0, 0]
+    return {"version": 2, "videoParameters": {"system": "NTSC", "fieldWidth": 910, "fieldHeight": 263,
+                                              "black16bIre": 16384, "white16bIre": 51200},
+            "fields": [record(1, *blank), record(2, [0, 0, 0], ["unfinished", "change 0", "hold 909"], [0, 0, 0]),
+                       record(3, [0, PICTURE, PICTURE], ["blank", "word", "word"], [0, 1, 2]), record(4, *blank)],
+            "cutField": {"seqNo": 5, "bytes": 85360}}
+
+
+def text_of(value):
+    return json.dumps(value).encode()
+
+
+class Sound(unittest.TestCase):
+    def test_a_document(self):
+        side = side_of_document(text_of(document()))
+        self.assertEqual(side.plain(), Fields(
+            "NTSC", [(0, 0, 0), (0, 0, 0), (0, PICTURE, PICTURE), (0, 0, 0)],
+            [(0, 0, 0), (0, 0, 0), (0, 1, 2), (0, 0, 0)],
+            [("blank",) * 3, ("unfinished", "change 0", "hold 909"), ("blank", "word", "word"), ("blank",) * 3],
+            {"seqNo": 5, "bytes": 85360}))
+        self.assertEqual(side.levels, Levels(16384, 51200))
+        self.assertEqual([line.column for line in side.readings[1]], [0, 0, 909])
+        self.assertEqual([line.cause for line in side.readings[1]], [Cause.unfinished, Cause.change, Cause.hold])
+
+    def test_pal_and_no_field(self):
+        empty = dict(document(), fields=[], cutField=None)
+        empty["videoParameters"].update(system="PAL", fieldWidth=1135, fieldHeight=313)
+        side = side_of_document(text_of(empty))
+        self.assertEqual([side.system.name, side.readings, side.cut], ["PAL", [], None])
+
+    def test_what_is_taken_for_a_document(self):
+        self.assertTrue(is_document("a.json", b""))
+        self.assertTrue(is_document("a", b' \n{ "version": 2'))
+        self.assertFalse(is_document("a.tbc", b'{"fields"'))
+
+
+def _set(value, *path):
+    """A change that puts a value at a place of the document."""
+    def change(whole):
+        for step in path[:-1]:
+            whole = whole[step]
+        whole[path[-1]] = value
+    return change
+
+
+def _without(*path):
+    """A change that takes a member or an item away."""
+    def change(whole):
+        for step in path[:-1]:
+            whole = whole[step]
+        del whole[path[-1]]
+    return change
+
+
+FIELD = ("fields", 2)
+WORD = FIELD + ("vbi", "vbiData", 1)
+LEVELS = "black16bIre and white16bIre are not two samples, black below white"
+NO_FIT = "field 3: word, cause and pass of a line don't fit: "
+
+BROKEN = (
+    ("not a document of version 2", _set(3, "version")),
+    ("not a document of version 2", _set(True, "version")),
+    ("not a document of version 2", _without("version")),
+    ("videoParameters has no system", _without("videoParameters")),
+    ("videoParameters has no system", _without("videoParameters", "system")),
+    ("system is neither NTSC nor PAL", _set("SECAM", "videoParameters", "system")),
+    ("system is neither NTSC nor PAL", _set(["NTSC"], "videoParameters", "system")),
+    ("fieldWidth is not 1135", _set("PAL", "videoParameters", "system")),
+    ("fieldWidth is not 910", _set(910.0, "videoParameters", "fieldWidth")),
+    ("fieldHeight is not 263", _set(313, "videoParameters", "fieldHeight")),
+    (LEVELS, _set(51200, "videoParameters", "black16bIre")),
+    (LEVELS, _set(-1, "videoParameters", "black16bIre")),
+    (LEVELS, _set(65536, "videoParameters", "white16bIre")),
+    ("videoParameters has no white16bIre", _without("videoParameters", "white16bIre")),
+    ("fields is no list", _set({}, "fields")),
+    ("field 2: seqNo is not 2", _without("fields", 1)),
+    ("field 2: seqNo is not there", _set(5, "fields", 1)),
+    ("field 2: seqNo is not 2", _set(True, "fields", 1, "seqNo")),
+    ("field 3: vbi is not there", _without(*FIELD, "vbi")),
+    ("field 3: vbi has no vbiData", _set(5, *FIELD, "vbi")),
+    ("field 3: vbiData is no list of three", _set([0, 0], *FIELD, "vbi", "vbiData")),
+    ("field 3: vbiCause is no list of three", _set("word", *FIELD, "vbiCause")),
+    ("field 3: vbiPass is no list of three", _set([0, 1, 2, 0], *FIELD, "vbiPass")),
+    ("field 3: 8388607 is no word", _set(8388607, *WORD)),
+    ("field 3: 16777216 is no word", _set(16777216, *WORD)),
+    ('field 3: "F00001" is no word', _set("F00001", *WORD)),
+    ("field 3: 15728641.5 is no word", _set(15728641.5, *WORD)),
+    ("field 3: 15728641.0 is no word", _set(15728641.0, *WORD)),
+    ("field 3: false is no word", _set(False, *FIELD, "vbi", "vbiData", 0)),
+    ('field 3: "noise" is no cause', _set("noise", *FIELD, "vbiCause", 0)),
+    ('field 3: "hold 910" is no cause', _set("hold 910", *FIELD, "vbiCause", 0)),
+    ('field 3: "change 07" is no cause', _set("change 07", *FIELD, "vbiCause", 0)),
+    ("field 3: null is no cause", _set(None, *FIELD, "vbiCause", 0)),
+    ("field 3: [] is no cause", _set([], *FIELD, "vbiCause", 0)),
+    ("field 3: 3 is no pass", _set(3, *FIELD, "vbiPass", 1)),
+    ("field 3: true is no pass", _set(True, *FIELD, "vbiPass", 1)),
+    (NO_FIT + "15728641, blank, 1", _set("blank", *FIELD, "vbiCause", 1)),
+    (NO_FIT + "15728641, word, 0", _set(0, *FIELD, "vbiPass", 1)),
+    (NO_FIT + "0, word, 0", _set("word", *FIELD, "vbiCause", 0)),
+    (NO_FIT + "0, blank, 2", _set(2, *FIELD, "vbiPass", 0)),
+    ("cutField is not there", _without("cutField")),
+    ("cutField: seqNo is not 5", _set(4, "cutField", "seqNo")),
+    ("cutField has no bytes", _without("cutField", "bytes")),
+    ("cutField: bytes is not from 1 to 478659", _set(478660, "cutField", "bytes")),
+    ("cutField: bytes is not from 1 to 478659", _set(0, "cutField", "bytes")),
+)
+
+
+class Broken(unittest.TestCase):
+    def refusal(self, data):
+        with self.assertRaises(ValueError) as caught:
+            side_of_document(data)
+        return str(caught.exception)
+
+    def test_each_change(self):
+        for text, change in BROKEN:
+            broken = copy.deepcopy(document())
+            change(broken)
+            with self.subTest(text):
+                self.assertEqual(self.refusal(text_of(broken)), text)
+
+    def test_no_object(self):
+        self.assertEqual(self.refusal(b"[1]"), "not a document of version 2")
+
+    def test_what_is_not_json(self):
+        sound = text_of(document())
+        for data in (sound[:-3], b"", sound.replace(b"85360", b"NaN"), b"\xef\xbb\xbf" + sound,
+                     sound.decode().encode("utf-16"), b"[" * 100000, b'{"a":"\xff"}'):
+            self.assertTrue(self.refusal(data).startswith("not JSON: "), data[:20])
+
+
+if __name__ == "__main__":
+    unittest.main()

@@ -1,0 +1,118 @@
+"""The document of a mapped file beside the one that the program's `extract` writes of it."""
+
+import io
+import os
+import subprocess
+import tempfile
+import unittest
+
+import ldvbi
+from ldvbi_side.extraction import write_document
+from ldvbi_side.progress import Progress
+from streams import NTSC, PAL, PROGRAM, line_with, pictures, write_stream
+
+
+def options(setup):
+    return [text for pair in zip(("--system", "--black", "--white"), map(str, setup)) for text in pair]
+
+
+def extracted(path, setup):
+    """What the program writes, and its status."""
+    run = subprocess.run([PROGRAM, "extract", *options(setup), path], stdout=subprocess.PIPE, check=False)
+    return run.stdout, run.returncode
+
+
+def written(source, setup):
+    text = io.StringIO()
+    with ldvbi.Stream(source, *setup) as stream, Progress(len(stream), is_wanted=False) as progress:
+        write_document(stream, text, progress)
+    return text.getvalue().encode("ascii")
+
+
+def causes(setup):
+    """Fields with each cause and pass, by changes to drawn lines and to blank ones."""
+    start = {"NTSC": 150, "PAL": 190}[setup[0]]  # of a drawn word
+    glitch, damage = [(start + 20, start + 21, False)], [(start + 20, start + 30, False)]
+    last = ldvbi.line_bytes(setup[0]) // 2 - 1
+    return [[line_with(0x82CFFF, setup), line_with(0x82CFFF, setup, glitch), line_with(0x82CFFF, setup, damage)],
+            [line_with(0, setup, [(last - 10, last, True)]), line_with(0, setup, [(164, last, True)]), 0],
+            [line_with(0, setup, [(0, last, True)]), line_with(0xF12345, setup, [(0, 0, True)]), 0xF12345],
+            [line_with(0, setup, [(last - 1, last - 1, True)]), 0, 0]]
+
+
+class Many:
+    """A stream of so many fields, none of which is ever asked for."""
+    system, black, white = ldvbi.System.NTSC, 16384, 51200
+
+    def __init__(self, count, cut_bytes):
+        self._count, self.cut_bytes = count, cut_bytes
+
+    def __len__(self):
+        return self._count
+
+    def packed(self, begin, end):
+        assert (begin, end) == (0, self._count)
+        return iter(())
+
+
+class Documents(unittest.TestCase):
+    def setUp(self):
+        folder = tempfile.TemporaryDirectory()
+        self.addCleanup(folder.cleanup)
+        self.path = os.path.join(folder.name, "side.tbc")
+
+    def compare(self, setup, fields, rest=0):
+        write_stream(self.path, setup, fields, rest)
+        wanted, status = extracted(self.path, setup)
+        self.assertEqual(status, 3 if rest else 0)
+        self.assertEqual(written(self.path, setup), wanted)
+        return wanted.decode("ascii")
+
+    def test_one_field_by_hand(self):
+        write_stream(self.path, NTSC, [[0x82CFFF, 0xF12345, 0xF12345]])
+        self.assertEqual(written(self.path, NTSC).decode("ascii"), '{"version":2,"videoParameters":{"system":"NTSC",'
+                         '"fieldWidth":910,"fieldHeight":263,"black16bIre":16384,"white16bIre":51200},"fields":[\n'
+                         '{"seqNo":1,"vbi":{"vbiData":[8572927,15803205,15803205]},"vbiCause":["word","word","word"],'
+                         '"vbiPass":[1,1,1]}\n],"cutField":null}\n')
+
+    def test_causes_and_passes(self):
+        for setup in (NTSC, PAL, ("NTSC", 0, 65535), ("PAL", 65534, 65535)):
+            with self.subTest(setup):
+                text = self.compare(setup, causes(setup))
+                last = {"NTSC": '"change 909"', "PAL": '"change 1134"'}[setup[0]]
+                for part in ('"word"', '"blank"', '"unfinished"', '"change ', '"hold ', '"vbiPass":[1,2,0]', last):
+                    self.assertIn(part, text)
+
+    def test_counts_of_fields(self):
+        for count in (0, 1, 63, 64, 65, 128, 129):
+            with self.subTest(count):
+                self.compare(NTSC, pictures(count))
+        self.compare(PAL, pictures(65))
+
+    def test_cut_streams(self):
+        for setup in (NTSC, PAL):
+            size = ldvbi.field_bytes(setup[0])
+            for count, rest in ((0, 1), (0, size - 1), (2, 1), (64, 1000), (3, size - 1)):
+                with self.subTest((setup, count, rest)):
+                    self.compare(setup, pictures(count), rest)
+
+    def test_a_buffer(self):
+        self.compare(NTSC, causes(NTSC), 7)
+        with open(self.path, "rb") as file:
+            self.assertEqual(written(file.read(), NTSC), extracted(self.path, NTSC)[0])
+
+    def test_too_many_fields(self):
+        """As the program, which takes at most 1,000,000."""
+        for many, is_taken in ((Many(1000000, 0), True), (Many(1000000, 1), False), (Many(1000001, 0), False)):
+            with self.subTest((len(many), many.cut_bytes)):
+                text = io.StringIO()
+                if is_taken:
+                    write_document(many, text, Progress(0, is_wanted=False))
+                else:
+                    with self.assertRaisesRegex(ValueError, "^too many fields$"):
+                        write_document(many, text, Progress(0, is_wanted=False))
+                    self.assertEqual(text.getvalue(), "")
+
+
+if __name__ == "__main__":
+    unittest.main()

@@ -1,0 +1,188 @@
+"""The module ldvbi: which objects it takes samples from, and where it looks for the library."""
+
+import array
+import ctypes
+import io
+import mmap
+import os
+import shutil
+import subprocess
+import sys
+import tempfile
+import unittest
+
+import ldvbi
+from ldvbi_side.samples import Samples
+from streams import NTSC, TOP, line_with
+
+WORD = (ldvbi.Cause.word, 1, 0, 0xF12345)
+
+
+class Kinds(unittest.TestCase):
+    """A line of one word in each kind of object: samples of 16 bits, or raw bytes, are taken, and nothing else is."""
+
+    def setUp(self):
+        self.line = line_with(0xF12345, NTSC)
+
+    def test_taken(self):
+        samples = array.array("H", self.line)
+        number = (ctypes.c_uint16 * 910).from_buffer_copy(self.line)
+        rows = (ctypes.c_uint16 * 455 * 2).from_buffer_copy(self.line)
+        with tempfile.TemporaryFile() as file:
+            file.write(self.line)
+            file.flush()
+            mapped = mmap.mmap(file.fileno(), 0, access=mmap.ACCESS_READ)
+        stream = io.BytesIO(self.line)
+        taken = {
+            "bytes": self.line, "bytearray": bytearray(self.line), "a mapped file": mapped,
+            "a memoryview": memoryview(self.line), "a part of one": memoryview(b"x" + self.line + b"y")[1:-1],
+            "BytesIO": stream.getbuffer(), "an array": samples, "a view of an array": memoryview(samples),
+            "bytes of an array": memoryview(samples).cast("B"), "bytes as samples": memoryview(self.line).cast("H"),
+            "bytes as characters": memoryview(self.line).cast("c"), "numbers of C": number, "two rows of them": rows,
+            "characters of C": ctypes.create_string_buffer(self.line, 1820),
+            "numbers of 8 bits, cast": memoryview(array.array("B", self.line)).cast("B").cast("H"),
+        }
+        for name, source in taken.items():
+            with self.subTest(name):
+                self.assertEqual(ldvbi.read_line(source, *NTSC), WORD)
+
+    def test_refused(self):
+        big = (ctypes.c_uint16.__ctype_be__ * 910).from_buffer_copy(self.line)
+        refused = {
+            "B": array.array("B", self.line), "<B": (ctypes.c_uint8 * 1820).from_buffer_copy(self.line), ">H": big,
+            "f": array.array("f", self.line), "i": array.array("i", self.line), "h": array.array("h", self.line),
+            "I": memoryview(self.line).cast("I"), "b": memoryview(self.line).cast("b"),
+        }
+        for kind, source in refused.items():
+            of_these = memoryview(source)
+            with self.subTest(kind):
+                for one in (source, of_these):
+                    with self.assertRaises(ValueError) as caught:
+                        ldvbi.read_line(one, *NTSC)
+                    self.assertEqual(str(caught.exception), "samples are of the format %s, not H (16 bits without "
+                                     "sign, the low byte first)" % kind)
+        with self.assertRaisesRegex(ValueError, "^samples are of the format d, not H"):
+            ldvbi.read_line(memoryview(array.array("d", bytes(1820 + 4))).cast("B")[:1820], *NTSC)
+
+    def test_refused_by_each_call(self):
+        floats = array.array("f", bytes(478660))
+        for call in (ldvbi.read_line, ldvbi.read_rows, ldvbi.read_field, ldvbi.fields, ldvbi.Stream):
+            with self.subTest(call.__name__), self.assertRaisesRegex(ValueError, "^samples are of the format f, "):
+                call(floats, *NTSC)
+
+    def test_no_samples_at_all(self):
+        for source, text in ((None, "samples are not bytes, but of the type NoneType"),
+                             (5, "samples are not bytes, but of the type int"),
+                             ([1, 2], "samples are not bytes, but of the type list"),
+                             (memoryview(self.line + self.line)[::2], "samples are not bytes in one piece")):
+            with self.assertRaises(ValueError) as caught:
+                ldvbi.fields(source, *NTSC)
+            self.assertEqual(str(caught.exception), text)
+
+    def test_a_buffer_is_held(self):
+        line = bytearray(self.line)
+        with Samples(line) as memory:
+            self.assertEqual(ctypes.string_at(memory.address, memory.length), self.line)
+            with self.assertRaises(BufferError):
+                line.append(0)
+        line.append(0)
+        self.assertEqual(memory.length, 1820)  # it is there still, and holds nothing any more
+
+    def test_a_buffer_is_given_back(self):
+        line = bytearray(self.line)
+        ldvbi.read_line(line, *NTSC)
+        line.append(0)  # a BufferError while somebody holds its bytes
+        with self.assertRaises(ValueError):
+            ldvbi.read_line(line, *NTSC)
+        line.append(0)
+
+
+class Sizes(unittest.TestCase):
+    def test_sizes(self):
+        for system, line, field in (("NTSC", 1820, 478660), (ldvbi.System.PAL, 2270, 710510), (1, 1820, 478660)):
+            self.assertEqual((ldvbi.line_bytes(system), ldvbi.field_bytes(system)), (line, field))
+
+    def test_sizes_beside_the_library(self):
+        library = ctypes.CDLL(os.environ["LDVBI_LIBRARY"])
+        for system in ldvbi.System:
+            for name in ("line_bytes", "field_bytes"):
+                call = getattr(library, "ldvbi_" + name)
+                call.restype, call.argtypes = ctypes.c_size_t, [ctypes.c_uint32]
+                self.assertEqual(getattr(ldvbi, name)(system), call(system))
+
+
+def run(code, **variables):
+    """Runs Python code in a process of its own, with these environment variables, of which None takes one away."""
+    merged = dict(os.environ, PYTHONDONTWRITEBYTECODE="1", **variables)
+    known = {name: value for name, value in merged.items() if value is not None}
+    return subprocess.run([sys.executable, "-c", code], env=known, stdout=subprocess.PIPE, stderr=subprocess.STDOUT,
+                          universal_newlines=True, check=False).stdout
+
+
+READ = """
+import ldvbi
+try:
+    print(ldvbi.read_line(bytes(1820), "NTSC", 16384, 51200).cause.name)
+except OSError as error:
+    print(error)
+"""
+
+
+class Library(unittest.TestCase):
+    def setUp(self):
+        folder = tempfile.TemporaryDirectory()
+        self.addCleanup(folder.cleanup)
+        self.folder = folder.name
+        self.file = os.environ["LDVBI_LIBRARY"]
+
+    def installed(self, *places):
+        """A copy of the module in share/ldvbi/python of a folder, with the library in these places."""
+        python = os.path.join(self.folder, "share", "ldvbi", "python")
+        shutil.copytree(os.path.join(TOP, "python"), python)
+        for place in places:
+            os.makedirs(os.path.join(self.folder, place), exist_ok=True)
+            shutil.copy(self.file, os.path.join(self.folder, place, "libldvbi.so.1"))
+        return {"PYTHONPATH": python, "LDVBI_LIBRARY": None}
+
+    def test_words_and_sizes_need_none(self):
+        code = 'import ldvbi; print(ldvbi.classify(0xF12345).first, ldvbi.format_of(0, 0x87FFFF, 0).name, ' \
+               'ldvbi.field_bytes("PAL"))'
+        self.assertEqual(run(code, LDVBI_LIBRARY="/absent"), "12345 clv 710510\n")
+
+    def test_none(self):
+        wanted = "no library to read samples with (%s: cannot open shared object file: No such file or directory): " \
+                 "`make lib` builds it, LDVBI_LIBRARY names its file\n"
+        self.assertEqual(run(READ, LDVBI_LIBRARY="/absent"), wanted % "/absent")
+        self.assertEqual(run(READ, **self.installed()), wanted % "libldvbi.so.1")
+
+    def test_another_library(self):
+        said = run(READ, LDVBI_LIBRARY="libc.so.6")
+        self.assertRegex(said, r"^no library to read samples with \(.*undefined symbol: ldvbi_abi\): `make lib` builds")
+        self.assertEqual(said.count("\n"), 1)
+
+    def test_another_interface(self):
+        source, file = os.path.join(self.folder, "other.c"), os.path.join(self.folder, "other.so")
+        with open(source, "w", encoding="ascii") as text:
+            text.write("unsigned ldvbi_abi(void) { return 2; }\n")
+            for name in ("line", "rows", "field", "fields"):
+                text.write("void ldvbi_read_%s(void) {}\n" % name)
+            text.write("void ldvbi_draw_line(void) {}\n")
+        subprocess.run([os.environ.get("CC", "cc"), "-shared", "-fPIC", "-o", file, source], check=True)
+        self.assertEqual(run(READ, LDVBI_LIBRARY=file), "%s has the interface 2, not 1: `make lib` builds the one that "
+                         "fits, LDVBI_LIBRARY names its file\n" % file)
+
+    def test_places(self):
+        for place in ("lib", "share/ldvbi", "share/ldvbi/python"):
+            with self.subTest(place):
+                shutil.rmtree(os.path.join(self.folder, "share"), ignore_errors=True)
+                shutil.rmtree(os.path.join(self.folder, "lib"), ignore_errors=True)
+                self.assertEqual(run(READ, **self.installed(place)), "blank\n")
+
+    def test_an_empty_variable_names_none(self):
+        variables = self.installed("lib")
+        variables["LDVBI_LIBRARY"] = ""
+        self.assertEqual(run(READ, **variables), "blank\n")
+
+
+if __name__ == "__main__":
+    unittest.main()

@@ -1,0 +1,171 @@
+"""Chapters, stops, lead-in and lead-out, bad lines and levels of sides made by hand."""
+
+import unittest
+
+from discs import BLANK, LEAD_IN, LEAD_OUT, STOP, answer, chapter, picture, pictures, times
+from test_cav import doubtful, missing
+
+
+def with_chapters(chapters, of=10):
+    """Pictures from 1 on, so many of each of these chapters."""
+    rows = pictures(range(1, of * len(chapters) + 1))
+    for place, one in enumerate(chapters):
+        for number in range(of):
+            rows[2 * (of * place + number) + 1] = "- %s %s" % (chapter(one), chapter(one))
+    return rows
+
+
+def table(found):
+    return [(one["chapter"], one["field"], one["last"]) for one in found["chapters"]]
+
+
+class Chapters(unittest.TestCase):
+    def test_first_field_and_picture_of_each(self):
+        found = answer(with_chapters([0, 1, 2]))
+        self.assertEqual(found["chapters"], [
+            {"chapter": 0, "field": 2, "last": 20, "after": None, "number": 1, "frame": 1},
+            {"chapter": 1, "field": 22, "last": 40, "after": 20, "number": 11, "frame": 11},
+            {"chapter": 2, "field": 42, "last": 60, "after": 40, "number": 21, "frame": 21}])
+
+    def test_wrong_chapters(self):
+        for wrong in (0, 1, 4, 7, 79):
+            rows = with_chapters([2, 3])
+            rows[29] = "- %s %s" % (chapter(wrong), chapter(wrong))
+            found = answer(rows)
+            self.assertEqual(table(found), [(2, 2, 20), (3, 22, 40)], wrong)
+            self.assertEqual(doubtful(found), [(30, 17, wrong, "chapter"), (30, 18, wrong, "chapter")])
+
+    def test_lines_that_differ(self):
+        rows = with_chapters([2, 3])
+        rows[29] = "- %s %s" % (chapter(3), chapter(7))
+        found = answer(rows)
+        self.assertEqual(found["chapterConflicts"], [{"field": 30, "line17": 3, "line18": 7, "taken": 3}])
+        self.assertEqual(doubtful(found), [(30, 18, 7, "chapter")])
+        self.assertEqual(found["conflicts"], [])
+
+    def test_a_chapter_beside_a_picture_or_a_stop(self):
+        rows = ["- %s %s" % (picture(number), chapter(number // 10)) if number % 2 else
+                "%s %s %s" % (STOP, STOP, chapter(number // 10)) for number in range(1, 41)]
+        self.assertEqual([one for one, _, _ in table(answer(rows))], [0, 1, 2, 3, 4])
+
+    def test_at_a_jump_any_chapter_may_follow(self):
+        rows = with_chapters([0, 1, 2])
+        found = answer(rows + rows[20:])
+        self.assertEqual([one for one, _, _ in table(found)], [0, 1, 2, 1, 2])
+        self.assertEqual(found["doubtful"], [])
+
+    def test_a_chapter_code_of_a_disc_without_chapters(self):
+        rows = [row if place % 2 == 0 else BLANK for place, row in enumerate(pictures(range(1, 201)))]
+        rows[7] = "- %s -" % chapter(33)
+        found = answer(rows)
+        self.assertEqual(found["chapters"], [])
+        self.assertEqual(doubtful(found), [(8, 17, 33, "chapter")])
+
+    def test_chapters_of_a_clv_side(self):
+        found = answer(times(range(30)))
+        self.assertEqual(found["chapters"][0]["number"], "0:00:00.00")
+
+
+class Stops(unittest.TestCase):
+    def test_on_each_line_and_beside_a_number(self):
+        rows = pictures(range(1, 11))
+        rows[4] = "%s %s %s" % (STOP, STOP, picture(3))
+        rows[6] = "%s - %s" % (STOP, picture(4))
+        rows[8] = "- %s %s" % (picture(5), STOP)
+        rows[11] = "- %s 800DDD" % STOP
+        found = answer(rows)
+        self.assertEqual(found["stops"], [
+            {"field": 5, "frame": 3, "number": 3, "lines": [16, 17]},
+            {"field": 7, "frame": 4, "number": 4, "lines": [16]}, {"field": 9, "frame": 5, "number": 5, "lines": [18]},
+            {"field": 12, "frame": 6, "number": 6, "lines": [17]}])
+        self.assertEqual(missing(found) + found["doubtful"] + found["stray"], [])
+        self.assertEqual(found["chapters"][0]["last"], 20)
+
+    def test_the_picture_may_be_due(self):
+        rows = pictures(range(1, 11))
+        rows[8] = "%s ? ?" % STOP
+        found = answer(rows)
+        self.assertEqual(found["stops"], [{"field": 9, "frame": 5, "number": 5, "lines": [16]}])
+
+    def test_without_numbers(self):
+        found = answer([BLANK, STOP + " - -"])
+        self.assertEqual(found["stops"], [{"field": 2, "frame": 1, "number": None, "lines": [16]}])
+        self.assertEqual(found["format"], "cav")
+
+
+class Ends(unittest.TestCase):
+    def test_stretches(self):
+        found = answer([LEAD_IN, BLANK, LEAD_IN] + pictures([1, 2, 3]) + [LEAD_OUT] * 3)
+        self.assertEqual(found["leadIn"], [{"first": 1, "last": 3, "count": 2}])
+        self.assertEqual(found["leadOut"], [{"first": 10, "last": 12, "count": 3}])
+
+    def test_between_numbers_that_fit_they_are_stray(self):
+        rows = pictures(range(1, 31))
+        rows[11] = "- - 80EEEE"
+        rows[20] = "- 88FFFF %s" % picture(11)
+        found = answer(rows)
+        self.assertEqual([(one["field"], one["line"], one["kind"], one["why"]) for one in found["stray"]],
+                         [(12, 18, "lead-out", "place"), (21, 17, "lead-in", "place")])
+        self.assertEqual(found["leadIn"] + found["leadOut"], [])
+
+    def test_a_side_that_is_lead_in_alone(self):
+        found = answer([LEAD_IN] * 12)
+        self.assertEqual([found["format"], found["unit"], found["numbers"]["count"]], ["neither", None, 0])
+        self.assertEqual(found["leadIn"], [{"first": 1, "last": 12, "count": 12}])
+        self.assertIsNone(found["levels"])
+
+    def test_on_line_16_they_are_stray(self):
+        stray = answer(["88FFFF 88FFFF 88FFFF"])["stray"]
+        self.assertEqual([(one["line"], one["why"]) for one in stray], [(16, "line")])
+
+
+class BadLines(unittest.TestCase):
+    def test_cause_column_and_offset(self):
+        rows = ["- F00001 F00001", "? ! ~"]
+        ntsc, pal = (answer(rows, system)["badLines"] for system in ("NTSC", "PAL"))
+        # field 2 begins at byte 263 * 1820, line 16 of it 15 lines of 1,820 bytes later; PAL has 313 lines of 2,270
+        self.assertEqual(ntsc, [
+            {"field": 2, "line": 16, "cause": "change 170", "column": 170, "offset": 505960, "bytes": 1820},
+            {"field": 2, "line": 17, "cause": "hold 200", "column": 200, "offset": 507780, "bytes": 1820},
+            {"field": 2, "line": 18, "cause": "unfinished", "column": None, "offset": 509600, "bytes": 1820}])
+        self.assertEqual([(one["offset"], one["bytes"]) for one in pal],
+                         [(744560, 2270), (746830, 2270), (749100, 2270)])
+
+    def test_rates(self):
+        found = answer(["- F00001 F00001*", "? ! ~", "82CFFF 82CFFF* ?"])
+        self.assertEqual(found["lines"], {
+            "16": {"pass1": 1, "pass2": 0, "blank": 1, "unfinished": 0, "change": 1, "hold": 0},
+            "17": {"pass1": 1, "pass2": 1, "blank": 0, "unfinished": 0, "change": 0, "hold": 1},
+            "18": {"pass1": 0, "pass2": 1, "blank": 0, "unfinished": 1, "change": 1, "hold": 0}})
+
+    def test_a_white_first_field(self):
+        found = answer(["! ! !"] + pictures(range(1, 21)))
+        self.assertEqual([(one["field"], one["line"]) for one in found["badLines"]], [(1, 16), (1, 17), (1, 18)])
+        self.assertEqual(found["showings"][0], [1, 2, 2])
+        self.assertIsNone(found["levels"])
+
+
+class Levels(unittest.TestCase):
+    def test_a_blank_side(self):
+        self.assertEqual(answer([BLANK] * 10)["levels"],
+                         {"shows": "blank", "words": 0, "bad": 0, "blank": 20, "field": 6, "line": 17})
+
+    def test_changes_and_holds_throughout(self):
+        self.assertEqual(answer(["? ! ?"] * 10)["levels"],
+                         {"shows": "bad", "words": 0, "bad": 20, "blank": 0, "field": 6, "line": 17})
+
+    def test_few_words(self):
+        rows = ["- ! ?"] * 99 + ["- F00001 F00001"]
+        self.assertEqual(answer(rows)["levels"]["words"], 2)
+        self.assertEqual(answer(rows)["levels"]["shows"], "bad")
+
+    def test_damage_is_no_matter_of_levels(self):
+        rows = ["- ? ?", "- ! !", BLANK] * 20 + pictures(range(1, 11))
+        self.assertIsNone(answer(rows)["levels"])
+
+    def test_no_field_says_nothing(self):
+        self.assertIsNone(answer([])["levels"])
+
+
+if __name__ == "__main__":
+    unittest.main()

@@ -1,0 +1,308 @@
+"""The class `Side`, seeking, and what the command prints of an answer."""
+
+import json
+import os
+import re
+import tempfile
+import unittest
+
+from discs import (BLANK, LEAD_IN, LEAD_OUT, STOP, answer, film, minutes, picture, pictures, plain, side, times)
+from ldvbi_side.lines import SIZES
+from ldvbi_side.parity import first_fields_of
+from ldvbi_side.plot import plot_command, tbc_name
+from ldvbi_side.seek import seek, text_of, wanted_of
+from ldvbi_side.side import Cut
+from ldvbi_side.summary import is_whole, summary
+from ldvbi_side.tables import bad_line_rows, field_rows
+
+
+def found(known, text):
+    return text_of(seek(known, wanted_of(text)))
+
+
+class Seeking(unittest.TestCase):
+    def test_texts(self):
+        self.assertEqual(wanted_of("00123"), ("picture", (123,)))
+        self.assertEqual(wanted_of("1:09"), ("time", (1, 9)))
+        self.assertEqual(wanted_of("1:09:30"), ("time", (1, 9, 30)))
+        self.assertEqual(wanted_of("1:9:3.7"), ("time", (1, 9, 3, 7)))
+        self.assertEqual(wanted_of("chapter 3"), ("chapter", (3,)))
+        for text in ("", "x", "-1", "1:2", "1:02:3", "1:02:03.", "chapter", "chapter  3", "1.5", " 1", "1:09:30.12.1"):
+            with self.assertRaises(ValueError, msg=text):
+                wanted_of(text)
+
+    def test_a_picture_as_field_and_as_frame(self):
+        known = answer([LEAD_IN] * 2 + pictures(range(1, 21)))
+        self.assertEqual([found(known, text) for text in ("1", "020", "21", "0", "0:00:00.00", "0:00")],
+                         ["field 3, frame 2", "field 41, frame 21"] + ["not found"] * 4)
+
+    def test_frames_by_parity(self):
+        known = answer(pictures(range(1, 21))[1:], first=[False, True] * 19 + [False])
+        self.assertEqual([found(known, "2"), found(known, "chapter 0")], ["field 2, frame 1", "field 1, frame 0"])
+
+    def test_times_minutes_and_seconds(self):
+        known = answer(times(range(25 * 4138, 25 * 4142)))  # 1:08:58.00 to 1:09:01.24
+        texts = "1:08", "1:09", "1:09:01", "1:09:01.24", "1:08:59.25", "1:9:1.3"
+        self.assertEqual([found(known, text) for text in texts],
+                         ["field 1, frame 1", "field 101, frame 51", "field 151, frame 76", "field 199, frame 100",
+                          "not found", "field 157, frame 79"])
+        self.assertEqual([found(known, text) for text in ("11:09", "1:10", "69", "0:01:09.00")], ["not found"] * 4)
+
+    def test_minutes_of_a_side_without_seconds(self):
+        known = answer(["- 87FFFF %s" % minutes(1, minute) for minute in (9, 10) for _ in range(3000)])
+        self.assertEqual([found(known, text) for text in ("1:09", "1:10", "1:11", "1:09:00", "1:09:00.00")],
+                         ["field 1, frame 1", "field 3001, frame 1501"] + ["not found"] * 3)
+
+    def test_a_doubtful_field_answers_for_no_other_number(self):
+        rows = pictures(range(1, 21))
+        rows[18] = "- %s %s" % (picture(70000), picture(70000))
+        rows[8] = "- %s %s" % (picture(15), picture(15))
+        known = answer(rows)
+        self.assertEqual([found(known, text) for text in ("70000", "15", "5", "10")],
+                         ["not found", "field 29, frame 15",
+                          "field 9, frame 5, by its neighbours: no number was read there",
+                          "field 19, frame 10, by its neighbours: no number was read there"])
+
+    def test_of_a_number_that_was_read_later_the_field_in_which_it_was_read(self):
+        rows = pictures(list(range(1, 31)) + list(range(11, 51)))
+        rows[38] = "- ? ?"  # picture 20, which comes by again
+        self.assertEqual(found(answer(rows), "20"), "field 79, frame 40")
+
+    def test_chapters(self):
+        rows = pictures(range(1, 41))
+        for field in range(21, 80, 2):
+            rows[field] = "- 803DDD 803DDD"
+        rows[3] = "- 807DDD 807DDD"
+        known = answer(rows)
+        self.assertEqual([found(known, "chapter %d" % chapter) for chapter in (0, 3, 7)],
+                         ["field 2, frame 1", "field 22, frame 11", "not found"])
+
+
+class Tables(unittest.TestCase):
+    def test_a_row_for_each_field_with_any_code(self):
+        rows = [LEAD_IN, BLANK] + pictures([1, 2, 3, 4])
+        rows[4] = "82CFFF 82CFFF F00002"
+        rows[6] = "- F00003 F79999"
+        rows[8] = "8DC0A1 - -"
+        self.assertEqual(list(field_rows(side(rows))), [
+            [1, 1, "neither", "", "", "", "", ""],
+            [3, 2, "cav", 1, "", "", "", ""], [4, 2, "neither", "", 0, "", "", ""],
+            [5, 3, "cav", 2, "", "", "stop", ""], [6, 3, "neither", "", 0, "", "", ""],
+            [7, 4, "cav", 3, "", "", "", "picture 79999 on line 18, pass 1: lines"],
+            [8, 4, "neither", "", 0, "", "", ""],
+            [9, 5, "neither", "", "", "", "", ""], [10, 5, "neither", "", 0, "", "", ""]])
+
+    def test_a_doubtful_field_and_a_stray_code(self):
+        rows = pictures(range(1, 21))
+        rows[20] = "- F70000* F70000*"
+        rows[22] = "8AE000 87FFFF F00012"
+        table = list(field_rows(side(rows)))
+        self.assertEqual(table[20], [21, 11, "cav", "", "", "", "",
+                                     "picture 70000 on line 17, pass 2: neighbours; "
+                                     "picture 70000 on line 18, pass 2: neighbours"])
+        self.assertEqual(table[22], [23, 12, "both", 12, "", "", "", "clv picture on line 16, pass 1: format; "
+                                     "clv on line 17, pass 1: format"])
+
+    def test_times(self):
+        rows = times(range(1498, 1502))
+        rows[5] = "- - %s" % minutes(0, 1)
+        rows[6] = "8AE001 ? ?"
+        self.assertEqual([row[:6] for row in field_rows(side(rows))], [
+            [1, 1, "clv", "", "", "0:00:59.23"], [2, 1, "clv", "", 0, ""], [3, 2, "clv", "", "", "0:00:59.24"],
+            [4, 2, "clv", "", 0, ""], [5, 3, "clv", "", "", "0:01:00.00"], [6, 3, "clv", "", "", "0:01"],
+            [7, 4, "clv", "", "", "0:01:00.01"], [8, 4, "clv", "", 0, ""]])
+
+    def test_minutes_stand_in_the_fields_that_say_them(self):
+        rows = ["- 87FFFF %s" % minutes(0, 9), "- 87FFFF -", "- %s -" % minutes(0, 9)]
+        self.assertEqual([row[5] for row in field_rows(side(rows))], ["0:09", "", "0:09"])
+
+    def test_the_number_of_both_fields(self):
+        rows = ["- %s %s" % (picture(number), picture(number)) for number in (4, 4, 5, 5, 6, 6, 7, 7)]
+        self.assertEqual([row[3] for row in field_rows(side(rows))], [4, 4, 5, 5, 6, 6, 7, 7])
+
+    def test_bad_lines(self):
+        self.assertEqual(list(bad_line_rows(answer(["- ? F00001"], "NTSC"))), [[1, 17, "change 170", 29120]])
+
+    def test_nothing(self):
+        self.assertEqual(list(field_rows(side([BLANK]))), [])
+        self.assertEqual(list(bad_line_rows(answer([BLANK]))), [])
+
+
+def lines_of(one, path="side.tbc"):
+    return list(summary(one.answer, lambda *line: plot_command(one, path, *line)))
+
+
+class Summaries(unittest.TestCase):
+    def test_a_damaged_side(self):
+        rows = [LEAD_IN] * 2 + pictures(range(1, 31)) + [LEAD_OUT] * 2
+        rows[20] = "- F79999 F79999"  # picture 10
+        rows[22] = "? ! ~"  # picture 11
+        rows[24] = "82CFFF 82CFFF F00012"
+        rows[26] = "- F00013 F00003"
+        rows[44:46] = []  # picture 22
+        self.assertEqual(lines_of(side(rows)), [
+            "system: PAL, CAV",
+            "fields: 62, cut: none",
+            "line 16: 1 words, 0 of them of pass 2; 1 bad (50.00 %), 60 blank",
+            "line 17: 61 words, 0 of them of pass 2; 1 bad (1.61 %), 0 blank",
+            "line 18: 61 words, 0 of them of pass 2; 1 bad (1.61 %), 0 blank",
+            "pictures: 27, from 1 to 30",
+            "missing: 3 (damaged 2, lost 1: 10 to 11 after field 19, 22 after field 43)",
+            "lost fields: 2 (2 after field 43)",
+            "jumps: none",
+            "stills: none",
+            "shown again: none",
+            "doubtful, set aside: 3 (picture 79999 in field 21 line 17, picture 79999 in field 21 line 18, "
+            "picture 3 in field 27 line 18)",
+            "lines 17 and 18 differ: 1 (field 27: 13 and 3, 13 taken)",
+            "chapters: 1 (0 in field 4)",
+            "picture stops: 1 (12 in field 25)",
+            "lead-in: 2 (fields 1 to 2), lead-out: 2 (fields 61 to 62)",
+            "stray codes: none"])
+        self.assertFalse(is_whole(side(rows).answer))
+
+    def test_jumps_stills_and_more_than_are_listed(self):
+        rows = pictures(list(range(1, 11)) + [10] * 3 + list(range(11, 31)) + list(range(21, 31)))
+        for field in (2, 6, 10, 14, 40):  # pictures 2, 4, 6, 8 and 18
+            rows[field] = "- ? ?"
+        lines = lines_of(side(rows))
+        for line in ("missing: 5 (damaged 5: 2 after field 1, 4 after field 5, 6 after field 9, 8 after field 13 and 1 "
+                     "more)",
+                     "jumps: 1 (30 to 21 in field 67)", "stills: 1 (10 in fields 19 to 25)",
+                     "shown again: 2 (10 in field 21, 21 to 30 in field 67)"):
+            self.assertIn(line, lines)
+
+    def test_a_side_without_numbers(self):
+        self.assertEqual(lines_of(side([LEAD_IN]))[5:], [
+            "pictures: none", "doubtful, set aside: none", "lines 17 and 18 differ: none", "chapters: none",
+            "picture stops: none", "lead-in: 1 (fields 1), lead-out: none", "stray codes: none"])
+
+    def test_film_and_clv(self):
+        self.assertEqual(lines_of(side(film(range(1, 31)), "NTSC"))[0],
+                         "system: NTSC, CAV, film (2 and 3 fields a picture)")
+        lines = lines_of(side(times([0, 1, 3, 4], 30), "NTSC"))
+        self.assertEqual([lines[0], lines[5], lines[6]], [
+            "system: NTSC, CLV", "times: 4, from 0:00:00.00 to 0:00:00.04",
+            "missing: 1 (undecided 1: 0:00:00.02 after field 3)"])
+        left_out = times([number for number in range(6000) if number % 1001 != 400], 30)
+        self.assertIn("left out by the disc's clock: 6", lines_of(side(left_out, "NTSC")))
+
+    def test_levels(self):
+        blank, bad = lines_of(side([BLANK] * 4, "NTSC")), lines_of(side(["- ? !"] * 4))
+        script = "contrib/plot_line.py"
+        self.assertRegex(blank[5], r"^levels: lines 17 and 18 have 0 words, 0 are bad, 8 blank: black and white may be "
+                         r"too high, or the side has no codes\. Look at one: dd if=side\.tbc bs=1820 skip=542 count=1 "
+                         r"status=none \| python3 \S*%s --system NTSC --black 16384 --white 51200 --title "
+                         r"'side\.tbc, field 3, line 17' > line\.svg$" % re.escape(script))
+        self.assertRegex(bad[5], r"^levels: lines 17 and 18 have 0 words, 8 are bad, 0 blank: black and white may be "
+                         r"wrong, or the signal is noise\. Look at one: dd ")
+
+    def test_at_most_20_lines(self):
+        rows = times([number for number in range(9000) if number % 1001 != 400], 30)
+        rows[100:110] = []
+        for field in range(0, len(rows), 2):  # a second row of numbers on line 17
+            items = rows[field].split(" ")
+            rows[field] = " ".join([items[0], minutes(2, 20), items[2]])
+        known = side(rows, "NTSC").answer
+        known["levels"] = {"shows": "bad", "words": 1, "bad": 9, "blank": 1, "field": 1, "line": 17}
+        known["secondRows"] = known["secondRows"] or [{"first": "2:20:00.00", "last": "2:20:01.00", "field": 1,
+                                                       "lastField": 9, "count": 9, "weight": 9, "against": 9}]
+        lines = list(summary(known, lambda *line: "dd"))
+        self.assertTrue(known["leftOut"])
+        self.assertLessEqual(len(lines), 20)
+        self.assertTrue([line for line in lines if line.startswith("a second row of numbers, not taken: 2:20:")])
+
+    def test_what_is_whole(self):
+        self.assertTrue(is_whole(answer(pictures([7, 8, 9]))))
+        self.assertFalse(is_whole(answer(pictures([7, 9]))))
+        self.assertFalse(is_whole(answer([LEAD_IN])))
+        self.assertFalse(is_whole(answer(pictures([7, 8, 9]), cut={"seqNo": 7, "bytes": 5})))
+
+
+class Plotting(unittest.TestCase):
+    def test_names(self):
+        self.assertEqual([tbc_name(name) for name in ("a/side.vbi.json", "side.json", "side.tbc", "-")],
+                         ["a/side.tbc", "side.tbc", "side.tbc", "side.tbc"])
+
+    def test_a_name_with_a_space(self):
+        command = plot_command(side([BLANK]), "my side.tbc", 1, 16)
+        self.assertIn("dd if='my side.tbc' bs=2270 skip=15 ", command)
+        self.assertIn("--title 'my side.tbc, field 1, line 16'", command)
+
+    def test_the_script_is_there(self):
+        path = plot_command(side([BLANK]), "side.tbc", 1, 16).split("python3 ")[1].split(" ")[0]
+        self.assertTrue(os.path.exists(path))
+
+    def test_from_another_folder_its_whole_path_is_printed(self):
+        here = os.getcwd()
+        with tempfile.TemporaryDirectory() as folder:
+            os.chdir(folder)
+            try:
+                path = plot_command(side([BLANK]), "side.tbc", 1, 16).split("python3 ")[1].split(" ")[0]
+            finally:
+                os.chdir(here)
+        self.assertTrue(os.path.isabs(path))
+
+
+class Sides(unittest.TestCase):
+    def test_tables(self):
+        rows = pictures(range(5, 25)) + pictures(range(11, 41))
+        rows[4] = STOP + " - F00007"
+        cav, clv = side(rows), side(times(range(20)))
+        self.assertEqual([cav.pictures()[5], cav.pictures()[11], cav.pictures()[40]], [1, 13, 99])
+        self.assertEqual([cav.times(), cav.chapters(), cav.stops(), cav.format()], [{}, {0: 2}, [5], "cav"])
+        self.assertEqual([clv.pictures(), clv.times()["0:00:00.07"], clv.format()], [{}, 15, "clv"])
+
+    def test_seeking(self):
+        one = side(pictures(range(5, 25)))
+        self.assertEqual(one.seek("7"), {"field": 5, "frame": 3, "read": True})
+        self.assertIsNone(one.seek("25"))
+
+    def test_codes_are_judged_by_nothing(self):
+        codes = list(side(["- F00001 F79999"]).codes())
+        self.assertEqual(codes, [{"seqNo": 1, "format": "cav", "codes": [
+            None, {"kind": "picture", "number": 1}, {"kind": "picture", "number": 79999}], "byKind": [
+                {"kind": "picture", "number": 1, "lines": [17]}, {"kind": "picture", "number": 79999, "lines": [18]}]}])
+
+    def test_plain_data(self):
+        rows = ["- F00001 F00001*", "? ! ~"]
+        cut = Cut(3, 99)
+        one = side(rows, "NTSC", [True, False], cut)
+        self.assertEqual(one.plain(), plain(rows, "NTSC", [True, False], {"seqNo": 3, "bytes": 99}))
+        self.assertEqual(one.answer["cutField"], {"seqNo": 3, "bytes": 99})
+        self.assertIs(one.answer, one.answer)
+
+
+class FirstFields(unittest.TestCase):
+    def first_fields(self, text, count=2):
+        with tempfile.TemporaryDirectory() as folder:
+            path = os.path.join(folder, "meta.json")
+            with open(path, "w", encoding="utf-8") as file:
+                file.write(text)
+            first, note = first_fields_of(path, count)
+            return first, note and note.replace(path, "meta.json")
+
+    def test_is_first_field(self):
+        fields = [{"seqNo": 1, "isFirstField": False}, {"seqNo": 2, "isFirstField": True}]
+        self.assertEqual(self.first_fields(json.dumps({"fields": fields})), ([False, True], None))
+
+    def test_another_count_of_fields_is_said(self):
+        self.assertEqual(self.first_fields('{"fields":[{"isFirstField":true}]}'),
+                         (None, "meta.json has 1 fields, not 2: its isFirstField isn't used"))
+
+    def test_of_a_database_it_is_not_read(self):
+        self.assertEqual(self.first_fields("SQLite format 3\0" + 100 * "x"), (None, None))
+
+    def test_without_it_nothing_is_said(self):
+        for text in ('{}', '[]', '{"fields":[]}', '{"fields":5}', '{"fields":[{},{}]}',
+                     '{"fields":[{"isFirstField":1},5]}', 'x', '[' * 100000):
+            self.assertEqual(self.first_fields(text), (None, None))
+
+
+class Sizes(unittest.TestCase):
+    def test_sizes_of_lines_and_fields(self):
+        self.assertEqual(SIZES, {"NTSC": (910 * 2, 263), "PAL": (1135 * 2, 313)})
+
+
+if __name__ == "__main__":
+    unittest.main()

@@ -1,0 +1,204 @@
+"""Simulated sides beside their truth: bounds for the seeds 2000 to 2069, ten sides of each kind, and for damage of
+other kinds on sides whose truth is known."""
+
+import random
+import unittest
+from collections import Counter
+
+from discs import BLANK, LEAD_IN, LEAD_OUT, answer, film, picture, pictures, times
+from ldvbi_side.analysis import analyse
+from measure import fields_of, measured
+from simulate import KINDS, simulated
+from truth import Comparison, Truth
+
+SEEDS = range(2000, 2070)
+
+
+class Bounds(unittest.TestCase):
+    @classmethod
+    def setUpClass(cls):
+        cls.totals, cls.told = {kind: Counter() for kind in KINDS}, []
+        for seed in SEEDS:
+            kind, counts = measured(seed, False, cls.told.append)
+            cls.totals[kind].update(counts)
+        cls.all = sum(cls.totals.values(), Counter())
+
+    def share(self, name, count, most_not_found=0):
+        """Of so many on these sides all are found but for a few."""
+        self.assertEqual(self.all[name], count, name)
+        self.assertGreaterEqual(self.all[name + " found"], count - most_not_found, self.told)
+
+    def test_ten_sides_of_each_kind(self):
+        self.assertEqual({kind: counts["sides"] for kind, counts in self.totals.items()}, dict.fromkeys(KINDS, 10))
+
+    def test_wrong_numbers_are_set_aside(self):
+        self.share("wrong", 1184)
+        self.share("wrong chapters", 947, 2)
+
+    def test_right_numbers_are_not(self):
+        self.assertEqual([self.all["right"], self.all["right chapters"]], [184114, 130401])
+        self.assertLessEqual(self.all["right found"], 1, self.told)
+        self.assertLessEqual(self.all["right chapters found"], 1, self.told)
+
+    def test_no_field_has_another_number_than_on_the_disc(self):
+        self.assertGreater(self.all["numbers"], 78900)
+        self.assertGreater(self.all["due"], 4300)
+        for name in ("numbers", "due"):
+            self.assertEqual(self.all[name + " found"], self.all[name], self.told)
+
+    def test_lost_fields_and_jumps_back(self):
+        self.share("lost places", 507)
+        self.share("backs", 366)
+        self.assertEqual(self.all["lost found"], self.all["lost"], self.told)
+        self.assertGreater(self.all["lost"], 460)
+
+    def test_lists_that_are_exact(self):
+        for name, least in (("stops", 70), ("missing", 69), ("left out", 70), ("first fields", 69),
+                            ("chapter table", 69)):
+            self.assertGreaterEqual(self.all[name], least, self.told)
+
+    def test_each_kind_has_something_to_find(self):
+        for kind, counts in self.totals.items():
+            for name in ("wrong", "right", "numbers"):
+                self.assertGreater(counts[name], 0, kind)
+
+
+class Parity(unittest.TestCase):
+    def test_parity_loses_nothing(self):
+        for seed in range(2000, 2007):
+            side = simulated(seed)
+            truth = Truth(side)
+            without, with_parity = (Comparison(truth, analyse(fields_of(side, parity))).counts
+                                    for parity in (False, True))
+            for name in ("missing", "first fields", "lost places found", "backs found"):
+                self.assertGreaterEqual(with_parity[name], without[name])
+
+
+class Comparing(unittest.TestCase):
+    """The comparison itself finds what is wrong with an answer."""
+
+    def setUp(self):
+        self.side = simulated(2000, "cav-pal", 0.02, 300)
+        self.truth = Truth(self.side)
+        self.answer = analyse(fields_of(self.side))
+
+    def counts(self, change):
+        told = []
+        change(self.answer)
+        return Comparison(self.truth, self.answer, lambda *one: told.append(one)).counts, told
+
+    def test_as_it_is(self):
+        counts, told = self.counts(lambda one: None)
+        self.assertEqual(told, [])
+        self.assertEqual([counts[name] for name in ("missing", "first fields", "stops", "chapter table")], [1] * 4)
+
+    def test_each_list_that_is_wrong(self):
+        changes = {
+            "wrong found": lambda one: one["doubtful"].clear(),
+            "missing": lambda one: one["missing"].append({"first": 1000000, "last": 1000000, "why": "lost"}),
+            "first fields": lambda one: one["showings"].pop(),
+            "stops": lambda one: one["stops"].append({"field": 1}),
+            "chapter table": lambda one: one["chapters"].pop(0),
+        }
+        before, _ = self.counts(lambda one: None)
+        for name, change in changes.items():
+            self.setUp()
+            counts, told = self.counts(change)
+            self.assertLess(counts[name], before[name], name)
+            self.assertTrue(told, name)
+
+    def test_a_loss_that_is_none_and_a_wrong_place(self):
+        def change(one):
+            one["lost"].append({"after": 5, "before": 7, "fields": 9, "by": "number"})
+            one["damaged"].append({"number": 1, "field": 300})
+        before, _ = self.counts(lambda one: None)
+        counts, told = self.counts(change)
+        self.assertEqual(counts["lost"] - counts["lost found"], 1 + before["lost"] - before["lost found"])
+        self.assertEqual(counts["due"] - counts["due found"], 1)
+        self.assertEqual([name for name, _ in told], ["lost"])
+
+
+def damaged(rows, places, change):
+    """These rows with others at these places."""
+    rows = list(rows)
+    for place in places:
+        rows[place] = change(rows[place])
+    return rows
+
+
+class OtherDamage(unittest.TestCase):
+    """Damage that the simulator doesn't have, on sides of 400 pictures. In each the numbers that can't be read are
+    known, and no other may be missing, nor any be believed in another field."""
+
+    SIDES = (("cav", "PAL", pictures(range(1, 401))), ("cav far on", "NTSC", pictures(range(53000, 53400))),
+             ("film", "NTSC", film(range(1, 401))), ("clv", "PAL", times(range(1300, 1700))))
+
+    def check(self, change):
+        for name, system, sound in self.SIDES:
+            rng = random.Random(name)
+            numbered = {field: number for number, field, _ in answer(sound, system)["showings"]}
+            rows = [LEAD_IN] * 4 + sound + [LEAD_OUT] * 4
+            rows, unread = change(rng, rows)
+            found = answer(rows, system)
+            with self.subTest(name):
+                wanted = {field + 4: number for field, number in numbered.items() if field + 3 not in unread}
+                self.assertEqual({field: number for number, field, _ in found["showings"]}, wanted)
+                self.assertEqual({one["field"]: one["number"] for one in found["damaged"]},
+                                 {field + 4: number for field, number in numbered.items() if field + 3 in unread})
+                self.assertEqual(found["lost"] + found["breaks"] + found["secondRows"], [])
+
+    def test_scratches_over_several_pictures(self):
+        def scratched(rng, rows):
+            unread = set()
+            for begin in range(60, 760, 70):
+                unread.update(range(begin, begin + rng.randrange(4, 16)))
+            return damaged(rows, unread, lambda row: "? ! ?"), unread
+        self.check(scratched)
+
+    def test_random_words(self):
+        def noisy(rng, rows):
+            places = set(range(50, 750, 9)) | set(range(300, 312))
+            return damaged(rows, places, lambda row: " ".join("%06X*" % rng.randrange(0x800000, 0x1000000)
+                                                             for _ in range(3))), places
+        self.check(noisy)
+
+    def test_random_numbers_on_one_line(self):
+        def noisy(rng, rows):
+            def change(row):
+                first, _, third = row.split(" ")
+                return "%s %s %s" % (first, picture(rng.randrange(80000)), third)
+            return damaged(rows, range(50, 750, 7), change), set()
+        self.check(noisy)
+
+    def test_blank_stretches(self):
+        def blanked(rng, rows):
+            places = set(range(200, 260)) | set(range(500, 501))
+            return damaged(rows, places, lambda row: BLANK), places
+        self.check(blanked)
+
+    def test_one_line_without_a_word(self):
+        def unreadable(rng, rows):
+            return [" ".join(row.split(" ")[:1] + ["!"] + row.split(" ")[2:]) for row in rows], set()
+        self.check(unreadable)
+
+    def test_lines_of_the_picture_before(self):
+        def late(rng, rows):
+            places = set(range(100, 700, 60))
+            late_rows = list(rows)
+            for place in places:
+                late_rows[place] = rows[place - 10]
+            unread = {place for place in places if rows[place] != rows[place - 10]}
+            return late_rows, unread
+        self.check(late)
+
+    def test_words_of_the_other_format(self):
+        def mixed(rng, rows):
+            def change(row):
+                first, second, third = row.split(" ")
+                return "%s %s %s" % (first, "F1DD30" if "F00" in row or "F53" in row else "F00077", third)
+            return damaged(rows, range(50, 750, 31), change), set()
+        self.check(mixed)
+
+
+if __name__ == "__main__":
+    unittest.main()

@@ -1,0 +1,218 @@
+"""Stream and fields: a TBC file, or a buffer, as a sequence of readings."""
+
+import contextlib
+import gc
+import mmap
+import os
+import pathlib
+import tempfile
+import unittest
+from unittest import mock
+
+import ldvbi
+from ldvbi_side.side import side_of_tbc
+from streams import NTSC, PAL, pictures, write_stream
+
+COUNT = 2 * ldvbi.BLOCK + 3  # two blocks and a part of one
+
+
+def number_of(field):
+    """The picture that a drawn field shows on each of its lines."""
+    numbers = {ldvbi.classify(line.word).first for line in field}
+    assert len(numbers) == 1
+    return numbers.pop()
+
+
+class Streams(unittest.TestCase):
+    def setUp(self):
+        folder = tempfile.TemporaryDirectory()
+        self.addCleanup(folder.cleanup)
+        self.folder = folder.name
+        self.path = os.path.join(self.folder, "side.tbc")
+
+    def drawn(self, count=5, setup=NTSC, rest=0):
+        write_stream(self.path, setup, pictures(count), rest)
+        return ldvbi.Stream(self.path, *setup)
+
+
+class Sequences(Streams):
+    def test_fields(self):
+        for setup in (NTSC, PAL):
+            with self.subTest(setup), self.drawn(COUNT, setup, 1000) as side:
+                self.assertEqual((len(side), side.cut_bytes), (COUNT, 1000))
+                self.assertEqual((side.system.name, side.black, side.white), setup)
+                self.assertEqual([number_of(field) for field in side], list(range(COUNT)))
+                self.assertEqual(list(side), list(ldvbi.fields(self.path, *setup)))
+                for index in (0, 1, ldvbi.BLOCK - 1, ldvbi.BLOCK, COUNT - 1, -1, -2, -COUNT):
+                    self.assertEqual(number_of(side[index]), index % COUNT)
+                    self.assertIsInstance(side[index], ldvbi.FieldReadings)
+
+    def test_slices(self):
+        numbers = list(range(COUNT))
+        with self.drawn(COUNT) as side:
+            for part in (slice(None), slice(1, 3), slice(-2, None), slice(60, 70), slice(3, 1), slice(200, 300),
+                         slice(None, None, 2), slice(None, None, -1), slice(70, 60, -3)):
+                with self.subTest(part):
+                    self.assertIsInstance(side[part], list)
+                    self.assertEqual([number_of(field) for field in side[part]], numbers[part])
+
+    def test_no_such_field(self):
+        side = self.drawn()
+        for index in (5, -6, 10 ** 30):
+            with self.assertRaises(IndexError) as caught:
+                side[index]
+            self.assertEqual(str(caught.exception), "field %d of a stream of 5 fields" % index)
+        for index in ("1", 1.0, None):
+            with self.assertRaises(TypeError):
+                side[index]
+
+    def test_short_streams(self):
+        for rest in (0, 1, 100, ldvbi.field_bytes("NTSC") - 1):
+            with self.subTest(rest):
+                side = self.drawn(0, NTSC, rest)
+                self.assertEqual((len(side), list(side), side[:], side.cut_bytes), (0, [], [], rest))
+                with self.assertRaises(IndexError):
+                    side[0]
+
+    def test_buffers(self):
+        self.drawn(3).close()
+        with open(self.path, "rb") as file:
+            data = file.read()
+        for source in (data, bytearray(data), memoryview(data).cast("H")):
+            self.assertEqual([number_of(field) for field in ldvbi.Stream(source, *NTSC)], [0, 1, 2])
+        self.assertEqual(len(ldvbi.Stream(b"", *NTSC)), 0)
+        self.assertEqual(ldvbi.Stream(data[:-1], *NTSC).cut_bytes, ldvbi.field_bytes("NTSC") - 1)
+
+    def test_a_side(self):
+        for rest in (0, 100):
+            self.drawn(3, PAL, rest).close()
+            side = side_of_tbc(self.path, *PAL)
+            self.assertEqual(([number_of(field) for field in side.readings], side.levels), ([0, 1, 2], PAL[1:]))
+            self.assertEqual((side.system, side.cut), (ldvbi.System.PAL, (4, 100) if rest else None))
+
+    def test_path_objects(self):
+        self.drawn(2).close()
+        self.assertEqual(len(ldvbi.Stream(pathlib.Path(self.path), *NTSC)), 2)
+
+
+class Refused(Streams):
+    def test_at_the_call(self):
+        absent = os.path.join(self.folder, "absent.tbc")
+        for call in (ldvbi.Stream, ldvbi.fields):
+            with self.subTest(call.__name__):
+                with self.assertRaisesRegex(FileNotFoundError, "absent.tbc"):
+                    call(absent, *NTSC)
+                with self.assertRaises(IsADirectoryError):
+                    call(self.folder, *NTSC)
+                with self.assertRaisesRegex(ValueError, "^/dev/null is no file that can be mapped$"):
+                    call("/dev/null", *NTSC)
+                with self.assertRaisesRegex(ValueError, "^black is not below white$"):
+                    call(absent, "NTSC", 2, 2)
+
+    def test_a_path_of_bytes(self):
+        self.drawn(1).close()
+        for path in (os.fsencode(self.path), b"side.tbc", b"x" * 1819):
+            for call in (ldvbi.Stream, ldvbi.fields):
+                with self.assertRaises(ValueError) as caught:
+                    call(path, *NTSC)
+                self.assertEqual(str(caught.exception), "%d bytes are less than a line; a path is a str or a path "
+                                 "object, as os.fsdecode makes of bytes" % len(path))
+        self.assertEqual(ldvbi.Stream(b"x" * 1820, *NTSC).cut_bytes, 1820)
+
+
+class Closing(Streams):
+    def test_closed(self):
+        side = self.drawn(COUNT)
+        begun = iter(side)
+        next(begun)
+        side.close()
+        side.close()
+        for call in (lambda: side[0], lambda: side[1:2], lambda: list(side), lambda: list(begun)):
+            with self.assertRaisesRegex(ValueError, "^the stream is closed$"):
+                call()
+        self.assertEqual(len(side), COUNT)
+
+    def test_a_with_block_closes(self):
+        with self.drawn() as side:
+            side[0]
+        with self.assertRaisesRegex(ValueError, "^the stream is closed$"):
+            side[0]
+
+    def test_nothing_stays_open(self):
+        def held():
+            gc.collect()
+            with open("/proc/self/maps", encoding="utf-8") as maps:
+                return sum(self.path in line for line in maps), len(os.listdir("/proc/self/fd"))
+
+        before = held()
+        side = self.drawn(3)
+        self.assertEqual(held()[0], 1)
+        side.close()
+        self.assertEqual(held(), before)
+        begun = ldvbi.fields(self.path, *NTSC)
+        next(begun)
+        self.assertEqual(held()[0], 1)
+        del begun
+        self.assertEqual(held(), before)
+
+    def test_a_buffer_keeps_its_size(self):
+        data = bytearray(ldvbi.field_bytes("NTSC"))
+        side = ldvbi.Stream(data, *NTSC)
+        with self.assertRaises(BufferError):
+            data.append(0)
+        side.close()
+        data.append(0)
+
+
+class Advised(mmap.mmap):
+    """A mapped file that notes what the system is advised of, and when bytes of it were read."""
+    notes = []
+
+    def madvise(self, advice, *area):
+        self.notes.append((advice, *area))
+        super().madvise(advice, *area)
+
+
+class Ahead(Streams):
+    def setUp(self):
+        super().setUp()
+        Advised.notes = []
+        patches = contextlib.ExitStack()
+        patches.enter_context(mock.patch.object(ldvbi.mmap, "mmap", Advised))
+        self.addCleanup(patches.close)
+
+    def fetched(self):
+        """The bytes that were to be fetched, as pairs of begin and end, in their order."""
+        self.assertTrue(all(note[1] % mmap.PAGESIZE == 0 for note in Advised.notes[1:]))
+        return [(begin, begin + length) for advice, begin, length in Advised.notes[1:] if advice == mmap.MADV_WILLNEED]
+
+    def test_pages_of_the_next_fields(self):
+        for setup, line, size in ((NTSC, 1820, 478660), (PAL, 2270, 710510)):
+            with self.subTest(setup):
+                Advised.notes = []
+                readings = iter(self.drawn(COUNT, setup))
+                self.assertEqual(Advised.notes, [(mmap.MADV_RANDOM,)])
+                next(readings)
+                # the first block, which is read now, and the one behind it
+                self.assertEqual(len(self.fetched()), 2 * 64)
+                for _ in range(64):
+                    next(readings)
+                self.assertEqual(len(self.fetched()), COUNT)
+                self.assertEqual(len(list(readings)), COUNT - 65)
+                lines = [(field * size + 15 * line, field * size + 18 * line) for field in range(COUNT)]
+                self.assertEqual(len(self.fetched()), COUNT)
+                for (begin, end), (first, last) in zip(self.fetched(), lines):
+                    self.assertEqual((begin, end), (first - first % mmap.PAGESIZE, last))
+
+    def test_pages_of_one_field(self):
+        side = self.drawn(COUNT)
+        side[100]
+        first = 100 * 478660 + 15 * 1820
+        self.assertEqual(self.fetched(), [(first - first % mmap.PAGESIZE, first + 3 * 1820)])
+        Advised.notes = Advised.notes[:1]
+        side[10:12]
+        self.assertEqual(len(self.fetched()), 2)
+
+
+if __name__ == "__main__":
+    unittest.main()

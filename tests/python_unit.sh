@@ -1,0 +1,24 @@
+#!/bin/sh
+# Runs the unit tests of the Python package, tests/python/test_*.py.
+# Needs libldvbi.so.1 at the top of the repository (`make lib`).
+# usage: sh tests/python_unit.sh PROGRAM
+
+# shellcheck source=tests/helpers.sh
+. "$(dirname "$0")/helpers.sh"
+# shellcheck source=tests/python_helpers.sh
+. "$here/python_helpers.sh"
+
+LDVBI_PROGRAM=$program
+export LDVBI_PROGRAM
+for test in "$here"/python/test_*.py; do
+    name=$(basename "$test" .py)
+    lines=${LDVBI_LINES:-}
+    # these run the same lines millions of times, and no line alone
+    case $name in test_classes | test_simulated) lines= ;; esac
+    status=0
+    (cd "$here/python" && LDVBI_LINES=$lines exec python3 -m unittest "$name") > out 2> err || status=$?
+    check "$name" [ "$status" = 0 ]
+    sed -n "s/^Ran \([0-9]* tests\).*/$name: \1/p" err
+done
+check 'there are tests' [ "$judged" -ge 16 ]
+finish

@@ -1,0 +1,97 @@
+#!/bin/sh
+# Validates the answers of the command's --json for sides of every kind by docs/ldvbi-side.schema.json, and broken ones,
+# which have to be refused.
+# usage: sh tests/side_schema.sh PROGRAM
+
+# shellcheck source=tests/helpers.sh
+. "$(dirname "$0")/helpers.sh"
+# shellcheck source=tests/python_helpers.sh
+. "$here/python_helpers.sh"
+
+for python in python3 /usr/bin/python3; do
+    "$python" -c 'import jsonschema' 2> /dev/null && break
+done
+
+# Prints `valid` or `refused` for each file that is named.
+cat > validate.py << 'PYTHON'
+import json
+import sys
+
+import jsonschema
+
+with open(sys.argv[1], encoding="ascii") as file:
+    schema = json.load(file)
+jsonschema.Draft202012Validator.check_schema(schema)
+validator = jsonschema.Draft202012Validator(schema)
+for path in sys.argv[2:]:
+    with open(path, encoding="ascii") as file:
+        answer = json.load(file)
+    print(path, "valid" if validator.is_valid(answer) else "refused")
+PYTHON
+schema=$top/docs/ldvbi-side.schema.json
+
+mkdir answers broken
+status=0
+python3 "$here/python/answers.py" answers 2> err || status=$?
+check 'there are 21 answers' [ "$status $(find answers -name '*.json' | wc -l)" = '0 21' ]
+"$python" validate.py "$schema" answers/*.json > said 2> err || status=$?
+check 'all of them are valid' [ "$status $(grep -c ' valid$' said)" = '0 21' ]
+# each list of the schema has an item in one of them, so that its form was looked at
+jq -s -r '[.[] | to_entries[] | select(.value | type == "array" and length > 0) | .key] | unique[]' \
+    answers/*.json > full
+jq -r '.properties | to_entries[] | select(.value.type == "array") | .key' "$schema" | sort > lists
+check 'each list has an item somewhere' cmp full lists
+
+# Broken answers: what is changed, and of which side
+number=0
+while IFS='|' read -r side change; do
+    number=$((number + 1))
+    jq -c "$change" "answers/$side.json" > broken/$number.json
+    status=0
+    cmp -s "broken/$number.json" "answers/$side.json" && status=1
+    check "$change of $side changes it" [ $status = 0 ]
+done << 'END'
+none|.version = 2
+none|del(.missing)
+none|.more = 1
+none|.system = "SECAM"
+none|.unit = "frame"
+none|.frameBegin = 0
+none|.levels = {}
+cav-pal|.fields = -1
+cav-pal|.format = "both"
+cav-pal|.pace = "3-2"
+cav-pal|.numbers.least = 80000
+cav-pal|.numbers.more = 1
+cav-pal|.showings[0] = [1, 2]
+cav-pal|.showings[0][1] = 0
+cav-pal|.showings[0] += [1]
+cav-pal|.doubtful[0].why = "unknown"
+cav-pal|.doubtful[0].line = 19
+cav-pal|.doubtful[0].word = "F0001"
+cav-pal|.doubtful[0].before = {}
+cav-pal|.badLines[0].cause = "blank"
+cav-pal|.badLines[0].bytes = 1
+cav-pal|.lines["16"].pass3 = 0
+cav-pal|del(.lines["17"])
+cav-pal|.chapters[0].chapter = 80
+clv-pal|.numbers.greatest = "1:60:00.00"
+clv-pal|.damaged[0].field = null
+clv-minutes|.numbers.least = "0:60"
+cut|.cutField.bytes = 0
+cut|.cutField = 5
+far|.breaks[0].kind = "gap"
+far|.stills[0].first = "1"
+conflict|.conflicts[0].taken = "x"
+conflict|.chapterConflicts[0].line17 = 80
+stop|.stops[0].lines = [15]
+lead-in|.stray[0].kind = "other"
+lead-in|.leadIn[0].count = 0
+left-out|.leftOut[0].why = "lost"
+undecided|.missing[0].why = "clock"
+END
+"$python" validate.py "$schema" broken/*.json > said 2> err
+status=$?
+check "all $number broken ones are refused" [ "$status $(grep -c ' refused$' said) $number" = "0 $number 38" ]
+[ "$status" = 0 ] && grep ' valid$' said >&2
+finish
