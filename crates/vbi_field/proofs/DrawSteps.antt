@@ -135,7 +135,8 @@ module _ {R W : Type 0} (remaining : R → Option (List ℕ)) (contents : W → 
     })
 
     -- the reader failed
-    read_failed : (j : RowIntake R) (b : List ℕ) → Fetches remaining i j b → HasNoNewline b → HasCause (intakes.counted_of i) (intakes.counted_of j)
+    read_failed : (j : RowIntake R) (b : List ℕ) → Fetches remaining i j b → HasNoNewline b
+        → HasCause (intakes.counted_of i) (intakes.counted_of j)
         → (done + 1 ≤ c.max_fields) ⊎ ((done + 1 ≡ c.max_fields + 1) × (b ≡ []))
         → RunsDrawing remaining contents c i0 j o0 o (Err (faults.Read (done + 1)))
     read_failed j b f plain cause few = ends_here j b f (Err (faults.Read (done + 1))) (record {
@@ -174,7 +175,8 @@ module _ {R W : Type 0} (remaining : R → Option (List ℕ)) (contents : W → 
         (calm : NoError (intakes.counted_of i) (intakes.counted_of j))
         (few : done < c.max_fields) where
       bad : rows_of b ≡ b ∷ [] → row_words b ≡ None
-          → ((front : List ℕ) × (b ≡ front ++ 10 ∷ [])) ⊎ (IsAtEnd (remaining (device_of (intakes.counted_of j))) ⊎ (length b ≡ 21))
+          → ((front : List ℕ) × (b ≡ front ++ 10 ∷ [])) ⊎
+          (IsAtEnd (remaining (device_of (intakes.counted_of j))) ⊎ (length b ≡ 21))
           → RunsDrawing remaining contents c i0 j o0 o (Err (faults.Row (done + 1)))
       bad one malformed read_to = ends_here j b f (Err (faults.Row (done + 1))) (record {
         before = g.z;
@@ -289,10 +291,12 @@ module _ {R W : Type 0} (remaining : R → Option (List ℕ)) (contents : W → 
             }
 
         -- the field is written, and rows may follow
-        next_row : (line : List ℕ) → IsSameDevice (outlets.counted_of o) (outlets.counted_of p) → line ≡ drawn_line_of c None → EndsRow (g.z ++ b)
+        next_row : (line : List ℕ) → IsSameDevice (outlets.counted_of o) (outlets.counted_of p)
+            → line ≡ drawn_line_of c None → EndsRow (g.z ++ b)
             → length b ≤ 21
             → (failures_of (intakes.counted_of j)).all ≤ (failures_of (intakes.counted_of i)).all + 357
-            → (failures_of (outlets.counted_of p)).all ≤ (failures_of (outlets.counted_of o)).all + 17 * (length (drawn_field_of c words) + 313)
+            → (failures_of (outlets.counted_of p)).all
+            ≤ (failures_of (outlets.counted_of o)).all + 17 * (length (drawn_field_of c words) + 313)
             → Drawn (done + 1) j p line
         next_row line same black ends short reads writes =
             let size = length-drawn_field_of c words in
@@ -345,7 +349,8 @@ module _ {R W : Type 0} (remaining : R → Option (List ℕ)) (contents : W → 
       pub row_drawn : (line : List ℕ) → outlets.Wrote contents o p (drawn_field_of c words)
           → NoError (outlets.counted_of o) (outlets.counted_of p)
           → IsSameDevice (outlets.counted_of o) (outlets.counted_of p)
-          → (failures_of (outlets.counted_of p)).all ≤ (failures_of (outlets.counted_of o)).all + 17 * (length (drawn_field_of c words) + 313)
+          → (failures_of (outlets.counted_of p)).all
+          ≤ (failures_of (outlets.counted_of o)).all + 17 * (length (drawn_field_of c words) + 313)
           → line ≡ drawn_line_of c None → Drawn (done + 1) j p line
       row_drawn line wrote no_error same writes black =
           next_row j t.bytes words t.fetches t.caused (line_one t.bytes t.got.0 t.got.1 t.got.2)

@@ -161,7 +161,8 @@ module _ {W : Type 0} (contents : W → Option (List ℕ)) (old : Feeding) (was 
       subst P (sym t.config) (t.fed z s)
 
   -- the bytes of one row more
-  pub taken_more : (n : ℕ) → result ≡ Ok n → at ≤ length piece → n ≤ length bytes → IsSameDevice (counted_of o) (counted_of o')
+  pub taken_more : (n : ℕ) → result ≡ Ok n → at ≤ length piece → n ≤ length bytes
+      → IsSameDevice (counted_of o) (counted_of o')
       → IsFeederState was.config l p
       → Rises o o' was.progress.fields p.fields → NoError (counted_of o) (counted_of o')
       → Taken contents old (record { config = was.config; line = l; progress = p; has_failed = was.has_failed }) o0 o'

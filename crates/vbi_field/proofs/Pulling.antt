@@ -126,11 +126,13 @@ module _ (t : Texts) {R W : Type 0} (remaining : R → Option (List ℕ)) (conte
   -- this number of rows was taken, and the text that is due with them was written
   pub record Pulled (k : ℕ) (i : Intake R) (o : Outlet W) (p : Progress) : Type 0 where
     pub z : List ℕ
-    pub consumed : Consumes (remaining (device_of (intakes.counted_of i0))) (remaining (device_of (intakes.counted_of i))) z
+    pub consumed : Consumes (remaining (device_of (intakes.counted_of i0)))
+        (remaining (device_of (intakes.counted_of i))) z
     pub fetched : i.fetched ≡ length z
     pub long : length z ≤ 2270 * k
     pub reads : (failures_of (intakes.counted_of i)).all ≤ 38607 * k
-    pub appended : Appends (contents (device_of (outlets.counted_of o0))) (contents (device_of (outlets.counted_of o))) (text_before_tail t c z)
+    pub appended : Appends (contents (device_of (outlets.counted_of o0)))
+        (contents (device_of (outlets.counted_of o))) (text_before_tail t c z)
     pub written : o.written ≡ length (text_before_tail t c z)
     pub small : o.written ≤ 192 + 192 * p.fields
     pub writes : (failures_of (outlets.counted_of o)).all ≤ 3281 + 3281 * p.fields
@@ -157,7 +159,8 @@ module _ (t : Texts) {R W : Type 0} (remaining : R → Option (List ℕ)) (conte
   -- before the first row
   pub start : (o : Outlet W) (p : Progress) (text : List ℕ) → intakes.IsFresh i0 c.system → outlets.IsFresh o0
       → text ≡ t.head c → length text ≤ 192 → outlets.Puts contents o0 o text
-      → o.written ≡ o0.written + length text → NoError (outlets.counted_of o0) (outlets.counted_of o) → IsSameDevice (outlets.counted_of o0) (outlets.counted_of o)
+      → o.written ≡ o0.written + length text → NoError (outlets.counted_of o0) (outlets.counted_of o)
+      → IsSameDevice (outlets.counted_of o0) (outlets.counted_of o)
       → p.fields ≡ 0 → p.row ≡ 0
       → Pulled 0 i0 o p
   start o p text fresh clean is few puts whole no_error same fields row =
@@ -200,10 +203,13 @@ module _ (t : Texts) {R W : Type 0} (remaining : R → Option (List ℕ)) (conte
 
   -- a text that was put in part
   write_fault : (i : Intake R) (o o' : Outlet W) (z base part : List ℕ) (fault : RunFault)
-      → Consumes (remaining (device_of (intakes.counted_of i0))) (remaining (device_of (intakes.counted_of i))) z → i.fetched ≡ length z
-      → Appends (contents (device_of (outlets.counted_of o0))) (contents (device_of (outlets.counted_of o))) base → o.written ≡ length base
+      → Consumes (remaining (device_of (intakes.counted_of i0))) (remaining (device_of (intakes.counted_of i))) z
+      → i.fetched ≡ length z
+      → Appends (contents (device_of (outlets.counted_of o0))) (contents (device_of (outlets.counted_of o))) base
+      → o.written ≡ length base
       → (failures_of (intakes.counted_of i)).errors ≡ 0 → (failures_of (outlets.counted_of o)).errors ≡ 0
-      → outlets.Wrote contents o o' part → HasCause (outlets.counted_of o) (outlets.counted_of o') → fault ≡ Write o'.written
+      → outlets.Wrote contents o o' part → HasCause (outlets.counted_of o) (outlets.counted_of o')
+      → fault ≡ Write o'.written
       → length z ≤ allowed_bytes c → i.line.looked ≡ looks_of c z
       → EndsWithin t c (remaining (device_of (intakes.counted_of i))) z (base ++ part)
       → Runs t remaining contents c i0 i o0 o' (Err fault)
@@ -231,7 +237,8 @@ module _ (t : Texts) {R W : Type 0} (remaining : R → Option (List ℕ)) (conte
   -- the head was put in part
   pub head_fault : (o : Outlet W) (text : List ℕ) (fault : RunFault) → intakes.IsFresh i0 c.system → outlets.IsFresh o0
       → text ≡ t.head c → outlets.Puts contents o0 o text
-      → HasCause (outlets.counted_of o0) (outlets.counted_of o) → outlets.written_of o < outlets.written_of o0 + length text
+      → HasCause (outlets.counted_of o0) (outlets.counted_of o)
+      → outlets.written_of o < outlets.written_of o0 + length text
       → fault ≡ Write o.written → Runs t remaining contents c i0 i0 o0 o (Err fault)
   head_fault o text fault fresh clean is puts cause short fails =
       let begun : text ≡ text_before_tail t c [] = is
@@ -264,7 +271,8 @@ module _ (t : Texts) {R W : Type 0} (remaining : R → Option (List ℕ)) (conte
         (got.looked ∙ ap (λ s. i.line.looked + cond sel (width_of s) 0) g.system)
 
     -- and what is due with it was written
-    pub step : (o' : Outlet W) (p' : Progress) → IsSameDevice (intakes.counted_of i) (intakes.counted_of i') → MovesOneRow c p p'
+    pub step : (o' : Outlet W) (p' : Progress) → IsSameDevice (intakes.counted_of i) (intakes.counted_of i')
+        → MovesOneRow c p p'
         → outlets.Rises o o' p.fields p'.fields
         → SettlesWhole t contents c o o' g.z row.bytes p' → NoError (outlets.counted_of o) (outlets.counted_of o')
         → IsSameDevice (outlets.counted_of o) (outlets.counted_of o')
@@ -282,7 +290,8 @@ module _ (t : Texts) {R W : Type 0} (remaining : R → Option (List ℕ)) (conte
         let w = wrote.written in
         let m = ap length settled.due in
         let n = length-append (text_before_tail t c g.z) settled.text in
-        let P : List ℕ → Type 0 = Appends (contents (device_of (outlets.counted_of o0))) (contents (device_of (outlets.counted_of o'))) in
+        let P : List ℕ → Type 0 = Appends (contents (device_of (outlets.counted_of o0)))
+        (contents (device_of (outlets.counted_of o'))) in
         record {
           z = z;
           consumed = Consumes-trans _ _ _ g.z row.bytes g.consumed row.consumed;
@@ -311,7 +320,8 @@ module _ (t : Texts) {R W : Type 0} (remaining : R → Option (List ℕ)) (conte
 
     -- or the entry of the field that it ends was put in part
     pub entry_fault : (o' : Outlet W) (p' : Progress) (fault : RunFault) → MovesOneRow c p p' → p'.row ≡ 0
-        → SettlesInPart t contents c o o' g.z row.bytes p' → HasCause (outlets.counted_of o) (outlets.counted_of o') → fault ≡ Write o'.written
+        → SettlesInPart t contents c o o' g.z row.bytes p' → HasCause (outlets.counted_of o) (outlets.counted_of o')
+        → fault ≡ Write o'.written
         → k + 1 ≤ c.max_fields * height_of c.system → Runs t remaining contents c i0 i' o0 o' (Err fault)
     entry_fault o' p' fault next first settled cause fails limit =
         let z : List ℕ = g.z ++ row.bytes in
@@ -335,8 +345,15 @@ module _ (t : Texts) {R W : Type 0} (remaining : R → Option (List ℕ)) (conte
         (Consumes-trans _ _ _ g.z row.bytes g.consumed row.consumed) (omega (arith, row.fetched, g.fetched)) g.appended
         g.written
         (got.no_error ∙ g.calm_reads) g.calm_writes w.wrote cause fails within looks
-        (inr (inl (due.before, due.last, due.both, due.fields, due.field, subst P (sym due.begun)
-        (inside_of contents o o' (text_before_tail t c g.z) settled.text (text_before_tail t c z) w settled.due))))
+        (inr (inl (
+          due.before,
+          due.last,
+          due.both,
+          due.fields,
+          due.field,
+          subst P (sym due.begun)
+              (inside_of contents o o' (text_before_tail t c g.z) settled.text (text_before_tail t c z) w settled.due),
+        )))
       where
         next_fields : (p p' : Progress) → MovesOneRow c p p' → p'.row ≡ 0 → p'.fields ≡ p.fields + 1
         next_fields p p' (inl (fields, row)) first = absurd (omega arith)

@@ -19,11 +19,13 @@ use Rattle.vbi_field.proofs.DrawnLemmas.{lines_of-none, lines_of-all, lines_of-s
 module _ {W : Type 0} (contents : W → Option (List ℕ)) (c : ConfigView) (words : WordRow) (old : Outlet W) where
   -- this number of rows is written, and the line has the last of them
   pub record Putting (now : Outlet W) (line : List ℕ) (row : ℕ) : Type 0 where
-    pub appended : Appends (contents (device_of (counted_of old))) (contents (device_of (counted_of now))) (lines_of c words row)
+    pub appended : Appends (contents (device_of (counted_of old))) (contents (device_of (counted_of now)))
+        (lines_of c words row)
     pub written : now.written ≡ old.written + length (lines_of c words row)
     pub small : now.written ≤ old.written + 2270 * row
     pub least : (failures_of (counted_of old)).all ≤ (failures_of (counted_of now)).all
-    pub most : (failures_of (counted_of now)).all ≤ (failures_of (counted_of old)).all + 17 * (length (lines_of c words row) + row)
+    pub most : (failures_of (counted_of now)).all
+        ≤ (failures_of (counted_of old)).all + 17 * (length (lines_of c words row) + row)
     pub errors : NoError (counted_of old) (counted_of now)
     pub same : IsSameDevice (counted_of old) (counted_of now)
     pub drawn : line ≡ drawn_line_of c (word_at words (row - 1))
@@ -80,7 +82,8 @@ module _ {W : Type 0} (contents : W → Option (List ℕ)) (c : ConfigView) (wor
   -- the field is written
   pub put_whole : (now : Outlet W) (line : List ℕ) (row : ℕ) → Putting now line row → row ≡ height_of c.system
       → Wrote contents old now (drawn_field_of c words) × (line ≡ drawn_line_of c None)
-      × ((failures_of (counted_of now)).all ≤ (failures_of (counted_of old)).all + 17 * (length (drawn_field_of c words) + 313))
+      × ((failures_of (counted_of now)).all ≤ (failures_of (counted_of old)).all
+      + 17 * (length (drawn_field_of c words) + 313))
   put_whole now line row p e =
       let whole : lines_of c words row ≡ drawn_field_of c words = ap (lines_of c words) e ∙ lines_of-all c words in
       let long = ap length whole in
@@ -98,7 +101,8 @@ module _ {W : Type 0} (contents : W → Option (List ℕ)) (c : ConfigView) (wor
       → line ≡ drawn_line_of c (word_at words row) → (puts : Puts contents now new line)
       → new.written < now.written + length line
       → WrotePart contents old new (drawn_field_of c words)
-      × ((failures_of (counted_of new)).all ≤ (failures_of (counted_of old)).all + 17 * (length (drawn_field_of c words) + 313))
+      × ((failures_of (counted_of new)).all ≤ (failures_of (counted_of old)).all
+      + 17 * (length (drawn_field_of c words) + 313))
   put_part now new before line row p inside e puts less =
       let base = lines_of c words row in
       let split = lines_of-split c words (row + 1) (omega arith) in

@@ -109,6 +109,7 @@ counts_of i o = record {
 abbrev pub RunsDrawing : {R W : Type 0} → (R → Option (List ℕ)) → (W → Option (List ℕ)) → ConfigView
     → RowIntake R → RowIntake R → Outlet W → Outlet W → Result ℕ DrawFault → Type 0
 RunsDrawing remaining contents c i0 i o0 o result =
-    Ran (remaining (device_of (intakes.counted_of i0))) (remaining (device_of (intakes.counted_of i))) (contents (device_of (outlets.counted_of o0)))
+    Ran (remaining (device_of (intakes.counted_of i0))) (remaining (device_of (intakes.counted_of i)))
+    (contents (device_of (outlets.counted_of o0)))
     (contents (device_of (outlets.counted_of o)))
     (counts_of i o) (Draws c (remaining (device_of (intakes.counted_of i))) (counts_of i o) result)

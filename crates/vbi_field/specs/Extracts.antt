@@ -91,6 +91,7 @@ counts_of i o = record {
 abbrev pub Runs : {R W : Type 0} → Texts → (R → Option (List ℕ)) → (W → Option (List ℕ)) → ConfigView
     → Intake R → Intake R → Outlet W → Outlet W → Result Summary RunFault → Type 0
 Runs t remaining contents c i0 i o0 o result =
-    Ran (remaining (device_of (intakes.counted_of i0))) (remaining (device_of (intakes.counted_of i))) (contents (device_of (outlets.counted_of o0)))
+    Ran (remaining (device_of (intakes.counted_of i0))) (remaining (device_of (intakes.counted_of i)))
+    (contents (device_of (outlets.counted_of o0)))
     (contents (device_of (outlets.counted_of o)))
     (counts_of i o) (Extracts t c (remaining (device_of (intakes.counted_of i))) (counts_of i o) result)

@@ -74,7 +74,8 @@ module _ {R : Type 0} where
   GotRow remaining old new bytes (Row words) =
       (row : List ℕ) × HasNoNewline row × (bytes ≡ row ++ 10 ∷ []) × (word_row_of row ≡ Some words)
   GotRow remaining old new bytes (LastRow words) =
-      HasNoNewline bytes × (0 < length bytes) × (word_row_of bytes ≡ Some words) × IsAtEnd (remaining (device_of (counted_of new)))
+      HasNoNewline bytes × (0 < length bytes) × (word_row_of bytes ≡ Some words)
+      × IsAtEnd (remaining (device_of (counted_of new)))
   GotRow remaining old new bytes Malformed = IsMalformed remaining new bytes
   GotRow remaining old new bytes Ended = (bytes ≡ []) × IsAtEnd (remaining (device_of (counted_of new)))
   GotRow remaining old new bytes Failed = HasNoNewline bytes

@@ -102,7 +102,8 @@ fn put_field<W: Write>(
     ensures same { IsSameDevice (outlets.counted_of outlet.old) (outlets.counted_of outlet.new) }
     ensures ok { OnOk result (Wrote W.contents outlet.old outlet.new (drawn_field_of config.now words.now)) }
     ensures part { OnErr result (WrotePart W.contents outlet.old outlet.new (drawn_field_of config.now words.now)) }
-    ensures least { (failures_of (outlets.counted_of outlet.old)).all ≤ (failures_of (outlets.counted_of outlet.new)).all }
+    ensures least { (failures_of (outlets.counted_of outlet.old)).all
+        ≤ (failures_of (outlets.counted_of outlet.new)).all }
     ensures most { (failures_of (outlets.counted_of outlet.new)).all ≤ (failures_of (outlets.counted_of outlet.old)).all
         + 17 * (length (drawn_field_of config.now words.now) + 313) }
     ensures no_error { OnOk result (NoError (outlets.counted_of outlet.old) (outlets.counted_of outlet.new)) }

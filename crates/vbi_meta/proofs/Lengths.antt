@@ -28,19 +28,59 @@ and s t a b = omega (arith, length-append s t, a, b)
 -- a text of so many parts is as long as these together
 five_parts : (a b c d e : List ℕ) (most : ℕ) → length a + length b + length c + length d + length e ≤ most
     → length (a ++ b ++ c ++ d ++ e) ≤ most
-five_parts a b c d e most sum = omega (arith, sum, length-append (a ++ b ++ c ++ d) e, length-append (a ++ b ++ c) d, length-append (a ++ b) c, length-append a b)
+five_parts a b c d e most sum = omega (
+  arith,
+  sum,
+  length-append (a ++ b ++ c ++ d) e,
+  length-append (a ++ b ++ c) d,
+  length-append (a ++ b) c,
+  length-append a b,
+)
 
 six_parts : (a b c d e f : List ℕ) (most : ℕ) → length a + length b + length c + length d + length e + length f ≤ most
     → length (a ++ b ++ c ++ d ++ e ++ f) ≤ most
-six_parts a b c d e f most sum = omega (arith, sum, length-append (a ++ b ++ c ++ d ++ e) f, length-append (a ++ b ++ c ++ d) e, length-append (a ++ b ++ c) d, length-append (a ++ b) c, length-append a b)
+six_parts a b c d e f most sum = omega (
+  arith,
+  sum,
+  length-append (a ++ b ++ c ++ d ++ e) f,
+  length-append (a ++ b ++ c ++ d) e,
+  length-append (a ++ b ++ c) d,
+  length-append (a ++ b) c,
+  length-append a b,
+)
 
-seven_parts : (a b c d e f g : List ℕ) (most : ℕ) → length a + length b + length c + length d + length e + length f + length g ≤ most
+seven_parts : (a b c d e f g : List ℕ) (most : ℕ)
+    → length a + length b + length c + length d + length e + length f + length g ≤ most
     → length (a ++ b ++ c ++ d ++ e ++ f ++ g) ≤ most
-seven_parts a b c d e f g most sum = omega (arith, sum, length-append (a ++ b ++ c ++ d ++ e ++ f) g, length-append (a ++ b ++ c ++ d ++ e) f, length-append (a ++ b ++ c ++ d) e, length-append (a ++ b ++ c) d, length-append (a ++ b) c, length-append a b)
+seven_parts a b c d e f g most sum = omega (
+  arith,
+  sum,
+  length-append (a ++ b ++ c ++ d ++ e ++ f) g,
+  length-append (a ++ b ++ c ++ d ++ e) f,
+  length-append (a ++ b ++ c ++ d) e,
+  length-append (a ++ b ++ c) d,
+  length-append (a ++ b) c,
+  length-append a b,
+)
 
-eleven_parts : (a b c d e f g h i j k : List ℕ) (most : ℕ) → length a + length b + length c + length d + length e + length f + length g + length h + length i + length j + length k ≤ most
+eleven_parts : (a b c d e f g h i j k : List ℕ) (most : ℕ)
+    → length a + length b + length c + length d + length e + length f + length g + length h + length i + length j
+    + length k ≤ most
     → length (a ++ b ++ c ++ d ++ e ++ f ++ g ++ h ++ i ++ j ++ k) ≤ most
-eleven_parts a b c d e f g h i j k most sum = omega (arith, sum, length-append (a ++ b ++ c ++ d ++ e ++ f ++ g ++ h ++ i ++ j) k, length-append (a ++ b ++ c ++ d ++ e ++ f ++ g ++ h ++ i) j, length-append (a ++ b ++ c ++ d ++ e ++ f ++ g ++ h) i, length-append (a ++ b ++ c ++ d ++ e ++ f ++ g) h, length-append (a ++ b ++ c ++ d ++ e ++ f) g, length-append (a ++ b ++ c ++ d ++ e) f, length-append (a ++ b ++ c ++ d) e, length-append (a ++ b ++ c) d, length-append (a ++ b) c, length-append a b)
+eleven_parts a b c d e f g h i j k most sum = omega (
+  arith,
+  sum,
+  length-append (a ++ b ++ c ++ d ++ e ++ f ++ g ++ h ++ i ++ j) k,
+  length-append (a ++ b ++ c ++ d ++ e ++ f ++ g ++ h ++ i) j,
+  length-append (a ++ b ++ c ++ d ++ e ++ f ++ g ++ h) i,
+  length-append (a ++ b ++ c ++ d ++ e ++ f ++ g) h,
+  length-append (a ++ b ++ c ++ d ++ e ++ f) g,
+  length-append (a ++ b ++ c ++ d ++ e) f,
+  length-append (a ++ b ++ c ++ d) e,
+  length-append (a ++ b ++ c) d,
+  length-append (a ++ b) c,
+  length-append a b,
+)
 
 digits : (n : ℕ) → n < 2 ^ 64 → length (decimal n) ≤ 20
 digits n h = length-decimal-le 20 n (lit< tt) (omega arith) h

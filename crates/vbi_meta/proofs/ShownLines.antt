@@ -80,9 +80,23 @@ is_shown : (system : System) (levels : List Bool) → length levels < 2 ^ 64 →
     → Reads system levels outcome pass → IsShown (record { outcome = outcome; pass = pass })
 unfolding escape_byte
 is_shown system levels short (Word w) pass (inl (p, shows)) =
-    record { value = omega (arith, shows.is_word.1); pass = omega arith; free = refl; utf8 = IsUtf8-are_ascii _ refl; digit = omega arith; brief = lit≤ tt }
+    record {
+      value = omega (arith, shows.is_word.1);
+      pass = omega arith;
+      free = refl;
+      utf8 = IsUtf8-are_ascii _ refl;
+      digit = omega arith;
+      brief = lit≤ tt;
+    }
 is_shown system levels short (Word w) pass (inr (p, none, high, shows)) =
-    record { value = omega (arith, shows.is_word.1); pass = omega arith; free = refl; utf8 = IsUtf8-are_ascii _ refl; digit = omega arith; brief = lit≤ tt }
+    record {
+      value = omega (arith, shows.is_word.1);
+      pass = omega arith;
+      free = refl;
+      utf8 = IsUtf8-are_ascii _ refl;
+      digit = omega arith;
+      brief = lit≤ tt;
+    }
 is_shown system levels short Blank pass (p, is) =
     record { value = lit< tt; pass = omega arith; free = refl; utf8 = IsUtf8-are_ascii _ refl; digit = omega arith; brief = lit≤ tt }
 is_shown system levels short Unfinished pass (p, is, none) =
@@ -119,7 +133,8 @@ short_line : (system : System) → line_bytes system < 2 ^ 64
 short_line Ntsc = lit< tt
 short_line Pal = lit< tt
 
-pub short_levels : (c : ConfigView) (z : List ℕ) (i r : ℕ) → length (row_levels c.levels (line_at c.system z i r)) < 2 ^ 64
+pub short_levels : (c : ConfigView) (z : List ℕ) (i r : ℕ)
+    → length (row_levels c.levels (line_at c.system z i r)) < 2 ^ 64
 short_levels c z i r =
     let row = line_at c.system z i r in
     let long : length row ≤ line_bytes c.system =
