@@ -82,7 +82,7 @@ uninstall:
 
 check:
 	@sh tests/tools.sh
-	sh tests/gate.sh $(PROGRAM)
+	sh tests/scripts.sh $(PROGRAM) --as-built
 
 # Archives of one commit and one program are the same byte for byte, whenever they are made. Uncommitted changes aren't
 # in them.

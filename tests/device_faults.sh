@@ -69,17 +69,17 @@ for command in extract show; do
         place="$command: reads at byte $at"
         fault="ldvbi: read failed in field $((fields + 1)) at byte $rest"
         for kind in 'error' 'error 1'; do
-            faulty "0 $at $kind" 1 $command $ntsc < three.tbc
+            faulty_with three.tbc "0 $at $kind" 1 $command $ntsc
             stands "$place: $kind" 1 $command.begun.$fields "$fault" "$((before + 1)) 1" "$((1 + fields)) 0"
         done
-        faulty "0 $at interrupt" 1 $command $ntsc < three.tbc
+        faulty_with three.tbc "0 $at interrupt" 1 $command $ntsc
         stands "$place: interruptions" 1 $command.begun.$fields "$fault" "$((before + 17)) 17" "$((1 + fields)) 0"
-        faulty "0 $at interrupt 16" 1 $command $ntsc < three.tbc
+        faulty_with three.tbc "0 $at interrupt 16" 1 $command $ntsc
         stands "$place: 16 interruptions" 0 $command.whole '' "$((790 + parted + 16)) 16" '5 0'
         [ $at = 1435980 ] && continue
-        faulty "0 $at 1 1" 1 $command $ntsc < three.tbc
+        faulty_with three.tbc "0 $at 1 1" 1 $command $ntsc
         stands "$place: one byte" 0 $command.whole '' "$((790 + parted + ((at + 1) % line != 0))) 1" '5 0'
-        faulty "0 $at end" 1 $command $ntsc < three.tbc
+        faulty_with three.tbc "0 $at end" 1 $command $ntsc
         ending $command $fields $rest > ended.out
         stands "$place: the end" $((rest == 0 ? 0 : 3)) ended.out '' "$((before + 1)) 1" "$((2 + fields)) 0"
     done
@@ -108,14 +108,14 @@ for command in extract show; do
         place="$command: writes at byte $at"
         fault="ldvbi: write failed after $at bytes"
         for kind in 'error' 'error 1' 'end' 'end 1'; do
-            faulty 0 "1 $at $kind" $command $ntsc < three.tbc
+            faulty_with three.tbc 0 "1 $at $kind" $command $ntsc
             stands "$place: $kind" 1 part "$fault" "$lines 0" "$((texts + parted + 1)) 1"
         done
-        faulty 0 "1 $at interrupt" $command $ntsc < three.tbc
+        faulty_with three.tbc 0 "1 $at interrupt" $command $ntsc
         stands "$place: interruptions" 1 part "$fault" "$lines 0" "$((texts + parted + 17)) 17"
-        faulty 0 "1 $at interrupt 16" $command $ntsc < three.tbc
+        faulty_with three.tbc 0 "1 $at interrupt 16" $command $ntsc
         stands "$place: 16 interruptions" 0 $command.whole '' '790 0' "$((5 + parted + 16)) 16"
-        faulty 0 "1 $at 1 1" $command $ntsc < three.tbc
+        faulty_with three.tbc 0 "1 $at 1 1" $command $ntsc
         stands "$place: one byte" 0 $command.whole '' '790 0' "$((5 + parted + last)) 1"
     done
 done
@@ -124,17 +124,17 @@ done
 head -c $field three.tbc > one.tbc
 { cat extract.begun.1; cut_field null; } > one.json
 for pieces in '1 478661' '3 159642' '1821 264'; do
-    faulty "0 0 ${pieces% *}" '1 0 1' extract $ntsc < one.tbc
+    faulty_with one.tbc "0 0 ${pieces% *}" '1 0 1' extract $ntsc
     bytes=$(wc -c < one.json)
     stands "reads of ${pieces% *} bytes, writes of one" 0 one.json '' "${pieces#* } ${pieces#* }" "$bytes $bytes"
 done
 often='0 interrupt 16, 1 interrupt 16, 2 interrupt 16, 140 interrupt 16'
-faulty "0 $often" "1 $often" extract $ntsc < one.tbc
+faulty_with one.tbc "0 $often" "1 $often" extract $ntsc
 stands 'often 16 interruptions' 0 one.json '' '331 64' '70 64'
 often='0 interrupt 16, 0 1 1, 1 interrupt'
-faulty "0 $often" 1 extract $ntsc < one.tbc
+faulty_with one.tbc "0 $often" 1 extract $ntsc
 stands '17 interruptions after a byte' 1 extract.begun.0 'ldvbi: read failed in field 1 at byte 1' '34 34' '1 0'
-faulty 0 "1 $often" extract $ntsc < one.tbc
+faulty_with one.tbc 0 "1 $often" extract $ntsc
 head -c 1 one.json > part
 stands '17 interruptions of a write after a byte' 1 part 'ldvbi: write failed after 1 bytes' '0 0' '34 34'
 
@@ -147,7 +147,7 @@ for command in extract show; do
         out=$command.begun.2
         writes='3 0'
         [ $status_wanted = 0 ] && out=two.out writes='4 0'
-        faulty "0 $faults" 1 $command --max-fields 2 $ntsc < $stream.tbc
+        faulty_with $stream.tbc "0 $faults" 1 $command --max-fields 2 $ntsc
         stands "$command at its limit: $faults" $status_wanted $out "$answer" "$reads" "$writes"
     done << 'END'
 three||1|ldvbi: too many fields|527 0
@@ -162,7 +162,7 @@ two||0||527 0
 two|957320 interrupt 16|0||543 16
 END
 done
-faulty 0 1 extract --max-fields 2 $ntsc < /dev/zero
+faulty_with /dev/zero 0 1 extract --max-fields 2 $ntsc
 document_head NTSC 910 263 16384 51200 > zeros.out
 { blank_record 1; printf ',\n'; blank_record 2; } >> zeros.out
 stands 'an endless input' 1 zeros.out 'ldvbi: too many fields' '527 0' '3 0'
@@ -171,7 +171,7 @@ stands 'an endless input' 1 zeros.out 'ldvbi: too many fields' '527 0' '3 0'
 head -c 150 extract.whole > part
 all=$(wc -c < extract.begun.3)
 while IFS='|' read -r read_fault write_fault out answer reads writes; do
-    faulty "0 $read_fault" "1 $write_fault" extract $ntsc < three.tbc
+    faulty_with three.tbc "0 $read_fault" "1 $write_fault" extract $ntsc
     stands "reads: $read_fault, writes: $write_fault" 1 $out "ldvbi: $answer" "$reads" "$writes"
 done << END
 0 error|0 error|empty|write failed after 0 bytes|0 0|1 1
@@ -188,7 +188,7 @@ cat black.tbc black.tbc > two.tbc
 { cat black.begun; printf ',\n'; blank_record 2; cut_field null; } > two.json
 check 'what is written of one black field has 227 bytes' [ "$(wc -c < black.begun)" = 227 ]
 fault='ldvbi: read failed in field 2 at byte 1000'
-faulty '0 479660 error' 1 extract $ntsc < two.tbc
+faulty_with two.tbc '0 479660 error' 1 extract $ntsc
 stands 'two black fields, reads fail' 1 black.begun "$fault" '265 1' '2 0'
 faulty '3 479660 error' 1 extract $ntsc two.tbc 3<&-
 stands 'a file, reads fail' 1 black.begun "$fault" '265 1' '2 0'
@@ -206,11 +206,11 @@ printf '8AE012|87FFFF|F0DD00\n-|-|-\n' | signal PAL 1 | pal_samples > pal.tbc
     record 1 9101330,8912895,15785216 '"word","word","word"' 1,1,1
 } > pal.begun
 { cat pal.begun; printf ',\n'; blank_record 2; cut_field null; } > pal.json
-faulty '0 711510 error' 1 extract $pal < pal.tbc
+faulty_with pal.tbc '0 711510 error' 1 extract $pal
 stands 'two fields of PAL, reads fail' 1 pal.begun 'ldvbi: read failed in field 2 at byte 1000' '315 1' '2 0'
-faulty '0 711510 interrupt 16' 1 extract $pal < pal.tbc
+faulty_with pal.tbc '0 711510 interrupt 16' 1 extract $pal
 stands 'two fields of PAL, 16 interruptions' 0 pal.json '' '644 16' '4 0'
-faulty 0 '1 150 error' extract $pal < pal.tbc
+faulty_with pal.tbc 0 '1 150 error' extract $pal
 head -c 150 pal.json > part
 stands 'two fields of PAL, writes fail' 1 part 'ldvbi: write failed after 150 bytes' '313 0' '3 1'
 finish

@@ -8,16 +8,27 @@ command -v "$compiler" > /dev/null || {
 }
 "$compiler" -std=c99 -shared -fPIC -O2 -Wall -o devices.so "$here/devices.c" -ldl || exit 1
 
-# faulty READS WRITES WORD..: the program, its input and output having these faults (see devices.c)
+# faulty READS WRITES WORD..: the program with nothing on standard input, its input and output having these faults (see
+# devices.c)
 DEVICE_RECORD=$work/record
 export DEVICE_READ DEVICE_WRITE DEVICE_RECORD
 faulty() {
+    faulty_with empty "$@"
+}
+# faulty_with FILE READS WRITES WORD..: the same with this file on standard input
+faulty_with() {
+    run_input=$1
+    shift
+    faulty_inheriting "$@" < "$run_input"
+}
+# faulty_inheriting READS WRITES WORD..: the same with standard input as the caller has it
+faulty_inheriting() {
     DEVICE_READ=$1
     DEVICE_WRITE=$2
     shift 2
     : > record
-    LD_PRELOAD=$work/devices.so "$program" "$@" > out 2> err
-    status=$?
+    status=0
+    bounded env LD_PRELOAD="$work/devices.so" "$program" "$@" > out 2> err || status=$?
 }
 
 # stands NAME STATUS OUT ERR READS WRITES: judges the last run, and how often its devices were asked and how often they

@@ -1,6 +1,10 @@
 # shellcheck shell=sh disable=SC2034
 # What the scripts share that run the built program, whose path is their first word. They read this in first; it takes
-# them to an empty folder, which is removed in the end.
+# them to an empty folder, which is removed in the end. How many checks a script has stands in scripts.txt, and nowhere
+# else.
+#
+# A run of the program, or of another tool, takes RUN_SECONDS at most (120 where the environment doesn't say): a script
+# ends at the first that takes longer. Where STOP_AT_FIRST isn't empty it ends at the first check that fails.
 set -u
 
 LC_ALL=C
@@ -8,12 +12,17 @@ export LC_ALL
 here=$(cd "$(dirname "$0")" && pwd)
 program=$(cd "$(dirname "$1")" && pwd)/$(basename "$1")
 script=$(basename "$0" .sh)
+seconds=${RUN_SECONDS:-120}
 judged=0
 passed=0
+left_out=0
 work=$(mktemp -d)
 trap 'rm -rf "$work"' EXIT
+trap 'exit 1' HUP INT TERM
 cd "$work" || exit 1
 : > empty
+: > err
+status=none
 
 # The folder of the stored run, its options, and those of each system's usual levels
 stored=$here/../crates/vbi_cli
@@ -21,22 +30,70 @@ levels='--system NTSC --black 8224 --white 16448'
 ntsc='--system NTSC --black 16384 --white 51200'
 pal='--system PAL --black 16384 --white 54016'
 
-# run WORD..: the program, with standard input as the caller has it
-run() {
-    "$program" "$@" > out 2> err
-    status=$?
+# bounded COMMAND..: runs a command, which is ended where it takes longer than it may; `check` finds that out
+bounded() {
+    timeout -k 5 "$seconds" "$@" || failed_with $?
+}
+failed_with() {
+    case $1 in 124 | 137) echo "$1" > "$work/endless" ;; esac
+    return "$1"
 }
 
-# check NAME COMMAND..: whether this command succeeds, as it has to
+# run WORD..: the program, with nothing on standard input. It would take the rows of the loop that it stands in.
+run() {
+    run_with empty "$@"
+}
+
+# run_with FILE WORD..: the program, with this file on standard input
+run_with() {
+    run_input=$1
+    shift
+    run_inheriting "$@" < "$run_input"
+}
+
+# run_leaving FILE WORD..: the same; what it hasn't read then is in the file `rest`
+run_leaving() {
+    run_input=$1
+    shift
+    { run_inheriting "$@"; cat > rest; } < "$run_input"
+}
+
+# run_inheriting WORD..: the program, with standard input as the caller has it
+run_inheriting() {
+    status=0
+    bounded "$program" "$@" > out 2> err || status=$?
+}
+
+# output_of WORD..: writes what the program writes, with nothing on standard input, for what a script needs in its runs
+output_of() {
+    bounded "$program" "$@" < "$work/empty"
+}
+
+# check NAME COMMAND..: whether this command succeeds, as it has to, and each run before it has ended by itself
 check() {
     checked=$1
     shift
     judged=$((judged + 1))
-    if "$@"; then
+    if [ -e "$work/endless" ]; then
+        echo "$script: $checked: a run before it was ended after $seconds seconds" >&2
+        stop 'a run that takes too long'
+    elif "$@"; then
         passed=$((passed + 1))
     else
         echo "$script: $checked: status $status, and on standard error: $(cat err)" >&2
+        [ -z "${STOP_AT_FIRST:-}" ] || stop 'the first check that failed'
     fi
+}
+
+# stop WHY: ends the script before its end
+stop() {
+    echo "$script: stopped at $1"
+    exit 1
+}
+
+# leave_out COUNT: counts checks that can't be made here, as those of a library that isn't built
+leave_out() {
+    left_out=$((left_out + $1))
 }
 
 # ended STATUS OUT ERR: whether the last run ended with this status and wrote these two files, byte for byte
@@ -56,10 +113,18 @@ judge() {
     check "$1" ended "$2" "$3" wanted
 }
 
-# Tells how many checks held, and ends.
+# finish: reports how many checks held, and ends; the status is 0 where these are all, and as many as scripts.txt has
 finish() {
-    echo "$script: $passed of $judged runs as wanted"
-    [ "$passed" = "$judged" ]
+    [ ! -e "$work/endless" ] || stop 'a run that takes too long'
+    checks=$(awk -v name="$script" '$1 == name { print $2 }' "$here/scripts.txt")
+    checks=$((${checks:-0} - left_out))
+    [ "$judged" = "$checks" ] || echo "$script: $judged checks, and scripts.txt has $checks for it" >&2
+    if [ "$left_out" = 0 ]; then
+        echo "$script: $passed of $checks checks as wanted"
+    else
+        echo "$script: $passed of $checks checks as wanted, $left_out left out"
+    fi
+    [ "$judged $passed" = "$checks $checks" ]
     exit
 }
 

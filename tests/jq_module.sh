@@ -36,10 +36,10 @@ def text:
   (range(3) as $line
    | "\(16 + $line) " + if .codes[$line] then "\($words[$line] | hex) \(.codes[$line] | text)" else "none blank" end)
 END
-"$program" draw $ntsc words | "$program" extract $ntsc > document.json
-"$program" draw $ntsc words | "$program" show $ntsc | sed '1d;$d' > wanted
+output_of draw $ntsc words | bounded "$program" extract $ntsc > document.json
+output_of draw $ntsc words | bounded "$program" show $ntsc | sed '1d;$d' > wanted
 status=0
-jq -r -L "$here/../contrib" -f report.jq document.json > out 2> err || status=$?
+bounded jq -r -L "$here/../contrib" -f report.jq document.json < empty > out 2> err || status=$?
 check 'each word as show has it' cmp out wanted
 for kind in lead-in lead-out 'picture stop' picture chapter clv time 'clv picture' 'cx on' 'cx off' users other; do
     check "some word is $kind" grep -q "^1[678] [0-9A-F]\{6\} $kind" wanted
@@ -49,13 +49,13 @@ done
 told() {
     echo "$2" > wanted
     status=0
-    jq -c -L "$here/../contrib" "include \"ldvbi\"; $3" document.json > out 2> err || status=$?
+    bounded jq -c -L "$here/../contrib" "include \"ldvbi\"; $3" document.json < empty > out 2> err || status=$?
     check "$1" cmp out wanted
 }
 # of_words OPTIONS < WORDS: makes the document of these words
 of_words() {
     cat > words
-    "$program" draw $1 words | "$program" extract $1 > document.json
+    output_of draw $1 words | bounded "$program" extract $1 > document.json
 }
 
 # A CAV disc: a picture that comes again, one of line 18 alone, one on which the lines differ, one with the top bit of

@@ -3,7 +3,7 @@
 # sanitizers, the examples on drawn discs, and the document that Python's readings make beside the one of `extract`.
 # Needs libldvbi.a and libldvbi.so.1 at the top of the repository (`make lib`).
 # usage: sh tests/library.sh PROGRAM
-# shellcheck disable=SC2086
+# shellcheck disable=SC2016,SC2086,SC2317
 
 # shellcheck source=tests/helpers.sh
 . "$(dirname "$0")/helpers.sh"
@@ -19,8 +19,8 @@ export LDVBI_LIBRARY PYTHONPATH PYTHONDONTWRITEBYTECODE
 
 # does COMMAND..: checks that a command succeeds, and says nothing of what it writes unless it fails
 does() {
-    "$@" > out 2> err
-    status=$?
+    status=0
+    bounded "$@" < empty > out 2> err || status=$?
     [ "$status" = 0 ]
 }
 
@@ -29,8 +29,8 @@ prints() {
     wanted_status=$1
     printf '%s\n' "$2" > wanted
     shift 2
-    "$@" > out 2> err
-    status=$?
+    status=0
+    bounded "$@" < empty > out 2> err || status=$?
     [ "$status" = "$wanted_status" ] && cmp -s out wanted
 }
 
@@ -43,7 +43,6 @@ is_among_both() {
 
 # What the library needs, and what it gives
 undefined=$(nm -D --undefined-only "$top/libldvbi.so.1" | sed 's/^ *U //; s/@.*//' | tr '\n' ' ')
-status='none' && : > err
 check 'the library needs memcpy and memset at most' is_among_both $undefined
 undefined=$(nm -u "$top/libldvbi.a" | sed -n 's/^ *U //p' | tr '\n' ' ')
 check 'the archive needs memcpy and memset at most' is_among_both $undefined
@@ -101,7 +100,7 @@ check 'pictures of a CLV disc' prints 0 'field,format,picture,time,stop
 # The program in README.md
 sed -n '/^```c$/,/^```$/{/^```/d;p;}' "$top/README.md" > say.c
 check 'the program in README is built' does $cc -std=c99 $strict -o say say.c $linked
-echo '- F12345 -' | "$program" draw $ntsc > said.tbc
+echo '- F12345 -' | bounded "$program" draw $ntsc > said.tbc
 tail -c +29121 said.tbc | head -c 1820 > line.raw
 check 'the program in README' prints 0 'picture 12345' sh -c './say < line.raw'
 

@@ -14,7 +14,7 @@ cp "$stored/stdin" line.raw
 { cat line.raw; echo rest; } > longer.raw
 while IFS='|' read -r read_fault write_fault status_wanted taken answer reads writes; do
     head -c $taken "$stored/stdout" > part
-    faulty "0 $read_fault" "1 $write_fault" line $levels < longer.raw
+    faulty_with longer.raw "0 $read_fault" "1 $write_fault" line $levels
     stands "line: reads: $read_fault, writes: $write_fault" $status_wanted part "$answer" "$reads" "$writes"
 done << 'END'
 ||0|7||1 0|1 0
@@ -45,7 +45,7 @@ printf '82CFFF F12345 F12345\n82CFFF - -\n' > words
 printf '82CFFF|F12345|F12345\n82CFFF|-|-\n' | signal NTSC 1 | ntsc_samples > drawn.tbc
 while IFS='|' read -r options read_fault write_fault status_wanted taken answer reads writes; do
     head -c $taken drawn.tbc > part
-    faulty "0 $read_fault" "1 $write_fault" draw $ntsc $options < words
+    faulty_with words "0 $read_fault" "1 $write_fault" draw $ntsc $options
     stands "draw $options: reads: $read_fault, writes: $write_fault" $status_wanted part "$answer" "$reads" "$writes"
 done << 'END'
 |||0|957320||33 0|526 0
@@ -100,12 +100,15 @@ stands 'a file, reads of draw fail' 1 part 'ldvbi: read failed in row 2' '22 1' 
 # Metadata that can't be read, which can only in part, and which comes byte by byte
 printf '{"videoParameters":{"system":"NTSC","black16bIre":8224,"white16bIre":16448}}' > line.json
 for at in 0 10 76; do
-    { faulty "3 $at error" 1 line --meta line.json 3<&-; cat > rest; } < line.raw
+    { faulty_inheriting "3 $at error" 1 line --meta line.json 3<&-; cat > rest; } < line.raw
     stands "metadata: reads fail at byte $at" 1 empty 'ldvbi: cannot read metadata' "$((1 + (at > 0))) 1" '0 0'
     check "metadata: reads fail at byte $at, the input" cmp rest line.raw
 done
-faulty '3 10 end' 1 line --meta line.json 3<&- < line.raw
+faulty_with line.raw '3 10 end' 1 line --meta line.json 3<&-
 stands 'metadata: the end at byte 10' 1 empty 'ldvbi: metadata is not JSON' '2 1' '0 0'
-faulty '3 0 1' 1 line --meta line.json 3<&- < line.raw
+faulty_with line.raw '3 0 1' 1 line --meta line.json 3<&-
 stands 'metadata: one byte at a time' 0 "$stored/stdout" '' '77 77' '1 0'
+# An interrupted read of metadata is made again, however often: 10 bytes, 1,000 interruptions, 66 bytes, the end
+faulty_with line.raw '3 10 interrupt 1000' 1 line --meta line.json 3<&-
+stands 'metadata: 1,000 interruptions' 0 "$stored/stdout" '' '1003 1000' '1 0'
 finish

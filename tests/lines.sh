@@ -8,15 +8,15 @@
 
 # The stored line in each way that it can come, and what can be wrong with it
 echo 82CFFF | signal NTSC 0 | text_samples > line.raw
-run line $levels < "$stored/stdin"
+run_with "$stored/stdin" line $levels
 judge 'standard input' 0 "$stored/stdout" ''
 check 'the stored line is the drawn one' cmp line.raw "$stored/stdin"
-run line $levels - < line.raw
+run_with line.raw line $levels -
 judge 'standard input as -' 0 "$stored/stdout" ''
-run line $levels line.raw < empty
+run line $levels line.raw
 judge 'a file' 0 "$stored/stdout" ''
 { cat line.raw; echo rest; } > longer.raw
-{ run line $levels; cat > rest; } < longer.raw
+run_leaving longer.raw line $levels
 judge 'a longer input' 0 "$stored/stdout" ''
 echo rest > unread
 check 'the rest is left unread' cmp rest unread
@@ -24,31 +24,49 @@ check 'the rest is left unread' cmp rest unread
 head -c 1819 line.raw > short.raw
 run line $levels short.raw
 judge 'a short line' 1 empty 'ldvbi: short line: 1819 of 1820 bytes'
-run line $levels < empty
+run line $levels
 judge 'no line' 1 empty 'ldvbi: short line: 0 of 1820 bytes'
 echo 8AE012 | signal PAL 0 | pal_samples | head -c 2269 > short.raw
 run line $pal short.raw
 judge 'a short line of PAL' 1 empty 'ldvbi: short line: 2269 of 2270 bytes'
 run line $levels .
 judge 'a folder as input' 1 empty 'ldvbi: read failed at byte 0'
-run line $levels <&-
+run_inheriting line $levels <&-
 judge 'standard input that is closed' 1 empty 'ldvbi: read failed at byte 0'
 
 # outputs that take nothing: a full device, standard output that is closed, a pipe that nobody reads
-"$program" line $levels line.raw > /dev/full 2> err
-status=$?
+status=0
+output_of line $levels line.raw > /dev/full 2> err || status=$?
 cp empty out
 judge 'no room for the output' 1 empty 'ldvbi: write failed after 0 bytes'
-"$program" line $levels line.raw >&- 2> err
-status=$?
+status=0
+output_of line $levels line.raw >&- 2> err || status=$?
 judge 'standard output that is closed' 1 empty 'ldvbi: write failed after 0 bytes'
 mkfifo unread_pipe
 # shellcheck disable=SC2094
 exec 3<> unread_pipe 4> unread_pipe 3<&-
-"$program" line $levels line.raw >&4 2> err
-status=$?
+status=0
+output_of line $levels line.raw >&4 2> err || status=$?
 exec 4>&-
 judge 'a pipe that nobody reads' 1 empty 'ldvbi: write failed after 0 bytes'
+
+# Standard error that takes nothing: the fault is in the status alone, and a word is written as ever
+status=0
+output_of line $levels > out 2> /dev/full || status=$?
+: > err
+judge 'no room for a fault' 1 empty ''
+status=0
+output_of line $levels > out 2>&- || status=$?
+judge 'a fault where standard error is closed' 1 empty ''
+status=0
+output_of line $levels line.raw > out 2>&- || status=$?
+judge 'a word where standard error is closed' 0 "$stored/stdout" ''
+
+# Standard input is left alone where the input is a file.
+for command in line extract show draw; do
+    run_leaving longer.raw $command $levels line.raw
+    check "$command: standard input beside a file" cmp rest longer.raw
+done
 
 # What a line shows, by its reading
 # one_line NAME ANSWER WORD..: checks what the program says of the line in shown.raw

@@ -9,8 +9,6 @@
 page=$here/../docs/ldvbi.1
 completions=$here/../contrib/completions
 status=0
-: > err
-
 mandoc -T lint -W warning "$page" > out 2>&1 || status=$?
 cp out err
 check 'mandoc has no warning' [ "$status$(cat out)" = 0 ]
@@ -28,7 +26,7 @@ same() {
 
 # Commands with what they do
 section DESCRIPTION | grep -E '^     (line|extract|show|draw) ' | sed 's/[.].*//' | tr -s ' ' > page.found
-"$program" --help | sed -n '/^Commands:/,/^$/p' | grep -E '^  (line|extract|show|draw) ' | sed 's/^/ /' | tr -s ' ' \
+output_of --help | sed -n '/^Commands:/,/^$/p' | grep -E '^  (line|extract|show|draw) ' | sed 's/^/ /' | tr -s ' ' \
     > help.found
 same 'the commands of the page'
 
@@ -50,7 +48,7 @@ section OPTIONS | awk '
     END { print option "|" text }' | tr -s ' ' | sed 's/^ //' | sort > page.options
 grep -v -e '--help' -e '--version' page.options | numbers > page.found
 for command in line extract show draw; do
-    "$program" $command --help | sed -n '/^Options:/,/^[A-Z][a-z]* *[a-z]*:$/p' | awk '
+    output_of $command --help | sed -n '/^Options:/,/^[A-Z][a-z]* *[a-z]*:$/p' | awk '
         /^ *-/ { if (option) print option "|" text; option = $0; text = ""; next }
         /^Example/ { exit }
         option && !/possible values/ { text = text " " $0 }
@@ -59,21 +57,21 @@ for command in line extract show draw; do
     same "the options of the page, and those of $command"
 done
 sed -n 's/^\(-., --[a-z]*\)|.*/\1/p' page.options > page.found
-"$program" --help | sed -n '/^Options:/,/^Examples:/s/^ *\(-., --[a-z]*\).*/\1/p' | sort > help.found
+output_of --help | sed -n '/^Options:/,/^Examples:/s/^ *\(-., --[a-z]*\).*/\1/p' | sort > help.found
 same 'the options without a command'
 
 # Statuses with what they say
 section 'EXIT STATUS' | sed '/^$/d' | tr -s ' ' > page.found
-"$program" --help | sed -n '/^Exit status:/,$s/^  / /p' | tr -s ' ' > help.found
+output_of --help | sed -n '/^Exit status:/,$s/^  / /p' | tr -s ' ' > help.found
 same 'the statuses of the page'
 
 # Completions: what is offered behind each of these command lines
 commands='draw extract help line show'
 options='--black --help --max-fields --meta --system --white'
-"$program" --help | sed -n '/^Commands:/,/^$/s/^  \([a-z]*\) .*/\1/p' | sort | paste -s -d ' ' > help.found
+output_of --help | sed -n '/^Commands:/,/^$/s/^  \([a-z]*\) .*/\1/p' | sort | paste -s -d ' ' > help.found
 echo "$commands" > page.found
 same 'the commands that are completed'
-"$program" extract --help | grep -o '^ *\(-., \)*--[a-z-]*' | grep -o -e '--.*' | sort | paste -s -d ' ' > help.found
+output_of extract --help | grep -o '^ *\(-., \)*--[a-z-]*' | grep -o -e '--.*' | sort | paste -s -d ' ' > help.found
 echo "$options" > page.found
 same 'the options that are completed'
 cat > offers << END
@@ -102,8 +100,8 @@ END
     printf '%s\n' 'ldvbi extract pag|page.found page.options page.txt' \
         'ldvbi extract --meta page.t|page.txt' 'ldvbi extract --meta=page.t|page.txt'
 } > zsh.offers
-sed 's/|.*//' bash.offers | bash "$here/complete.bash" "$completions/ldvbi.bash" > out 2> err
+sed 's/|.*//' bash.offers | bounded bash "$here/complete.bash" "$completions/ldvbi.bash" > out 2> err
 check 'what bash offers' cmp out bash.offers
-sed 's/|.*//' zsh.offers | zsh -f "$here/complete.zsh" "$completions" > out 2> err
+sed 's/|.*//' zsh.offers | bounded zsh -f "$here/complete.zsh" "$completions" > out 2> err
 check 'what zsh offers' cmp out zsh.offers
 finish

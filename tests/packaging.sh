@@ -24,8 +24,8 @@ cd ..
 
 # made WORD..: `make` in the copy
 made() {
-    (cd tree && PATH=$work/tools make -s "$@") > out 2> err
-    status=$?
+    status=0
+    (cd tree && bounded env PATH="$work/tools" make -s "$@") < empty > out 2> err || status=$?
 }
 # What is installed, from `usr`
 cat > files << 'END'
@@ -89,7 +89,7 @@ check 'the toolchain is asked for' grep -q '^make: the command rt of the Rattle 
 
 # One version
 sed -n 's/^VERSION := //p' tree/Makefile > made_version
-"$program" --version | sed 's/^ldvbi //' > told_version
+output_of --version | sed 's/^ldvbi //' > told_version
 check 'the version of the program and of make' cmp made_version told_version
 sed -n 's/^## \([0-9.]*\).*/\1/p' tree/CHANGELOG.md | head -n 1 > changed_version
 check 'the version of the change log' cmp changed_version told_version

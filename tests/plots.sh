@@ -10,7 +10,7 @@
 pictures=$here/../docs/pictures
 status=0
 mkdir made
-sh "$pictures/make.sh" "$program" made > out 2> err || status=$?
+bounded sh "$pictures/make.sh" "$program" made < empty > out 2> err || status=$?
 for name in word second-reading change-170; do
     check "the picture $name" cmp "made/$name.svg" "$pictures/$name.svg"
     check "SIGNAL.md shows $name" grep -q "(pictures/$name.svg)" "$here/../docs/SIGNAL.md"
@@ -45,9 +45,9 @@ plotted() {
     shift
     status=0
     {
-        python3 "$here/../contrib/plot_line.py" --program "$program" "$@" line.raw > out &&
+        bounded python3 "$here/../contrib/plot_line.py" --program "$program" "$@" line.raw > out &&
             python3 found.py out "$columns" > found
-    } 2> err || status=$?
+    } < empty 2> err || status=$?
 }
 
 # The cells of the drawn line, where the table of SIGNAL.md has them; or a column off, where two half cells of one level

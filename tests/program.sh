@@ -17,13 +17,13 @@ document_head NTSC 910 263 16384 51200 > head.json
 { cat begun.json; printf ',\n'; blank_record 2; } > two_begun.json
 { cat two_begun.json; cut_field null; } > two.json
 check 'the expected documents have 155 and 247 bytes' [ "$(wc -c < none.json) $(wc -c < black.json)" = '155 247' ]
-run extract $ntsc < empty
+run extract $ntsc
 judge 'the document of no field' 0 none.json ''
 run extract $ntsc black.tbc
 judge 'the document of a black field' 0 black.json ''
 mkfifo pipe
 cat black.tbc > pipe &
-run extract $ntsc < pipe
+run_with pipe extract $ntsc
 wait $!
 judge 'a pipe' 0 black.json ''
 for bytes in 1 27299 27300 27301 32760 478659; do

@@ -103,7 +103,7 @@ signal NTSC 1 << 'WORDS' | ntsc_samples > side.tbc
 L900 H10|82CFFF @170-174L|L164 H746
 WORDS
 printf '12345' >> side.tbc
-"$program" extract $ntsc side.tbc > side.vbi.json
+output_of extract $ntsc side.tbc > side.vbi.json
 summed_up 'a cut stream with each cause' 1 "$ntsc" << 'END'
 system: NTSC, CAV
 fields: 2, cut: field 3, of 5 bytes
@@ -185,7 +185,7 @@ fields with neither line 17 nor 18: 9 (in 8 stretches; the longest: fields 15-16
 END
 
 side_of "$ntsc" < whole_words
-head -c 3000000 side.tbc | "$program" extract $ntsc > side.vbi.json
+head -c 3000000 side.tbc | bounded "$program" extract $ntsc > side.vbi.json
 glance 'pictures of a disc that is cut' 1 << 'END'
 fields: 6, cut: field 7, of 128040 bytes
 pictures: 3, from 7 to 9
@@ -213,8 +213,8 @@ left out by the disc's clock: 1 (0:09:59.02 after field 3)
 END
 for picture in 27 28; do
     time_code 9 59 $picture
-done > times
-{ cat times; time_code 10 0 2; } | side_of "$ntsc"
+done > few_times
+{ cat few_times; time_code 10 0 2; } | side_of "$ntsc"
 glance 'three numbers left out' 1 << 'END'
 missing: 3 (0:09:59.29 to 0:10:00.01 after field 3)
 END
@@ -227,7 +227,7 @@ END
 # three at once, of a side so long that as many could be left out
 awk 'BEGIN { for (n = 0; n < 1004; n++) if (n < 500 || n > 502) printf "8%XE%d%02d F0DD00 F0DD00\n",
     10 + int(n / 300), n / 30 % 10, n % 30 }' > long_words
-"$program" draw $ntsc long_words | "$program" extract $ntsc > side.vbi.json
+output_of draw $ntsc long_words | bounded "$program" extract $ntsc > side.vbi.json
 glance 'three numbers at once of a long side' 1 << 'END'
 times: 1001, from 0:00:00.00 to 0:00:33.13
 missing: 3 (0:00:16.20 to 0:00:16.22 after field 500)
@@ -362,8 +362,8 @@ check 'a side without fields is drawn' [ "$status $(wc -l < found)" = '0 4' ]
 
 # README's picture, made again
 mkdir made
-sh "$top/docs/pictures/make_side.sh" "$program" made > out 2> err
-status=$?
+status=0
+bounded sh "$top/docs/pictures/make_side.sh" "$program" made < empty > out 2> err || status=$?
 check "README's picture of a side" cmp made/side.svg "$top/docs/pictures/side.svg"
 check 'README shows it' grep -q '(docs/pictures/side.svg)' "$top/README.md"
 finish

@@ -1,4 +1,4 @@
-# shellcheck shell=sh disable=SC2034,SC2086
+# shellcheck shell=sh disable=SC2034,SC2086,SC2154
 # What the tests of the Python package share. They read this in after tests/helpers.sh. The package is found by
 # PYTHONPATH, the library at the top of the repository, where `make lib` puts it.
 
@@ -11,11 +11,11 @@ export LDVBI_LIBRARY PYTHONPATH PYTHONDONTWRITEBYTECODE
 # told OPTION..: what the command prints
 told() {
     status=0
-    python3 -m ldvbi "$@" > out 2> err < empty || status=$?
+    bounded python3 -m ldvbi "$@" < empty > out 2> err || status=$?
 }
 # side_of OPTIONS < WORDS: makes side.tbc and side.vbi.json of these words
 side_of() {
     cat > words
-    "$program" draw $1 words > side.tbc
-    "$program" extract $1 side.tbc > side.vbi.json
+    output_of draw $1 words > side.tbc
+    output_of extract $1 side.tbc > side.vbi.json
 }

@@ -29,7 +29,7 @@ alike() {
         settings=
         [ $source = side.vbi.json ] || settings=$(options_of "$3")
         status=0
-        python3 "$here/python_side.py" "$2" $source $settings > out 2> err || status=$?
+        bounded python3 "$here/python_side.py" "$2" $source $settings < empty > out 2> err || status=$?
         check "$1, $source" cmp out wanted
     done
 }
@@ -43,7 +43,7 @@ check 'there are 20,000 words and those of the corners' [ "$(wc -l < items)" -gt
 split -l 500 all_words part.
 for part in part.*; do
     side_of "$ntsc" < $part
-    "$program" show $ntsc side.tbc | sed '1d;$d' > wanted
+    output_of show $ntsc side.tbc | sed '1d;$d' > wanted
     cat wanted >> reports
     alike "the words of $part" report "$ntsc"
 done
@@ -80,8 +80,8 @@ cp side.vbi.json document
 tells 'a document under another name' 0 'field 7' document --seek 3
 jq . side.vbi.json > document
 tells 'a document in another layout' 0 'field 7' document --seek 00003
-python3 -m ldvbi - --seek 3 < side.vbi.json > out 2> err
-status=$?
+status=0
+bounded python3 -m ldvbi - --seek 3 < side.vbi.json > out 2> err || status=$?
 echo 'field 7' > wanted_text
 judge 'a document on standard input' 0 wanted_text ''
 head -c 2000000 side.tbc > short.tbc
@@ -147,7 +147,7 @@ done
 
 # Documents that are broken, each by a program for jq on the document of a drawn disc that is cut
 side_of "$ntsc" < "$top/examples/cav.words"
-head -c 2000000 side.tbc | "$program" extract $ntsc > side.vbi.json
+head -c 2000000 side.tbc | bounded "$program" extract $ntsc > side.vbi.json
 tells 'a document that is cut' 0 'field 3' side.vbi.json --seek 1
 while IFS='|' read -r text change; do
     jq -c "$change" side.vbi.json > broken.json

@@ -37,7 +37,7 @@ END
 # is wanted in what it wrote
 # shellcheck disable=SC2317
 found() {
-    [ "$status" = "$wanted_status" ] && [ ! -s err ] && "$@" out > found.txt 2> err && cmp -s found.txt found_wanted
+    [ "$status" = "$wanted_status" ] && [ ! -s err ] && bounded "$@" out < empty > found.txt 2> err && cmp -s found.txt found_wanted
 }
 
 # judge_found NAME STATUS: checks the last run's status, and what each reader finds, against the file `found_wanted`
@@ -49,8 +49,8 @@ judge_found() {
 
 # extracted OPTIONS: draws the rows of the file `words` and extracts what was drawn, both at once
 extracted() {
-    "$program" draw $1 words | "$program" extract $1 > out 2> err
-    status=$?
+    status=0
+    output_of draw $1 words | bounded "$program" extract $1 > out 2> err || status=$?
 }
 
 # number ITEM: the number of a word in a row of words, or 0 where there is none

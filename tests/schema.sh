@@ -32,7 +32,7 @@ END
 validated() {
     echo "$2" > answer
     status=0
-    "$python" validate.py "$here/../docs/ldvbi.schema.json" out > said 2> err || status=$?
+    bounded "$python" validate.py "$here/../docs/ldvbi.schema.json" out < empty > said 2> err || status=$?
     check "$1" cmp said answer
 }
 
@@ -58,7 +58,8 @@ head -c 957319 fields.tbc > cut.tbc
 run extract $ntsc cut.tbc
 validated 'the longest cut field, NTSC' valid
 jq -c . out > cut.json
-printf x | run extract $ntsc
+printf x > byte.tbc
+run extract $ntsc byte.tbc
 validated 'the shortest cut field' valid
 signal PAL 1 << 'END' | pal_samples > fields.tbc
 8AE012|8AE012 @200-201L|-

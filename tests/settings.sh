@@ -26,13 +26,13 @@ for command in $commands; do
     judge "$command: the input file before the levels" 1 empty 'ldvbi: cannot open input'
     run $command $levels --meta nan.json absent.raw
     judge "$command: the input file before the metadata" 1 empty 'ldvbi: cannot open input'
-    { run $command $levels --meta nan.json; cat > rest; } < line.raw
+    run_leaving line.raw $command $levels --meta nan.json
     judge "$command: metadata that is not JSON" 1 empty 'ldvbi: metadata is not JSON'
     check "$command: metadata that is not JSON, the input" cmp rest line.raw
-    { run $command --system NTSC --black 5 --white 5 --max-fields 0; cat > rest; } < line.raw
+    run_leaving line.raw $command --system NTSC --black 5 --white 5 --max-fields 0
     judge "$command: levels out of order" 1 empty 'ldvbi: black level is not below white level'
     check "$command: levels out of order, the input" cmp rest line.raw
-    { run $command $levels --max-fields 0; cat > rest; } < line.raw
+    run_leaving line.raw $command $levels --max-fields 0
     judge "$command: no fields" 1 empty 'ldvbi: max fields is not from 1 to 1000000'
     check "$command: no fields, the input" cmp rest line.raw
     run $command --black 8224 --white 16448 .

@@ -12,8 +12,8 @@ done
 for tool in git less mandoc parallel pv zsh; do
     command -v $tool > /dev/null || missing="$missing $tool"
 done
-python3 -c 'import jsonschema' 2> /dev/null || /usr/bin/python3 -c 'import jsonschema' 2> /dev/null ||
-    missing="$missing python3-jsonschema"
+# A command of docs/RECIPES.md is run by the system's Python, whose packages are Debian's.
+/usr/bin/python3 -c 'import jsonschema' 2> /dev/null || missing="$missing python3-jsonschema"
 [ -n "$missing" ] || exit 0
 if [ "${1:-}" != install ]; then
     echo "tests: missing on this machine, as Debian's packages:$missing (make setup installs them)" >&2

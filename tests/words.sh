@@ -77,6 +77,16 @@ END
     refused_first "$command: a system in lower case" "invalid value 'ntsc' for '--system <NAME>'"
     run $command --system NTSC --black 8224.0 --white 16448 line.raw
     refused "$command: a point" "invalid value '8224.0' for '--black <N>': invalid digit found in string"
+    run $command --meta --black 8224 line.raw
+    refused "$command: an option for metadata" "a value is required for '--meta <PATH>' but none was supplied"
+    run $command --system NTSC --black -1 --white 16448 line.raw
+    refused "$command: a number below 0 as a word" "unexpected argument '-1' found
+
+  tip: to pass '-1' as a value, use '-- -1'$usage"
+    for word in --met --sys --max -m -s -b -w -l; do
+        run $command $levels $word line.raw
+        refused_first "$command: $word, no name of an option" "unexpected argument '$word' found"
+    done
     run $command $levels --levels 5 line.raw
     refused_first "$command: an unknown option" "unexpected argument '--levels' found"
     run $command $levels line.raw line.raw
@@ -87,25 +97,30 @@ done
 
 # Paths: an input that is a dash alone is standard input, and every other word is a path
 printf '{"videoParameters":{"system":"NTSC","black16bIre":8224,"white16bIre":16448}}' > ./-
-run line --meta - < line.raw
+run_with line.raw line --meta -
 judge 'metadata in a file named by a dash' 0 "$stored/stdout" ''
-run line $levels - < line.raw
+run_with line.raw line $levels -
 judge 'standard input where there is a file named by a dash' 0 "$stored/stdout" ''
-run line $levels -- - < line.raw
+run_with line.raw line $levels -- -
 judge 'standard input behind two dashes' 0 "$stored/stdout" ''
-run line $levels ./- < line.raw
+run_with line.raw line $levels ./-
 judge 'an input named by a dash' 1 empty "ldvbi: short line: $(wc -c < ./-) of 1820 bytes"
 rm ./-
-run line $levels --meta - < line.raw
+cp line.raw 'line.raw '
+run line $levels 'line.raw '
+judge 'an input whose name ends with a space' 0 "$stored/stdout" ''
+run line $levels 'blank.raw '
+judge 'no input whose name ends with a space' 1 empty 'ldvbi: cannot open input'
+run_with line.raw line $levels --meta -
 judge 'no metadata in a file named by a dash' 1 empty 'ldvbi: cannot read metadata'
 run line $levels --meta '' line.raw
 judge 'metadata named by nothing' 1 empty 'ldvbi: cannot read metadata'
-run line $levels '' < line.raw
+run_with line.raw line $levels ''
 judge 'an input named by nothing' 1 empty 'ldvbi: cannot open input'
 cp line.raw ./--black
-run line $levels -- --black < empty
+run line $levels -- --black
 judge 'an input behind two dashes' 0 "$stored/stdout" ''
-run line $levels -- --white < line.raw
+run_with line.raw line $levels -- --white
 judge 'no input behind two dashes' 1 empty 'ldvbi: cannot open input'
 run line $levels line.raw/line.raw
 judge 'an input in a folder that is a file' 1 empty 'ldvbi: cannot open input'
@@ -150,6 +165,22 @@ run --help
 judge 'the help' 0 program.help ''
 run help
 judge 'the help by its command' 0 program.help ''
+
+# Help that goes nowhere isn't a fault; a word that is refused is one, wherever that is said.
+status=0
+output_of --help > /dev/full 2> err || status=$?
+cp empty out
+judge 'no room for the help' 0 empty ''
+status=0
+output_of --help >&- 2> err || status=$?
+judge 'the help where standard output is closed' 0 empty ''
+status=0
+output_of lines > out 2> /dev/full || status=$?
+: > err
+judge 'no room for what is refused' 2 empty ''
+status=0
+output_of lines > out 2>&- || status=$?
+judge 'what is refused where standard error is closed' 2 empty ''
 
 # The options are the same in each command. A list of values stands behind a line of ten spaces, which is a point here.
 sed 's/^[.]$/          /' > options << 'END'

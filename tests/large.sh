@@ -1,0 +1,71 @@
+#!/bin/sh
+# Runs the built program on an input of more than 4 GiB, by its path and on standard input, and has it draw as much: the
+# numbers of bytes need more than 32 bits. The input has black fields, which take no room on a disk, a drawn one, and a
+# cut one.
+# usage: sh tests/large.sh PROGRAM
+# shellcheck disable=SC2086
+
+# shellcheck source=tests/helpers.sh
+. "$(dirname "$0")/helpers.sh"
+# shellcheck source=tests/devices.sh
+. "$here/devices.sh"
+
+# 8,980 fields have 4,298,366,800 bytes; 4 GiB are 4,294,967,296
+echo '82CFFF|F12345|F12345' | signal NTSC 1 | ntsc_samples > drawn.tbc
+dd if=/dev/null of=large.tbc bs=478660 seek=8980 2> dd.log
+cat drawn.tbc >> large.tbc
+head -c 1000 drawn.tbc >> large.tbc
+check 'the input has more than 4 GiB' [ "$(wc -c < large.tbc)" = 4298846460 ]
+
+{
+    echo 'system NTSC 910x263 black 16384 white 51200'
+    awk 'BEGIN {
+        for (field = 1; field <= 8980; field++)
+            printf "field %d neither\n16 none blank\n17 none blank\n18 none blank\n", field
+    }'
+    printf 'field 8981 cav\n16 82CFFF picture stop\n17 F12345 picture 12345\n18 F12345 picture 12345\n'
+    echo 'fields 8981 cut field 8982 bytes 1000'
+} > large.txt
+{
+    document_head NTSC 910 263 16384 51200
+    awk -v record="$(blank_record NUMBER)" 'BEGIN {
+        for (field = 1; field <= 8980; field++) {
+            blank = record
+            sub("NUMBER", field, blank)
+            printf "%s%s", field == 1 ? "" : ",\n", blank
+        }
+    }'
+} > large.begun
+{
+    cat large.begun
+    printf ',\n'
+    record 8981 8572927,15803205,15803205 '"word","word","word"' 1,1,1
+    cut_field '{"seqNo":8982,"bytes":1000}'
+} > large.json
+
+echo blank > blank
+run line $ntsc large.tbc
+judge 'the first line of a file' 0 blank ''
+run_with large.tbc line $ntsc
+judge 'the first line of standard input' 0 blank ''
+run show $ntsc large.tbc
+judge 'the report of a file' 3 large.txt ''
+run_with large.tbc show $ntsc
+judge 'the report of standard input' 3 large.txt ''
+run extract $ntsc large.tbc
+judge 'the document of a file' 3 large.json ''
+run_with large.tbc extract $ntsc
+judge 'the document of standard input' 3 large.json ''
+faulty_with large.tbc '0 4298366805 error' 1 extract $ntsc
+stands 'reads fail behind 4 GiB' 1 large.begun 'ldvbi: read failed in field 8981 at byte 5' '2361742 1' '8981 0'
+
+# As much is drawn
+{ awk 'BEGIN { for (row = 1; row <= 8980; row++) print "- - -" }'; echo '82CFFF F12345 F12345'; } > words
+output_of draw $ntsc words | tail -c +4298366801 > rest
+check 'the last field that is drawn' cmp rest drawn.tbc
+status=0
+DEVICE_READ=0 DEVICE_WRITE='1 4298366805 error' bounded env LD_PRELOAD="$work/devices.so" "$program" draw $ntsc words \
+    < empty > /dev/null 2> err || status=$?
+cp empty out
+judge 'writes fail behind 4 GiB' 1 empty 'ldvbi: write failed after 4298366805 bytes'
+finish

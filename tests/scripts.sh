@@ -1,0 +1,97 @@
+#!/bin/sh
+# Runs the scripts of scripts.txt on the built program, as many at a time as there are processors, and then prints what
+# they said, in the order of that table. A script has failed where its status isn't 0, where its last line isn't that as
+# many checks as the table has came out as wanted, or where it took SCRIPT_SECONDS (900 where the environment doesn't
+# say). Nothing is run where the library isn't built, or where the folder has a script that the table doesn't name.
+#
+# With --as-built, what needs the library is left out where that isn't built, and so is what the whole gate alone runs.
+# With names, those scripts are run and no others.
+# usage: sh tests/scripts.sh PROGRAM [--as-built | NAME..]
+set -eu
+
+here=$(cd "$(dirname "$0")" && pwd)
+program=$(cd "$(dirname "$1")" && pwd)/$(basename "$1")
+shift
+work=$(mktemp -d)
+trap 'rm -rf "$work"' EXIT
+trap 'exit 1' HUP INT TERM
+
+fault() {
+    echo "scripts: $1" >&2
+    exit 1
+}
+
+# rows WHERE..: the names of the table's scripts that are run there
+rows() {
+    awk -v where=" $* " '!/^#/ && index(where, " " $3 " ") { print $1 }' "$here/scripts.txt"
+}
+
+# checks_of NAME: how many checks a script has, by the table
+checks_of() {
+    awk -v name="$1" '$1 == name { print $2 }' "$here/scripts.txt"
+}
+
+# is_named FILE: whether the table has it, as a script that is run somewhere or as what isn't run by itself
+is_named() {
+    awk -v file="$1" '
+        $1 ".sh" == file && $3 ~ /^(everywhere|library|whole)$/ || $1 == file && $3 == "helper" { named = 1 }
+        END { exit !named }' "$here/scripts.txt"
+}
+
+# side_by_side < NAMES: runs these scripts. What NAME says is then in the file NAME.said, its status in NAME.status.
+side_by_side() {
+    # shellcheck disable=SC2016
+    (cd "$work" && xargs -P "$(nproc)" -n 1 sh -c '
+        status=0
+        timeout -k 30 "$1" sh "$2/$4.sh" "$3" > "$4.said" 2>&1 < /dev/null || status=$?
+        echo $status > "$4.status"' sh "${SCRIPT_SECONDS:-900}" "$here" "$program")
+}
+
+# is_as_wanted NAME: whether a script ended with status 0, and its last line is that all its checks were as wanted; some
+# may have been left out where the library isn't built
+is_as_wanted() {
+    [ "$(cat "$work/$1.status")" = 0 ] || return
+    tail -n 1 "$work/$1.said" | awk -v name="$1" -v checks="$(checks_of "$1")" -v library="$library" '
+        $0 == name ": " checks " of " checks " checks as wanted" { wanted = 1 }
+        !library && $0 == name ": " $2 " of " $2 " checks as wanted, " $8 " left out" { wanted = $2 + $8 == checks }
+        END { exit !wanted }'
+}
+
+[ -x "$program" ] || fault "there is no program $program"
+for path in "$here"/*.sh "$here"/*.py; do
+    is_named "$(basename "$path")" || fault "scripts.txt doesn't name $(basename "$path")"
+done
+library=
+[ ! -e "$here/../libldvbi.so.1" ] || library=yes
+case ${1:-} in
+    '')
+        [ "$library" ] || fault 'the library is not built'
+        rows everywhere library > "$work/first"
+        rows whole > "$work/then"
+        ;;
+    --as-built)
+        rows everywhere ${library:+library} > "$work/first"
+        : > "$work/then"
+        [ "$library" ] || echo "scripts: left out, since the library isn't built: $(rows library | paste -s -d ' ')"
+        ;;
+    *)
+        printf '%s\n' "$@" > "$work/first"
+        : > "$work/then"
+        ;;
+esac
+
+# A script for the whole gate takes all processors itself.
+side_by_side < "$work/first"
+[ ! -s "$work/then" ] || side_by_side < "$work/then"
+failed=
+while read -r name; do
+    cat "$work/$name.said"
+    is_as_wanted "$name" || {
+        echo "scripts: $name failed: status $(cat "$work/$name.status"), of $(checks_of "$name") checks"
+        failed="$failed $name"
+    }
+done << END_OF_NAMES
+$(cat "$work/first" "$work/then")
+END_OF_NAMES
+[ -z "$failed" ] || fault "failed:$failed"
+echo "scripts: all $(cat "$work/first" "$work/then" | wc -l) passed"

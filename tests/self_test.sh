@@ -1,0 +1,194 @@
+#!/bin/sh
+# Tries the scripts themselves. Each has to fail, by one of its checks, where a text of the program is altered on its way
+# out (by alter.c), or one of a file that the script looks at. Where scripts are altered so that they check less, or what
+# they share is, scripts.sh has to fail; or an altered program gets through, by which the rows above it would find that.
+# usage: sh tests/self_test.sh PROGRAM
+# shellcheck disable=SC2317
+
+# shellcheck source=tests/helpers.sh
+. "$(dirname "$0")/helpers.sh"
+
+# Each row: a script, and what is altered. That is its program (see alter.c: what, from, to), or a file of the repository
+# (by this program for sed).
+cat > alterations << 'END'
+large|out|field 8981|field 8980
+library|out|"vbiPass"|"vbiPaSS"
+library|include/ldvbi.h|s/LDVBI_HOLD = 4/LDVBI_HOLD = 5/
+library|python/ldvbi.py|s/is no code word/is not a word/
+python_side|out|"vbiPass"|"vbiPaSS"
+python_side|hangs
+python_side|python/ldvbi_side/side.py|s/("lead-in",)/("lead-out",)/
+python_glance|out|"blank"|"plank"
+python_glance|python/ldvbi_side/summary.py|s/"missing: "/"mizzing: "/
+packaging|out|0.1.0|0.1.1
+packaging|Makefile|/install.*MANUAL/d
+packaging|CHANGELOG.md|s/^## 0/## 1/
+jq_module|out|chapter 0|chapter 1
+jq_module|hangs
+jq_module|contrib/ldvbi.jq|s/kind: "chapter"/kind: "chaptre"/
+docs|out|picture stop|picture step
+docs|hangs
+docs|README.md|s/^7,cav,3/7,clv,3/
+docs|README.md|s/Not run by the tests/Not run by a test/
+docs|README.md|s/](docs/](dogs/
+docs|docs/RECIPES.md|s/^```text$/```test/
+lines|out|82CFFF|82CFFE
+lines|err|short line|shirt line
+lines|status|1|0
+program|out|picture stop|picture step
+program|bit|300000
+program|err|malformed|malfermed
+program|status|3|0
+settings|out|82CFFF|82CFFE
+settings|err|field height|field heighT
+settings|status|1|0
+words|out|<N>|<M>
+words|err|cannot be used|connot be used
+words|status|2|1
+words|hangs
+device_faults|out|],"cutField"|],"cutfield"
+device_faults|err|write failed|write foiled
+device_faults|status|3|0
+device_faults|hangs
+line_and_draw_faults|out|82CFFF|82CFFE
+line_and_draw_faults|bit|300000
+line_and_draw_faults|err|in row 2|in row 1
+line_and_draw_faults|status|1|0
+read_back|out|vbiCause|vbicause
+read_back|status|3|0
+want_of_memory|err|out of memory|out of memori
+want_of_memory|status|1|3
+want_of_memory|hangs
+schema|out|"vbiPass"|"vbiPaSS"
+schema|docs/ldvbi.schema.json|s/hold/held/
+schema|docs/ldvbi.schema.json|s/: 65534/: 65535/
+manual|out|  draw     Turns|  draw     Terns
+manual|docs/ldvbi.1|s/1000000/1000001/
+manual|contrib/completions/ldvbi.bash|s/extract/extrakt/
+manual|contrib/completions/_ldvbi|s/extract/extrakt/
+plots|out|change 170|change 171
+plots|hangs
+plots|contrib/plot_line.py|s/(pass 2)/(pass 3)/
+plots|docs/pictures/word.svg|s/82CFFF/82CFFE/
+END
+
+# Each row: what scripts.sh has to say where it runs one script, this script, what is altered of its program (as above;
+# three columns), and the file that is altered, by this program for sed. That all passed beside an altered program is what
+# the rows above would find.
+cat > frames << 'END'
+all 1 passed|lines|nothing
+lines failed: status 1|lines|eats
+all 1 passed|words|eats
+checks, and scripts.txt has|words|eats|||tests/helpers.sh|s/run_with empty "/run_inheriting "/
+lines failed: status 124|lines|nothing|||tests/lines.sh|s/^finish/sleep 100/
+scripts.txt doesn't name lines.sh|lines|nothing|||tests/scripts.txt|s/^\(lines .*\) everywhere/\1 elsewhere/
+lines failed: status 0|lines|nothing|||tests/lines.sh|d
+lines failed: status 0|lines|nothing|||tests/lines.sh|s/^finish/exit/
+lines failed: status 0|lines|nothing|||tests/lines.sh|s/^head -c 1819.*/exit/
+lines failed: status 2|lines|nothing|||tests/lines.sh|s/^finish/fi/
+checks, and scripts.txt has|lines|nothing|||tests/lines.sh|/^judge 'a short line' /d
+lines failed: status 0|lines|status|1|0|tests/helpers.sh|s/^    \[ "$judged $passed" = .*/    :/
+scripts.txt doesn't name lines.sh|lines|nothing|||tests/scripts.txt|/^lines /d
+all 1 passed|lines|err|short line|shirt line|tests/helpers.sh|s/elif "$@"; then/elif "$@" || :; then/
+all 1 passed|lines|err|short line|shirt line|tests/helpers.sh|s/ && cmp -s err "$3"//
+all 1 passed|lines|out|82CFFF|82CFFE|tests/helpers.sh|s/ && cmp -s out "$2"//
+all 1 passed|lines|status|1|0|tests/helpers.sh|s/\[ "$status" = "$1" \] && //
+END
+
+compiler=${CC:-cc}
+mkdir altered tree
+"$compiler" -std=c99 -O2 -Wall -shared -fPIC -o alter.so "$here/alter.c" -ldl || exit 1
+"$compiler" -std=c99 -O2 -Wall -static -DLAUNCHER -o altered/ldvbi "$here/alter.c" || exit 1
+(cd "$here/.." && tar --exclude=.git --exclude=out --exclude=./dist -cf - .) | tar -xf - -C tree
+ALTER_PROGRAM=$program
+ALTER_LIBRARY=$work/alter.so
+export ALTER ALTER_FROM ALTER_TO ALTER_MARK ALTER_PROGRAM ALTER_LIBRARY
+
+# program_with TRIAL WHAT FROM TO: sets what is altered of the program that is tried
+program_with() {
+    tried=$work/altered/ldvbi
+    ALTER=$2
+    ALTER_FROM=$3
+    ALTER_TO=$4
+    ALTER_MARK=$work/$1/mark
+}
+
+# tree_with TRIAL FILE PROGRAM: makes a copy of the repository, by links, with this file as the program for sed makes it
+tree_with() {
+    cp -al tree "$1/tree"
+    rm "$1/tree/$2"
+    sed "$3" "tree/$2" > "$1/tree/$2"
+    ! cmp -s "$1/tree/$2" "tree/$2" && : > "$1/mark"
+}
+
+# alteration TRIAL SCRIPT WHAT FROM TO: whether a script stops at its first failed check, where this is altered
+alteration() {
+    tests=$here
+    tried=$program
+    why='the first check that failed'
+    case $3 in
+        out | err | bit | status) program_with "$1" "$3" "$4" "$5" ;;
+        hangs) program_with "$1" hangs '' ''; RUN_SECONDS=2; why='a run that takes too long' ;;
+        *) tree_with "$1" "$3" "$4"; tests=$1/tree/tests ;;
+    esac
+    STOP_AT_FIRST=yes
+    export STOP_AT_FIRST RUN_SECONDS
+    timeout -k 30 600 sh "$tests/$2.sh" "$tried" < empty > "$1/said" 2>&1
+    echo $? > "$1/status"
+    [ -e "$1/mark" ] || echo 'nothing was altered' >> "$1/said"
+    [ "$(cat "$1/status")" = 1 ] && tail -n 1 "$1/said" | grep -qx "$2: stopped at $why"
+}
+
+# frame TRIAL WANTED SCRIPT WHAT FROM TO FILE PROGRAM: whether scripts.sh says what is wanted of this script, where this is
+# altered of the program and of the repository; its status is 0 where it says that all passed
+frame() {
+    tests=$here
+    ended_with=1
+    [ "$2" != 'all 1 passed' ] || ended_with=0
+    [ -z "$7" ] || { tree_with "$1" "$7" "$8" && tests=$1/tree/tests; } || return
+    program_with "$1" "$4" "$5" "$6"
+    rm -f "$1/mark"
+    case $2 in *' 124') SCRIPT_SECONDS=5; export SCRIPT_SECONDS ;; esac
+    sh "$tests/scripts.sh" "$tried" "$3" < empty > "$1/said" 2>&1
+    echo $? > "$1/status"
+    [ "$(cat "$1/status")" = "$ended_with" ] && grep -qF "$2" "$1/said" && { [ "$4" = nothing ] || [ -e "$1/mark" ]; }
+}
+
+# Trials are made side by side: each worker takes a row that no other has taken.
+{ sed 's/^/alteration|/' alterations; sed 's/^/frame|/' frames; } > rows
+worker() {
+    number=0
+    while read -r row; do
+        number=$((number + 1))
+        mkdir "trial.$number" 2> /dev/null || continue
+        : > "trial.$number/said"
+        printf '%s\n' "$row" > "trial.$number/row"
+        (
+            IFS='|' read -r kind a b c d e f g < "trial.$number/row"
+            "$kind" "trial.$number" "$a" "$b" "$c" "$d" "$e" "$f" "$g" && : > "trial.$number/as_wanted"
+        )
+        rm -rf "trial.$number/tree"
+    done < rows
+}
+for number in $(seq "$(nproc)"); do
+    worker &
+done
+wait
+number=0
+while read -r row; do
+    number=$((number + 1))
+    cp "trial.$number/said" err
+    status=$(cat "trial.$number/status")
+    check "$row" [ -e "trial.$number/as_wanted" ]
+done < rows
+
+awk '$3 == "everywhere" || $3 == "library" { print $1 }' "$here/scripts.txt" | sort > listed
+cut -d '|' -f 1 alterations | sort -u > altered_scripts
+status=none
+check 'each script is tried' cmp listed altered_scripts
+rm -f tree/libldvbi.so.1
+status=0
+sh tree/tests/scripts.sh "$program" < empty > out 2> err || status=$?
+echo 'scripts: the library is not built' > wanted
+check 'without the library there is no whole gate' ended 1 empty wanted
+finish
