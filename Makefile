@@ -4,21 +4,27 @@
 # The toolchain's command `rt` has to be on the PATH; `make test` needs the tools of tests/tools.sh as well.
 #
 # Once the program is built, these need no toolchain: `make install PREFIX=DIR` copies it to DIR/bin, the manual page,
-# completions, schema, contrib's files and the Python module to DIR/share, and the library with its header to DIR/lib
-# and DIR/include where it is built, too; `make uninstall PREFIX=DIR` takes all of it away; `make check
-# PROGRAM=./ldvbi` runs the gate's scripts on it; `make dist` packs source and what is built, with checksums; `make
-# peers` has other programs read what it reads, and needs mame-tools and libzvbi-dev.
+# completions, schema, contrib's files, the Python module, documents and examples to DIR/share, and the library with its
+# header to DIR/lib (or LIBDIR) and DIR/include where it is built, too; DESTDIR goes before all of them; `make uninstall
+# PREFIX=DIR` takes all of it away; `make check PROGRAM=./ldvbi` runs the gate's scripts on it; `make dist` packs source
+# and what is built, with checksums; `make peers` has other programs read what it reads, and needs mame-tools and
+# libzvbi-dev. The system's loader finds a library that is installed to /usr/local once `ldconfig` was run as root.
 
 PREFIX ?= /usr/local
+# Debian's is /usr/lib/x86_64-linux-gnu
+LIBDIR ?= $(PREFIX)/lib
 PROGRAM ?= ./ldvbi
+# The one place of the version; header, library, program and change log are tested against it
 VERSION := 0.1.0
 # The interface of the library, as include/ldvbi.h has it
 ABI := 1
 ROOT := $(DESTDIR)$(PREFIX)
+LIBRARIES := $(DESTDIR)$(LIBDIR)
 MANUAL := $(ROOT)/share/man/man1/ldvbi.1
 BASH_COMPLETION := $(ROOT)/share/bash-completion/completions/ldvbi
 ZSH_COMPLETION := $(ROOT)/share/zsh/site-functions/_ldvbi
 SHARED := docs/ldvbi.schema.json contrib/ldvbi.jq contrib/plot_line.py
+DOCUMENTS := $(ROOT)/share/doc/ldvbi
 PYTHON := $(wildcard python/ldvbi_side/*.py)
 SOURCES := $(shell find crates -name out -prune -o \( -name '*.rt' -o -name '*.antt' \) -print)
 LIBRARY_SOURCES := $(filter crates/vbi_words/% crates/vbi_line/% crates/vbi_c/%,$(SOURCES))
@@ -65,20 +71,34 @@ install: ldvbi $(if $(wildcard libldvbi.a),install-lib)
 	install -d $(ROOT)/share/ldvbi/python/ldvbi_side
 	install -m 644 python/ldvbi.py $(ROOT)/share/ldvbi/python
 	install -m 644 $(PYTHON) $(ROOT)/share/ldvbi/python/ldvbi_side
+	install -d $(DOCUMENTS)/docs/pictures $(DOCUMENTS)/examples
+	install -m 644 README.md CHANGELOG.md $(DOCUMENTS)
+	install -m 644 $(wildcard docs/*.md) $(DOCUMENTS)/docs
+	install -m 644 $(wildcard docs/pictures/*.svg) $(DOCUMENTS)/docs/pictures
+	install -m 644 $(wildcard examples/*) $(DOCUMENTS)/examples
+
+# The description for pkg-config finds header and library from its own place, wherever that is moved, unless the library
+# is put outside PREFIX.
+SPACE := $(subst x,,x x)
+BELOW := $(patsubst $(PREFIX)/%,%,$(filter $(PREFIX)/%,$(LIBDIR)))
+UP := $(subst $(SPACE),/,$(foreach folder,$(subst /, ,$(BELOW)) pkgconfig,..))
+DESCRIBED_PREFIX := $(if $(BELOW),$${pcfiledir}/$(UP),$(PREFIX))
+DESCRIBED_LIBDIR := $(if $(BELOW),$${prefix}/$(BELOW),$(LIBDIR))
 
 install-lib: lib
 	install -D -m 644 include/ldvbi.h $(ROOT)/include/ldvbi.h
-	install -D -m 644 libldvbi.a $(ROOT)/lib/libldvbi.a
-	install -D -m 755 libldvbi.so.$(ABI) $(ROOT)/lib/libldvbi.so.$(ABI)
-	ln -sf libldvbi.so.$(ABI) $(ROOT)/lib/libldvbi.so
-	install -d $(ROOT)/lib/pkgconfig
-	sed 's|@PREFIX@|$(PREFIX)|' include/ldvbi.pc.in > $(ROOT)/lib/pkgconfig/ldvbi.pc
+	install -D -m 644 libldvbi.a $(LIBRARIES)/libldvbi.a
+	install -D -m 755 libldvbi.so.$(ABI) $(LIBRARIES)/libldvbi.so.$(ABI)
+	ln -sf libldvbi.so.$(ABI) $(LIBRARIES)/libldvbi.so
+	install -d $(LIBRARIES)/pkgconfig
+	sed -e 's|@PREFIX@|$(DESCRIBED_PREFIX)|' -e 's|@LIBDIR@|$(DESCRIBED_LIBDIR)|' -e 's|@VERSION@|$(VERSION)|' \
+	    include/ldvbi.pc.in > $(LIBRARIES)/pkgconfig/ldvbi.pc
 
 uninstall:
 	rm -f $(ROOT)/bin/ldvbi $(MANUAL) $(BASH_COMPLETION) $(ZSH_COMPLETION)
-	rm -rf $(ROOT)/share/ldvbi
-	rm -f $(ROOT)/include/ldvbi.h $(ROOT)/lib/libldvbi.a $(ROOT)/lib/libldvbi.so $(ROOT)/lib/libldvbi.so.$(ABI) \
-	    $(ROOT)/lib/pkgconfig/ldvbi.pc
+	rm -rf $(ROOT)/share/ldvbi $(DOCUMENTS)
+	rm -f $(ROOT)/include/ldvbi.h $(LIBRARIES)/libldvbi.a $(LIBRARIES)/libldvbi.so $(LIBRARIES)/libldvbi.so.$(ABI) \
+	    $(LIBRARIES)/pkgconfig/ldvbi.pc
 
 check:
 	@sh tests/tools.sh

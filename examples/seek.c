@@ -1,8 +1,10 @@
-/* Finds a picture in a TBC file and prints the number of its field, from 1: that of a CAV disc by its number, that of a
- * CLV disc by its time, as 0:59:29.07 for picture 7 of its second.
+/* Finds a picture in a TBC file and prints the number of its first field, from 1: that of a CAV disc by its number,
+ * that of a CLV disc by its time, as 0:59:29.07 for picture 7 of its second. Status 0: found; 1: not found; 2: what was
+ * asked for can't be read, and standard error says why.
  *
  *     cc -o seek seek.c -lldvbi && ./seek side.tbc NTSC 16384 51200 12345 */
 #define _DEFAULT_SOURCE
+#include <errno.h>
 #include <fcntl.h>
 #include <ldvbi.h>
 #include <stdio.h>
@@ -12,73 +14,155 @@
 #include <sys/stat.h>
 #include <unistd.h>
 
-enum { BLOCK = 1024 };
+enum { BLOCK = 64 };
 
-/* What is looked for: the codes that a field's lines have to have. */
-typedef struct {
-    LdvbiCode codes[2];
-    int count;
-} Picture;
+/* ---- Words of the command line */
 
-static Picture picture_of(const char *text) {
-    unsigned hours, minutes, seconds, within;
-    if (sscanf(text, "%u:%u:%u.%u", &hours, &minutes, &seconds, &within) == 4) {
-        Picture timed = {{{LDVBI_TIME, hours, minutes}, {LDVBI_CLV_PICTURE, seconds, within}}, 2};
-        return timed;
-    }
-    Picture numbered = {{{LDVBI_PICTURE, (uint32_t)strtoul(text, NULL, 10), 0}}, 1};
-    return numbered;
-}
-
-static int has_code(const LdvbiReading *line, const LdvbiCode *wanted) {
-    LdvbiCode code;
-    return line->cause == LDVBI_WORD && ldvbi_classify(line->word, &code) == LDVBI_DONE && code.kind == wanted->kind &&
-           code.first == wanted->first && code.second == wanted->second;
-}
-
-static int shows(const LdvbiFieldReadings *field, const Picture *picture) {
-    for (int i = 0; i < picture->count; i++) {
-        const LdvbiCode *code = &picture->codes[i];
-        if (!has_code(&field->first, code) && !has_code(&field->second, code) && !has_code(&field->third, code))
-            return 0;
-    }
+/* A whole number up to `most`, in decimal digits alone, and what follows it. */
+static int parse_number(const char **text, unsigned long most, uint32_t *number) {
+    char *end;
+    if (**text < '0' || '9' < **text) return 0; /* strtoul would take a sign or a space */
+    unsigned long value = strtoul(*text, &end, 10);
+    if (value > most) return 0; /* ULONG_MAX where it is too large for strtoul */
+    *number = (uint32_t)value;
+    *text = end;
     return 1;
 }
 
-/* The number of the first field that shows the picture, or 0. */
-static size_t find(const uint8_t *stream, size_t fields, uint8_t system, uint16_t black, uint16_t white,
-                   const Picture *picture) {
-    static LdvbiFieldReadings readings[BLOCK];
-    size_t field = ldvbi_field_bytes(system);
-    for (size_t begin = 0; begin < fields; begin += BLOCK) {
-        size_t count = fields - begin < BLOCK ? fields - begin : BLOCK;
-        const uint8_t *block = stream + begin * field;
-        if (ldvbi_read_fields(system, black, white, block, count * field, readings, count) != LDVBI_DONE) return 0;
+static int parse_whole(const char *text, unsigned long most, uint32_t *number) {
+    return parse_number(&text, most, number) && *text == '\0';
+}
+
+static int parse_system(const char *text, uint32_t *system) {
+    *system = strcmp(text, "NTSC") == 0 ? LDVBI_NTSC : strcmp(text, "PAL") == 0 ? LDVBI_PAL : 0;
+    return *system != 0;
+}
+
+/* What is looked for: a picture's number or the hours and minutes of a time, with its seconds and picture. */
+typedef struct {
+    LdvbiCode number, seconds;
+} Wanted;
+
+static int parse_time(const char *text, Wanted *wanted) {
+    wanted->number.kind = LDVBI_TIME;
+    wanted->seconds.kind = LDVBI_CLV_PICTURE;
+    return parse_number(&text, 9, &wanted->number.first) && *text++ == ':' &&
+           parse_number(&text, 99, &wanted->number.second) && *text++ == ':' &&
+           parse_number(&text, 59, &wanted->seconds.first) && *text++ == '.' &&
+           parse_number(&text, 99, &wanted->seconds.second) && *text == '\0';
+}
+
+static int parse_wanted(const char *text, Wanted *wanted) {
+    static const Wanted picture = {{LDVBI_PICTURE, 0, 0}, {LDVBI_OTHER, 0, 0}};
+    *wanted = picture;
+    return parse_whole(text, 79999, &wanted->number.first) || parse_time(text, wanted);
+}
+
+/* ---- Fields */
+
+static int is_same(const LdvbiCode *a, const LdvbiCode *b) {
+    return a->kind == b->kind && a->first == b->first && a->second == b->second;
+}
+
+static int find_code(const LdvbiReading *line, uint32_t kind, LdvbiCode *code) {
+    return line->cause == LDVBI_WORD && ldvbi_classify(line->word, code) == LDVBI_DONE && code->kind == kind;
+}
+
+/* The number on lines 17 and 18: what the words of this kind say. Where the two differ, one was misread: then none. */
+static int find_number(const LdvbiFieldReadings *field, uint32_t kind, LdvbiCode *number) {
+    LdvbiCode other;
+    int is_first = find_code(&field->lines[1], kind, number);
+    if (!find_code(&field->lines[2], kind, &other)) return is_first;
+    if (is_first) return is_same(number, &other);
+    *number = other;
+    return 1;
+}
+
+static int shows(const LdvbiFieldReadings *field, const Wanted *wanted) {
+    LdvbiCode code;
+    if (!find_number(field, wanted->number.kind, &code) || !is_same(&code, &wanted->number)) return 0;
+    if (wanted->number.kind == LDVBI_PICTURE) return 1;
+    return find_code(&field->lines[0], LDVBI_CLV_PICTURE, &code) && is_same(&code, &wanted->seconds);
+}
+
+/* ---- The file */
+
+typedef struct {
+    uint32_t system, black, white;
+    uint8_t *bytes;
+    size_t size, fields;
+} Side;
+
+/* Asks the system to fetch the pages with lines 16 to 18 of these fields, and doesn't wait for them. From a disk this
+ * is several times as fast as one page after the other, when each is read. */
+static void fetch(const Side *side, size_t from, size_t to) {
+    size_t page = (size_t)sysconf(_SC_PAGESIZE), line = ldvbi_line_bytes(side->system);
+    for (size_t i = from; i < to; i++) {
+        size_t rows = i * ldvbi_field_bytes(side->system) + 15 * line, begin = rows / page * page;
+        madvise(side->bytes + begin, rows + 3 * line - begin, MADV_WILLNEED);
+    }
+}
+
+/* The number of the first field that shows it, or 0. */
+static size_t find(const Side *side, const Wanted *wanted) {
+    LdvbiFieldReadings readings[BLOCK];
+    size_t field = ldvbi_field_bytes(side->system), fetched = 0;
+    for (size_t begin = 0; begin < side->fields; begin += BLOCK) {
+        size_t left = side->fields - begin, count = left < BLOCK ? left : BLOCK;
+        size_t ahead = left < 2 * BLOCK ? side->fields : begin + 2 * BLOCK;
+        fetch(side, fetched, ahead);
+        fetched = ahead;
+        if (ldvbi_read_fields(side->system, side->black, side->white, side->bytes + begin * field, count * field,
+                              readings, count) != LDVBI_DONE)
+            return 0; /* not after main's test of the same numbers */
         for (size_t i = 0; i < count; i++)
-            if (shows(&readings[i], picture)) return begin + i + 1;
+            if (shows(&readings[i], wanted)) return begin + i + 1;
     }
     return 0;
 }
 
-int main(int count, char **words) {
-    if (count != 6 || ldvbi_abi() != LDVBI_ABI) {
-        fprintf(stderr, "usage: seek FILE NTSC|PAL BLACK WHITE NUMBER|H:MM:SS.PP\n");
-        return 2;
-    }
-    uint8_t system = strcmp(words[2], "PAL") == 0 ? LDVBI_PAL : LDVBI_NTSC;
-    int file = open(words[1], O_RDONLY);
+static int fail(const char *path) {
+    fprintf(stderr, "seek: %s: %s\n", path, strerror(errno));
+    return 0;
+}
+
+/* Maps the whole fields of a file. A file without one has no mapping. */
+static int map_side(const char *path, Side *side) {
+    int file = open(path, O_RDONLY);
     struct stat about;
-    if (file < 0 || fstat(file, &about) != 0) return perror(words[1]), 2;
-    size_t fields = (size_t)about.st_size / ldvbi_field_bytes(system);
-    if (fields == 0) return puts("no field"), 1;
-    uint8_t *stream = mmap(NULL, (size_t)about.st_size, PROT_READ, MAP_SHARED, file, 0);
-    if (stream == MAP_FAILED) return perror(words[1]), 2;
-    /* Few pages of a field are wanted, so the system shall not read ahead. */
-    madvise(stream, (size_t)about.st_size, MADV_RANDOM);
-    Picture picture = picture_of(words[5]);
-    size_t found = find(stream, fields, system, (uint16_t)atoi(words[3]), (uint16_t)atoi(words[4]), &picture);
-    munmap(stream, (size_t)about.st_size);
+    if (file < 0 || fstat(file, &about) != 0) return fail(path);
+    side->fields = (size_t)about.st_size / ldvbi_field_bytes(side->system);
+    side->size = side->fields * ldvbi_field_bytes(side->system);
+    if (side->fields > 0) {
+        side->bytes = mmap(NULL, side->size, PROT_READ, MAP_SHARED, file, 0);
+        if (side->bytes == MAP_FAILED) return fail(path);
+        /* Few pages of a field are wanted, so the system shall not read ahead by itself. */
+        madvise(side->bytes, side->size, MADV_RANDOM);
+    }
     close(file);
+    return 1;
+}
+
+static int refuse(const char *why) {
+    fprintf(stderr, "seek: %s\n", why);
+    return 2;
+}
+
+int main(int count, char **words) {
+    Side side = {0, 0, 0, NULL, 0, 0};
+    Wanted wanted;
+    if (ldvbi_abi() != LDVBI_ABI) return refuse("the library has another interface");
+    if (count != 6) return refuse("usage: seek FILE NTSC|PAL BLACK WHITE NUMBER|H:MM:SS.PP");
+    if (!parse_system(words[2], &side.system)) return refuse(ldvbi_status_text(LDVBI_BAD_SYSTEM));
+    if (!parse_whole(words[3], UINT32_MAX, &side.black)) return refuse("black is not a whole number");
+    if (!parse_whole(words[4], UINT32_MAX, &side.white)) return refuse("white is not a whole number");
+    if (!parse_wanted(words[5], &wanted)) return refuse("neither a picture from 0 to 79999 nor a time as 0:59:29.07");
+    /* Of no field the library tests the numbers alone. */
+    uint32_t status = ldvbi_read_fields(side.system, side.black, side.white, NULL, 0, NULL, 0);
+    if (status != LDVBI_DONE) return refuse(ldvbi_status_text(status));
+    if (!map_side(words[1], &side)) return 2;
+    size_t found = find(&side, &wanted);
+    if (side.fields > 0) munmap(side.bytes, side.size);
     if (found == 0) return puts("not found"), 1;
     printf("field %zu\n", found);
     return 0;

@@ -1,6 +1,7 @@
 #!/usr/bin/env python3
-"""Finds a picture in a TBC file and prints the number of its field, from 1: that of a CAV disc by its number, that of a
-CLV disc by its time, as 0:59:29.07 for picture 7 of its second.
+"""Finds a picture in a TBC file and prints the number of its first field, from 1: that of a CAV disc by its number,
+that of a CLV disc by its time, as 0:59:29.07 for picture 7 of its second. Status 0: found; 1: not found; 2: what was
+asked for can't be read, and standard error says why.
 
     PYTHONPATH=python python3 examples/seek.py side.tbc NTSC 16384 51200 12345
 """
@@ -11,27 +12,53 @@ import sys
 import ldvbi
 
 
-def codes_of(text):
-    """The codes that the field's lines have to have."""
-    time = re.fullmatch(r"(\d+):(\d+):(\d+)\.(\d+)", text)
+def whole_number(name, text):
+    if not re.fullmatch("[0-9]+", text):
+        raise ValueError("%s is not a whole number" % name)
+    return int(text)
+
+
+def wanted_codes(text):
+    """The code that lines 17 and 18 have to have, and the one of line 16, or None."""
+    if re.fullmatch("[0-9]+", text) and int(text) <= 79999:
+        return ldvbi.Code(ldvbi.Kind.picture, int(text), 0), None
+    time = re.fullmatch("([0-9]):([0-9]{1,2}):([0-5]?[0-9])[.]([0-9]{1,2})", text)
     if not time:
-        return {ldvbi.Code(ldvbi.Kind.picture, int(text), 0)}
+        raise ValueError("neither a picture from 0 to 79999 nor a time as 0:59:29.07")
     hours, minutes, seconds, picture = map(int, time.groups())
-    return {ldvbi.Code(ldvbi.Kind.time, hours, minutes), ldvbi.Code(ldvbi.Kind.clv_picture, seconds, picture)}
+    return ldvbi.Code(ldvbi.Kind.time, hours, minutes), ldvbi.Code(ldvbi.Kind.clv_picture, seconds, picture)
+
+
+def number_of(field, kind):
+    """What lines 17 and 18 say of this kind. Where the two differ, one was misread: then None."""
+    codes = {ldvbi.classify(line.word) for line in field[1:] if line.word}
+    numbers = [code for code in codes if code.kind == kind]
+    return numbers[0] if len(numbers) == 1 else None
+
+
+def shows(field, number, seconds):
+    if number_of(field, number.kind) != number:
+        return False
+    return seconds is None or bool(field[0].word) and ldvbi.classify(field[0].word) == seconds
 
 
 def main():
     if len(sys.argv) != 6:
-        sys.exit("usage: seek.py FILE NTSC|PAL BLACK WHITE NUMBER|H:MM:SS.PP")
+        raise ValueError("usage: seek.py FILE NTSC|PAL BLACK WHITE NUMBER|H:MM:SS.PP")
     path, system, black, white, text = sys.argv[1:]
-    wanted = codes_of(text)
-    for number, field in enumerate(ldvbi.fields(path, system, int(black), int(white)), 1):
-        if wanted <= {ldvbi.classify(line.word) for line in field if line.word}:
-            print("field", number)
+    number, seconds = wanted_codes(text)
+    fields = ldvbi.fields(path, system, whole_number("black", black), whole_number("white", white))
+    for place, field in enumerate(fields, 1):
+        if shows(field, number, seconds):
+            print("field", place)
             return 0
     print("not found")
     return 1
 
 
 if __name__ == "__main__":
-    sys.exit(main())
+    try:
+        sys.exit(main())
+    except (OSError, ValueError) as error:
+        print("seek.py: %s" % error, file=sys.stderr)
+        sys.exit(2)

@@ -1,25 +1,70 @@
-/* ldvbi: the code words of LaserDisc lines (IEC 60857 and IEC 60856), for C99 and C++.
+/* ldvbi: the code words of LaserDisc lines (IEC 60857 and IEC 60856), for C99 and C++98 and later.
+ *
+ * A LaserDisc has its picture numbers, times, chapters and stops as code words of 24 bits in lines 16, 17 and 18 of
+ * each field. The library reads the words of digitised lines, says what they mean, and draws such lines. Programs that
+ * show its use are in examples/, which is installed as share/doc/ldvbi/examples.
  *
  * Link with -lldvbi, or with libldvbi.a. The library needs memcpy and memset of the C library, and nothing else. It
- * runs under Linux on x86-64 processors of level v2 (with SSE4.2, from about 2009 on). What is proved of each call
- * stands in docs/PROMISES.md; that this header says the same as the library is shown by tests alone.
+ * runs under Linux on x86-64 processors of level v2 (with SSE4.2, from about 2009 on). It has no call frames for
+ * unwinding: nothing is thrown out of a call, and no call calls back, but a debugger finds no way back out of one. What
+ * is proved of each call stands in docs/PROMISES.md; that this header says the same as the library, and its functions
+ * that are defined here, are shown by tests alone.
  *
- * Samples are those of ld-decode's TBC files: 16 bits each, the low byte first, line after line and field after field.
- * Black and white are samples too, from 0 to 65535: black16bIre and white16bIre of the capture's .tbc.json. A sample
- * above the middle of the two is high.
+ * Samples have 16 bits, the low byte first, as in ld-decode's TBC files: line after line, field after field. So an
+ * array of uint16_t goes in as it is on a little-endian machine, as x86-64 is; it need not be aligned. Black and white
+ * are samples too: black16bIre and white16bIre of the capture's .tbc.json. A sample above the middle of the two is
+ * high.
  *
  * Threads: no call allocates, takes a lock, prints, or keeps anything between two calls, so that any thread may call at
- * any time.
+ * any time, in a signal handler too.
  *
  * Ownership: the library keeps no pointer. What a call writes is the caller's.
  *
- * What a caller owes, which nothing tests:
- *   - no pointer is null, also where its length or count is 0;
- *   - each points to as many bytes, or readings, as the length or count beside it says, or to one value of its type;
- *     what is to be written may hold anything before;
- *   - pointers to structs are aligned as their types are; pointers to bytes needn't be;
+ * Numbers are uint32_t and are tested in their full width: 257 is not taken for system 1. What a caller owes, which
+ * nothing tests:
+ *   - each pointer points to as many bytes, or readings, as the length or count beside it says, or to one value of its
+ *     type; what is to be written may hold anything before. A pointer may be null where the length or count beside it
+ *     is 0, as that of an empty std::vector, and nowhere else;
+ *   - pointers to structs are aligned as their types are; pointers to samples needn't be;
  *   - what a call writes overlaps nothing else that it is given, and no other thread touches it during the call; nobody
- *     writes what it reads. */
+ *     writes what it reads.
+ *
+ * ---- Which line has which code, by the standards
+ *
+ *     line 16     picture stop; CLV picture; programme status (CX on, CX off); users' code
+ *     line 17     picture number, chapter, CLV time, lead-in, lead-out; picture stop; CLV mark
+ *     line 18     picture number, chapter, CLV time, lead-in, lead-out, which line 17 has as well
+ *
+ * So line 17 may have a stop or a mark where line 18 has the number. To find a field's number, take of lines 17 and 18
+ * the words of the kind that is asked for. One such word is the answer; two of that kind that differ are none, since
+ * one of them was misread. A stop counts on line 16 or 17, or on 18 if it is there. A CLV picture's time is in two
+ * places: hours and minutes on lines 17 and 18, seconds and picture on line 16. A word of pass 2 is wrong more often
+ * than one of pass 1: believe it where both lines or the fields around agree.
+ *
+ * ---- One row of an interlaced frame
+ *
+ * Of a frame with all its lines, 525 or 625, line n of the first field, counted from 1, is row 2 * (n - 1), counted
+ * from 0, where the first field is the upper one; line n of the second field is the row after it. A row is a line: hand
+ * over its address, as (const char *)frame + row * row_bytes, and ldvbi_line_bytes(system). Frames of 480 or 576 rows
+ * are without lines 16 to 18.
+ *
+ * ---- Lines of other sample rates
+ *
+ * A half cell of a word lasts one microsecond on every disc, so at f MHz a drawn half cell has f samples, rounded down
+ * or up. Read as NTSC it may have 11 to 18 samples, read as PAL 14 to 22. So lines of NTSC and of PAL discs alike are
+ * read as LDVBI_NTSC from 11.5 to 17.7 MHz: at 13.5 MHz a PAL disc's lines too, whose half cells of 13 or 14 samples
+ * are too short for LDVBI_PAL. A word has 48 half cells, 850 samples at 17.7 MHz, and begins about 10.5 microseconds
+ * after the line does.
+ *   1. Take at most 910 samples. Above 14.2 MHz a line has more: begin 10 microseconds into it.
+ *   2. Samples of 8 bits: multiply them by 257, and black and white too.
+ *   3. Fill up to 910 samples with black, and read them as LDVBI_NTSC.
+ * Each change of level may come a sample early or late, whatever the others do, as long as a half cell keeps its 11 to
+ * 18 samples. That holds in each place from 13 to 16 MHz, and of lines at ld-decode's own rates.
+ *
+ * ---- Files that are mapped
+ *
+ * Where a file is cut off while it is mapped, the access to a page past its new end ends the process by SIGBUS, inside
+ * a call as anywhere. Whoever reads files that others write uses pread and ldvbi_read_rows, or handles the signal. */
 #ifndef LDVBI_H
 #define LDVBI_H
 
@@ -30,32 +75,55 @@
 extern "C" {
 #endif
 
-/* The interface that this header declares. It differs wherever names, arguments, structs or numbers differ. */
+/* LDVBI_POINTER: this argument, counted from 1, is never null. LDVBI_RESULT: the status is to be looked at. Define
+ * LDVBI_NO_ATTRIBUTES before the header to leave both out. */
+#if defined(__GNUC__) && !defined(LDVBI_NO_ATTRIBUTES)
+#define LDVBI_POINTER(number) __attribute__((nonnull(number)))
+#define LDVBI_RESULT __attribute__((warn_unused_result))
+#else
+#define LDVBI_POINTER(number)
+#define LDVBI_RESULT
+#endif
+
+/* ---- Versions */
+
+/* The version of this header. As a number it has a million for each major, a thousand for each minor. */
+#define LDVBI_VERSION_MAJOR 0
+#define LDVBI_VERSION_MINOR 1
+#define LDVBI_VERSION_PATCH 0
+#define LDVBI_VERSION (LDVBI_VERSION_MAJOR * 1000000 + LDVBI_VERSION_MINOR * 1000 + LDVBI_VERSION_PATCH)
+#define LDVBI_VERSION_TEXT "0.1.0"
+
+/* The interface that this header declares. An addition, as of a call, a status or a kind, keeps the number and the
+ * library's name libldvbi.so.1; a change or a removal raises both. So a program that was built with this header runs
+ * with any library of the same interface, and of the same version or a later one; it has to let pass numbers of
+ * statuses, causes, kinds and formats that it doesn't know. */
 #define LDVBI_ABI 1
 
-/* The interface of the library that is linked: LDVBI_ABI where it fits this header. */
+/* Of the library that is linked: its interface, and its version as a number. */
 uint32_t ldvbi_abi(void);
+uint32_t ldvbi_version(void);
 
 /* ---- Systems and sizes */
 
-enum {
+enum LdvbiSystem {
     LDVBI_NTSC = 1, /* 525 lines; 910 samples to a line, 263 lines to a field */
     LDVBI_PAL = 2   /* 625 lines; 1135 samples to a line, 313 lines to a field */
 };
 
 /* The samples and the bytes of a line, the lines and the bytes of a field; 0 for any other number of a system. */
-size_t ldvbi_line_samples(uint8_t system);
-size_t ldvbi_line_bytes(uint8_t system);
-size_t ldvbi_lines(uint8_t system);
-size_t ldvbi_field_bytes(uint8_t system);
+size_t ldvbi_line_samples(uint32_t system);
+size_t ldvbi_line_bytes(uint32_t system);
+size_t ldvbi_lines(uint32_t system);
+size_t ldvbi_field_bytes(uint32_t system);
 
 /* ---- Statuses, in the order in which they are tested. After any but LDVBI_DONE the call has written nothing. */
 
-enum {
+enum LdvbiStatus {
     LDVBI_DONE = 0,
     LDVBI_BAD_SYSTEM = 1, /* the system is neither LDVBI_NTSC nor LDVBI_PAL */
-    LDVBI_BAD_LEVELS = 2, /* black is not below white */
-    LDVBI_BAD_LENGTH = 3, /* not as many bytes as the system's line has, or its fields */
+    LDVBI_BAD_LEVELS = 2, /* black is not below white, or one of them is above 65535 */
+    LDVBI_BAD_LENGTH = 3, /* not as many bytes as the call's lines or fields have in this system */
     LDVBI_BAD_WORD = 4    /* a number is no code word: not from 0x800000 to 0xFFFFFF, nor 0 where 0 stands for none */
 };
 
@@ -63,7 +131,7 @@ enum {
 
 /* What a line shows: a word, or the cause for which it shows none. A column is hopeless where no line that begins like
  * this one up to it, and with it, shows a word. */
-enum {
+enum LdvbiCause {
     LDVBI_WORD = 0,
     LDVBI_BLANK = 1,      /* no sample is high */
     LDVBI_UNFINISHED = 2, /* no column is hopeless: a longer line could still show a word */
@@ -72,7 +140,7 @@ enum {
 };
 
 typedef struct LdvbiReading {
-    uint8_t cause;   /* LDVBI_WORD .. LDVBI_HOLD */
+    uint8_t cause;   /* of enum LdvbiCause */
     uint8_t pass;    /* 1: the line's own levels show the word; 2: the levels without short glitches do; 0: no word */
     uint16_t column; /* of LDVBI_CHANGE and LDVBI_HOLD the first hopeless column, counted from 0; else 0 */
     uint32_t word;   /* of LDVBI_WORD the word, from 0x800000 to 0xFFFFFF; else 0 */
@@ -80,28 +148,39 @@ typedef struct LdvbiReading {
 
 /* The readings of a field's lines 16, 17 and 18, counted from 1. */
 typedef struct LdvbiFieldReadings {
-    LdvbiReading first, second, third;
+    LdvbiReading lines[3]; /* lines[0] is of line 16 */
 } LdvbiFieldReadings;
 
 /* Reads a line. `length` has to be ldvbi_line_bytes(system).
  * LDVBI_BAD_SYSTEM, LDVBI_BAD_LEVELS, LDVBI_BAD_LENGTH. */
-uint8_t ldvbi_read_line(uint8_t system, uint16_t black, uint16_t white, const uint8_t *bytes, size_t length,
-                        LdvbiReading *reading);
+LDVBI_RESULT LDVBI_POINTER(6)
+uint32_t ldvbi_read_line(uint32_t system, uint32_t black, uint32_t white, const void *samples, size_t length,
+                         LdvbiReading *reading);
+
+/* Reads lines 16, 17 and 18 that lie one after the other, as one pread fetches them from a file: they begin 15 lines
+ * after their field. `length` has to be 3 * ldvbi_line_bytes(system).
+ * LDVBI_BAD_SYSTEM, LDVBI_BAD_LEVELS, LDVBI_BAD_LENGTH. */
+LDVBI_RESULT LDVBI_POINTER(6)
+uint32_t ldvbi_read_rows(uint32_t system, uint32_t black, uint32_t white, const void *samples, size_t length,
+                         LdvbiFieldReadings *readings);
 
 /* Reads lines 16, 17 and 18 of a field, and touches no other. `length` has to be ldvbi_field_bytes(system).
  * LDVBI_BAD_SYSTEM, LDVBI_BAD_LEVELS, LDVBI_BAD_LENGTH. */
-uint8_t ldvbi_read_field(uint8_t system, uint16_t black, uint16_t white, const uint8_t *bytes, size_t length,
-                         LdvbiFieldReadings *readings);
+LDVBI_RESULT LDVBI_POINTER(6)
+uint32_t ldvbi_read_field(uint32_t system, uint32_t black, uint32_t white, const void *samples, size_t length,
+                          LdvbiFieldReadings *readings);
 
 /* The same for `count` fields, one after the other, as in a TBC file that is mapped. `length` has to be count times
- * ldvbi_field_bytes(system).
+ * ldvbi_field_bytes(system). From a disk few pages of each field are wanted: examples/seek.c asks for those of the next
+ * fields ahead.
  * LDVBI_BAD_SYSTEM, LDVBI_BAD_LEVELS, LDVBI_BAD_LENGTH. */
-uint8_t ldvbi_read_fields(uint8_t system, uint16_t black, uint16_t white, const uint8_t *bytes, size_t length,
-                          LdvbiFieldReadings *readings, size_t count);
+LDVBI_RESULT
+uint32_t ldvbi_read_fields(uint32_t system, uint32_t black, uint32_t white, const void *samples, size_t length,
+                           LdvbiFieldReadings *readings, size_t count);
 
 /* ---- What words say */
 
-enum {
+enum LdvbiKind {
     LDVBI_OTHER = 0,
     LDVBI_PICTURE = 1,       /* first: the number of a picture of a CAV disc, 0 to 79999 */
     LDVBI_CHAPTER = 2,       /* first: the chapter, 0 to 79 */
@@ -118,14 +197,15 @@ enum {
 
 /* A word's kind and the numbers that go with it; those that don't are 0. */
 typedef struct LdvbiCode {
-    uint32_t kind, first, second;
+    uint32_t kind, first, second; /* kind: of enum LdvbiKind */
 } LdvbiCode;
 
 /* What a word says. LDVBI_BAD_WORD, for 0 too. */
-uint8_t ldvbi_classify(uint32_t word, LdvbiCode *code);
+LDVBI_RESULT LDVBI_POINTER(2)
+uint32_t ldvbi_classify(uint32_t word, LdvbiCode *code);
 
 /* Which discs a field's codes speak of. */
-enum {
+enum LdvbiFormat {
     LDVBI_NEITHER = 0,
     LDVBI_CAV = 1, /* picture numbers or picture stops, and none of the next */
     LDVBI_CLV = 2, /* CLV marks, times or CLV pictures, and none of the last */
@@ -133,14 +213,69 @@ enum {
 };
 
 /* The format of a field whose lines 16, 17 and 18 have these words, each 0 where there is none. LDVBI_BAD_WORD. */
-uint8_t ldvbi_format(uint32_t first, uint32_t second, uint32_t third, uint8_t *format);
+LDVBI_RESULT LDVBI_POINTER(4)
+uint32_t ldvbi_format(uint32_t first, uint32_t second, uint32_t third, uint32_t *format);
 
 /* ---- Drawing */
 
 /* Writes the samples of a line that shows the word, in black and white, or of a blank line for 0. `length` has to be
  * ldvbi_line_bytes(system).
  * LDVBI_BAD_SYSTEM, LDVBI_BAD_LEVELS, LDVBI_BAD_LENGTH, LDVBI_BAD_WORD. */
-uint8_t ldvbi_draw_line(uint8_t system, uint16_t black, uint16_t white, uint32_t word, uint8_t *bytes, size_t length);
+LDVBI_RESULT
+uint32_t ldvbi_draw_line(uint32_t system, uint32_t black, uint32_t white, uint32_t word, void *samples, size_t length);
+
+/* ---- Texts: never null, and "unknown" for any other number. Causes are as in the document of `ldvbi extract`, where
+ * "change" and "hold" are followed by a space and the column; kinds and formats as in the report of `ldvbi show`. */
+
+static inline const char *ldvbi_status_text(uint32_t status) {
+    switch (status) {
+    case LDVBI_DONE: return "done";
+    case LDVBI_BAD_SYSTEM: return "system is neither NTSC nor PAL";
+    case LDVBI_BAD_LEVELS: return "black is not below white, or one of them is above 65535";
+    case LDVBI_BAD_LENGTH: return "length does not fit the system";
+    case LDVBI_BAD_WORD: return "number is no code word";
+    default: return "unknown";
+    }
+}
+
+static inline const char *ldvbi_cause_text(uint32_t cause) {
+    switch (cause) {
+    case LDVBI_WORD: return "word";
+    case LDVBI_BLANK: return "blank";
+    case LDVBI_UNFINISHED: return "unfinished";
+    case LDVBI_CHANGE: return "change";
+    case LDVBI_HOLD: return "hold";
+    default: return "unknown";
+    }
+}
+
+static inline const char *ldvbi_kind_text(uint32_t kind) {
+    switch (kind) {
+    case LDVBI_OTHER: return "other";
+    case LDVBI_PICTURE: return "picture";
+    case LDVBI_CHAPTER: return "chapter";
+    case LDVBI_TIME: return "time";
+    case LDVBI_CLV_PICTURE: return "clv picture";
+    case LDVBI_CX_ON: return "cx on";
+    case LDVBI_CX_OFF: return "cx off";
+    case LDVBI_USERS: return "users";
+    case LDVBI_LEAD_IN: return "lead-in";
+    case LDVBI_LEAD_OUT: return "lead-out";
+    case LDVBI_PICTURE_STOP: return "picture stop";
+    case LDVBI_CLV_MARK: return "clv";
+    default: return "unknown";
+    }
+}
+
+static inline const char *ldvbi_format_text(uint32_t format) {
+    switch (format) {
+    case LDVBI_NEITHER: return "neither";
+    case LDVBI_CAV: return "cav";
+    case LDVBI_CLV: return "clv";
+    case LDVBI_BOTH: return "both";
+    default: return "unknown";
+    }
+}
 
 #ifdef __cplusplus
 }

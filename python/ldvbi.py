@@ -110,18 +110,18 @@ def _load():
     places = [os.path.join(folder, name) for folder in (here, above, installed)]
     chosen = os.environ.get("LDVBI_LIBRARY") or next((place for place in places if os.path.exists(place)), name)
     library = ctypes.CDLL(chosen)
-    byte, sample, word, size = ctypes.c_uint8, ctypes.c_uint16, ctypes.c_uint32, ctypes.c_size_t
-    memory = ctypes.c_void_p
-    setup = [byte, sample, sample]
+    word, size, memory = ctypes.c_uint32, ctypes.c_size_t, ctypes.c_void_p
+    setup = [word, word, word]
     calls = {
         "ldvbi_abi": (word, []),
-        "ldvbi_line_bytes": (size, [byte]),
-        "ldvbi_field_bytes": (size, [byte]),
-        "ldvbi_read_line": (byte, setup + [memory, size, memory]),
-        "ldvbi_read_fields": (byte, setup + [memory, size, memory, size]),
-        "ldvbi_classify": (byte, [word, memory]),
-        "ldvbi_format": (byte, [word, word, word, memory]),
-        "ldvbi_draw_line": (byte, setup + [word, memory, size]),
+        "ldvbi_version": (word, []),
+        "ldvbi_line_bytes": (size, [word]),
+        "ldvbi_field_bytes": (size, [word]),
+        "ldvbi_read_line": (word, setup + [memory, size, memory]),
+        "ldvbi_read_fields": (word, setup + [memory, size, memory, size]),
+        "ldvbi_classify": (word, [word, memory]),
+        "ldvbi_format": (word, [word, word, word, memory]),
+        "ldvbi_draw_line": (word, setup + [word, memory, size]),
     }
     for call, (result, arguments) in calls.items():
         function = getattr(library, call)
@@ -285,7 +285,7 @@ def classify(word):
 def format_of(first, second, third):
     """The format of a field whose lines 16, 17 and 18 have these words, each 0 where there is none."""
     words = [_number("word", word, 0xFFFFFFFF) for word in (first, second, third)]
-    out = ctypes.c_uint8()
+    out = ctypes.c_uint32()
     _check(_library.ldvbi_format(*words, ctypes.byref(out)))
     return Format(out.value)
 

@@ -1,55 +1,17 @@
-/* Calls the library for C as its header has it: each status, each length one off, all 256 numbers of systems, 20,000
-   words a system drawn and read, the layout of the structs, and threads. The drawn lines that are expected are made
-   here, from half cells of one microsecond. Every buffer ends where no page follows, so that a byte read or written
-   past it ends the program, and a stream that is only read lies in pages that can't be written. */
-#define _DEFAULT_SOURCE
-#include <ldvbi.h>
+/* Calls the library for C as its header has it: each status, each length one off, numbers of systems, levels and words
+   that are too wide, 20,000 words a system drawn and read, the layout of the structs, texts, and threads. Every buffer
+   ends where no page follows, so that a byte read or written past it ends the program, and a stream that is only read
+   lies in pages that can't be written. */
+#include "library.h"
 #include <pthread.h>
-#include <stddef.h>
-#include <stdio.h>
-#include <stdlib.h>
-#include <string.h>
-#include <sys/mman.h>
 
 enum { WORDS = 20000, THREADS = 4, FIELDS = 2 };
 
-typedef struct {
-    uint8_t system;
-    uint16_t black, white;
-    size_t samples, lines, start;
-    uint64_t numerator, denominator; /* samples of a microsecond */
-} Television;
-
-static const Television televisions[] = {
-    {LDVBI_NTSC, 16384, 51200, 910, 263, 150, 315, 22},
-    {LDVBI_PAL, 16384, 54016, 1135, 313, 190, 709379, 40000},
-};
-
-static int wrong;
-
-#define CHECK(test)                                                      \
-    do {                                                                 \
-        if (!(test)) {                                                   \
-            fprintf(stderr, "%s:%d: %s\n", __FILE__, __LINE__, #test);   \
-            wrong++;                                                     \
-        }                                                                \
-    } while (0)
+/* Numbers that a parameter of 8 or of 16 bits would cut off, and those around them. */
+static const uint32_t wide[] = {256, 257, 65535, 65536, 1u << 31, UINT32_MAX};
+enum { WIDE = sizeof wide / sizeof *wide };
 
 /* ---- Memory */
-
-/* This many bytes, all 0xAA, with no page behind the last. */
-static uint8_t *guarded(size_t size)
-{
-    size_t pages = (size + 4095) / 4096 * 4096;
-    uint8_t *begin = mmap(NULL, pages + 4096, PROT_READ | PROT_WRITE, MAP_PRIVATE | MAP_ANONYMOUS, -1, 0);
-
-    if (begin == MAP_FAILED || mprotect(begin + pages, 4096, PROT_NONE) != 0) {
-        perror("mmap");
-        exit(2);
-    }
-    memset(begin, 0xAA, pages);
-    return begin + pages - size;
-}
 
 /* From here on these bytes can't be written, nor can those before them in their first page. */
 static void only_read(uint8_t *bytes, size_t size)
@@ -70,44 +32,7 @@ static int holds(const uint8_t *bytes, size_t size, uint8_t value)
     return 1;
 }
 
-/* ---- Drawn lines */
-
-static uint32_t random_number(uint32_t *state)
-{
-    *state ^= *state << 13;
-    *state ^= *state >> 17;
-    *state ^= *state << 5;
-    return *state;
-}
-
-static void put_sample(uint8_t *line, size_t column, uint16_t sample)
-{
-    line[2 * column] = (uint8_t)(sample & 0xFF);
-    line[2 * column + 1] = (uint8_t)(sample >> 8);
-}
-
-/* The line that shows the word, or a blank one for 0: a one is low and then high, a zero is high and then low. */
-static void draw(const Television *tv, uint32_t word, uint8_t *line)
-{
-    for (size_t column = 0; column < tv->samples; column++)
-        put_sample(line, column, tv->black);
-    if (word == 0)
-        return;
-    for (unsigned half = 0; half < 48; half++) {
-        unsigned one = word >> (23 - half / 2) & 1;
-        size_t begin = tv->start + half * tv->numerator / tv->denominator;
-        size_t end = tv->start + (half + 1) * tv->numerator / tv->denominator;
-
-        if (one == half % 2)
-            for (size_t column = begin; column < end; column++)
-                put_sample(line, column, tv->white);
-    }
-}
-
-static int is_reading(LdvbiReading reading, int cause, int pass, unsigned column, uint32_t word)
-{
-    return reading.cause == cause && reading.pass == pass && reading.column == column && reading.word == word;
-}
+/* ---- Words and causes */
 
 static void test_words(const Television *tv)
 {
@@ -169,9 +94,10 @@ static uint32_t word_of_row(size_t field, size_t row)
 
 static int is_field(const LdvbiFieldReadings *readings, size_t field)
 {
-    return is_reading(readings->first, LDVBI_WORD, 1, 0, word_of_row(field, 15)) &&
-           is_reading(readings->second, LDVBI_WORD, 1, 0, word_of_row(field, 16)) &&
-           is_reading(readings->third, LDVBI_WORD, 1, 0, word_of_row(field, 17));
+    for (size_t i = 0; i < 3; i++)
+        if (!is_reading(readings->lines[i], LDVBI_WORD, 1, 0, word_of_row(field, 15 + i)))
+            return 0;
+    return 1;
 }
 
 static void test_fields(const Television *tv)
@@ -193,6 +119,8 @@ static void test_fields(const Television *tv)
     CHECK(READ(stream, 0, SIZE_MAX / field + 1) == LDVBI_BAD_LENGTH);
     CHECK(READ(stream + 1, FIELDS * field - 1, FIELDS) == LDVBI_BAD_LENGTH);
     CHECK(READ(stream, 0, 0) == LDVBI_DONE);
+    CHECK(ldvbi_read_fields(tv->system, tv->black, tv->white, NULL, 0, NULL, 0) == LDVBI_DONE);
+    CHECK(READ(NULL, 0, 1) == LDVBI_BAD_LENGTH);
     CHECK(holds(memory, room, 0xAA));
     CHECK(READ(stream, FIELDS * field, FIELDS) == LDVBI_DONE);
     CHECK(is_field(&readings[0], 0) && is_field(&readings[1], 1));
@@ -203,16 +131,31 @@ static void test_fields(const Television *tv)
     CHECK(READ(stream, field + 1) == LDVBI_BAD_LENGTH);
     CHECK(READ(stream, FIELDS * field) == LDVBI_BAD_LENGTH);
     CHECK(READ(stream, 0) == LDVBI_BAD_LENGTH);
+    CHECK(READ(NULL, 0) == LDVBI_BAD_LENGTH);
     CHECK(holds(memory, room, 0xAA));
     CHECK(READ(stream + field, field) == LDVBI_DONE);
     CHECK(is_field(&readings[1], 1) && holds(memory, room / 2, 0xAA));
+#undef READ
+#define READ(bytes, length) ldvbi_read_rows(tv->system, tv->black, tv->white, bytes, length, &readings[0])
+    memset(memory, 0xAA, room);
+    const uint8_t *rows = stream + field + 15 * line;
+    CHECK(READ(rows, 3 * line - 1) == LDVBI_BAD_LENGTH);
+    CHECK(READ(rows, 3 * line + 1) == LDVBI_BAD_LENGTH);
+    CHECK(READ(rows, line) == LDVBI_BAD_LENGTH);
+    CHECK(READ(rows, 2 * line) == LDVBI_BAD_LENGTH);
+    CHECK(READ(stream + field, field) == LDVBI_BAD_LENGTH);
+    CHECK(READ(NULL, 0) == LDVBI_BAD_LENGTH);
+    CHECK(holds(memory, room, 0xAA));
+    CHECK(READ(rows, 3 * line) == LDVBI_DONE);
+    CHECK(is_field(&readings[0], 1) && holds(memory + room / 2, room / 2, 0xAA));
 #undef READ
 }
 
 /* ---- Refusals */
 
-/* What reading and drawing answer, having written nothing. */
-static void refused(uint8_t system, uint16_t black, uint16_t white, uint32_t word, size_t length, int reads, int draws)
+/* Reading and drawing return these statuses, having written nothing. */
+static void refused(uint32_t system, uint32_t black, uint32_t white, uint32_t word, size_t length, uint32_t reads,
+                    uint32_t draws)
 {
     uint8_t *line = guarded(length);
     uint8_t *reading = guarded(sizeof(LdvbiReading)), *readings = guarded(sizeof(LdvbiFieldReadings));
@@ -224,6 +167,7 @@ static void refused(uint8_t system, uint16_t black, uint16_t white, uint32_t wor
     if (reads == LDVBI_DONE)
         return;
     CHECK(ldvbi_read_line(system, black, white, line, length, (LdvbiReading *)(void *)reading) == reads);
+    CHECK(ldvbi_read_rows(system, black, white, line, length, field) == reads);
     CHECK(ldvbi_read_field(system, black, white, line, length, field) == reads);
     CHECK(ldvbi_read_fields(system, black, white, line, length, field, 1) == reads);
     CHECK(holds(reading, sizeof(LdvbiReading), 0xAA) && holds(readings, sizeof *field, 0xAA));
@@ -231,12 +175,12 @@ static void refused(uint8_t system, uint16_t black, uint16_t white, uint32_t wor
 
 static void test_refusals(void)
 {
-    /* What is tested first is told: the system, the levels, the length, the word. */
-    for (unsigned system = 0; system < 256; system++)
+    /* The status is that of what is tested first: the system, the levels, the length, the word. */
+    for (uint32_t system = 0; system < 256; system++)
         if (system != LDVBI_NTSC && system != LDVBI_PAL)
-            refused((uint8_t)system, 2, 2, 1, 7, LDVBI_BAD_SYSTEM, LDVBI_BAD_SYSTEM);
+            refused(system, 2, 2, 1, 7, LDVBI_BAD_SYSTEM, LDVBI_BAD_SYSTEM);
     for (size_t i = 0; i < 2; i++) {
-        uint8_t system = televisions[i].system;
+        uint32_t system = televisions[i].system;
         size_t size = 2 * televisions[i].samples;
 
         refused(system, 2, 2, 1, 7, LDVBI_BAD_LEVELS, LDVBI_BAD_LEVELS);
@@ -253,12 +197,47 @@ static void test_refusals(void)
     }
 }
 
+/* Each parameter where its number is too wide for 8 or 16 bits: a level is from 0 to 65535. */
+static void test_wide_numbers(void)
+{
+    for (size_t i = 0; i < WIDE; i++) {
+        int is_sample = wide[i] <= 65535;
+        uint32_t done = is_sample ? LDVBI_DONE : LDVBI_BAD_LEVELS, even = wide[i] == 65535 ? LDVBI_BAD_LEVELS : done;
+
+        refused(wide[i], 1, 2, 0, 1820, LDVBI_BAD_SYSTEM, LDVBI_BAD_SYSTEM);
+        refused(LDVBI_NTSC, 0, wide[i], 0, 1820, done, done);
+        refused(LDVBI_NTSC, wide[i], 65535, 0, 1820, even, even);
+        refused(LDVBI_NTSC, wide[i], UINT32_MAX, 0, 1820, LDVBI_BAD_LEVELS, LDVBI_BAD_LEVELS);
+        refused(LDVBI_NTSC, 1, 2, wide[i], 1820, LDVBI_DONE, LDVBI_BAD_WORD);
+        refused(LDVBI_NTSC, 1, 2, (wide[i] & 0xFF000000) | 0x1800000, 1820, LDVBI_DONE, LDVBI_BAD_WORD);
+    }
+    for (uint32_t system = LDVBI_NTSC; system <= LDVBI_PAL; system++) {
+        size_t size = ldvbi_line_bytes(system);
+
+        refused(256 + system, 1, 2, 0, size, LDVBI_BAD_SYSTEM, LDVBI_BAD_SYSTEM);
+        refused(65536 + system, 1, 2, 0, size, LDVBI_BAD_SYSTEM, LDVBI_BAD_SYSTEM);
+        refused((1u << 31) + system, 1, 2, 0, size, LDVBI_BAD_SYSTEM, LDVBI_BAD_SYSTEM);
+        refused(system, 65536, 65537, 0, size, LDVBI_BAD_LEVELS, LDVBI_BAD_LEVELS);
+        refused(system, 65536, 51200, 0, size, LDVBI_BAD_LEVELS, LDVBI_BAD_LEVELS);
+        refused(system, 16384, 65536 + 51200, 0, size, LDVBI_BAD_LEVELS, LDVBI_BAD_LEVELS);
+    }
+}
+
+static void test_version(void)
+{
+    char text[32];
+
+    CHECK(ldvbi_abi() == LDVBI_ABI && ldvbi_version() == LDVBI_VERSION);
+    snprintf(text, sizeof text, "%d.%d.%d", LDVBI_VERSION / 1000000, LDVBI_VERSION / 1000 % 1000, LDVBI_VERSION % 1000);
+    CHECK(strcmp(text, LDVBI_VERSION_TEXT) == 0);
+    CHECK(LDVBI_VERSION_MAJOR < 1000 && LDVBI_VERSION_MINOR < 1000 && LDVBI_VERSION_PATCH < 1000);
+}
+
 static void test_sizes(void)
 {
-    CHECK(ldvbi_abi() == LDVBI_ABI);
-    for (unsigned number = 0; number < 256; number++) {
-        const Television *tv = number == 1 ? &televisions[0] : number == 2 ? &televisions[1] : NULL;
-        uint8_t system = (uint8_t)number;
+    for (uint32_t number = 0; number < 256 + WIDE; number++) {
+        uint32_t system = number < 256 ? number : wide[number - 256];
+        const Television *tv = system == 1 ? &televisions[0] : system == 2 ? &televisions[1] : NULL;
 
         CHECK(ldvbi_line_samples(system) == (tv ? tv->samples : 0));
         CHECK(ldvbi_line_bytes(system) == (tv ? 2 * tv->samples : 0));
@@ -281,7 +260,7 @@ static void test_layout(void)
     CHECK(sizeof(LdvbiReading) == 8 && sizeof(LdvbiFieldReadings) == 24 && sizeof(LdvbiCode) == 12);
     CHECK(offsetof(LdvbiReading, cause) == 0 && offsetof(LdvbiReading, pass) == 1);
     CHECK(offsetof(LdvbiReading, column) == 2 && offsetof(LdvbiReading, word) == 4);
-    CHECK(offsetof(LdvbiFieldReadings, second) == 8 && offsetof(LdvbiFieldReadings, third) == 16);
+    CHECK(offsetof(LdvbiFieldReadings, lines) == 0 && offsetof(LdvbiFieldReadings, lines[2]) == 16);
     CHECK(offsetof(LdvbiCode, first) == 4 && offsetof(LdvbiCode, second) == 8);
     CHECK(memcmp(&reading, hold, sizeof hold) == 0);
     draw(&televisions[0], 0xF12345, line);
@@ -309,7 +288,7 @@ static void test_codes(void)
         {0x80D000, {LDVBI_USERS, 0, 0}},           {0x87DDDD, {LDVBI_USERS, 7, 0xDDD}},
         {0xF12A45, {LDVBI_OTHER, 0, 0}},           {0x88DFFF, {LDVBI_OTHER, 0, 0}},
     };
-    static const uint32_t none[] = {0, 1, 0x7FFFFF, 0x1000000, 0xFFFFFFFF};
+    static const uint32_t none[] = {0, 1, 256, 257, 65535, 65536, 0x7FFFFF, 0x1000000, 0x80000000, 0xFFFFFFFF};
     LdvbiCode code = {9, 9, 9};
 
     for (size_t i = 0; i < sizeof none / sizeof *none; i++)
@@ -325,7 +304,7 @@ static void test_formats(void)
 {
     static const struct {
         uint32_t words[3];
-        uint8_t status, format;
+        uint32_t status, format;
     } rows[] = {
         {{0, 0, 0}, LDVBI_DONE, LDVBI_NEITHER},
         {{0x88FFFF, 0x88FFFF, 0x88FFFF}, LDVBI_DONE, LDVBI_NEITHER},
@@ -335,13 +314,38 @@ static void test_formats(void)
         {{1, 0, 0}, LDVBI_BAD_WORD, 9},
         {{0, 0x7FFFFF, 0}, LDVBI_BAD_WORD, 9},
         {{0x82CFFF, 0, 0x1000000}, LDVBI_BAD_WORD, 9},
+        {{65536, 0, 0}, LDVBI_BAD_WORD, 9},
+        {{0, 0x80000000, 0}, LDVBI_BAD_WORD, 9},
+        {{0, 0, 0x80800000}, LDVBI_BAD_WORD, 9},
     };
 
     for (size_t i = 0; i < sizeof rows / sizeof *rows; i++) {
-        uint8_t format = 9;
+        uint32_t format = 9;
         const uint32_t *words = rows[i].words;
 
         CHECK(ldvbi_format(words[0], words[1], words[2], &format) == rows[i].status && format == rows[i].format);
+    }
+}
+
+/* ---- Texts; that those of causes, kinds and formats are the program's is shown by tests/library_texts.c */
+
+static void test_texts(void)
+{
+    static const char *statuses[] = {"done", "system is neither NTSC nor PAL",
+                                     "black is not below white, or one of them is above 65535",
+                                     "length does not fit the system", "number is no code word"};
+    static const uint32_t unknown[] = {256, 257, 65536, UINT32_MAX};
+
+    CHECK(strcmp(ldvbi_cause_text(LDVBI_WORD), "word") == 0);
+    for (uint32_t status = 0; status < 5; status++)
+        CHECK(strcmp(ldvbi_status_text(status), statuses[status]) == 0);
+    for (uint32_t number = 0; number < 256 + 4; number++) {
+        uint32_t any = number < 256 ? number : unknown[number - 256];
+
+        CHECK((strcmp(ldvbi_status_text(any), "unknown") == 0) == (any > LDVBI_BAD_WORD));
+        CHECK((strcmp(ldvbi_cause_text(any), "unknown") == 0) == (any > LDVBI_HOLD));
+        CHECK((strcmp(ldvbi_kind_text(any), "unknown") == 0) == (any > LDVBI_CLV_MARK));
+        CHECK((strcmp(ldvbi_format_text(any), "unknown") == 0) == (any > LDVBI_BOTH));
     }
 }
 
@@ -374,9 +378,12 @@ static void test_threads(void)
 
 int main(void)
 {
+    test_version();
     test_sizes();
     test_layout();
     test_refusals();
+    test_wide_numbers();
+    test_texts();
     test_causes();
     test_codes();
     test_formats();

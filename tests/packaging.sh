@@ -31,6 +31,11 @@ made() {
 cat > files << 'END'
 usr/bin/ldvbi
 usr/share/bash-completion/completions/ldvbi
+usr/share/doc/ldvbi/CHANGELOG.md
+usr/share/doc/ldvbi/README.md
+END
+(cd tree && git ls-files 'docs/*.md' 'docs/pictures/*.svg' examples | sed 's/^/usr\/share\/doc\/ldvbi\//') >> files
+cat >> files << 'END'
 usr/share/ldvbi/ldvbi.jq
 usr/share/ldvbi/ldvbi.schema.json
 usr/share/ldvbi/plot_line.py
@@ -63,6 +68,7 @@ find usr -type f > found
 echo usr/share/man/man1/other.1 > other
 check 'what is left is not ours' cmp found other
 check 'no folder of ours is left' [ ! -e usr/share/ldvbi ]
+check 'no document of ours is left' [ ! -e usr/share/doc/ldvbi ]
 made install DESTDIR="$work/stage" PREFIX=/usr
 (cd stage && find usr -type f | sort) > found
 check 'what is installed below DESTDIR' cmp found files

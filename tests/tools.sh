@@ -6,7 +6,7 @@
 set -eu
 
 missing=
-for pair in "${CC:-cc}:gcc libc6-dev" "${CXX:-c++}:g++" nm:binutils python3:python3 jq:jq; do
+for pair in "${CC:-cc}:gcc libc6-dev" "${CXX:-c++}:g++" nm:binutils python3:python3 jq:jq pkg-config:pkg-config; do
     command -v "${pair%%:*}" > /dev/null || missing="$missing ${pair#*:}"
 done
 for tool in git less mandoc parallel pv zsh; do

@@ -1,1 +1,2 @@
 mod DrawnLines
+mod Reported

@@ -24,9 +24,9 @@ code_for_c LeadOut = record { kind = 9; first = 0; second = 0 }
 code_for_c PictureStop = record { kind = 10; first = 0; second = 0 }
 code_for_c ClvMark = record { kind = 11; first = 0; second = 0 }
 
--- what C is told is the word's code: the class whose pattern its digits match, with its numbers
-abbrev pub TellsCode : ℕ → LdvbiCode → Type 0
-TellsCode word told = (code : Code) × IsCode word code × (told ≡ code_for_c code)
+-- the report is the word's code: the class whose pattern its digits match, with its numbers
+abbrev pub ReportsCode : ℕ → LdvbiCode → Type 0
+ReportsCode word report = (code : Code) × IsCode word code × (report ≡ code_for_c code)
 
 -- a format's number
 abbrev pub format_for_c : Format → ℕ
@@ -35,6 +35,6 @@ format_for_c Cav = 1
 format_for_c Clv = 2
 format_for_c Both = 3
 
--- what C is told is the format of a field whose lines have these words: it names the kinds of code that a line has
-abbrev pub TellsFormat : List (Option ℕ) → ℕ → Type 0
-TellsFormat lines told = (format : Format) × IsFormat lines format × (told ≡ format_for_c format)
+-- the report is the format of a field whose lines have these words: it names the kinds of code that a line has
+abbrev pub ReportsFormat : List (Option ℕ) → ℕ → Type 0
+ReportsFormat lines report = (format : Format) × IsFormat lines format × (report ≡ format_for_c format)

@@ -25,8 +25,8 @@ reading_for_c reading = outcome_for_c reading.outcome reading.pass
 abbrev pub line_reading : Setup → List ℕ → LdvbiReading
 line_reading setup bytes = reading_for_c (reading_of setup.system (row_levels setup.levels bytes))
 
--- what C is told is the reading of the line's levels, by what it means that they show a word or none
-abbrev pub TellsLine : Setup → List ℕ → LdvbiReading → Type 0
-TellsLine setup bytes told =
+-- the report is the reading of the line's levels, by what it means that they show a word or none
+abbrev pub ReportsLine : Setup → List ℕ → LdvbiReading → Type 0
+ReportsLine setup bytes report =
     (reading : Reading) × IsReading setup.system (row_levels setup.levels bytes) reading
-    × (told ≡ reading_for_c reading)
+    × (report ≡ reading_for_c reading)

@@ -1,6 +1,7 @@
 -- What the numbers of a call stand for, and why they are refused (this project's own): the system is looked at first,
--- then black and white, then the length.
-use Rattle.std.specs.Prelude.{ℕ, ◌*◌, ◌==◌, nat_le, if◌then◌else◌, Option, Some, None, Result, Ok, Err}
+-- then black and white, then the length. The numbers of systems and levels may be any of 32 bits.
+use Rattle.std.specs.Prelude.{ℕ, ◌*◌, ◌==◌, ◌&&◌, nat_lt, nat_le, if◌then◌else◌}
+use Rattle.std.specs.Prelude.{Option, Some, None, Result, Ok, Err}
 use Rattle.vbi_words.specs.declared.system.System as words
 use Rattle.vbi_words.specs.declared.system.System.TheVariants.{Ntsc, Pal}
 use Rattle.vbi_words.specs.Geometry.{line_bytes, field_bytes}
@@ -12,12 +13,13 @@ use Rattle.vbi_c.specs.declared.status.Refusal.TheVariants.{System, Levels, Leng
 abbrev pub system_of : ℕ → Option words.System
 system_of number = if number == 1 then Some Ntsc else (if number == 2 then Some Pal else None)
 
--- a system with black and white, which has to be above black
+-- a system with black and white: samples of 16 bits, black below white
 abbrev pub with_levels : Option words.System → ℕ → ℕ → Result Setup Refusal
 with_levels None black white = Err System
 with_levels (Some system) black white =
-    if nat_le white black then Err Levels
-    else Ok (record { system = system; levels = record { black = black; white = white } })
+    if nat_lt black white && nat_le white 65535
+    then Ok (record { system = system; levels = record { black = black; white = white } })
+    else Err Levels
 
 -- the system of a number with black and white
 abbrev pub setup_of : ℕ → ℕ → ℕ → Result Setup Refusal
@@ -31,6 +33,10 @@ of_length wanted length (Ok setup) = if length == wanted setup.system then Ok se
 -- the same for so many bytes, which have to be those of a line
 abbrev pub line_setup : ℕ → ℕ → ℕ → ℕ → Result Setup Refusal
 line_setup number black white length = of_length line_bytes length (setup_of number black white)
+
+-- the same for so many bytes, which have to be those of three lines
+abbrev pub rows_setup : ℕ → ℕ → ℕ → ℕ → Result Setup Refusal
+rows_setup number black white length = of_length (λ system. 3 * line_bytes system) length (setup_of number black white)
 
 -- the same for so many bytes, which have to be those of that many fields
 abbrev pub fields_setup : ℕ → ℕ → ℕ → ℕ → ℕ → Result Setup Refusal

@@ -3,7 +3,7 @@
 ghost use Rattle.std.specs.Prelude.{◌≡◌, ◌≢◌, ◌↔◌};
 ghost use Rattle.vbi_words.specs.CodeTable.{code_of};
 ghost use Rattle.vbi_words.specs.Words.{IsWord};
-ghost use Rattle.vbi_c.specs.Codes.{code_for_c, TellsCode};
+ghost use Rattle.vbi_c.specs.Codes.{code_for_c, ReportsCode};
 
 use crate::status::{BAD_WORD, DONE};
 use std::mem::size_of;
@@ -53,25 +53,25 @@ fn code_for_c(code: Code) -> LdvbiCode
 }
 
 /// What a word says, as C sees it.
-fn told_code(word: Word24) -> LdvbiCode
+fn code_of_word(word: Word24) -> LdvbiCode
     ensures value { result ≡ code_for_c (code_of word) }
-    ensures tells { TellsCode word result }
+    ensures reports { ReportsCode word result }
 {
     code_for_c(classify(word))
 }
 
 /// What a word says, by its six hexadecimal digits.
 #[unsafe(no_mangle)]
-pub extern "C" fn ldvbi_classify(word: u32, code: &mut LdvbiCode) -> u8
-    ensures done { (result ≡ DONE) ↔ IsWord word }
-    ensures refused { result ≢ DONE → result ≡ BAD_WORD }
-    ensures classifies { result ≡ DONE → code.new ≡ code_for_c (code_of word) }
-    ensures tells { result ≡ DONE → TellsCode word code.new }
-    ensures unwritten { result ≢ DONE → code.new ≡ code.old }
+pub extern "C" fn ldvbi_classify(word: u32, code: &mut LdvbiCode) -> u32
+    ensures done { (result ≡ 0) ↔ IsWord word }
+    ensures refused { result ≢ 0 → result ≡ 4 }
+    ensures classifies { result ≡ 0 → code.new ≡ code_for_c (code_of word) }
+    ensures reports { result ≡ 0 → ReportsCode word code.new }
+    ensures unwritten { result ≢ 0 → code.new ≡ code.old }
 {
     match Word24::new(word) {
         Ok(word) => {
-            *code = told_code(word);
+            *code = code_of_word(word);
             DONE
         }
         Err(_) => BAD_WORD,

@@ -21,9 +21,9 @@ pub(crate) struct Drawing {
 
 /// The drawing of a word, or of none for 0, on so many bytes.
 fn find_drawing(
-    system: u8,
-    black: u16,
-    white: u16,
+    system: u32,
+    black: u32,
+    white: u32,
     word: u32,
     length: usize,
 ) -> Result<Drawing, Refusal>
@@ -57,18 +57,18 @@ fn draw(drawing: &Drawing, bytes: &mut [u8])
 /// two for each sample, the low one first. The line is read as the word, in the first pass.
 #[unsafe(no_mangle)]
 pub extern "C" fn ldvbi_draw_line(
-    system: u8,
-    black: u16,
-    white: u16,
+    system: u32,
+    black: u32,
+    white: u32,
     word: u32,
     bytes: &mut [u8],
-) -> u8
+) -> u32
     ensures status { result ≡ status_of (drawing_of system black white word (length bytes.old)) }
     ensures draws { IfOk (drawing_of system black white word (length bytes.old)) (λ drawing.
         IsDrawnLine drawing bytes.new) }
     ensures reads { IfOk (drawing_of system black white word (length bytes.old)) (λ drawing.
         line_reading drawing.setup bytes.new ≡ reading_for_c (drawn_reading drawing.word)) }
-    ensures unwritten { result ≢ DONE → bytes.new ≡ bytes.old }
+    ensures unwritten { result ≢ 0 → bytes.new ≡ bytes.old }
 {
     match find_drawing(system, black, white, word, bytes.len()) {
         Ok(drawing) => {

@@ -2,7 +2,7 @@
 
 ghost use Rattle.std.specs.Prelude.{◌≡◌, ◌≢◌, IfOk};
 ghost use Rattle.vbi_words.specs.Formats.{format_of_lines};
-ghost use Rattle.vbi_c.specs.Codes.{format_for_c, TellsFormat};
+ghost use Rattle.vbi_c.specs.Codes.{format_for_c, ReportsFormat};
 ghost use Rattle.vbi_c.specs.Statuses.{status_of};
 ghost use Rattle.vbi_c.specs.Words.{three_words};
 
@@ -18,7 +18,7 @@ fn find_words(first: u32, second: u32, third: u32) -> Result<[Option<Word24>; 3]
 }
 
 /// A format as C sees it.
-fn format_for_c(format: Format) -> u8
+fn format_for_c(format: Format) -> u32
     ensures { result ≡ format_for_c format }
 {
     match format {
@@ -30,9 +30,9 @@ fn format_for_c(format: Format) -> u8
 }
 
 /// The format of a field whose lines have these words, as C sees it.
-fn told_format(words: &[Option<Word24>; 3]) -> u8
+fn format_of_words(words: &[Option<Word24>; 3]) -> u32
     ensures value { result ≡ format_for_c (format_of_lines words.now) }
-    ensures tells { TellsFormat words.now result }
+    ensures reports { ReportsFormat words.now result }
 {
     format_for_c(format_of(words))
 }
@@ -41,16 +41,16 @@ fn told_format(words: &[Option<Word24>; 3]) -> u8
 /// that CAV discs alone have and none are codes that CLV discs alone have, 2 the other way round, 3 where there are
 /// both, 0 where there is neither.
 #[unsafe(no_mangle)]
-pub extern "C" fn ldvbi_format(first: u32, second: u32, third: u32, format: &mut u8) -> u8
+pub extern "C" fn ldvbi_format(first: u32, second: u32, third: u32, format: &mut u32) -> u32
     ensures status { result ≡ status_of (three_words first second third) }
     ensures value { IfOk (three_words first second third) (λ lines.
         format.new ≡ format_for_c (format_of_lines lines)) }
-    ensures tells { IfOk (three_words first second third) (λ lines. TellsFormat lines format.new) }
-    ensures unwritten { result ≢ DONE → format.new ≡ format.old }
+    ensures reports { IfOk (three_words first second third) (λ lines. ReportsFormat lines format.new) }
+    ensures unwritten { result ≢ 0 → format.new ≡ format.old }
 {
     match find_words(first, second, third) {
         Ok(words) => {
-            *format = told_format(&words);
+            *format = format_of_words(&words);
             DONE
         }
         Err(refusal) => refusal.status(),

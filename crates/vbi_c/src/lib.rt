@@ -1,7 +1,8 @@
 //! The code words of LaserDisc lines (IEC 60857 and IEC 60856) for callers in C: the static library that
 //! `include/ldvbi.h` declares, over the reader of `vbi_line` and the codes of `vbi_words`.
 //!
-//! Each export tests the numbers that it is given, and answers a status; after any but `DONE` it has written nothing.
+//! Each export tests the numbers that it is given, and answers a status; after any but 0 it has written nothing.
+//! Numbers are as wide as C hands them, 32 bits, so that none is cut off before it is tested.
 //! It requires nothing beyond what its types say: pointers to values of those types, with as many bytes as the length
 //! beside them says, and nothing else that points to what it writes. No export allocates, prints or keeps anything
 //! between two calls, so calls from several threads don't meet.
@@ -16,12 +17,14 @@ mod reading;
 mod setup;
 mod sizes;
 mod status;
+mod version;
 mod word;
 
 pub use code::{LdvbiCode, ldvbi_classify};
 pub use drawing::ldvbi_draw_line;
-pub use fields::{LdvbiFieldReadings, ldvbi_read_field, ldvbi_read_fields};
+pub use fields::{LdvbiFieldReadings, ldvbi_read_field, ldvbi_read_fields, ldvbi_read_rows};
 pub use format::ldvbi_format;
 pub use line::ldvbi_read_line;
 pub use reading::LdvbiReading;
-pub use sizes::{ldvbi_abi, ldvbi_field_bytes, ldvbi_line_bytes, ldvbi_line_samples, ldvbi_lines};
+pub use sizes::{ldvbi_field_bytes, ldvbi_line_bytes, ldvbi_line_samples, ldvbi_lines};
+pub use version::{ldvbi_abi, ldvbi_version};

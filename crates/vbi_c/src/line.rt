@@ -1,7 +1,7 @@
 //! Reading one line.
 
 ghost use Rattle.std.specs.Prelude.{◌≡◌, ◌≢◌, length, IfOk};
-ghost use Rattle.vbi_c.specs.Readings.{line_reading, TellsLine};
+ghost use Rattle.vbi_c.specs.Readings.{line_reading, ReportsLine};
 ghost use Rattle.vbi_c.specs.Setups.{line_setup};
 ghost use Rattle.vbi_c.specs.Statuses.{status_of};
 
@@ -13,18 +13,18 @@ use crate::status::DONE;
 /// TBC files. Black and white are samples too.
 #[unsafe(no_mangle)]
 pub extern "C" fn ldvbi_read_line(
-    system: u8,
-    black: u16,
-    white: u16,
+    system: u32,
+    black: u32,
+    white: u32,
     bytes: &[u8],
     reading: &mut LdvbiReading,
-) -> u8
+) -> u32
     ensures status { result ≡ status_of (line_setup system black white (length bytes.now)) }
     ensures reads { IfOk (line_setup system black white (length bytes.now)) (λ setup.
         reading.new ≡ line_reading setup bytes.now) }
-    ensures tells { IfOk (line_setup system black white (length bytes.now)) (λ setup.
-        TellsLine setup bytes.now reading.new) }
-    ensures unwritten { result ≢ DONE → reading.new ≡ reading.old }
+    ensures reports { IfOk (line_setup system black white (length bytes.now)) (λ setup.
+        ReportsLine setup bytes.now reading.new) }
+    ensures unwritten { result ≢ 0 → reading.new ≡ reading.old }
 {
     match find_line_setup(system, black, white, bytes.len()) {
         Ok(setup) => {

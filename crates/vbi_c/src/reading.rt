@@ -2,7 +2,7 @@
 
 ghost use Rattle.std.specs.Prelude.{◌≡◌, length};
 ghost use Rattle.vbi_words.specs.Geometry.{line_bytes};
-ghost use Rattle.vbi_c.specs.Readings.{outcome_for_c, line_reading, TellsLine};
+ghost use Rattle.vbi_c.specs.Readings.{outcome_for_c, line_reading, ReportsLine};
 
 use crate::setup::Setup;
 use std::mem::size_of;
@@ -61,7 +61,7 @@ fn outcome_for_c(outcome: Outcome, pass: u8) -> LdvbiReading
 pub(crate) fn read_bytes(setup: &Setup, bytes: &[u8]) -> LdvbiReading
     requires { length bytes.now ≡ line_bytes setup.now.system }
     ensures value { result ≡ line_reading setup.now bytes.now }
-    ensures tells { TellsLine setup.now bytes.now result }
+    ensures reports { ReportsLine setup.now bytes.now result }
 {
     let packed = slice_bytes(bytes, setup.system, setup.levels);
     let reading = read_packed_twice(&packed, setup.system);

@@ -1,8 +1,7 @@
 //! What a call is given beside its bytes: a system, and black and white.
 
-ghost use Rattle.std.specs.Prelude.{◌≡◌, ◌*◌, ◌<◌, IfOk};
-ghost use Rattle.vbi_words.specs.Geometry.{line_bytes, field_bytes};
-ghost use Rattle.vbi_c.specs.Setups.{system_of, setup_of, line_setup, fields_setup};
+ghost use Rattle.std.specs.Prelude.{◌≡◌, ◌<◌, IfOk};
+ghost use Rattle.vbi_c.specs.Setups.{system_of, setup_of, line_setup, rows_setup, fields_setup};
 
 use crate::status::Refusal;
 use vbi_words::{Levels, System};
@@ -15,7 +14,7 @@ pub(crate) struct Setup {
 }
 
 /// The system of a number: 1 is NTSC, 2 is PAL.
-pub(crate) fn find_system(number: u8) -> Option<System>
+pub(crate) fn find_system(number: u32) -> Option<System>
     ensures { result ≡ system_of number }
 {
     match number {
@@ -26,14 +25,18 @@ pub(crate) fn find_system(number: u8) -> Option<System>
 }
 
 /// The system of a number with black and white, or why they are refused.
-fn find_setup(number: u8, black: u16, white: u16) -> Result<Setup, Refusal>
+fn find_setup(number: u32, black: u32, white: u32) -> Result<Setup, Refusal>
     ensures setup { result ≡ setup_of number black white }
     ensures order { IfOk result (λ setup. setup.levels.black < setup.levels.white) }
 {
     let Some(system) = find_system(number) else {
         return Err(Refusal::System);
     };
-    match Levels::new(black, white) {
+    // Samples have 16 bits.
+    if black > 65535 || white > 65535 {
+        return Err(Refusal::Levels);
+    }
+    match Levels::new(black as u16, white as u16) {
         Ok(levels) => Ok(Setup { system, levels }),
         Err(_) => Err(Refusal::Levels),
     }
@@ -41,9 +44,9 @@ fn find_setup(number: u8, black: u16, white: u16) -> Result<Setup, Refusal>
 
 /// The same for so many bytes, which have to be those of a line.
 pub(crate) fn find_line_setup(
-    number: u8,
-    black: u16,
-    white: u16,
+    number: u32,
+    black: u32,
+    white: u32,
     length: usize,
 ) -> Result<Setup, Refusal>
     ensures setup { result ≡ line_setup number black white length }
@@ -56,11 +59,27 @@ pub(crate) fn find_line_setup(
     Ok(setup)
 }
 
+/// The same for so many bytes, which have to be those of three lines.
+pub(crate) fn find_rows_setup(
+    number: u32,
+    black: u32,
+    white: u32,
+    length: usize,
+) -> Result<Setup, Refusal>
+    ensures { result ≡ rows_setup number black white length }
+{
+    let setup = find_setup(number, black, white)?;
+    if length != 3 * setup.system.line_bytes() {
+        return Err(Refusal::Length);
+    }
+    Ok(setup)
+}
+
 /// The same for so many bytes, which have to be those of that many fields.
 pub(crate) fn find_fields_setup(
-    number: u8,
-    black: u16,
-    white: u16,
+    number: u32,
+    black: u32,
+    white: u32,
     length: usize,
     count: usize,
 ) -> Result<Setup, Refusal>

@@ -1,4 +1,4 @@
-//! The sizes of lines and fields, and the number of this library's interface.
+//! The sizes of lines and fields.
 
 ghost use Rattle.std.specs.Prelude.{◌≡◌};
 ghost use Rattle.vbi_words.specs.Geometry.{width_of, height_of, line_bytes, field_bytes};
@@ -6,20 +6,9 @@ ghost use Rattle.vbi_c.specs.Setups.{system_of, of_system};
 
 use crate::setup::find_system;
 
-/// The number of this interface. Another one stands for other names, arguments, structs or statuses.
-pub const ABI: u32 = 1;
-
-/// The number of the interface that the library has.
-#[unsafe(no_mangle)]
-pub extern "C" fn ldvbi_abi() -> u32
-    ensures { result ≡ 1 }
-{
-    ABI
-}
-
 /// The samples of a line, or 0 where there is no system of that number.
 #[unsafe(no_mangle)]
-pub extern "C" fn ldvbi_line_samples(system: u8) -> usize
+pub extern "C" fn ldvbi_line_samples(system: u32) -> usize
     ensures { result ≡ of_system width_of (system_of system) }
 {
     match find_system(system) {
@@ -30,7 +19,7 @@ pub extern "C" fn ldvbi_line_samples(system: u8) -> usize
 
 /// The bytes of a line, or 0 where there is no system of that number.
 #[unsafe(no_mangle)]
-pub extern "C" fn ldvbi_line_bytes(system: u8) -> usize
+pub extern "C" fn ldvbi_line_bytes(system: u32) -> usize
     ensures { result ≡ of_system line_bytes (system_of system) }
 {
     match find_system(system) {
@@ -41,7 +30,7 @@ pub extern "C" fn ldvbi_line_bytes(system: u8) -> usize
 
 /// The lines of a field, or 0 where there is no system of that number.
 #[unsafe(no_mangle)]
-pub extern "C" fn ldvbi_lines(system: u8) -> usize
+pub extern "C" fn ldvbi_lines(system: u32) -> usize
     ensures { result ≡ of_system height_of (system_of system) }
 {
     match find_system(system) {
@@ -52,7 +41,7 @@ pub extern "C" fn ldvbi_lines(system: u8) -> usize
 
 /// The bytes of a field, or 0 where there is no system of that number.
 #[unsafe(no_mangle)]
-pub extern "C" fn ldvbi_field_bytes(system: u8) -> usize
+pub extern "C" fn ldvbi_field_bytes(system: u32) -> usize
     ensures { result ≡ of_system field_bytes (system_of system) }
 {
     match find_system(system) {

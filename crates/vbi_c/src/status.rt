@@ -4,22 +4,22 @@ ghost use Rattle.std.specs.Prelude.{◌≡◌};
 ghost use Rattle.vbi_c.specs.Statuses.{refusal_status};
 
 /// The call did what its name says.
-pub const DONE: u8 = 0;
+pub const DONE: u32 = 0;
 /// The number of the system is neither 1 nor 2.
-pub const BAD_SYSTEM: u8 = 1;
-/// Black is not below white.
-pub const BAD_LEVELS: u8 = 2;
+pub const BAD_SYSTEM: u32 = 1;
+/// Black is not below white, or one of the two has more than 16 bits.
+pub const BAD_LEVELS: u32 = 2;
 /// There are not as many bytes as the system's line has, or its fields.
-pub const BAD_LENGTH: u8 = 3;
+pub const BAD_LENGTH: u32 = 3;
 /// A number is no code word.
-pub const BAD_WORD: u8 = 4;
+pub const BAD_WORD: u32 = 4;
 
 /// Why a call is refused. What comes first here is tested first.
 #[derive(Clone, Copy, Debug)]
 pub(crate) enum Refusal {
     /// There is no system of that number.
     System,
-    /// Black is not below white.
+    /// Black is not below white, or one of the two has more than 16 bits.
     Levels,
     /// Too few or too many bytes.
     Length,
@@ -29,7 +29,7 @@ pub(crate) enum Refusal {
 
 impl Refusal {
     /// The status that C is answered.
-    pub(crate) fn status(self) -> u8
+    pub(crate) fn status(self) -> u32
         ensures { result ≡ refusal_status self }
     {
         match self {

@@ -1,14 +1,16 @@
-use Rattle.std.proofs.Common.{◌≤◌, ◌-◌, ◌^◌, lit<, arith}
-use Rattle.std.proofs.Math.Nat.{pow-le-pow_right, one-le-pow}
+use Rattle.std.proofs.Common.{◌≡◌, ℕ, zero, suc, ◌*◌, ◌-◌, ◌^◌, ◌/◌, ◌%◌, ◌≤◌, ap, refl, arith}
 use Rattle.vbi_words.proofs.code.digit.Goals as goal
 
-pub pow-requires : goal.pow-requires
-pow-requires c =
-    let few : 6 - c.args.place ≤ 5 = omega arith in
-    let most : 16 ^ (6 - c.args.place) ≤ 16 ^ 5 = pow-le-pow_right {n = 16} (lit< tt) few in
-    omega arith
+-- a hexadecimal digit has four binary ones
+fours : (place : ℕ) → place ≤ 6 → 2 ^ (24 - 4 * place) ≡ 16 ^ (6 - place)
+fours zero few = refl
+fours (suc zero) few = refl
+fours (suc (suc zero)) few = refl
+fours (suc (suc (suc zero))) few = refl
+fours (suc (suc (suc (suc zero)))) few = refl
+fours (suc (suc (suc (suc (suc zero))))) few = refl
+fours (suc (suc (suc (suc (suc (suc zero)))))) few = refl
+fours (suc (suc (suc (suc (suc (suc (suc more))))))) few = let no : ⊥ = omega arith in absurd no
 
-pub nonzero_div-result : goal.nonzero_div-result
-nonzero_div-result c =
-    let some : 1 ≤ 16 ^ (6 - c.args.place) = one-le-pow (6 - c.args.place) 16 (lit< tt) in
-    omega (arith, c.pow.ensures)
+pub returns-clause-digit : goal.returns-clause-digit
+returns-clause-digit c = ap (λ (n : ℕ). c.args.word / n % 16) (fours c.args.place c.requires.high)

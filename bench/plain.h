@@ -1,0 +1,174 @@
+/* What the library is timed beside, NTSC: readers and writers as one writes them without it, sample by sample, and a
+   switch over a word's digits; clocks and random words. */
+#include <ldvbi.h>
+#include <stdio.h>
+#include <stdlib.h>
+#include <string.h>
+#include <time.h>
+
+enum { LINE = 1820, ROWS = 263, FIELD = LINE * ROWS };
+
+static double seconds(void)
+{
+    struct timespec now;
+
+    clock_gettime(CLOCK_MONOTONIC, &now);
+    return (double)now.tv_sec + (double)now.tv_nsec * 1e-9;
+}
+
+static uint32_t random_word(void)
+{
+    static uint32_t state = 12345;
+
+    state ^= state << 13;
+    state ^= state >> 17;
+    state ^= state << 5;
+    return 0x800000 | (state & 0x7FFFFF);
+}
+
+static void draw(uint32_t word, uint8_t *line)
+{
+    if (ldvbi_draw_line(LDVBI_NTSC, 16384, 51200, word, line, LINE) != LDVBI_DONE)
+        exit(2);
+}
+
+static void draw_field(uint8_t *field)
+{
+    for (size_t row = 0; row < ROWS; row++)
+        draw(15 <= row && row < 18 ? random_word() : 0, field + row * LINE);
+}
+
+static int in_order(const void *a, const void *b)
+{
+    double first = *(const double *)a, second = *(const double *)b;
+
+    return (first > second) - (first < second);
+}
+
+/* Sorts them. */
+static double median(double *numbers, size_t count)
+{
+    qsort(numbers, count, sizeof *numbers, in_order);
+    return numbers[count / 2];
+}
+
+/* ---- The plain reader: the word that a line shows, or 0, with the same tolerances, and no cause */
+
+typedef struct {
+    int high, middle;
+    unsigned run, cells;
+    uint32_t word;
+} Runs;
+
+/* Whether a word can be shown still, after the run has ended. */
+static int turn(Runs *runs, int high)
+{
+    int is_single = 11 <= runs->run && runs->run <= 18, is_double = 22 <= runs->run && runs->run <= 36;
+
+    if (runs->cells == 0) {
+        if (runs->run < 11)
+            return 0;
+        runs->word = 1, runs->cells = 1, runs->middle = 1;
+    } else if (is_single && runs->middle) {
+        runs->middle = 0;
+    } else if (is_single || (is_double && runs->middle)) {
+        runs->word = runs->word << 1 | (uint32_t)high;
+        runs->cells++;
+        runs->middle = 1;
+    } else {
+        return 0;
+    }
+    runs->high = high;
+    runs->run = 1;
+    return runs->cells <= 24;
+}
+
+static uint32_t plain_word(const uint8_t *line)
+{
+    Runs runs = {0, 0, 0, 0, 0};
+
+    for (size_t at = 0; at < LINE; at += 2) {
+        int high = (line[at] | line[at + 1] << 8) > 33792;
+
+        if (high == runs.high)
+            runs.run++;
+        else if (!turn(&runs, high))
+            return 0;
+    }
+    return runs.cells == 24 && !runs.high && (!runs.middle || runs.run >= 11) ? runs.word : 0;
+}
+
+/* ---- The plain writer */
+
+static void plain_draw(uint32_t word, uint8_t *line)
+{
+    for (unsigned column = 0; column < LINE / 2; column++) {
+        unsigned half = column < 150 ? 48 : ((column - 149) * 22 - 1) / 315;
+        int high = half < 48 && (word >> (23 - half / 2) & 1) == half % 2;
+        unsigned sample = high ? 51200 : 16384;
+
+        line[2 * column] = (uint8_t)sample;
+        line[2 * column + 1] = (uint8_t)(sample >> 8);
+    }
+}
+
+/* ---- A plain switch over a word's digits */
+
+static int are_decimal(const unsigned *digits, int count)
+{
+    for (int i = 0; i < count; i++)
+        if (digits[i] > 9)
+            return 0;
+    return 1;
+}
+
+static LdvbiCode code_of(uint32_t kind, uint32_t first, uint32_t second)
+{
+    LdvbiCode code = {kind, first, second};
+    return code;
+}
+
+static LdvbiCode plain_code(uint32_t word)
+{
+    unsigned d[6];
+
+    switch (word) {
+    case 0x88FFFF: return code_of(LDVBI_LEAD_IN, 0, 0);
+    case 0x80EEEE: return code_of(LDVBI_LEAD_OUT, 0, 0);
+    case 0x82CFFF: return code_of(LDVBI_PICTURE_STOP, 0, 0);
+    case 0x87FFFF: return code_of(LDVBI_CLV_MARK, 0, 0);
+    }
+    for (int i = 0; i < 6; i++)
+        d[i] = word >> (20 - 4 * i) & 15;
+    if (d[0] == 15 && are_decimal(d + 2, 4))
+        return code_of(LDVBI_PICTURE, d[1] % 8 * 10000 + d[2] * 1000 + d[3] * 100 + d[4] * 10 + d[5], 0);
+    if (d[0] == 15 && d[1] <= 9 && d[2] == 13 && d[3] == 13 && are_decimal(d + 4, 2))
+        return code_of(LDVBI_TIME, d[1], d[4] * 10 + d[5]);
+    if (d[0] != 8)
+        return code_of(LDVBI_OTHER, 0, 0);
+    if (d[2] <= 9 && d[3] == 13 && d[4] == 13 && d[5] == 13)
+        return code_of(LDVBI_CHAPTER, d[1] % 8 * 10 + d[2], 0);
+    if (d[1] >= 10 && d[2] == 14 && are_decimal(d + 3, 3))
+        return code_of(LDVBI_CLV_PICTURE, (d[1] - 10) * 10 + d[3], d[4] * 10 + d[5]);
+    if (d[1] == 13 && d[2] == 12)
+        return code_of(LDVBI_CX_ON, word & 0xFFF, 0);
+    if (d[1] == 11 && d[2] == 10)
+        return code_of(LDVBI_CX_OFF, word & 0xFFF, 0);
+    if (d[1] <= 7 && d[2] == 13)
+        return code_of(LDVBI_USERS, d[1], word & 0xFFF);
+    return code_of(LDVBI_OTHER, 0, 0);
+}
+
+static uint32_t plain_format(const uint32_t *words)
+{
+    uint32_t cav = 0, clv = 0;
+
+    for (int i = 0; i < 3; i++) {
+        if (words[i] == 0)
+            continue;
+        uint32_t kind = plain_code(words[i]).kind;
+        cav |= kind == LDVBI_PICTURE || kind == LDVBI_PICTURE_STOP;
+        clv |= kind == LDVBI_CLV_MARK || kind == LDVBI_TIME || kind == LDVBI_CLV_PICTURE;
+    }
+    return cav | clv << 1;
+}

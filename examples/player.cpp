@@ -1,0 +1,158 @@
+// The heart of a player: maps a side of a CAV disc, searches a picture or a chapter by halving, and plays to the next
+// stop. It prints the field, from 1, at which each command ends. Status 1: a command found nothing; 2: the side can't
+// be read so, and standard error says why.
+//
+//     c++ -std=c++17 -o player player.cpp -lldvbi
+//     ./player side.tbc NTSC 16384 51200 search 12345 play chapter 3 play
+#include <cstdint>
+#include <cstdlib>
+#include <fcntl.h>
+#include <iostream>
+#include <ldvbi.h>
+#include <optional>
+#include <stdexcept>
+#include <string>
+#include <sys/mman.h>
+#include <sys/stat.h>
+#include <unistd.h>
+
+namespace {
+
+void check(std::uint32_t status) {
+    if (status != LDVBI_DONE) throw std::invalid_argument(ldvbi_status_text(status));
+}
+
+std::uint32_t parse_system(const std::string &text) {
+    if (text == "NTSC") return LDVBI_NTSC;
+    if (text == "PAL") return LDVBI_PAL;
+    throw std::invalid_argument(ldvbi_status_text(LDVBI_BAD_SYSTEM));
+}
+
+// A whole number in decimal digits alone.
+std::uint32_t parse_number(const std::string &name, const std::string &text) {
+    const bool has_digits = !text.empty() && text.find_first_not_of("0123456789") == std::string::npos;
+    const unsigned long number = has_digits ? std::strtoul(text.c_str(), nullptr, 10) : UINT64_MAX;
+    if (number > UINT32_MAX) throw std::invalid_argument(name + " is not a whole number");
+    return static_cast<std::uint32_t>(number);
+}
+
+// A mapped TBC file, of which only lines 16, 17 and 18 are read, and of few fields. Fields are counted from 0.
+class Side {
+public:
+    Side(const char *path, std::uint32_t system, std::uint32_t black, std::uint32_t white)
+        : system_(system), black_(black), white_(white), field_bytes_(ldvbi_field_bytes(system)) {
+        check(ldvbi_read_fields(system, black, white, nullptr, 0, nullptr, 0)); // of no field: the numbers alone
+        const int file = open(path, O_RDONLY);
+        struct stat about;
+        if (file < 0 || fstat(file, &about) != 0) throw std::runtime_error(std::string("can't open ") + path);
+        fields_ = static_cast<std::size_t>(about.st_size) / field_bytes_;
+        if (fields_ == 0) throw std::runtime_error(std::string("no field in ") + path);
+        void *mapping = mmap(nullptr, fields_ * field_bytes_, PROT_READ, MAP_SHARED, file, 0);
+        close(file);
+        if (mapping == MAP_FAILED) throw std::runtime_error(std::string("can't map ") + path);
+        madvise(mapping, fields_ * field_bytes_, MADV_RANDOM);
+        bytes_ = static_cast<const std::uint8_t *>(mapping);
+    }
+
+    Side(const Side &) = delete;
+    Side &operator=(const Side &) = delete;
+
+    ~Side() { munmap(const_cast<std::uint8_t *>(bytes_), fields_ * field_bytes_); }
+
+    std::size_t fields() const { return fields_; }
+
+    LdvbiFieldReadings read(std::size_t field) const {
+        const std::size_t line = ldvbi_line_bytes(system_);
+        LdvbiFieldReadings readings;
+        check(ldvbi_read_rows(system_, black_, white_, bytes_ + field * field_bytes_ + 15 * line, 3 * line, &readings));
+        return readings;
+    }
+
+private:
+    std::uint32_t system_, black_, white_;
+    std::size_t field_bytes_, fields_ = 0;
+    const std::uint8_t *bytes_ = nullptr;
+};
+
+std::optional<std::uint32_t> number_of(const LdvbiReading &line, std::uint32_t kind) {
+    LdvbiCode code;
+    if (line.cause != LDVBI_WORD || ldvbi_classify(line.word, &code) != LDVBI_DONE || code.kind != kind)
+        return std::nullopt;
+    return code.first;
+}
+
+// The number of a field: what lines 17 and 18 say of this kind. Where the two differ, one was misread.
+std::optional<std::uint32_t> number_of(const LdvbiFieldReadings &field, std::uint32_t kind) {
+    const auto first = number_of(field.lines[1], kind), second = number_of(field.lines[2], kind);
+    if (first && second && *first != *second) return std::nullopt;
+    return first ? first : second;
+}
+
+bool has_stop(const LdvbiFieldReadings &field) {
+    for (const LdvbiReading &line : field.lines)
+        if (number_of(line, LDVBI_PICTURE_STOP)) return true;
+    return false;
+}
+
+// The first field with this number, where numbers rise along the side: by halving, in some 20 looks. A number that was
+// misread can lead astray, so where nothing is found so, each field is looked at.
+std::optional<std::size_t> search(const Side &side, std::uint32_t kind, std::uint32_t number) {
+    std::size_t low = 0, high = side.fields(); // it isn't before `low`, and a field from `high` on has it or more
+    while (low < high) {
+        const std::size_t middle = low + (high - low) / 2;
+        std::size_t field = middle; // the first one from there on that has a number
+        std::optional<std::uint32_t> here;
+        while (field < high && !(here = number_of(side.read(field), kind))) field++;
+        if (here && *here < number) low = field + 1;
+        else high = middle;
+    }
+    for (std::size_t field = low; field < side.fields(); field++)
+        if (const auto here = number_of(side.read(field), kind)) {
+            if (*here == number) return field;
+            break;
+        }
+    for (std::size_t field = 0; field < side.fields(); field++)
+        if (number_of(side.read(field), kind) == number) return field;
+    return std::nullopt;
+}
+
+// Plays on behind a field to the next one with a stop.
+std::optional<std::size_t> play(const Side &side, std::size_t from) {
+    for (std::size_t field = from + 1; field < side.fields(); field++)
+        if (has_stop(side.read(field))) return field;
+    return std::nullopt;
+}
+
+void print(const std::string &what, const Side &side, std::size_t field) {
+    std::cout << what << ": field " << field + 1;
+    if (const auto picture = number_of(side.read(field), LDVBI_PICTURE)) std::cout << " picture " << *picture;
+    std::cout << '\n';
+}
+
+} // namespace
+
+int main(int count, char **words) try {
+    if (ldvbi_abi() != LDVBI_ABI) throw std::runtime_error("the library has another interface");
+    if (count < 6) throw std::invalid_argument("usage: player FILE NTSC|PAL BLACK WHITE [search N|chapter N|play]..");
+    const Side side(words[1], parse_system(words[2]), parse_number("black", words[3]), parse_number("white", words[4]));
+    std::size_t field = 0;
+    for (int i = 5; i < count; i++) {
+        const std::string command = words[i];
+        std::optional<std::size_t> found;
+        if (command == "play") {
+            found = play(side, field);
+        } else if ((command == "search" || command == "chapter") && i + 1 < count) {
+            const std::uint32_t kind = command == "search" ? LDVBI_PICTURE : LDVBI_CHAPTER;
+            found = search(side, kind, parse_number(command, words[++i]));
+        } else {
+            throw std::invalid_argument("no such command: " + command);
+        }
+        if (!found) return std::cout << command << ": not found\n", 1;
+        field = *found;
+        print(command, side, field);
+    }
+    return 0;
+} catch (const std::exception &error) {
+    std::cerr << "player: " << error.what() << '\n';
+    return 2;
+}
