@@ -238,8 +238,8 @@ fn words_reach_from_edge_to_edge(rt: HostRuntime) {
     }
 }
 
-/// Columns of the drawn row of 8AE012 in PAL that are turned, and what it then tells. Its first high run has columns 207
-/// to 242, the low one behind it 243 to 259, and it ends with a low half cell before column 1041.
+/// Columns of the drawn row of 8AE012 in PAL that are turned, and what it then tells. Its first high run has columns
+/// 207 to 242, the low one behind it 243 to 259, and it ends with a low half cell before column 1041.
 const GLITCHES: [(&[(usize, usize, bool)], u16, (Told, u8)); 7] = [
     (&[(215, 216, false)], 215, (KNOWN, 2)),
     (&[(215, 218, false)], 215, (KNOWN, 2)),
