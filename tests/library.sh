@@ -94,6 +94,9 @@ for part in fields lines; do
         -o library_$part "$here/library_$part.c" "$top/libldvbi.a"
     check "the tests of $part" prints 0 '0 wrong' ./library_$part
 done
+check 'the tests of pages are built' does $cc -std=c99 $strict -Wno-unused-function -fsanitize=undefined \
+    -I"$top/include" -o library_pages "$here/library_pages.c" "$top/libldvbi.a"
+check 'the tests of pages' prints 0 '0 wrong' ./library_pages
 for standard in c99 c17 c++98 c++20; do
     check "the header in $standard" does $cc -std=$standard -Wall -Wextra -Wpedantic -Wconversion -Werror \
         -fsyntax-only -x ${standard%%[0-9]*} "$top/include/ldvbi.h"
@@ -117,7 +120,7 @@ on_cav='NTSC 16384 51200'
 on_clv='PAL 16384 54016'
 
 # Discs by the standards' lines: stops and marks where the number is on line 18 alone, and lines 17 and 18 that differ
-run draw $ntsc - << 'WORDS'
+run_inheriting draw $ntsc - << 'WORDS'
 - F00001 F00001
 - 800DDD 800DDD
 - F00002 F00007
@@ -132,7 +135,7 @@ run draw $ntsc - << 'WORDS'
 80EEEE 80EEEE 80EEEE
 WORDS
 cp out stops.tbc
-run draw $pal - << 'WORDS'
+run_inheriting draw $pal - << 'WORDS'
 8AE000 87FFFF F0DD00
 - 800DDD 800DDD
 8AE001 F0DD00 F0DD00
@@ -220,7 +223,7 @@ check 'player: no stop ahead' prints 1 'search: field 9 picture 5
 play: field 11
 play: not found' ./player stops.tbc $on_cav search 5 play play
 check 'player: a CLV disc' prints 1 'search: not found' ./player clv.tbc $on_clv search 3
-run draw $ntsc - << 'WORDS'
+run_inheriting draw $ntsc - << 'WORDS'
 - F00001 F00001
 - F00002 F00002
 - F79999 F79999
@@ -255,7 +258,7 @@ check 'player: no file' refuses "player: can't open nowhere.tbc" ./player nowher
 check 'player: no field' refuses 'player: no field in empty.tbc' ./player empty.tbc $on_cav play
 
 # The header's texts: those of the report, but for its numbers, of each kind, cause and format
-run draw $ntsc - << 'WORDS'
+run_inheriting draw $ntsc - << 'WORDS'
 82CFFF F12345 800DDD
 8AE712 F0DD09 87FFFF
 88FFFF 80EEEE 8DC0A1

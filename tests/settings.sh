@@ -117,6 +117,35 @@ judge 'metadata behind a byte order mark' 1 empty 'ldvbi: metadata is not JSON'
 run line $levels --meta odd.json line.raw
 judge 'metadata in UTF-16' 1 empty 'ldvbi: metadata is not JSON'
 
+# Wrong JSON of each kind, where memory isn't wanted: short, and a mebibyte long by this byte between its two parts
+while IFS='|' read -r head fill tail; do
+    # shellcheck disable=SC2059
+    printf "$head$tail" > odd.json
+    run line $levels --meta odd.json line.raw
+    judge "short metadata of $head and $tail" 1 empty 'ldvbi: metadata is not JSON'
+    # shellcheck disable=SC2059
+    { printf "$head"; head -c 1048576 /dev/zero | tr '\000' "$fill"; printf "$tail"; } > odd.json
+    run line $levels --meta odd.json line.raw
+    judge "long metadata of $head and $tail" 1 empty 'ldvbi: metadata is not JSON'
+done << 'END'
+x|x|
+\000|\000|
+-|0|
+"|a|
+"|a|\377"
+"|a|\n"
+'|a|'
+[|\040|
+]|\040|
+{"a":1|\040|
+{"a":|\040|NaN}
+{}|\040|{}
+[1,|\040|]
+END
+head -c 2000000 /dev/zero | tr '\000' x > odd.json
+run line $levels --meta odd.json line.raw
+judge 'two million bytes of x' 1 empty 'ldvbi: metadata is not JSON'
+
 # nested DEPTH: brackets that open so often, and then close
 nested() {
     { printf "%${1}s" '' | tr ' ' '['; printf "%${1}s" '' | tr ' ' ']'; } > nested.json

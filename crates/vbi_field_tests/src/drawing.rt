@@ -184,6 +184,30 @@ fn a_write_fault_has_its_count(rt: HostRuntime) -> Result<(), Fail> {
     Ok(())
 }
 
+/// A text of words with two faults where one field is allowed, after how many bytes the writer fails, and the answer:
+/// the fault that is met first.
+const TWO_FAULTS: [(&[u8], usize, Ended); 4] = [
+    (b"82CFFF\n", 0, FIRST),
+    (b"- - -\nx\n", 1000, Err(DrawFault::Write { written: 1000 })),
+    (b"- - -\nx\n", 478660, Err(DrawFault::TooManyFields)),
+    (
+        b"- - -\n888888888888888888888",
+        478660,
+        Err(DrawFault::TooManyFields),
+    ),
+];
+
+#[test]
+fn the_first_of_two_faults_is_the_answer(rt: HostRuntime) -> Result<(), Fail> {
+    let config = config(System::Ntsc, 1)?;
+    for &(text, count, result) in &TWO_FAULTS {
+        let mut paper = Paper::failing(rt.alloc(), count);
+        let run = drew(&config, Tape::new(text), &mut paper);
+        same(&rt, run.result, result, text);
+    }
+    Ok(())
+}
+
 /// A row, with so many interruptions before its first byte, and before each other byte and the end.
 fn interrupted(interrupts: usize, again: usize) -> Tape<'static> {
     Tape {

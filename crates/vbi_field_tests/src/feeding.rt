@@ -222,7 +222,7 @@ fn after_a_fault(
 
 /// The bytes that come beside a black field, those after which the writer fails, the fault, the writer's failures, the
 /// bytes written one by one, and how often the writer was asked for these, in all calls.
-const FAULTS: [(usize, Option<usize>, RunFault, Failures, u64, u64); 2] = [
+const FAULTS: [(usize, Option<usize>, RunFault, Failures, u64, u64); 3] = [
     (
         0,
         Some(150),
@@ -232,6 +232,15 @@ const FAULTS: [(usize, Option<usize>, RunFault, Failures, u64, u64); 2] = [
         151,
     ),
     (1, None, RunFault::TooManyFields, NO_FAILURE, 227, 227),
+    // Too many fields as well, behind the record that isn't written.
+    (
+        1,
+        Some(150),
+        RunFault::Write { written: 150 },
+        ONE_ERROR,
+        150,
+        151,
+    ),
 ];
 
 #[test]

@@ -1,6 +1,7 @@
 //! Tests of `vbi_field` through its public calls: the texts of words, causes and codes, documents and reports of known
-//! streams, pulled and pushed, drawn fields, and what stands after a device failed. The expected values are those of
-//! tables and of arithmetic. It is a crate of its own, since a crate with tests is proved twice.
+//! streams, pulled and pushed, what a text of words may hold, drawn fields, and what stands after a device failed. The
+//! expected values are those of tables and of arithmetic. It is a crate of its own, since a crate with tests is proved
+//! twice.
 #![tactic(auto)]
 
 #[cfg(test)]
@@ -21,6 +22,10 @@ mod faults;
 mod feeding;
 #[cfg(test)]
 mod fields;
+#[cfg(test)]
+mod heads;
+#[cfg(test)]
+mod items;
 #[cfg(test)]
 mod known;
 #[cfg(test)]

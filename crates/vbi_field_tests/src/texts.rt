@@ -4,7 +4,7 @@ use crate::asserts::same;
 use vbi_field::{cause_text, code_text, hex_text};
 use vbi_words::{Code, Outcome, Word24, WordFault, classify};
 
-const WORDS: [(u32, &str, &str); 29] = [
+const WORDS: [(u32, &str, &str); 41] = [
     (0x88FFFF, "88FFFF", "lead-in"),
     (0x80EEEE, "80EEEE", "lead-out"),
     (0x82CFFF, "82CFFF", "picture stop"),
@@ -34,10 +34,23 @@ const WORDS: [(u32, &str, &str); 29] = [
     (0xF1DD09, "F1DD09", "time 1:09"),
     (0x8DC0A1, "8DC0A1", "cx on 0A1"),
     (0x83D0A1, "83D0A1", "users 3 0A1"),
+    // Digits that differ, so that each has its place, and each of the sixteen.
+    (0xF01234, "F01234", "picture 01234"),
+    (0xF56789, "F56789", "picture 56789"),
+    (0x89ABCD, "89ABCD", "other"),
+    (0xFEDCBA, "FEDCBA", "other"),
+    (0x800000, "800000", "other"),
+    (0xFFFFFF, "FFFFFF", "other"),
+    (0x837DDD, "837DDD", "chapter 37"),
+    (0xF5DD37, "F5DD37", "time 5:37"),
+    (0x8CE345, "8CE345", "clv picture 23 45"),
+    (0x8AE000, "8AE000", "clv picture 00 00"),
+    (0x8DCABC, "8DCABC", "cx on ABC"),
+    (0x8BA012, "8BA012", "cx off 012"),
 ];
 
 // Numbers too wide for their digits, as no word has them.
-const BY_HAND: [(Code, &str); 5] = [
+const BY_HAND: [(Code, &str); 8] = [
     (Code::Picture(4294967295), "picture 4294967295"),
     (Code::Chapter(255), "chapter 255"),
     (
@@ -47,7 +60,16 @@ const BY_HAND: [(Code, &str); 5] = [
         },
         "time 12:255",
     ),
+    (
+        Code::ClvPicture {
+            seconds: 100,
+            picture: 255,
+        },
+        "clv picture 100 255",
+    ),
     (Code::CxOn(0xFFFF), "cx on FFFF"),
+    (Code::CxOff(0x1000), "cx off 1000"),
+    (Code::Picture(100_000), "picture 100000"),
     (
         Code::Users {
             digit: 255,
@@ -57,11 +79,19 @@ const BY_HAND: [(Code, &str); 5] = [
     ),
 ];
 
-const CAUSES: [(Outcome, &str); 5] = [
+const CAUSES: [(Outcome, &str); 13] = [
     (Outcome::Blank, "blank"),
     (Outcome::Unfinished, "unfinished"),
+    (Outcome::Change(0), "change 0"),
+    (Outcome::Change(9), "change 9"),
     (Outcome::Change(34), "change 34"),
+    (Outcome::Change(100), "change 100"),
+    (Outcome::Change(1120), "change 1120"),
+    (Outcome::Change(65535), "change 65535"),
+    (Outcome::Hold(36), "hold 36"),
     (Outcome::Hold(46), "hold 46"),
+    (Outcome::Hold(909), "hold 909"),
+    (Outcome::Hold(1134), "hold 1134"),
     (Outcome::Hold(65535), "hold 65535"),
 ];
 

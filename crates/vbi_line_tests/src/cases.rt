@@ -20,6 +20,12 @@ pub(crate) enum Shape {
         low: usize,
         high: usize,
     },
+    /// So many lows, and then so many runs of one length, the first of them high.
+    Runs {
+        low: usize,
+        length: usize,
+        count: usize,
+    },
     /// The drawn row of a word.
     Drawn(u32),
     /// So many lows, and then the half cells of a word from this one on, all of one length.

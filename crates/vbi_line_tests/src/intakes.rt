@@ -240,3 +240,34 @@ fn a_cleared_line_holds_nothing(rt: HostRuntime) {
     intake.clear_line();
     same(&rt, (intake.held(), intake.fetched()), (0, 1820), "cleared");
 }
+
+/// A system, the bytes of a reader, the answer, and how often the reader is asked, which has a byte for each read.
+const SYSTEMS: [(System, usize, Answer, u64); 6] = [
+    (System::Ntsc, 1819, Ok(Filled::Ended(1819)), 1820),
+    (System::Ntsc, 1820, FULL, 1820),
+    (System::Ntsc, 1821, FULL, 1820),
+    (System::Pal, 2269, Ok(Filled::Ended(2269)), 2270),
+    (System::Pal, 2270, FULL, 2270),
+    (System::Pal, 2271, FULL, 2270),
+];
+
+#[test]
+fn a_line_has_as_many_bytes_as_its_system_says(rt: HostRuntime) {
+    let bytes = [0; 2271];
+    for (system, count, expected, asked) in SYSTEMS {
+        let (front, _) = bytes.split_at(count.min(2271));
+        let mut reader = Tape {
+            piece: 1,
+            ..Tape::new(front)
+        };
+        let mut intake = Intake::new(&mut reader, system);
+        same(&rt, intake.fill_line(), expected, (system, count));
+        same(
+            &rt,
+            intake.held(),
+            count.min(asked as usize),
+            (system, count),
+        );
+        same(&rt, intake.into_reader().asked, asked, (system, count));
+    }
+}

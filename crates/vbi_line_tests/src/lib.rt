@@ -18,6 +18,8 @@ mod fault_texts;
 #[cfg(test)]
 mod intakes;
 #[cfg(test)]
+mod limits;
+#[cfg(test)]
 mod lines;
 #[cfg(test)]
 mod packed;

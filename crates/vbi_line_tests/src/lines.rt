@@ -35,6 +35,16 @@ fn samples_of(case: &Case, levels: Levels) -> [u16; 1135] {
         Shape::Run { low, high } => {
             set(&mut samples, low, low.saturating_add(high), levels.white());
         }
+        Shape::Runs { low, length, count } => {
+            let mut column = low;
+            for run in 0..count {
+                let end = column.saturating_add(length);
+                if run % 2 == 0 {
+                    set(&mut samples, column, end, levels.white());
+                }
+                column = end;
+            }
+        }
         Shape::Drawn(value) => {
             for column in 0..case.system.width() {
                 samples[column] = drawn_sample(
@@ -149,7 +159,7 @@ fn by_intake(system: System, levels: Levels, samples: &[u16; 1135]) -> Option<(T
 }
 
 /// Whether the line tells what is expected, to the readers and to an intake.
-fn is_told(case: &Case) -> bool {
+pub(crate) fn is_told(case: &Case) -> bool {
     let levels = levels_of(case.system);
     let samples = samples_of(case, levels);
     let outcome = plain(case.system, levels, &samples);
@@ -193,24 +203,30 @@ fn few_turned_columns_are_smoothed_away(rt: HostRuntime) {
     }
 }
 
-/// The drawn row of 82CFFF with this sample in its high columns, read by black 16384 and white 51200.
-fn told_of_high(high: u16) -> Option<(Told, (Told, u8))> {
+/// What the drawn row of 82CFFF with this sample in its high columns tells, read by the levels above.
+fn told_of_high(system: System, high: u16) -> Option<(Told, (Told, u8))> {
     let drawn = Levels::new(16384, high).ok()?;
-    let levels = levels_of(System::Ntsc);
+    let levels = levels_of(system);
     let mut samples = [16384; 1135];
-    for column in 0..910 {
-        samples[column] = drawn_sample(System::Ntsc, drawn, Word24::new(0x82CFFF).ok(), column);
+    for column in 0..system.width() {
+        samples[column] = drawn_sample(system, drawn, Word24::new(0x82CFFF).ok(), column);
     }
     Some((
-        plain(System::Ntsc, levels, &samples),
-        reading(System::Ntsc, levels, &samples),
+        plain(system, levels, &samples),
+        reading(system, levels, &samples),
     ))
 }
 
 #[test]
 fn a_sample_midway_is_low(rt: HostRuntime) {
-    for (high, told, pass) in [(33792, Told::Blank, 0), (33793, Told::Word(0x82CFFF), 1)] {
-        same(&rt, told_of_high(high), Some((told, (told, pass))), high);
+    for (system, high, told, pass) in [
+        (System::Ntsc, 33792, Told::Blank, 0),
+        (System::Ntsc, 33793, Told::Word(0x82CFFF), 1),
+        (System::Pal, 35200, Told::Blank, 0),
+        (System::Pal, 35201, Told::Word(0x82CFFF), 1),
+    ] {
+        let found = told_of_high(system, high);
+        same(&rt, found, Some((told, (told, pass))), (system, high));
     }
 }
 

@@ -3,7 +3,7 @@
 ghost use Rattle.std.specs.Prelude.{◌≡◌, length};
 ghost use Rattle.vbi_words.specs.Geometry.{width_of};
 
-use crate::asserts::same;
+use crate::asserts::{holds, same};
 use crate::lines::{levels_of, line_of, set};
 use vbi_line::{Packed, slice_lanes};
 use vbi_words::{Levels, System};
@@ -52,17 +52,24 @@ fn the_comparison_does_not_wrap(rt: HostRuntime) {
     }
 }
 
+/// A system, the whole blocks of its line, and the column behind these.
+const BLOCKS: [(System, usize, usize); 2] = [(System::Ntsc, 56, 896), (System::Pal, 70, 1120)];
+
 #[test]
 fn a_block_needs_sixteen_samples(rt: HostRuntime) {
-    let mut samples = [0; 1135];
-    samples[896] = 1896;
-    let mut line = line_of(System::Ntsc, &samples);
-    line.start_pass();
-    for _ in 0..56 {
-        assert!(rt; line.next_block().is_some());
+    for (system, blocks, column) in BLOCKS {
+        let mut samples = [0; 1135];
+        set(&mut samples, column, column + 1, 1896);
+        let mut line = line_of(system, &samples);
+        line.start_pass();
+        for _ in 0..blocks {
+            assert!(rt; line.passes() == 1);
+            holds(&rt, line.next_block().is_some(), system);
+        }
+        assert!(rt; line.passes() == 1);
+        same(&rt, line.next_block(), None, system);
+        same(&rt, line.next_sample(), Some(1896), system);
     }
-    same(&rt, line.next_block(), None, "a block of 14 samples");
-    same(&rt, line.next_sample(), Some(1896), "sample 897");
 }
 
 #[test]
@@ -80,8 +87,21 @@ fn runs_go_on_across_words(rt: HostRuntime) {
     ] {
         same(&rt, packed.next_run(column), run, column);
     }
+    let levels = levels_of(System::Pal);
+    let mut samples = [levels.black(); 1135];
+    set(&mut samples, 1000, 1100, levels.white());
+    let packed = packed_of(System::Pal, levels, &samples);
+    for (column, run) in [
+        (0, (false, 1000)),
+        (1000, (true, 100)),
+        (1024, (true, 76)),
+        (1100, (false, 35)),
+        (1134, (false, 1)),
+    ] {
+        same(&rt, packed.next_run(column), run, ("PAL", column));
+    }
     let blank = packed_of(System::Pal, levels, &[0; 1135]);
-    same(&rt, blank.next_run(0), (false, 1135), "PAL");
+    same(&rt, blank.next_run(0), (false, 1135), "PAL, all low");
 }
 
 #[test]

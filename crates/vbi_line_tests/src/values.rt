@@ -40,19 +40,27 @@ fn numbers_that_are_no_words_are_refused(rt: HostRuntime) {
     }
 }
 
+/// A system, its name, the samples and the bytes of a line, the lines and the bytes of a field, the fewest and the most
+/// samples of a half cell, and the column at which a drawn word begins.
+const SYSTEMS: [(System, &str, [usize; 7]); 2] = [
+    (System::Ntsc, "NTSC", [910, 1820, 263, 478_660, 11, 18, 150]),
+    (System::Pal, "PAL", [1135, 2270, 313, 710_510, 14, 22, 190]),
+];
+
 #[test]
 fn both_systems_have_their_geometry(rt: HostRuntime) {
-    for (system, name, bytes, start) in [
-        (System::Ntsc, "NTSC", 478_660, 150),
-        (System::Pal, "PAL", 710_510, 190),
-    ] {
+    for (system, name, numbers) in SYSTEMS {
         same(&rt, system.name(), name, system);
-        same(
-            &rt,
-            (system.field_bytes(), system.start()),
-            (bytes, start),
-            system,
-        );
+        let found = [
+            system.width(),
+            system.line_bytes(),
+            system.height(),
+            system.field_bytes(),
+            system.half_min(),
+            system.half_max(),
+            system.start(),
+        ];
+        same(&rt, found, numbers, system);
     }
 }
 

@@ -13,25 +13,8 @@ const NONE: Overrides = Overrides {
 };
 
 /// What bytes are refused for.
-fn refusal(alloc: Global, bytes: &[u8]) -> Option<MetaFault> {
+pub(crate) fn refusal(alloc: Global, bytes: &[u8]) -> Option<MetaFault> {
     read_meta(alloc, bytes).err()
-}
-
-/// Bytes that are no document.
-const NOT_JSON: [&[u8]; 4] = [b"", b"{\"a\":NaN}", b"{\"a\":\"\xff\"}", b"{} {}"];
-
-#[test]
-fn what_is_not_json_is_refused(rt: HostRuntime) -> Result<(), Fail> {
-    for bytes in &NOT_JSON {
-        same(
-            &rt,
-            refusal(rt.alloc(), bytes),
-            Some(MetaFault::NotJson),
-            *bytes,
-        );
-    }
-    same(&rt, refusal(rt.alloc(), b"{}"), None, "an empty object");
-    Ok(())
 }
 
 /// Arrays nested this deep, the innermost empty.
@@ -52,8 +35,10 @@ fn a_document_is_nested_at_most_127_deep(rt: HostRuntime) -> Result<(), Fail> {
     let value = read_meta(alloc, nested(alloc, 127)?.as_slice())?;
     let found = settings(Some(&value), &NONE).err();
     same(&rt, found, Some(MetaFault::NoVideoParameters), "127 deep");
-    let found = refusal(alloc, nested(alloc, 128)?.as_slice());
-    same(&rt, found, Some(MetaFault::NotJson), "128 deep");
+    for depth in [128, 524_288] {
+        let found = refusal(alloc, nested(alloc, depth)?.as_slice());
+        same(&rt, found, Some(MetaFault::NotJson), depth);
+    }
     Ok(())
 }
 

@@ -6,7 +6,7 @@ use std::test::Fail;
 use vbi_meta::{MetaFault, Overrides, read_meta, settings};
 use vbi_words::{Levels, System};
 
-const NONE: Overrides = Overrides {
+pub(crate) const NONE: Overrides = Overrides {
     system: None,
     black: None,
     white: None,
@@ -52,21 +52,25 @@ fn limit(max_fields: u32) -> Overrides {
 }
 
 /// What settings hold: system, black, white and limit.
-type Settled = (System, u16, u16, u32);
+pub(crate) type Settled = (System, u16, u16, u32);
 
 fn held(system: System, levels: Levels, max_fields: u32) -> Settled {
     (system, levels.black(), levels.white(), max_fields)
 }
 
 /// The settings of a document.
-fn settled(alloc: Global, text: &str, overrides: &Overrides) -> Result<Settled, MetaFault> {
+pub(crate) fn settled(
+    alloc: Global,
+    text: &str,
+    overrides: &Overrides,
+) -> Result<Settled, MetaFault> {
     let value = read_meta(alloc, text.as_bytes())?;
     let config = settings(Some(&value), overrides)?;
     Ok(held(config.system(), config.levels(), config.max_fields()))
 }
 
 /// The document with this inner text of `videoParameters`.
-fn document(alloc: Global, members: &str) -> Result<String, AllocError> {
+pub(crate) fn document(alloc: Global, members: &str) -> Result<String, AllocError> {
     format!(in alloc; "{{\"videoParameters\":{{{members}}}}}")
 }
 
