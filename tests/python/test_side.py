@@ -5,6 +5,7 @@ import os
 import re
 import tempfile
 import unittest
+import unittest.mock
 
 from discs import (BLANK, LEAD_IN, LEAD_OUT, STOP, answer, film, minutes, picture, pictures, plain, side, times)
 from ldvbi_side.lines import SIZES
@@ -232,6 +233,10 @@ class Plotting(unittest.TestCase):
     def test_the_script_is_there(self):
         path = plot_command(side([BLANK]), "side.tbc", 1, 16).split("python3 ")[1].split(" ")[0]
         self.assertTrue(os.path.exists(path))
+
+    def test_where_it_is_not_there_its_name_is_printed(self):
+        with unittest.mock.patch("ldvbi_side.plot._PLACES", ()):
+            self.assertIn("| python3 plot_line.py --system", plot_command(side([BLANK]), "side.tbc", 1, 16))
 
     def test_from_another_folder_its_whole_path_is_printed(self):
         here = os.getcwd()
