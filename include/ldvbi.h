@@ -1,7 +1,8 @@
 /* ldvbi: the code words of LaserDisc lines (IEC 60857 and IEC 60856), for C99 and C++98 and later.
  *
  * A LaserDisc has its picture numbers, times, chapters and stops as code words of 24 bits in lines 16, 17 and 18 of
- * each field. The library reads the words of digitised lines, says what they mean, and draws such lines.
+ * each field. The library reads the words of digitised lines, says what they mean, and draws such lines. Programs that
+ * show its use are in examples/, which is installed as share/doc/ldvbi/examples.
  *
  * Link with -lldvbi, or with libldvbi.a. The library needs memcpy and memset of the C library, and nothing else. It
  * runs under Linux on x86-64 processors of level v2 (with SSE4.2, from about 2009 on). It has no call frames for
@@ -42,9 +43,10 @@
  *
  * ---- One row of an interlaced frame
  *
- * Line n of a frame's first field, counted from 1, is row 2 * (n - 1) of the frame, counted from 0, where the first
- * field is the upper one; line n of its second field is the row after it. A row of a frame is a line: hand over its
- * address, as (const char *)frame + row * row_bytes, and ldvbi_line_bytes(system).
+ * Of a frame with all its lines, 525 or 625, line n of the first field, counted from 1, is row 2 * (n - 1), counted
+ * from 0, where the first field is the upper one; line n of the second field is the row after it. A row is a line: hand
+ * over its address, as (const char *)frame + row * row_bytes, and ldvbi_line_bytes(system). Frames of 480 or 576 rows
+ * are without lines 16 to 18.
  *
  * ---- Lines of other sample rates
  *
@@ -53,8 +55,7 @@
  * read as LDVBI_NTSC from 11.5 to 17.7 MHz: at 13.5 MHz a PAL disc's lines too, whose half cells of 13 or 14 samples
  * are too short for LDVBI_PAL. A word has 48 half cells, 850 samples at 17.7 MHz, and begins about 10.5 microseconds
  * after the line does.
- *   1. Take at most 910 samples, from before the word to past its end: at 17.7 MHz, where a line has more, leave out
- *      those before it.
+ *   1. Take at most 910 samples. Above 14.2 MHz a line has more: begin 10 microseconds into it.
  *   2. Samples of 8 bits: multiply them by 257, and black and white too.
  *   3. Fill up to 910 samples with black, and read them as LDVBI_NTSC.
  * Each change of level may come a sample early or late, whatever the others do, as long as a half cell keeps its 11 to

@@ -1,36 +1,14 @@
-/* Calls the library for C as its header has it: each status, each length one off, numbers of systems, levels and words
-   that are too wide, 20,000 words a system drawn and read, the layout of the structs, texts, and threads. Every buffer
-   ends where no page follows, so that a byte read or written past it ends the program, and a stream that is only read
-   lies in pages that can't be written. */
+/* Calls the library for C as its header has it: each status, numbers of systems, levels and words that are too wide,
+   20,000 words a system drawn and read, the layout of the structs, texts, and threads. Every buffer ends where no page
+   follows, so that a byte read or written past it ends the program. */
 #include "library.h"
 #include <pthread.h>
 
-enum { WORDS = 20000, THREADS = 4, FIELDS = 2 };
+enum { WORDS = 20000, THREADS = 4 };
 
 /* Numbers that a parameter of 8 or of 16 bits would cut off, and those around them. */
 static const uint32_t wide[] = {256, 257, 65535, 65536, 1u << 31, UINT32_MAX};
 enum { WIDE = sizeof wide / sizeof *wide };
-
-/* ---- Memory */
-
-/* From here on these bytes can't be written, nor can those before them in their first page. */
-static void only_read(uint8_t *bytes, size_t size)
-{
-    uint8_t *begin = bytes - (uintptr_t)bytes % 4096;
-
-    if (mprotect(begin, (size_t)(bytes + size - begin), PROT_READ) != 0) {
-        perror("mprotect");
-        exit(2);
-    }
-}
-
-static int holds(const uint8_t *bytes, size_t size, uint8_t value)
-{
-    for (size_t i = 0; i < size; i++)
-        if (bytes[i] != value)
-            return 0;
-    return 1;
-}
 
 /* ---- Words and causes */
 
@@ -83,72 +61,6 @@ static void test_causes(void)
     put_sample(line, 171, 16384);
     CHECK(ldvbi_read_line(LDVBI_NTSC, 16384, 51200, line, 1820, &reading) == LDVBI_DONE);
     CHECK(is_reading(reading, LDVBI_WORD, 2, 0, 0x82CFFF));
-}
-
-/* ---- Fields */
-
-static uint32_t word_of_row(size_t field, size_t row)
-{
-    return 0x800000 + (uint32_t)(1000 * field + row);
-}
-
-static int is_field(const LdvbiFieldReadings *readings, size_t field)
-{
-    for (size_t i = 0; i < 3; i++)
-        if (!is_reading(readings->lines[i], LDVBI_WORD, 1, 0, word_of_row(field, 15 + i)))
-            return 0;
-    return 1;
-}
-
-static void test_fields(const Television *tv)
-{
-    size_t line = 2 * tv->samples, field = line * tv->lines;
-    uint8_t *stream = guarded(FIELDS * field);
-    size_t room = FIELDS * sizeof(LdvbiFieldReadings);
-    uint8_t *memory = guarded(room);
-    LdvbiFieldReadings *readings = (LdvbiFieldReadings *)(void *)memory;
-
-    for (size_t row = 0; row < FIELDS * tv->lines; row++)
-        draw(tv, word_of_row(row / tv->lines, row % tv->lines), stream + row * line);
-    only_read(stream, FIELDS * field);
-#define READ(bytes, length, count) ldvbi_read_fields(tv->system, tv->black, tv->white, bytes, length, readings, count)
-    CHECK(READ(stream, FIELDS * field - 1, FIELDS) == LDVBI_BAD_LENGTH);
-    CHECK(READ(stream, FIELDS * field, FIELDS - 1) == LDVBI_BAD_LENGTH);
-    CHECK(READ(stream, FIELDS * field, FIELDS + 1) == LDVBI_BAD_LENGTH);
-    CHECK(READ(stream, FIELDS * field, SIZE_MAX) == LDVBI_BAD_LENGTH);
-    CHECK(READ(stream, 0, SIZE_MAX / field + 1) == LDVBI_BAD_LENGTH);
-    CHECK(READ(stream + 1, FIELDS * field - 1, FIELDS) == LDVBI_BAD_LENGTH);
-    CHECK(READ(stream, 0, 0) == LDVBI_DONE);
-    CHECK(ldvbi_read_fields(tv->system, tv->black, tv->white, NULL, 0, NULL, 0) == LDVBI_DONE);
-    CHECK(READ(NULL, 0, 1) == LDVBI_BAD_LENGTH);
-    CHECK(holds(memory, room, 0xAA));
-    CHECK(READ(stream, FIELDS * field, FIELDS) == LDVBI_DONE);
-    CHECK(is_field(&readings[0], 0) && is_field(&readings[1], 1));
-#undef READ
-#define READ(bytes, length) ldvbi_read_field(tv->system, tv->black, tv->white, bytes, length, &readings[1])
-    memset(memory, 0xAA, room);
-    CHECK(READ(stream, field - 1) == LDVBI_BAD_LENGTH);
-    CHECK(READ(stream, field + 1) == LDVBI_BAD_LENGTH);
-    CHECK(READ(stream, FIELDS * field) == LDVBI_BAD_LENGTH);
-    CHECK(READ(stream, 0) == LDVBI_BAD_LENGTH);
-    CHECK(READ(NULL, 0) == LDVBI_BAD_LENGTH);
-    CHECK(holds(memory, room, 0xAA));
-    CHECK(READ(stream + field, field) == LDVBI_DONE);
-    CHECK(is_field(&readings[1], 1) && holds(memory, room / 2, 0xAA));
-#undef READ
-#define READ(bytes, length) ldvbi_read_rows(tv->system, tv->black, tv->white, bytes, length, &readings[0])
-    memset(memory, 0xAA, room);
-    const uint8_t *rows = stream + field + 15 * line;
-    CHECK(READ(rows, 3 * line - 1) == LDVBI_BAD_LENGTH);
-    CHECK(READ(rows, 3 * line + 1) == LDVBI_BAD_LENGTH);
-    CHECK(READ(rows, line) == LDVBI_BAD_LENGTH);
-    CHECK(READ(rows, 2 * line) == LDVBI_BAD_LENGTH);
-    CHECK(READ(stream + field, field) == LDVBI_BAD_LENGTH);
-    CHECK(READ(NULL, 0) == LDVBI_BAD_LENGTH);
-    CHECK(holds(memory, room, 0xAA));
-    CHECK(READ(rows, 3 * line) == LDVBI_DONE);
-    CHECK(is_field(&readings[0], 1) && holds(memory + room / 2, room / 2, 0xAA));
-#undef READ
 }
 
 /* ---- Refusals */
@@ -387,10 +299,8 @@ int main(void)
     test_causes();
     test_codes();
     test_formats();
-    for (size_t i = 0; i < 2; i++) {
+    for (size_t i = 0; i < 2; i++)
         test_words(&televisions[i]);
-        test_fields(&televisions[i]);
-    }
     test_threads();
     printf("%d wrong\n", wrong);
     return wrong != 0;

@@ -70,6 +70,8 @@ sed -n 's/^[a-z0-9_]* \(ldvbi_[a-z_]*\)(.*/\1/p' "$top/include/ldvbi.h" | sort >
 check 'the library gives what the header declares, and nothing else' cmp -s exported declared
 check 'the name of the library has the number of its interface' \
     sh -c "readelf -d '$top/libldvbi.so.1' | grep -q 'SONAME.*\[libldvbi.so.1\]'"
+check 'the library has no call frames, as its header says' \
+    sh -c "! readelf -SW '$top/libldvbi.a' | grep -q ' \.eh_frame '"
 check 'the library has no section that it writes to' \
     sh -c "! readelf -SW '$top/libldvbi.so.1' | grep -q ' \.\(data\|bss\) '"
 
@@ -88,9 +90,11 @@ for sanitizer in address,undefined thread; do
         -I"$top/include" -o library "$here/library.c" "$top/libldvbi.a" -lpthread
     check "the tests in C under $sanitizer" prints 0 '0 wrong' ./library
 done
-check 'the tests of lines are built' does $cc -std=c99 $strict -fsanitize=address,undefined -I"$top/include" \
-    -o library_lines "$here/library_lines.c" "$top/libldvbi.a"
-check 'the tests of lines' prints 0 '0 wrong' ./library_lines
+for part in fields lines; do
+    check "the tests of $part are built" does $cc -std=c99 $strict -fsanitize=address,undefined -I"$top/include" \
+        -o library_$part "$here/library_$part.c" "$top/libldvbi.a"
+    check "the tests of $part" prints 0 '0 wrong' ./library_$part
+done
 for standard in c99 c17 c++98 c++20; do
     check "the header in $standard" does $cc -std=$standard -Wall -Wextra -Wpedantic -Wconversion -Werror \
         -fsyntax-only -x ${standard%%[0-9]*} "$top/include/ldvbi.h"

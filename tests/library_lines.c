@@ -43,10 +43,11 @@ static size_t draw_capture(Capture capture, uint32_t word, unsigned early_or_lat
     return samples;
 }
 
-/* The reading of such a line, as the header has it: at most 910 samples from before the word, times 257, and black. */
+/* The reading of such a line, as the header has it: at most 910 samples, of long lines from 10 microseconds on, times
+   257, and black behind them. */
 static LdvbiReading read_capture(Capture capture, const uint8_t *line, size_t samples)
 {
-    size_t begin = samples > SAMPLES ? boundary(capture.kilohertz, 0) - 10 : 0;
+    size_t begin = samples > SAMPLES ? 10 * capture.kilohertz / 1000 : 0;
     uint16_t wide[SAMPLES];
     LdvbiReading reading = {9, 9, 9, 9};
 

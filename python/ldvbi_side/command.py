@@ -157,7 +157,7 @@ def _answer(options):
         print()
     elif options.bad_lines:
         _print_table(BAD_LINE_COLUMNS, bad_line_rows(side.answer))
-    elif options.csv or not (options.svg or options.document):
+    elif options.csv or not options.svg:
         _print_table(FIELD_COLUMNS, field_rows(side))
     return _cut_status(side.cut, side.system)
 

@@ -246,8 +246,12 @@ class Terminals(Runs):
 
 
 class Interrupted(Runs):
+    # What is printed is held back for a while, as nearly everywhere.
+    buffered = {name: value for name, value in os.environ.items() if name != "PYTHONUNBUFFERED"}
+
     def started(self, *words):
-        return subprocess.Popen(COMMAND + list(words), cwd=self.folder, stdout=subprocess.PIPE, stderr=subprocess.PIPE)
+        return subprocess.Popen(COMMAND + list(words), cwd=self.folder, stdout=subprocess.PIPE, stderr=subprocess.PIPE,
+                                env=self.buffered)
 
     def test_while_it_reads(self):
         os.mkfifo(self.path("meta.json"))
@@ -277,6 +281,26 @@ class Interrupted(Runs):
         self.assertTrue(self.extracted("side.tbc").startswith(process.stdout.read()))
         process.stdout.close()
         process.stderr.close()
+
+    def unread(self, command):
+        """The status of a command whose standard output nobody reads from the beginning, and what it says."""
+        ours, theirs = os.pipe()
+        os.close(ours)
+        run = subprocess.run(command, cwd=self.folder, stdout=theirs, stderr=subprocess.PIPE, timeout=DEADLINE,
+                             check=False, env=self.buffered)
+        os.close(theirs)
+        return run.returncode, run.stderr
+
+    def test_what_is_not_written_yet_is_dropped(self):
+        """Ctrl-C ends the reader of a pipe, too: what was printed has nowhere to go then."""
+        code = "import sys, ldvbi, ldvbi_side.command\n" \
+               "def interrupted(words):\n    print(words)\n    raise KeyboardInterrupt\n" \
+               "ldvbi_side.command.main = interrupted\n" \
+               "sys.exit(ldvbi.main(['words']))"
+        self.assertEqual(self.unread([sys.executable, "-c", code]), (130, b""))
+
+    def test_no_reader(self):
+        self.assertEqual(self.unread(COMMAND + ["side.vbi.json", "--csv"]), (1, b""))
 
     def test_a_reader_that_has_seen_enough(self):
         write_stream(self.path("side.tbc"), NTSC, [[0, 0, 0]], 2000 * SIZE)
