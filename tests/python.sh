@@ -10,10 +10,10 @@
 LDVBI_LINES=$work/lines
 export LDVBI_LINES
 mkdir "$LDVBI_LINES"
-for script in python_unit python_side side_schema drawing jq_and_python; do
+for part in python_unit python_side side_schema drawing jq_and_python; do
     status=0
-    sh "$here/$script.sh" "$program" || status=$?
-    check "$script.sh" [ "$status" = 0 ]
+    sh "$here/$part.sh" "$program" || status=$?
+    check "$part.sh" [ "$status" = 0 ]
 done
 unset LDVBI_LINES
 status=0

@@ -215,6 +215,16 @@ class Breaks(unittest.TestCase):
         found = answer(rows)
         self.assertEqual(found["lost"], [{"after": 16, "before": 22, "fields": 1, "by": "number"}])
 
+    def test_a_lost_field_before_pictures_that_were_read_in_one_field(self):
+        rows = ["- %s %s" % (picture(number), picture(number)) for number in range(1, 31) for _ in range(2)]
+        for field in (22, 24):  # the first fields of pictures 12 and 13
+            rows[field] = "- ? ?"
+        del rows[21]  # the second field of picture 11
+        found = answer(rows)
+        # the fields read of pictures 12 and 13 may be their first ones, with one lost behind them; the one of picture
+        # 11 may be its second one, with the first one lost
+        self.assertEqual(found["lost"], [{"after": 20, "before": 26, "fields": 1, "by": "number"}])
+
 
 class Parity(unittest.TestCase):
     def test_frames_begin_with_the_first_field_that_begins_one(self):

@@ -58,7 +58,18 @@ class Sound(unittest.TestCase):
             self.assertEqual(found["doubtful"], [])
 
 
+    def test_one_time_alone(self):
+        for rows in (["8AE007 87FFFF F0DD09"], ["8AE007 - -", "- F0DD09 -"], ["- F0DD09 -", "8AE007 - -"]):
+            self.assertEqual(answer(rows)["numbers"], {"count": 1, "least": "0:09:00.07", "greatest": "0:09:00.07"})
+
+
 class Damage(unittest.TestCase):
+    def test_a_time_weighs_as_much_as_its_weaker_part(self):
+        # one picture too early, in pass 2: the last one of the side
+        found = answer(changed(times(range(20)), 39, 16, second(0, 20) + "*"))
+        self.assertEqual(doubtful(found)[0], (39, 16, "00.20", "alone"))
+        self.assertEqual(found["numbers"]["greatest"], "0:00:00.18")
+
     def test_a_lost_minute_is_completed_by_the_neighbours(self):
         rows = changed(times(range(1490, 1510)), 15, 18, "?")
         found = answer(rows)
@@ -129,6 +140,12 @@ class MinutesAlone(unittest.TestCase):
         self.assertEqual(count_of(found), 3)
         self.assertEqual(missing(found) + found["breaks"], [])
 
+    def test_ten_minutes_without_a_word(self):
+        for system, fields in (("NTSC", 3596), ("PAL", 3000)):
+            found = answer(self.rows([(0, 9)]) + [BLANK] * (10 * fields) + self.rows([(10, 9)]), system)
+            self.assertEqual(found["breaks"] + found["doubtful"], [])
+            self.assertEqual(missing(found), [("0:01", "0:09", "lost")])
+
     def test_a_wrong_minute_and_one_that_differs(self):
         rows = self.rows([(4, 40)])
         rows[9] = "- %s %s" % (minutes(0, 24), minutes(0, 24))
@@ -175,6 +192,19 @@ class Clock(unittest.TestCase):
         found = answer(times([0, 1, 3, 4], 30), "NTSC")
         self.assertEqual(missing(found), [("0:00:00.02", "0:00:00.02", "undecided")])
         self.assertEqual(found["lost"], [{"after": 3, "before": 5, "fields": 2, "by": "undecided"}])
+
+    def test_three_places_are_enough_and_two_are_not(self):
+        for count, whys in ((3400, {"clock"}), (2400, {"undecided"})):
+            found = answer(times(self.numbers(count, lambda number: number % 1001 == 400), 30), "NTSC")
+            self.assertEqual({one["why"] for one in found["missing"] + found["leftOut"]}, whys)
+
+    def test_three_places_of_many_that_are_due_are_no_clock(self):
+        found = answer(times(self.numbers(9000, lambda number: number in (1000, 2001, 3002)), 30), "NTSC")
+        self.assertEqual([one["why"] for one in found["missing"]], ["lost"] * 3)
+
+    def test_no_number_is_left_out_at_a_tenth_minute(self):
+        numbers = [number for number in range(17000, 22000) if number not in (18000, 18001)]
+        self.assertEqual(missing(answer(times(numbers, 30), "NTSC")), [("0:10:00.00", "0:10:00.01", "lost")])
 
     def test_three_numbers_at_once_are_lost(self):
         found = answer(times(self.numbers(5000, lambda number: 500 <= number <= 502), 30), "NTSC")

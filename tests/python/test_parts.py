@@ -108,6 +108,11 @@ class Ends(unittest.TestCase):
                          [(12, 18, "lead-out", "place"), (21, 17, "lead-in", "place")])
         self.assertEqual(found["leadIn"] + found["leadOut"], [])
 
+    def test_in_a_field_with_a_number_they_are_stray(self):
+        found = answer(["- 88FFFF %s" % picture(1), BLANK, "- - %s" % picture(2)])
+        self.assertEqual([(one["field"], one["why"]) for one in found["stray"]], [(1, "place")])
+        self.assertEqual(found["leadIn"], [])
+
     def test_a_side_that_is_lead_in_alone(self):
         found = answer([LEAD_IN] * 12)
         self.assertEqual([found["format"], found["unit"], found["numbers"]["count"]], ["neither", None, 0])

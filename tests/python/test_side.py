@@ -5,6 +5,7 @@ import os
 import re
 import tempfile
 import unittest
+import unittest.mock
 
 from discs import (BLANK, LEAD_IN, LEAD_OUT, STOP, answer, film, minutes, picture, pictures, plain, side, times)
 from ldvbi_side.lines import SIZES
@@ -47,6 +48,13 @@ class Seeking(unittest.TestCase):
                          ["field 1, frame 1", "field 101, frame 51", "field 151, frame 76", "field 199, frame 100",
                           "not found", "field 157, frame 79"])
         self.assertEqual([found(known, text) for text in ("11:09", "1:10", "69", "0:01:09.00")], ["not found"] * 4)
+
+    def test_of_a_minute_the_first_field_counts_that_was_not_read(self):
+        rows = times(range(25 * 4138, 25 * 4142))
+        rows[100] = "? ? ?"
+        known = answer(rows)
+        self.assertEqual(found(known, "1:09"), "field 101, frame 51, by its neighbours: no number was read there")
+        self.assertEqual(found(known, "1:09:00.01"), "field 103, frame 52")
 
     def test_minutes_of_a_side_without_seconds(self):
         known = answer(["- 87FFFF %s" % minutes(1, minute) for minute in (9, 10) for _ in range(3000)])
@@ -96,7 +104,9 @@ class Tables(unittest.TestCase):
         rows = pictures(range(1, 21))
         rows[20] = "- F70000* F70000*"
         rows[22] = "8AE000 87FFFF F00012"
+        rows[31] = "- 807DDD 807DDD"
         table = list(field_rows(side(rows)))
+        self.assertEqual(table[31][:7], [32, 16, "neither", "", "", "", ""])
         self.assertEqual(table[20], [21, 11, "cav", "", "", "", "",
                                      "picture 70000 on line 17, pass 2: neighbours; "
                                      "picture 70000 on line 18, pass 2: neighbours"])
@@ -232,6 +242,10 @@ class Plotting(unittest.TestCase):
     def test_the_script_is_there(self):
         path = plot_command(side([BLANK]), "side.tbc", 1, 16).split("python3 ")[1].split(" ")[0]
         self.assertTrue(os.path.exists(path))
+
+    def test_where_it_is_not_there_its_name_is_printed(self):
+        with unittest.mock.patch("ldvbi_side.plot._PLACES", ()):
+            self.assertIn("| python3 plot_line.py --system", plot_command(side([BLANK]), "side.tbc", 1, 16))
 
     def test_from_another_folder_its_whole_path_is_printed(self):
         here = os.getcwd()
