@@ -122,9 +122,7 @@ dist:
 	cd dist && sha256sum *.tar.gz > SHA256SUMS
 
 bench: ldvbi lib
-	sh bench/lines.sh
-	sh bench/library.sh
-	python3 bench/stream.py ./ldvbi
+	sh bench/all.sh ./ldvbi
 
 peers:
 	sh peers/compare.sh $(PROGRAM)
