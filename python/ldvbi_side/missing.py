@@ -64,19 +64,14 @@ def lost_fields(steps, first):
 
 
 def _widen(one, numbers):
-    """Of a picture that was read in one of its two fields it isn't known in which. So where one field is lost, all such
-    pictures beside the loss may stand on the other side of it: those before it whose field is taken for the first one,
-    and those behind it whose field is taken for the second one."""
+    """Of a picture that was read in one of its two fields it isn't known in which. So where one field is lost, such
+    pictures before the loss may stand behind it, if their field is taken for the first one. (The chain of numbers has
+    the break as late as it can be.)"""
     believed, fields = numbers.believed, numbers.fields
     place = bisect.bisect(fields, one["after"]) - 1
     while place > 0 and believed[place].variant == 0 and numbers.off(believed[place - 1], believed[place]) == 0:
         place -= 1
     one["after"] = fields[place]
-    place = bisect.bisect(fields, one["before"]) - 1
-    while place + 1 < len(fields) and believed[place].variant == 1 and (
-            numbers.off(believed[place], believed[place + 1]) == 0):
-        place += 1
-    one["before"] = fields[place]
 
 
 def _add_parity(lost, field):

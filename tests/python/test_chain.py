@@ -82,10 +82,10 @@ class Chains(unittest.TestCase):
         self.assertEqual([number for _, number in ones], list(range(1, 31)) + list(range(61, 101)))
 
     def test_wrong_numbers_that_fit_one_another_for_long(self):
-        # the best of all chains goes astray here, and the right one is found beyond twelve readings
-        wrong = [Reading(41 + 2 * place, 61 + place, 1, (18,)) for place in range(12)]
-        ones = readings(*range(1, 21)) + wrong + readings(*range(33, 61), first=65)
-        self.assertEqual([number for _, number in believed(ones)], list(range(1, 21)) + list(range(33, 61)))
+        # they weigh 14, and the jumps there and back cost 8 each; the best of all chains goes astray before the end
+        wrong = [Reading(41 + 2 * place, 61 + place, 1, (18,)) for place in range(14)]
+        ones = readings(*range(1, 21)) + wrong + readings(*range(35, 61), first=69)
+        self.assertEqual([number for _, number in believed(ones)], list(range(1, 21)) + list(range(35, 61)))
 
     def test_a_still_is_one_break_however_long(self):
         ones = believed(readings(1, 2, 3, *[4] * 50, 5, 6, 7))

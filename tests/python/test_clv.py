@@ -65,8 +65,9 @@ class Sound(unittest.TestCase):
 
 class Damage(unittest.TestCase):
     def test_a_time_weighs_as_much_as_its_weaker_part(self):
-        # one picture too early, in pass 2: the last one of the side
-        found = answer(changed(times(range(20)), 39, 16, second(0, 20) + "*"))
+        # one picture too early, in pass 2, with sure minutes: the last one of the side
+        rows = changed(times(range(20)), 39, 16, second(0, 20) + "*")
+        found = answer(changed(rows, 39, 17, minutes(0, 0)))
         self.assertEqual(doubtful(found)[0], (39, 16, "00.20", "alone"))
         self.assertEqual(found["numbers"]["greatest"], "0:00:00.18")
 
