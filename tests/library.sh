@@ -38,8 +38,8 @@ prints() {
 refuses() {
     printf '%s\n' "$1" > wanted
     shift
-    "$@" > out 2> err
-    status=$?
+    status=0
+    bounded "$@" < empty > out 2> err || status=$?
     [ "$status" = 2 ] && [ ! -s out ] && cmp -s err wanted
 }
 
@@ -47,8 +47,8 @@ refuses() {
 refuses_in_a_line() {
     name=$1
     shift
-    "$@" > out 2> err
-    status=$?
+    status=0
+    bounded "$@" < empty > out 2> err || status=$?
     [ "$status" = 2 ] && [ ! -s out ] && [ "$(grep -c "^$name: " err)" = 1 ] && [ "$(wc -l < err)" = 1 ]
 }
 
@@ -117,7 +117,7 @@ on_cav='NTSC 16384 51200'
 on_clv='PAL 16384 54016'
 
 # Discs by the standards' lines: stops and marks where the number is on line 18 alone, and lines 17 and 18 that differ
-run draw $ntsc - << 'WORDS'
+run_inheriting draw $ntsc - << 'WORDS'
 - F00001 F00001
 - 800DDD 800DDD
 - F00002 F00007
@@ -132,7 +132,7 @@ run draw $ntsc - << 'WORDS'
 80EEEE 80EEEE 80EEEE
 WORDS
 cp out stops.tbc
-run draw $pal - << 'WORDS'
+run_inheriting draw $pal - << 'WORDS'
 8AE000 87FFFF F0DD00
 - 800DDD 800DDD
 8AE001 F0DD00 F0DD00
@@ -220,7 +220,7 @@ check 'player: no stop ahead' prints 1 'search: field 9 picture 5
 play: field 11
 play: not found' ./player stops.tbc $on_cav search 5 play play
 check 'player: a CLV disc' prints 1 'search: not found' ./player clv.tbc $on_clv search 3
-run draw $ntsc - << 'WORDS'
+run_inheriting draw $ntsc - << 'WORDS'
 - F00001 F00001
 - F00002 F00002
 - F79999 F79999
@@ -255,7 +255,7 @@ check 'player: no file' refuses "player: can't open nowhere.tbc" ./player nowher
 check 'player: no field' refuses 'player: no field in empty.tbc' ./player empty.tbc $on_cav play
 
 # The header's texts: those of the report, but for its numbers, of each kind, cause and format
-run draw $ntsc - << 'WORDS'
+run_inheriting draw $ntsc - << 'WORDS'
 82CFFF F12345 800DDD
 8AE712 F0DD09 87FFFF
 88FFFF 80EEEE 8DC0A1
@@ -295,16 +295,6 @@ check 'each kind, cause and format is in the report' cmp -s found wanted
 check 'the texts are built' does $cc -std=c99 $strict -I"$top/include" -o texts "$here/library_texts.c" \
     "$top/libldvbi.a"
 check "the header's texts" prints 0 "$(cat reported)" sh -c "./texts $on_cav < texts.tbc"
-check 'pictures of a CAV disc' prints 0 'field,format,picture,time,stop
-3,cav,1,,
-5,cav,2,,
-7,cav,3,,stop
-9,cav,4,,' python3 -m ldvbi cav.tbc --system NTSC --black 16384 --white 51200
-check 'pictures of a CLV disc' prints 0 'field,format,picture,time,stop
-3,clv,,0:00:00.00,
-5,clv,,0:00:00.01,
-7,clv,,0:00:59.29,
-9,clv,,0:01:00.00,' python3 -m ldvbi clv.tbc --system PAL --black 16384 --white 54016
 
 # The program in README.md
 sed -n '/^```c$/,/^```$/{/^```/d;p;}' "$top/README.md" > say.c
