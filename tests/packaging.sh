@@ -40,14 +40,9 @@ usr/share/ldvbi/ldvbi.jq
 usr/share/ldvbi/ldvbi.schema.json
 usr/share/ldvbi/plot_line.py
 usr/share/ldvbi/python/ldvbi.py
-usr/share/ldvbi/python/ldvbi_side/__init__.py
-usr/share/ldvbi/python/ldvbi_side/command.py
-usr/share/ldvbi/python/ldvbi_side/document.py
-usr/share/ldvbi/python/ldvbi_side/drawing.py
-usr/share/ldvbi/python/ldvbi_side/metadata.py
-usr/share/ldvbi/python/ldvbi_side/sequence.py
-usr/share/ldvbi/python/ldvbi_side/side.py
-usr/share/ldvbi/python/ldvbi_side/summary.py
+END
+(cd tree && git ls-files 'python/ldvbi_side/*.py' | sed 's/^/usr\/share\/ldvbi\//') >> files
+cat >> files << 'END'
 usr/share/man/man1/ldvbi.1
 usr/share/zsh/site-functions/_ldvbi
 END
