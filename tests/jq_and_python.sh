@@ -3,7 +3,7 @@
 # tables of both, on sound sides by the standards' lines, where the package has nothing to judge.
 # Needs libldvbi.so.1 at the top of the repository (`make lib`).
 # usage: sh tests/jq_and_python.sh PROGRAM
-# shellcheck disable=SC2086
+# shellcheck disable=SC2016,SC2086
 
 # shellcheck source=tests/helpers.sh
 . "$(dirname "$0")/helpers.sh"

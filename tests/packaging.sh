@@ -28,24 +28,26 @@ made() {
     (cd tree && bounded env PATH="$work/tools" make -s "$@") < empty > out 2> err || status=$?
 }
 # What is installed, from `usr`
-cat > files << 'END'
+{
+    cat << 'END'
 usr/bin/ldvbi
 usr/share/bash-completion/completions/ldvbi
 usr/share/doc/ldvbi/CHANGELOG.md
 usr/share/doc/ldvbi/README.md
 END
-(cd tree && git ls-files 'docs/*.md' 'docs/pictures/*.svg' examples | sed 's/^/usr\/share\/doc\/ldvbi\//') >> files
-cat >> files << 'END'
+    (cd tree && git ls-files 'docs/*.md' 'docs/pictures/*.svg' examples | sed 's/^/usr\/share\/doc\/ldvbi\//')
+    cat << 'END'
 usr/share/ldvbi/ldvbi.jq
 usr/share/ldvbi/ldvbi.schema.json
 usr/share/ldvbi/plot_line.py
 usr/share/ldvbi/python/ldvbi.py
 END
-(cd tree && git ls-files 'python/ldvbi_side/*.py' | sed 's/^/usr\/share\/ldvbi\//') >> files
-cat >> files << 'END'
+    (cd tree && git ls-files 'python/ldvbi_side/*.py' | sed 's/^/usr\/share\/ldvbi\//')
+    cat << 'END'
 usr/share/man/man1/ldvbi.1
 usr/share/zsh/site-functions/_ldvbi
 END
+} > files
 
 mkdir -p usr/share/man/man1
 echo other > usr/share/man/man1/other.1
