@@ -157,6 +157,10 @@ while read -r path; do
     check "CONTRIBUTING.md: $path" [ -e "$top/crates/$path" ]
 done < named
 
+# The definitions on which the headline rests stand in PROMISES.md as in the source.
+in_folder "$top" python3 tests/definitions.py docs/PROMISES.md
+check 'the definitions of PROMISES.md are those of the source' [ "$status" = 0 ]
+
 # The examples of the manual page, one script; the last line that it prints is of the drawn field
 mandoc -T ascii -O width=200 "$top/docs/ldvbi.1" | sed 's/.'"$(printf '\010')"'//g' |
     sed -n '/^EXAMPLES/,/^DIAGNOSTICS/s/^           //p' > page.sh

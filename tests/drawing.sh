@@ -49,7 +49,7 @@ END
 # drawn OPTION..: draws a side, and finds what is in its picture
 drawn() {
     told "$@" --svg side.svg
-    python3 found.py side.svg > found 2>> err
+    bounded python3 found.py side.svg < empty > found 2>> err || status=$?
 }
 # shows NAME < LINES: checks that these lines, and no others with their first words, are in the picture, in this order
 shows() {
@@ -309,7 +309,7 @@ title 150 28 a long name 01 a long name 02 a long name … 10 a long name 11 a l
 system PAL, CAV, 1 field, 1 picture, 9 to 9
 run 1-1 1 630 368 630 368 = 9 in field 1
 END
-"$program" draw $pal one_field > cut.tbc
+output_of draw $pal one_field > cut.tbc
 printf '12345' >> cut.tbc
 drawn cut.tbc $pal
 shows 'a cut side' << 'END'
@@ -338,8 +338,8 @@ END
 
 # README's pictures, made again
 mkdir made
-sh "$top/docs/pictures/make_side.sh" "$program" made > out 2> err
-status=$?
+status=0
+bounded sh "$top/docs/pictures/make_side.sh" "$program" made < empty > out 2> err || status=$?
 for picture in side clv; do
     check "README's picture $picture" cmp made/$picture.svg "$top/docs/pictures/$picture.svg"
     check "README shows $picture" grep -q "(docs/pictures/$picture.svg)" "$top/README.md"

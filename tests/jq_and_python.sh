@@ -3,7 +3,7 @@
 # tables of both, on sound sides by the standards' lines, where the package has nothing to judge.
 # Needs libldvbi.so.1 at the top of the repository (`make lib`).
 # usage: sh tests/jq_and_python.sh PROGRAM
-# shellcheck disable=SC2086
+# shellcheck disable=SC2016,SC2086
 
 # shellcheck source=tests/helpers.sh
 . "$(dirname "$0")/helpers.sh"
@@ -14,9 +14,9 @@
 alike() {
     status=0
     {
-        python3 "$here/jq_and_python.py" "$2" side.vbi.json > wanted &&
-            jq -c -L "$top/contrib" "include \"ldvbi\"; $3" side.vbi.json > out
-    } 2> err || status=$?
+        bounded python3 "$here/jq_and_python.py" "$2" side.vbi.json > wanted &&
+            bounded jq -c -L "$top/contrib" "include \"ldvbi\"; $3" side.vbi.json > out
+    } < empty 2> err || status=$?
     check "$1: both answer" [ "$status" = 0 ]
     check "$1: alike" cmp out wanted
 }

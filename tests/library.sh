@@ -38,8 +38,8 @@ prints() {
 refuses() {
     printf '%s\n' "$1" > wanted
     shift
-    "$@" > out 2> err
-    status=$?
+    status=0
+    bounded "$@" < empty > out 2> err || status=$?
     [ "$status" = 2 ] && [ ! -s out ] && cmp -s err wanted
 }
 
@@ -47,8 +47,8 @@ refuses() {
 refuses_in_a_line() {
     name=$1
     shift
-    "$@" > out 2> err
-    status=$?
+    status=0
+    bounded "$@" < empty > out 2> err || status=$?
     [ "$status" = 2 ] && [ ! -s out ] && [ "$(grep -c "^$name: " err)" = 1 ] && [ "$(wc -l < err)" = 1 ]
 }
 
@@ -298,16 +298,6 @@ check 'each kind, cause and format is in the report' cmp -s found wanted
 check 'the texts are built' does $cc -std=c99 $strict -I"$top/include" -o texts "$here/library_texts.c" \
     "$top/libldvbi.a"
 check "the header's texts" prints 0 "$(cat reported)" sh -c "./texts $on_cav < texts.tbc"
-check 'pictures of a CAV disc' prints 0 'field,format,picture,time,stop
-3,cav,1,,
-5,cav,2,,
-7,cav,3,,stop
-9,cav,4,,' python3 -m ldvbi cav.tbc --system NTSC --black 16384 --white 51200
-check 'pictures of a CLV disc' prints 0 'field,format,picture,time,stop
-3,clv,,0:00:00.00,
-5,clv,,0:00:00.01,
-7,clv,,0:00:59.29,
-9,clv,,0:01:00.00,' python3 -m ldvbi clv.tbc --system PAL --black 16384 --white 54016
 
 # The program in README.md
 sed -n '/^```c$/,/^```$/{/^```/d;p;}' "$top/README.md" > say.c
@@ -339,7 +329,7 @@ check 'the description is of what is beside it' \
 check 'the version for pkg-config' \
     [ "$(PKG_CONFIG_PATH=$work/moved/lib/pkgconfig pkg-config --modversion ldvbi)" = "$(header_version)" ]
 check 'the recipes are installed' cmp -s root/usr/share/doc/ldvbi/docs/RECIPES.md "$top/docs/RECIPES.md"
-check 'the installed Python module' prints 0 'field 7' env -u LDVBI_LIBRARY \
+check 'the installed Python module' prints 0 'field 7, frame 4' env -u LDVBI_LIBRARY \
     PYTHONPATH=root/usr/share/ldvbi/python python3 -m ldvbi cav.tbc $ntsc --seek 3
 check 'the installed program' prints 0 'ldvbi 0.1.0' root/usr/bin/ldvbi --version
 check 'make uninstall' makes uninstall DESTDIR="$work/root" PREFIX=/usr

@@ -28,30 +28,27 @@ made() {
     (cd tree && bounded env PATH="$work/tools" make -s "$@") < empty > out 2> err || status=$?
 }
 # What is installed, from `usr`
-cat > files << 'END'
+{
+    cat << 'END'
 usr/bin/ldvbi
 usr/share/bash-completion/completions/ldvbi
 usr/share/doc/ldvbi/CHANGELOG.md
 usr/share/doc/ldvbi/README.md
 END
-(cd tree && git ls-files 'docs/*.md' 'docs/pictures/*.svg' examples | sed 's/^/usr\/share\/doc\/ldvbi\//') >> files
-cat >> files << 'END'
+    (cd tree && git ls-files 'docs/*.md' 'docs/pictures/*.svg' examples | sed 's/^/usr\/share\/doc\/ldvbi\//')
+    cat << 'END'
 usr/share/ldvbi/ldvbi.jq
 usr/share/ldvbi/ldvbi-side.schema.json
 usr/share/ldvbi/ldvbi.schema.json
 usr/share/ldvbi/plot_line.py
 usr/share/ldvbi/python/ldvbi.py
-usr/share/ldvbi/python/ldvbi_side/__init__.py
-usr/share/ldvbi/python/ldvbi_side/command.py
-usr/share/ldvbi/python/ldvbi_side/document.py
-usr/share/ldvbi/python/ldvbi_side/drawing.py
-usr/share/ldvbi/python/ldvbi_side/metadata.py
-usr/share/ldvbi/python/ldvbi_side/sequence.py
-usr/share/ldvbi/python/ldvbi_side/side.py
-usr/share/ldvbi/python/ldvbi_side/summary.py
+END
+    (cd tree && git ls-files 'python/ldvbi_side/*.py' | sed 's/^/usr\/share\/ldvbi\//')
+    cat << 'END'
 usr/share/man/man1/ldvbi.1
 usr/share/zsh/site-functions/_ldvbi
 END
+} > files
 
 mkdir -p usr/share/man/man1
 echo other > usr/share/man/man1/other.1

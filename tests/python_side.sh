@@ -29,7 +29,7 @@ alike() {
         settings=
         [ $source = side.vbi.json ] || settings=$(options_of "$2")
         status=0
-        python3 "$here/python_side.py" $source $settings > out 2> err || status=$?
+        bounded python3 "$here/python_side.py" $source $settings < empty > out 2> err || status=$?
         check "$1, $source" cmp out wanted
     done
 }
@@ -43,7 +43,7 @@ check 'there are 20,000 words and those of the corners' [ "$(wc -l < items)" -gt
 split -l 1000 all_words part.
 for part in part.*; do
     side_of "$ntsc" < $part
-    "$program" show $ntsc side.tbc | sed '1d;$d' > wanted
+    output_of show $ntsc side.tbc | sed '1d;$d' > wanted
     cat wanted >> reports
     alike "the words of $part" "$ntsc"
 done
@@ -107,8 +107,8 @@ cp side.vbi.json document
 tells 'a document under another name' 0 'field 7, frame 4' document --seek 3
 jq . side.vbi.json > document
 tells 'a document in another layout' 0 'field 7, frame 4' document --seek 00003
-python3 -m ldvbi - --seek 3 < side.vbi.json > out 2> err
-status=$?
+status=0
+bounded python3 -m ldvbi - --seek 3 < side.vbi.json > out 2> err || status=$?
 echo 'field 7, frame 4' > wanted_text
 judge 'a document on standard input' 0 wanted_text ''
 echo '{"videoParameters":{"system":"NTSC","black16bIre":16384.0,"white16bIre":51200,"fieldWidth":910.0}}' > meta.json
@@ -145,8 +145,8 @@ levels_said 'levels that are too low' '22 are bad, 0 blank' '--black 1 --white 2
 sed -n 's/^levels: .* Look at one: //p' out > look.sh
 ln -s "$program" ldvbi
 status=0
-PATH=$PATH:. sh look.sh 2> err || status=$?
-check 'the command that is printed draws the line' grep -q '<svg' line.svg
+(PATH=$PATH:. && bounded sh look.sh) < empty > out 2> err || status=$?
+check 'the command that is printed draws the line' [ "$status $(grep -c '<svg' line.svg)" = '0 1' ]
 
 # A CLV disc with marks on line 17 and the minutes on line 18
 cat > clv_words << 'END'
@@ -183,7 +183,7 @@ signal NTSC 1 << 'WORDS' | ntsc_samples > side.tbc
 L900 H10|82CFFF @170-174L|L164 H746
 WORDS
 printf '12345' >> side.tbc
-"$program" extract $ntsc side.tbc > side.vbi.json
+output_of extract $ntsc side.tbc > side.vbi.json
 for source in side.vbi.json "side.tbc $ntsc"; do
     tells "the summary of a cut stream with each cause, $source" 1 'system: NTSC, CAV
 fields: 2, cut: field 3, of 5 bytes
@@ -202,12 +202,12 @@ stray codes: none' $source --summary
         > wanted_text
     judge "the bad lines of $source" 3 wanted_text 'ldvbi: the last field is cut: field 3 has 5 of 478660 bytes'
     told $source --json
-    jq -c '[.stops[0].lines, .badLines[1].offset, .cutField, .lines["17"].pass2, .format]' out > found
+    bounded jq -c '[.stops[0].lines, .badLines[1].offset, .cutField, .lines["17"].pass2, .format]' out < empty > found
     echo '[[16,17],507780,{"seqNo":3,"bytes":5},1,"cav"]' > wanted_text
     check "the answer of $source" cmp found wanted_text
 done
 # where a bad line is said to begin its samples do: line 16 of field 2 is black up to column 899
-tail -c +505961 side.tbc | head -c 1820 | "$program" line $ntsc > found
+tail -c +505961 side.tbc | head -c 1820 | bounded "$program" line $ntsc > found
 check 'the offset is that of the line' [ "$(cat found)" = unfinished ]
 
 # What is refused: with status 1 and a line on standard error

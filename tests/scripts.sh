@@ -34,7 +34,7 @@ checks_of() {
 # is_named FILE: whether the table has it, as a script that is run somewhere or as what isn't run by itself
 is_named() {
     awk -v file="$1" '
-        $1 ".sh" == file && $3 ~ /^(everywhere|library|whole)$/ || $1 == file && $3 == "helper" { named = 1 }
+        $1 ".sh" == file && $3 ~ /^(everywhere|library|python|whole)$/ || $1 == file && $3 == "helper" { named = 1 }
         END { exit !named }' "$here/scripts.txt"
 }
 

@@ -15,11 +15,25 @@ large|out|field 8981|field 8980
 library|out|"vbiPass"|"vbiPaSS"
 library|include/ldvbi.h|s/LDVBI_HOLD = 4/LDVBI_HOLD = 5/
 library|python/ldvbi.py|s/is no code word/is not a word/
+python|python/ldvbi_side/analysis.py|s/^def analyse(/def analyze(/
+python|tests/python.sh|s/\$3 == "python"/$1 == "side_schema"/
+python_unit|python/ldvbi_side/missing.py|s/"lost", fields/"last", fields/
+python_unit|tests/python/test_cav.py|s/"after": 39, "before": 42/"after": 38, "before": 42/
 python_side|out|"vbiPass"|"vbiPaSS"
 python_side|hangs
-python_side|python/ldvbi_side/side.py|s/("lead-in",)/("lead-out",)/
-python_glance|out|"blank"|"plank"
-python_glance|python/ldvbi_side/summary.py|s/"missing: "/"mizzing: "/
+python_side|python/ldvbi_side/codes.py|s/("lead-in",)/("lead-out",)/
+python_side|python/ldvbi_side/summary.py|s/"missing: "/"mizzing: "/
+side_schema|docs/ldvbi-side.schema.json|s/"damaged", //
+side_schema|docs/ldvbi-side.schema.json|s/"enum": \[1820, 2270\]/"type": "integer"/
+side_schema|tests/python/answers.py|/yield "clock"/d
+drawing|out|"blank"|"plank"
+drawing|hangs
+drawing|python/ldvbi_side/marks.py|s/"missing: %s, after/"mizzing: %s, after/
+drawing|docs/pictures/clv.svg|s/class="run"/class="ran"/
+jq_and_python|out|"vbiPass"|"vbiPaSS"
+jq_and_python|hangs
+jq_and_python|contrib/ldvbi.jq|s/lines: \[16, /lines: [15, /
+jq_and_python|python/ldvbi_side/codes.py|s/Kind.chapter: (17, 18)/Kind.chapter: (18,)/
 packaging|out|0.1.0|0.1.1
 packaging|Makefile|/install.*MANUAL/d
 packaging|CHANGELOG.md|s/^## 0/## 1/
@@ -28,7 +42,7 @@ jq_module|hangs
 jq_module|contrib/ldvbi.jq|s/kind: "chapter"/kind: "chaptre"/
 docs|out|picture stop|picture step
 docs|hangs
-docs|README.md|s/^7,cav,3/7,clv,3/
+docs|README.md|s/^18 F00003 picture 00003$/18 F00003 picture 00004/
 docs|README.md|s/Not run by the tests/Not run by a test/
 docs|README.md|s/](docs/](dogs/
 docs|docs/RECIPES.md|s/^```text$/```test/
@@ -85,6 +99,7 @@ scripts.txt doesn't name lines.sh|lines|nothing|||tests/scripts.txt|s/^\(lines .
 lines failed: status 0|lines|nothing|||tests/lines.sh|d
 lines failed: status 0|lines|nothing|||tests/lines.sh|s/^finish/exit/
 lines failed: status 0|lines|nothing|||tests/lines.sh|s/^head -c 1819.*/exit/
+checks, and scripts.txt has|python_unit|nothing|||tests/python_unit.sh|s/test_\*/test_codes*/
 lines failed: status 2|lines|nothing|||tests/lines.sh|s/^finish/fi/
 checks, and scripts.txt has|lines|nothing|||tests/lines.sh|/^judge 'a short line' /d
 lines failed: status 0|lines|status|1|0|tests/helpers.sh|s/^    \[ "$judged $passed" = .*/    :/
@@ -182,7 +197,7 @@ while read -r row; do
     check "$row" [ -e "trial.$number/as_wanted" ]
 done < rows
 
-awk '$3 == "everywhere" || $3 == "library" { print $1 }' "$here/scripts.txt" | sort > listed
+awk '$3 ~ /^(everywhere|library|python)$/ { print $1 }' "$here/scripts.txt" | sort > listed
 cut -d '|' -f 1 alterations | sort -u > altered_scripts
 status=none
 check 'each script is tried' cmp listed altered_scripts

@@ -32,21 +32,21 @@ schema=$top/docs/ldvbi-side.schema.json
 
 mkdir answers broken
 status=0
-python3 "$here/python/answers.py" answers 2> err || status=$?
+bounded python3 "$here/python/answers.py" answers < empty 2> err || status=$?
 check 'there are 21 answers' [ "$status $(find answers -name '*.json' | wc -l)" = '0 21' ]
-"$python" validate.py "$schema" answers/*.json > said 2> err || status=$?
+bounded "$python" validate.py "$schema" answers/*.json < empty > said 2> err || status=$?
 check 'all of them are valid' [ "$status $(grep -c ' valid$' said)" = '0 21' ]
 # each list of the schema has an item in one of them, so that its form was looked at
-jq -s -r '[.[] | to_entries[] | select(.value | type == "array" and length > 0) | .key] | unique[]' \
-    answers/*.json > full
-jq -r '.properties | to_entries[] | select(.value.type == "array") | .key' "$schema" | sort > lists
+bounded jq -s -r '[.[] | to_entries[] | select(.value | type == "array" and length > 0) | .key] | unique[]' \
+    answers/*.json < empty > full
+bounded jq -r '.properties | to_entries[] | select(.value.type == "array") | .key' "$schema" < empty | sort > lists
 check 'each list has an item somewhere' cmp full lists
 
 # Broken answers: what is changed, and of which side
 number=0
 while IFS='|' read -r side change; do
     number=$((number + 1))
-    jq -c "$change" "answers/$side.json" > broken/$number.json
+    bounded jq -c "$change" "answers/$side.json" < empty > broken/$number.json
     status=0
     cmp -s "broken/$number.json" "answers/$side.json" && status=1
     check "$change of $side changes it" [ $status = 0 ]
@@ -90,8 +90,8 @@ lead-in|.leadIn[0].count = 0
 left-out|.leftOut[0].why = "lost"
 undecided|.missing[0].why = "clock"
 END
-"$python" validate.py "$schema" broken/*.json > said 2> err
-status=$?
+status=0
+bounded "$python" validate.py "$schema" broken/*.json < empty > said 2> err || status=$?
 check "all $number broken ones are refused" [ "$status $(grep -c ' refused$' said) $number" = "0 $number 38" ]
 [ "$status" = 0 ] && grep ' valid$' said >&2
 finish

@@ -3,6 +3,7 @@
 import unittest
 
 from ldvbi import Kind
+from ldvbi_side.classes import classify
 from ldvbi_side.codes import STANDARD_LINES, code, code_of, codes_by_kind, name_of, value_of
 
 
@@ -37,6 +38,9 @@ class Words(unittest.TestCase):
     def test_no_word_has_no_code(self):
         self.assertIsNone(code(0))
         self.assertIsNone(code_of(0))
+        for number in (0, 0x7FFFFF, 0x1000000):
+            with self.subTest(number=number), self.assertRaisesRegex(ValueError, "^number is no code word$"):
+                classify(number)
 
 
 class Lines(unittest.TestCase):

@@ -207,6 +207,10 @@ class Summaries(unittest.TestCase):
         self.assertRegex(bad[5], r"^levels: lines 17 and 18 have 0 words, 8 are bad, 0 blank: black and white may be "
                          r"wrong, or the signal is noise\. Look at one: dd ")
 
+    def test_levels_where_the_script_is_not_beside_the_package(self):
+        with unittest.mock.patch("ldvbi_side.plot._PLACES", ("nowhere/plot_line.py",)):
+            self.assertIn("| python3 plot_line.py --system NTSC ", lines_of(side([BLANK] * 4, "NTSC"))[5])
+
     def test_at_most_20_lines(self):
         rows = times([number for number in range(9000) if number % 1001 != 400], 30)
         rows[100:110] = []
