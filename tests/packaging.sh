@@ -37,8 +37,8 @@ usr/share/doc/ldvbi/README.md
 END
     (cd tree && git ls-files 'docs/*.md' 'docs/pictures/*.svg' examples | sed 's/^/usr\/share\/doc\/ldvbi\//')
     cat << 'END'
-usr/share/ldvbi/ldvbi.jq
 usr/share/ldvbi/ldvbi-side.schema.json
+usr/share/ldvbi/ldvbi.jq
 usr/share/ldvbi/ldvbi.schema.json
 usr/share/ldvbi/plot_line.py
 usr/share/ldvbi/python/ldvbi.py

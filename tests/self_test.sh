@@ -14,7 +14,7 @@ cat > alterations << 'END'
 large|out|field 8981|field 8980
 library|out|"vbiPass"|"vbiPaSS"
 library|include/ldvbi.h|s/LDVBI_HOLD = 4/LDVBI_HOLD = 5/
-library|python/ldvbi.py|s/is no code word/is not a word/
+library|python/ldvbi_side/library.py|s/is no code word/is not a word/
 python|python/ldvbi_side/analysis.py|s/^def analyse(/def analyze(/
 python|tests/python.sh|s/\$3 == "python"/$1 == "side_schema"/
 python_unit|python/ldvbi_side/missing.py|s/"lost", fields/"last", fields/
