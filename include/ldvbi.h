@@ -35,31 +35,41 @@
  *     line 17     picture number, chapter, CLV time, lead-in, lead-out; picture stop; CLV mark
  *     line 18     picture number, chapter, CLV time, lead-in, lead-out, which line 17 has as well
  *
- * So line 17 may have a stop or a mark where line 18 has the number. To find a field's number, take of lines 17 and 18
- * the words of the kind that is asked for. One such word is the answer; two of that kind that differ are none, since
- * one of them was misread. A stop counts on line 16 or 17, or on 18 if it is there. A CLV picture's time is in two
- * places: hours and minutes on lines 17 and 18, seconds and picture on line 16. A word of pass 2 is wrong more often
- * than one of pass 1: believe it where both lines or the fields around agree.
+ * So line 17 may have a stop or a mark where line 18 has the number, and a field may have no number at all: of the two
+ * or three fields of a picture one often has it. To find a field's number, take of lines 17 and 18 the words of the
+ * kind that is asked for, whatever their passes. One such word, or two that say the same, are the answer; two that say
+ * different things are none, since one of them was misread. Compare what ldvbi_classify says, not the words: a picture
+ * or a chapter has two words each. A stop counts on line 16 or 17, or on 18 if it is there; its picture is that of its
+ * field, else the latest before it. A time of a CLV disc is in two places: hours and minutes on lines 17 and 18,
+ * seconds and picture on line 16. Words are wrong at times, those of pass 2 more often. Whoever can look at the fields
+ * around takes a number only where it fits theirs, as `python3 -m ldvbi` does.
+ *
+ * Some words, as digits: F and 5 decimal digits is a picture (F00123 is picture 123), 8 and two decimal digits and DDD
+ * a chapter (807DDD is chapter 7), 82CFFF a stop, 87FFFF the CLV mark, 88FFFF lead-in, 80EEEE lead-out.
+ *
+ * Apart from its word a line has to be low, as sync and colour burst are: high samples before or behind it, but for
+ * glitches of up to three, leave it without a word.
  *
  * ---- One row of an interlaced frame
  *
  * Of a frame with all its lines, 525 or 625, line n of the first field, counted from 1, is row 2 * (n - 1), counted
  * from 0, where the first field is the upper one; line n of the second field is the row after it. A row is a line: hand
- * over its address, as (const char *)frame + row * row_bytes, and ldvbi_line_bytes(system). Frames of 480 or 576 rows
- * are without lines 16 to 18.
+ * over its address, as (const char *)frame + row * row_bytes, and ldvbi_line_bytes(system). Frames of 480, 486 or 576
+ * rows are without some or all of lines 16 to 18.
  *
  * ---- Lines of other sample rates
  *
- * A half cell of a word lasts one microsecond on every disc, so at f MHz a drawn half cell has f samples, rounded down
- * or up. Read as NTSC it may have 11 to 18 samples, read as PAL 14 to 22. So lines of NTSC and of PAL discs alike are
- * read as LDVBI_NTSC from 11.5 to 17.7 MHz: at 13.5 MHz a PAL disc's lines too, whose half cells of 13 or 14 samples
- * are too short for LDVBI_PAL. A word has 48 half cells, 850 samples at 17.7 MHz, and begins about 10.5 microseconds
- * after the line does.
- *   1. Take at most 910 samples. Above 14.2 MHz a line has more: begin 10 microseconds into it.
+ * A half cell of a word lasts one microsecond on every disc, so at f MHz an undisturbed half cell has f samples,
+ * rounded down or up. Read as NTSC it may have 11 to 18 samples, read as PAL 14 to 22. So lines of NTSC and of PAL
+ * discs alike are read as LDVBI_NTSC from 11.5 to 17.7 MHz: at 13.5 MHz a PAL disc's lines too, whose half cells of 13
+ * or 14 samples are too short for LDVBI_PAL. A word has 48 half cells, 850 samples at 17.7 MHz, and begins about 10.5
+ * microseconds after the line does.
+ *   1. Take at most 910 samples. Where a line has more (above 14.32 MHz), leave out its first 10 microseconds, and take
+ *      910 of the rest.
  *   2. Samples of 8 bits: multiply them by 257, and black and white too.
  *   3. Fill up to 910 samples with black, and read them as LDVBI_NTSC.
- * Each change of level may come a sample early or late, whatever the others do, as long as a half cell keeps its 11 to
- * 18 samples. That holds in each place from 13 to 16 MHz, and of lines at ld-decode's own rates.
+ * From 13 to 16 MHz, and at ld-decode's own rates, each change of level may besides come a sample early or late,
+ * whatever the others do. At other rates only as long as each half cell keeps its 11 to 18 samples.
  *
  * ---- Files that are mapped
  *
@@ -96,8 +106,9 @@ extern "C" {
 
 /* The interface that this header declares. An addition, as of a call, a status or a kind, keeps the number and the
  * library's name libldvbi.so.1; a change or a removal raises both. So a program that was built with this header runs
- * with any library of the same interface, and of the same version or a later one; it has to let pass numbers of
- * statuses, causes, kinds and formats that it doesn't know. */
+ * with any library of the same interface, and of the same version or a later one; it has to bear numbers of statuses,
+ * causes, kinds and formats that it doesn't know. A check at a program's start:
+ *     if (ldvbi_abi() != LDVBI_ABI || ldvbi_version() < LDVBI_VERSION) .. */
 #define LDVBI_ABI 1
 
 /* Of the library that is linked: its interface, and its version as a number. */
@@ -123,25 +134,25 @@ enum LdvbiStatus {
     LDVBI_DONE = 0,
     LDVBI_BAD_SYSTEM = 1, /* the system is neither LDVBI_NTSC nor LDVBI_PAL */
     LDVBI_BAD_LEVELS = 2, /* black is not below white, or one of them is above 65535 */
-    LDVBI_BAD_LENGTH = 3, /* not as many bytes as the call's lines or fields have in this system */
+    LDVBI_BAD_LENGTH = 3, /* fewer or more bytes than the call's lines or fields have in this system */
     LDVBI_BAD_WORD = 4    /* a number is no code word: not from 0x800000 to 0xFFFFFF, nor 0 where 0 stands for none */
 };
 
 /* ---- Reading */
 
-/* What a line shows: a word, or the cause for which it shows none. A column is hopeless where no line that begins like
- * this one up to it, and with it, shows a word. */
+/* What a line shows: a word, or the first of these causes for which it shows none. Column c is hopeless where samples 0
+ * to c rule a word out, whatever follows. */
 enum LdvbiCause {
     LDVBI_WORD = 0,
     LDVBI_BLANK = 1,      /* no sample is high */
     LDVBI_UNFINISHED = 2, /* no column is hopeless: a longer line could still show a word */
-    LDVBI_CHANGE = 3,     /* at the first hopeless column the level changes, or the line begins */
+    LDVBI_CHANGE = 3,     /* at the first hopeless column the level changes, or it is column 0 */
     LDVBI_HOLD = 4        /* at the first hopeless column the level is that of the column before */
 };
 
 typedef struct LdvbiReading {
     uint8_t cause;   /* of enum LdvbiCause */
-    uint8_t pass;    /* 1: the line's own levels show the word; 2: the levels without short glitches do; 0: no word */
+    uint8_t pass;    /* 1: the line's own levels show it; 2: they do without glitches of 1 to 3 samples; 0: no word */
     uint16_t column; /* of LDVBI_CHANGE and LDVBI_HOLD the first hopeless column, counted from 0; else 0 */
     uint32_t word;   /* of LDVBI_WORD the word, from 0x800000 to 0xFFFFFF; else 0 */
 } LdvbiReading;
@@ -157,8 +168,8 @@ LDVBI_RESULT LDVBI_POINTER(6)
 uint32_t ldvbi_read_line(uint32_t system, uint32_t black, uint32_t white, const void *samples, size_t length,
                          LdvbiReading *reading);
 
-/* Reads lines 16, 17 and 18 that lie one after the other, as one pread fetches them from a file: they begin 15 lines
- * after their field. `length` has to be 3 * ldvbi_line_bytes(system).
+/* Reads lines 16, 17 and 18 that lie one after the other, as one pread fetches them from a file: from byte 15 *
+ * ldvbi_line_bytes(system) of their field on. `length` has to be 3 * ldvbi_line_bytes(system).
  * LDVBI_BAD_SYSTEM, LDVBI_BAD_LEVELS, LDVBI_BAD_LENGTH. */
 LDVBI_RESULT LDVBI_POINTER(6)
 uint32_t ldvbi_read_rows(uint32_t system, uint32_t black, uint32_t white, const void *samples, size_t length,
@@ -195,7 +206,7 @@ enum LdvbiKind {
     LDVBI_CLV_MARK = 11      /* the disc is a CLV disc */
 };
 
-/* A word's kind and the numbers that go with it; those that don't are 0. */
+/* A word's kind and the numbers that go with it; a number that its kind hasn't is 0. */
 typedef struct LdvbiCode {
     uint32_t kind, first, second; /* kind: of enum LdvbiKind */
 } LdvbiCode;
@@ -207,9 +218,9 @@ uint32_t ldvbi_classify(uint32_t word, LdvbiCode *code);
 /* Which discs a field's codes speak of. */
 enum LdvbiFormat {
     LDVBI_NEITHER = 0,
-    LDVBI_CAV = 1, /* picture numbers or picture stops, and none of the next */
-    LDVBI_CLV = 2, /* CLV marks, times or CLV pictures, and none of the last */
-    LDVBI_BOTH = 3
+    LDVBI_CAV = 1, /* picture numbers or picture stops, and no code of a CLV disc */
+    LDVBI_CLV = 2, /* CLV marks, times or CLV pictures, and no code of a CAV disc */
+    LDVBI_BOTH = 3 /* codes of both: one of them was misread */
 };
 
 /* The format of a field whose lines 16, 17 and 18 have these words, each 0 where there is none. LDVBI_BAD_WORD. */
