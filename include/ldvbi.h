@@ -64,8 +64,8 @@
  * discs alike are read as LDVBI_NTSC from 11.5 to 17.7 MHz: at 13.5 MHz a PAL disc's lines too, whose half cells of 13
  * or 14 samples are too short for LDVBI_PAL. A word has 48 half cells, 850 samples at 17.7 MHz, and begins about 10.5
  * microseconds after the line does.
- *   1. Take at most 910 samples. Where a line has more (above 14.32 MHz), leave out its first 10 microseconds, and take
- *      910 of the rest.
+ *   1. Take at most 910 samples. Where a line has more (some do above 14.2 MHz), leave out its first 10 microseconds and
+ *      take 910 of the rest.
  *   2. Samples of 8 bits: multiply them by 257, and black and white too.
  *   3. Fill up to 910 samples with black, and read them as LDVBI_NTSC.
  * From 13 to 16 MHz, and at ld-decode's own rates, each change of level may besides come a sample early or late,
