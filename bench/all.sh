@@ -13,7 +13,7 @@ measured() {
 }
 
 measured sh "$here/lines.sh"
-measured sh "$here/feeder.sh"
+measured sh "$here/fields.sh"
 measured sh "$here/library.sh"
 measured python3 "$here/stream.py" "$1"
 awk -f "$here/bounds.awk" "$here/bounds.txt" "$work/said"
