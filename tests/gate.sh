@@ -87,7 +87,6 @@ if [ -n "$proofs" ]; then
     part 'proofs and tests, where they took longer'
 fi
 cmp ldvbi "$work/copy/crates/vbi_cli/out/vbi_cli"
-cmp libldvbi.a "$work/copy/crates/vbi_c/out/libvbi_c.a"
 sh tests/scripts.sh ./ldvbi
 part 'scripts'
 cat "$work/times"
