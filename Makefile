@@ -1,7 +1,8 @@
 # ldvbi: `make` proves and builds the program, `make lib` proves and builds the library for C, libldvbi.a and
 # libldvbi.so, `make test` is the whole gate, `make setup` installs what the gate needs and the machine lacks, and
 # `make bench` measures program and library beside plain readers, for which it needs rustc, a C compiler and python3.
-# The toolchain's command `rt` has to be on the PATH; `make test` needs the tools of tests/tools.sh as well.
+# The toolchain's command `rt` has to be on the PATH; `make test` needs the tools of tests/tools.sh as well. What the
+# toolchain says of a crate goes to crates/NAME/out/make.log.
 #
 # Once the program is built, these need no toolchain: `make install PREFIX=DIR` copies it to DIR/bin, the manual page,
 # completions, schema, contrib's files, the Python module, documents and examples to DIR/share, and the library with its
@@ -23,27 +24,45 @@ LIBRARIES := $(DESTDIR)$(LIBDIR)
 MANUAL := $(ROOT)/share/man/man1/ldvbi.1
 BASH_COMPLETION := $(ROOT)/share/bash-completion/completions/ldvbi
 ZSH_COMPLETION := $(ROOT)/share/zsh/site-functions/_ldvbi
-SHARED := docs/ldvbi.schema.json docs/ldvbi-side.schema.json contrib/ldvbi.jq contrib/plot_line.py
+SHARED := share/schema/ldvbi.schema.json share/schema/ldvbi-side.schema.json contrib/ldvbi.jq contrib/plot_line.py
 DOCUMENTS := $(ROOT)/share/doc/ldvbi
 PYTHON := $(wildcard python/ldvbi_side/*.py)
 SOURCES := $(shell find crates -name out -prune -o \( -name '*.rt' -o -name '*.antt' \) -print)
 LIBRARY_SOURCES := $(filter crates/vbi_words/% crates/vbi_line/% crates/vbi_c/%,$(SOURCES))
 
-# Libraries, lowest first: with one of them missing, `rt run` would first pass over the sources of all
-proved = for crate in $(1); do (cd crates/$$crate && rt lib) || exit 1; done
+# $(call proved,CRATE,COMMAND): proves and builds a crate by a command of the toolchain, and prints a line with the time
+# that this took; or, where it fails, the end of the log
+define proved
+@mkdir -p crates/$(1)/out
+@printf '%s ' $(1); log=crates/$(1)/out/make.log; began=$$(date +%s); \
+if (cd crates/$(1) && $(2)) > $$log 2>&1; then \
+	echo "proved, $$(($$(date +%s) - began)) s"; \
+else \
+	status=$$?; echo failed; tail -n 20 $$log >&2; \
+	echo "make: $(1) failed; $$log has all that the toolchain said" >&2; exit $$status; \
+fi
+endef
 
+# Proofs take all processors, and the program and the library have crates in common.
+.NOTPARALLEL:
+
+# Libraries, lowest first: with one of them missing, `rt run` would first pass over the sources of all
 ldvbi: crates.txt $(SOURCES)
 	@$(MAKE) -s toolchain
-	@$(call proved,vbi_words vbi_line vbi_field vbi_meta)
-	cd crates/vbi_cli && rt run -- --help > /dev/null
+	$(call proved,vbi_words,rt lib)
+	$(call proved,vbi_line,rt lib)
+	$(call proved,vbi_field,rt lib)
+	$(call proved,vbi_meta,rt lib)
+	$(call proved,vbi_cli,rt run -- --help)
 	cp crates/vbi_cli/out/vbi_cli ldvbi
 
 lib: libldvbi.a libldvbi.so
 
 libldvbi.a: crates.txt $(LIBRARY_SOURCES)
 	@$(MAKE) -s toolchain
-	@$(call proved,vbi_words vbi_line)
-	cd crates/vbi_c && rt lib > /dev/null
+	$(call proved,vbi_words,rt lib)
+	$(call proved,vbi_line,rt lib)
+	$(call proved,vbi_c,rt lib)
 	cp crates/vbi_c/out/libvbi_c.a libldvbi.a
 
 # No start files, which have undefined symbols of their own
@@ -63,9 +82,9 @@ setup:
 
 install: ldvbi $(if $(wildcard libldvbi.a),install-lib)
 	install -D -m 755 ldvbi $(ROOT)/bin/ldvbi
-	install -D -m 644 docs/ldvbi.1 $(MANUAL)
-	install -D -m 644 contrib/completions/ldvbi.bash $(BASH_COMPLETION)
-	install -D -m 644 contrib/completions/_ldvbi $(ZSH_COMPLETION)
+	install -D -m 644 share/man/ldvbi.1 $(MANUAL)
+	install -D -m 644 share/completions/ldvbi.bash $(BASH_COMPLETION)
+	install -D -m 644 share/completions/_ldvbi $(ZSH_COMPLETION)
 	install -d $(ROOT)/share/ldvbi
 	install -m 644 $(SHARED) $(ROOT)/share/ldvbi
 	install -d $(ROOT)/share/ldvbi/python/ldvbi_side

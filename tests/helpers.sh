@@ -9,7 +9,11 @@ set -u
 
 LC_ALL=C
 export LC_ALL
+# The folder of the script, that of what the scripts share, and the top of the repository
 here=$(cd "$(dirname "$0")" && pwd)
+tests=$here
+[ -e "$tests/helpers.sh" ] || tests=$(dirname "$here")
+top=$(dirname "$tests")
 program=$(cd "$(dirname "$1")" && pwd)/$(basename "$1")
 script=$(basename "$0" .sh)
 seconds=${RUN_SECONDS:-120}
@@ -25,7 +29,7 @@ cd "$work" || exit 1
 status=none
 
 # The folder of the stored run, its options, and those of each system's usual levels
-stored=$here/../crates/vbi_cli
+stored=$top/crates/vbi_cli
 levels='--system NTSC --black 8224 --white 16448'
 ntsc='--system NTSC --black 16384 --white 51200'
 pal='--system PAL --black 16384 --white 54016'
@@ -116,7 +120,7 @@ judge() {
 # finish: reports how many checks held, and ends; the status is 0 where these are all, and as many as scripts.txt has
 finish() {
     [ ! -e "$work/endless" ] || stop 'a run that takes too long'
-    checks=$(awk -v name="$script" '$1 == name { print $2 }' "$here/scripts.txt")
+    checks=$(awk -v name="$script" '$1 == name { print $2 }' "$tests/scripts.txt")
     checks=$((${checks:-0} - left_out))
     [ "$judged" = "$checks" ] || echo "$script: $judged checks, and scripts.txt has $checks for it" >&2
     if [ "$left_out" = 0 ]; then
@@ -130,7 +134,7 @@ finish() {
 
 # signal SYSTEM FIELDS < DESCRIPTIONS: lines (FIELDS is 0) or fields (1) as text, see signal.awk
 signal() {
-    awk -v discs="$1" -v fields="$2" -f "$here/signal.awk"
+    awk -v discs="$1" -v fields="$2" -f "$tests/signal.awk"
 }
 
 # What makes bytes of that text, low byte first: samples of 16384 and 51200 (NTSC), of 16384 and 54016 (PAL), and of

@@ -2,7 +2,8 @@
 # Runs the scripts of scripts.txt on the built program, as many at a time as there are processors, and then prints what
 # they said, in the order of that table. A script has failed where its status isn't 0, where its last line isn't that as
 # many checks as the table has came out as wanted, or where it took SCRIPT_SECONDS (900 where the environment doesn't
-# say). Nothing is run where the library isn't built, or where the folder has a script that the table doesn't name.
+# say). Nothing is run where the library isn't built, where this folder or one below it has a script that the table
+# doesn't name, or where a script that is to be run isn't there or has the name of another.
 #
 # With --as-built, what needs the library is left out where that isn't built, and so is what the whole gate alone runs.
 # With names, those scripts are run and no others.
@@ -31,6 +32,11 @@ checks_of() {
     awk -v name="$1" '$1 == name { print $2 }' "$here/scripts.txt"
 }
 
+# path_of NAME: the script with this name, from this folder on
+path_of() {
+    (cd "$here" && find . -name "$1.sh")
+}
+
 # is_named FILE: whether the table has it, as a script that is run somewhere or as what isn't run by itself
 is_named() {
     awk -v file="$1" '
@@ -40,11 +46,15 @@ is_named() {
 
 # side_by_side < NAMES: runs these scripts. What NAME says is then in the file NAME.said, its status in NAME.status.
 side_by_side() {
+    while read -r name; do
+        path_of "$name"
+    done > "$work/paths"
     # shellcheck disable=SC2016
     (cd "$work" && xargs -P "$(nproc)" -n 1 sh -c '
+        name=$(basename "$4" .sh)
         status=0
-        timeout -k 30 "$1" sh "$2/$4.sh" "$3" > "$4.said" 2>&1 < /dev/null || status=$?
-        echo $status > "$4.status"' sh "${SCRIPT_SECONDS:-900}" "$here" "$program")
+        timeout -k 30 "$1" sh "$2/$4" "$3" > "$name.said" 2>&1 < /dev/null || status=$?
+        echo $status > "$name.status"' sh "${SCRIPT_SECONDS:-900}" "$here" "$program" < paths)
 }
 
 # is_as_wanted NAME: whether a script ended with status 0, and its last line is that all its checks were as wanted; some
@@ -58,9 +68,11 @@ is_as_wanted() {
 }
 
 [ -x "$program" ] || fault "there is no program $program"
-for path in "$here"/*.sh "$here"/*.py; do
+# Unit tests are found by python_unit.sh, and counted there.
+find "$here" \( -name '*.sh' -o -name '*.py' \) ! -path '*/python/test_*.py' > "$work/found"
+while read -r path; do
     is_named "$(basename "$path")" || fault "scripts.txt doesn't name $(basename "$path")"
-done
+done < "$work/found"
 library=
 [ ! -e "$here/../libldvbi.so.1" ] || library=yes
 case ${1:-} in
@@ -80,6 +92,11 @@ case ${1:-} in
         ;;
 esac
 
+cat "$work/first" "$work/then" > "$work/names"
+while read -r name; do
+    [ "$(path_of "$name" | wc -l)" = 1 ] || fault "no script, or more than one, has the name $name"
+done < "$work/names"
+
 # A script for the whole gate takes all processors itself.
 side_by_side < "$work/first"
 [ ! -s "$work/then" ] || side_by_side < "$work/then"
@@ -90,8 +107,6 @@ while read -r name; do
         echo "scripts: $name failed: status $(cat "$work/$name.status"), of $(checks_of "$name") checks"
         failed="$failed $name"
     }
-done << END_OF_NAMES
-$(cat "$work/first" "$work/then")
-END_OF_NAMES
+done < "$work/names"
 [ -z "$failed" ] || fault "failed:$failed"
-echo "scripts: all $(cat "$work/first" "$work/then" | wc -l) passed"
+echo "scripts: all $(wc -l < "$work/names") passed"

@@ -16,15 +16,15 @@ library|out|"vbiPass"|"vbiPaSS"
 library|include/ldvbi.h|s/LDVBI_HOLD = 4/LDVBI_HOLD = 5/
 library|python/ldvbi_side/library.py|s/is no code word/is not a word/
 python|python/ldvbi_side/analysis.py|s/^def analyse(/def analyze(/
-python|tests/python.sh|s/\$3 == "python"/$1 == "side_schema"/
+python|tests/python/python.sh|s/\$3 == "python"/$1 == "side_schema"/
 python_unit|python/ldvbi_side/missing.py|s/"lost", fields/"last", fields/
 python_unit|tests/python/test_cav.py|s/"after": 39, "before": 42/"after": 38, "before": 42/
 python_side|out|"vbiPass"|"vbiPaSS"
 python_side|hangs
 python_side|python/ldvbi_side/codes.py|s/("lead-in",)/("lead-out",)/
 python_side|python/ldvbi_side/summary.py|s/"missing: "/"mizzing: "/
-side_schema|docs/ldvbi-side.schema.json|s/"damaged", //
-side_schema|docs/ldvbi-side.schema.json|s/"enum": \[1820, 2270\]/"type": "integer"/
+side_schema|share/schema/ldvbi-side.schema.json|s/"damaged", //
+side_schema|share/schema/ldvbi-side.schema.json|s/"enum": \[1820, 2270\]/"type": "integer"/
 side_schema|tests/python/answers.py|/yield "clock"/d
 drawing|out|"blank"|"plank"
 drawing|hangs
@@ -74,12 +74,12 @@ want_of_memory|err|out of memory|out of memori
 want_of_memory|status|1|3
 want_of_memory|hangs
 schema|out|"vbiPass"|"vbiPaSS"
-schema|docs/ldvbi.schema.json|s/hold/held/
-schema|docs/ldvbi.schema.json|s/: 65534/: 65535/
+schema|share/schema/ldvbi.schema.json|s/hold/held/
+schema|share/schema/ldvbi.schema.json|s/: 65534/: 65535/
 manual|out|  draw     Turns|  draw     Terns
-manual|docs/ldvbi.1|s/1000000/1000001/
-manual|contrib/completions/ldvbi.bash|s/extract/extrakt/
-manual|contrib/completions/_ldvbi|s/extract/extrakt/
+manual|share/man/ldvbi.1|s/1000000/1000001/
+manual|share/completions/ldvbi.bash|s/extract/extrakt/
+manual|share/completions/_ldvbi|s/extract/extrakt/
 plots|out|change 170|change 171
 plots|hangs
 plots|contrib/plot_line.py|s/(pass 2)/(pass 3)/
@@ -94,14 +94,14 @@ all 1 passed|lines|nothing
 lines failed: status 1|lines|eats
 all 1 passed|words|eats
 checks, and scripts.txt has|words|eats|||tests/helpers.sh|s/run_with empty "/run_inheriting "/
-lines failed: status 124|lines|nothing|||tests/lines.sh|s/^finish/sleep 100/
+lines failed: status 124|lines|nothing|||tests/program/lines.sh|s/^finish/sleep 100/
 scripts.txt doesn't name lines.sh|lines|nothing|||tests/scripts.txt|s/^\(lines .*\) everywhere/\1 elsewhere/
-lines failed: status 0|lines|nothing|||tests/lines.sh|d
-lines failed: status 0|lines|nothing|||tests/lines.sh|s/^finish/exit/
-lines failed: status 0|lines|nothing|||tests/lines.sh|s/^head -c 1819.*/exit/
-checks, and scripts.txt has|python_unit|nothing|||tests/python_unit.sh|s/test_\*/test_codes*/
-lines failed: status 2|lines|nothing|||tests/lines.sh|s/^finish/fi/
-checks, and scripts.txt has|lines|nothing|||tests/lines.sh|/^judge 'a short line' /d
+lines failed: status 0|lines|nothing|||tests/program/lines.sh|d
+lines failed: status 0|lines|nothing|||tests/program/lines.sh|s/^finish/exit/
+lines failed: status 0|lines|nothing|||tests/program/lines.sh|s/^head -c 1819.*/exit/
+checks, and scripts.txt has|python_unit|nothing|||tests/python/python_unit.sh|s/test_\*/test_codes*/
+lines failed: status 2|lines|nothing|||tests/program/lines.sh|s/^finish/fi/
+checks, and scripts.txt has|lines|nothing|||tests/program/lines.sh|/^judge 'a short line' /d
 lines failed: status 0|lines|status|1|0|tests/helpers.sh|s/^    \[ "$judged $passed" = .*/    :/
 scripts.txt doesn't name lines.sh|lines|nothing|||tests/scripts.txt|/^lines /d
 all 1 passed|lines|err|short line|shirt line|tests/helpers.sh|s/elif "$@"; then/elif "$@" || :; then/
@@ -114,7 +114,7 @@ compiler=${CC:-cc}
 mkdir altered tree
 "$compiler" -std=c99 -O2 -Wall -shared -fPIC -o alter.so "$here/alter.c" -ldl || exit 1
 "$compiler" -std=c99 -O2 -Wall -static -DLAUNCHER -o altered/ldvbi "$here/alter.c" || exit 1
-(cd "$here/.." && tar --exclude=.git --exclude=out --exclude=./dist -cf - .) | tar -xf - -C tree
+(cd "$top" && tar --exclude=.git --exclude=out --exclude=./dist -cf - .) | tar -xf - -C tree
 ALTER_PROGRAM=$program
 ALTER_LIBRARY=$work/alter.so
 export ALTER ALTER_FROM ALTER_TO ALTER_MARK ALTER_PROGRAM ALTER_LIBRARY
@@ -138,17 +138,17 @@ tree_with() {
 
 # alteration TRIAL SCRIPT WHAT FROM TO: whether a script stops at its first failed check, where this is altered
 alteration() {
-    tests=$here
+    folder=$tests
     tried=$program
     why='the first check that failed'
     case $3 in
         out | err | bit | status) program_with "$1" "$3" "$4" "$5" ;;
         hangs) program_with "$1" hangs '' ''; RUN_SECONDS=2; why='a run that takes too long' ;;
-        *) tree_with "$1" "$3" "$4"; tests=$1/tree/tests ;;
+        *) tree_with "$1" "$3" "$4"; folder=$1/tree/tests ;;
     esac
     STOP_AT_FIRST=yes
     export STOP_AT_FIRST RUN_SECONDS
-    timeout -k 30 600 sh "$tests/$2.sh" "$tried" < empty > "$1/said" 2>&1
+    timeout -k 30 600 sh "$folder"/*/"$2.sh" "$tried" < empty > "$1/said" 2>&1
     echo $? > "$1/status"
     [ -e "$1/mark" ] || echo 'nothing was altered' >> "$1/said"
     [ "$(cat "$1/status")" = 1 ] && tail -n 1 "$1/said" | grep -qx "$2: stopped at $why"
@@ -157,14 +157,14 @@ alteration() {
 # frame TRIAL WANTED SCRIPT WHAT FROM TO FILE PROGRAM: whether scripts.sh says what is wanted of this script, where this is
 # altered of the program and of the repository; its status is 0 where it says that all passed
 frame() {
-    tests=$here
+    folder=$tests
     ended_with=1
     [ "$2" != 'all 1 passed' ] || ended_with=0
-    [ -z "$7" ] || { tree_with "$1" "$7" "$8" && tests=$1/tree/tests; } || return
+    [ -z "$7" ] || { tree_with "$1" "$7" "$8" && folder=$1/tree/tests; } || return
     program_with "$1" "$4" "$5" "$6"
     rm -f "$1/mark"
     case $2 in *' 124') SCRIPT_SECONDS=5; export SCRIPT_SECONDS ;; esac
-    sh "$tests/scripts.sh" "$tried" "$3" < empty > "$1/said" 2>&1
+    sh "$folder/scripts.sh" "$tried" "$3" < empty > "$1/said" 2>&1
     echo $? > "$1/status"
     [ "$(cat "$1/status")" = "$ended_with" ] && grep -qF "$2" "$1/said" && { [ "$4" = nothing ] || [ -e "$1/mark" ]; }
 }
@@ -197,7 +197,7 @@ while read -r row; do
     check "$row" [ -e "trial.$number/as_wanted" ]
 done < rows
 
-awk '$3 ~ /^(everywhere|library|python)$/ { print $1 }' "$here/scripts.txt" | sort > listed
+awk '$3 ~ /^(everywhere|library|python)$/ { print $1 }' "$tests/scripts.txt" | sort > listed
 cut -d '|' -f 1 alterations | sort -u > altered_scripts
 status=none
 check 'each script is tried' cmp listed altered_scripts

@@ -1,4 +1,4 @@
-"""What a drawing marks and says, of answers by hand and of sides whose words are known. tests/drawing.sh has the
+"""What a drawing marks and says, of answers by hand and of sides whose words are known. tests/python/drawing.sh has the
 places of what is drawn, by the command."""
 
 import unittest

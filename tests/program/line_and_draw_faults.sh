@@ -1,12 +1,12 @@
 #!/bin/sh
 # Makes reads and writes of `line` and `draw`, and reads of metadata, fail, be interrupted, move few bytes or end, and
 # compares what the built program writes, what it says, its status, and how often it asks its devices.
-# usage: sh tests/line_and_draw_faults.sh PROGRAM
+# usage: sh tests/program/line_and_draw_faults.sh PROGRAM
 # shellcheck disable=SC2086
 
 # shellcheck source=tests/helpers.sh
-. "$(dirname "$0")/helpers.sh"
-# shellcheck source=tests/devices.sh
+. "$(dirname "$0")/../helpers.sh"
+# shellcheck source=tests/program/devices.sh
 . "$here/devices.sh"
 
 # `line` asks for its one line and no more, and for no byte after it

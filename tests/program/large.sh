@@ -2,12 +2,12 @@
 # Runs the built program on an input of more than 4 GiB, by its path and on standard input, and has it draw as much: the
 # numbers of bytes need more than 32 bits. The input has black fields, which take no room on a disk, a drawn one, and a
 # cut one.
-# usage: sh tests/large.sh PROGRAM
+# usage: sh tests/program/large.sh PROGRAM
 # shellcheck disable=SC2086
 
 # shellcheck source=tests/helpers.sh
-. "$(dirname "$0")/helpers.sh"
-# shellcheck source=tests/devices.sh
+. "$(dirname "$0")/../helpers.sh"
+# shellcheck source=tests/program/devices.sh
 . "$here/devices.sh"
 
 # 8,980 fields have 4,298,366,800 bytes; 4 GiB are 4,294,967,296

@@ -1,12 +1,12 @@
 #!/bin/sh
 # Makes reads and writes of `extract` and `show` fail, be interrupted, move few bytes or end, and compares what the
 # built program writes, what it says, its status, and how often it asks its devices.
-# usage: sh tests/device_faults.sh PROGRAM
+# usage: sh tests/program/device_faults.sh PROGRAM
 # shellcheck disable=SC2046,SC2086
 
 # shellcheck source=tests/helpers.sh
-. "$(dirname "$0")/helpers.sh"
-# shellcheck source=tests/devices.sh
+. "$(dirname "$0")/../helpers.sh"
+# shellcheck source=tests/program/devices.sh
 . "$here/devices.sh"
 
 # Three fields; what `extract` and `show` have written of them when so many are whole (begun), and of all (whole)

@@ -1,17 +1,17 @@
 #!/bin/sh
 # Compares what contrib/ldvbi.jq says of words with what the built program's `show` says of them: words at the corners
 # of each pattern, and 20,000 drawn ones. Then its tables, on a document whose words are chosen here.
-# usage: sh tests/jq_module.sh PROGRAM
+# usage: sh tests/program/jq_module.sh PROGRAM
 # shellcheck disable=SC2086
 
 # shellcheck source=tests/helpers.sh
-. "$(dirname "$0")/helpers.sh"
+. "$(dirname "$0")/../helpers.sh"
 
 # The patterns of codes, as the definitions have them: the least and the greatest digit at each place
-grep -o 'IsBetween 0x[0-9A-F]* 0x[0-9A-F]*' "$here/../crates/vbi_words/specs/Codes.antt" | sed 's/0x//g' > patterns
+grep -o 'IsBetween 0x[0-9A-F]* 0x[0-9A-F]*' "$top/crates/vbi_words/specs/Codes.antt" | sed 's/0x//g' > patterns
 check 'there are eleven patterns' [ "$(wc -l < patterns)" = 11 ]
 
-awk -f "$here/code_words.awk" patterns > items
+awk -f "$tests/code_words.awk" patterns > items
 check 'there are 20,000 words and those of the corners' [ "$(wc -l < items)" -gt 20300 ]
 { cat items; echo -; echo -; } | paste -d ' ' - - - | sed -n '/[^ ] [^ ]* [^ ]/p' > words
 
@@ -39,7 +39,7 @@ END
 output_of draw $ntsc words | bounded "$program" extract $ntsc > document.json
 output_of draw $ntsc words | bounded "$program" show $ntsc | sed '1d;$d' > wanted
 status=0
-bounded jq -r -L "$here/../contrib" -f report.jq document.json < empty > out 2> err || status=$?
+bounded jq -r -L "$top/contrib" -f report.jq document.json < empty > out 2> err || status=$?
 check 'each word as show has it' cmp out wanted
 for kind in lead-in lead-out 'picture stop' picture chapter clv time 'clv picture' 'cx on' 'cx off' users other; do
     check "some word is $kind" grep -q "^1[678] [0-9A-F]\{6\} $kind" wanted
@@ -49,7 +49,7 @@ done
 told() {
     echo "$2" > wanted
     status=0
-    bounded jq -c -L "$here/../contrib" "include \"ldvbi\"; $3" document.json < empty > out 2> err || status=$?
+    bounded jq -c -L "$top/contrib" "include \"ldvbi\"; $3" document.json < empty > out 2> err || status=$?
     check "$1" cmp out wanted
 }
 # of_words OPTIONS < WORDS: makes the document of these words

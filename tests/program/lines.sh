@@ -1,10 +1,10 @@
 #!/bin/sh
 # Runs the built program's command `line`: what it says of lines that are made here (by signal.awk), and its faults.
-# usage: sh tests/lines.sh PROGRAM
+# usage: sh tests/program/lines.sh PROGRAM
 # shellcheck disable=SC2086
 
 # shellcheck source=tests/helpers.sh
-. "$(dirname "$0")/helpers.sh"
+. "$(dirname "$0")/../helpers.sh"
 
 # The stored line in each way that it can come, and what can be wrong with it
 echo 82CFFF | signal NTSC 0 | text_samples > line.raw

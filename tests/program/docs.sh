@@ -5,13 +5,12 @@
 # A block marked ```sh or ```bash is run, and has to succeed, each of its commands in turn and each part of a pipe. A
 # block marked ```text that comes next is what it prints, on standard output and standard error. A block with 'Not run by
 # the tests' in the paragraph before it is left out, and one with 'After `make lib`' where the library isn't built.
-# usage: sh tests/docs.sh PROGRAM
+# usage: sh tests/program/docs.sh PROGRAM
 # shellcheck disable=SC2086
 
 # shellcheck source=tests/helpers.sh
-. "$(dirname "$0")/helpers.sh"
+. "$(dirname "$0")/../helpers.sh"
 
-top=$here/..
 mkdir bin
 ln -s "$program" bin/ldvbi
 PATH=$work/bin:$PATH
@@ -84,8 +83,8 @@ prints() {
 # folder NAME: makes a folder in which commands of documents run, with what they name of the repository
 folder() {
     mkdir "$1"
-    for part in contrib docs examples python $library; do
-        ln -s "$(cd "$top" && pwd)/$part" "$1/$part"
+    for part in contrib docs examples python share $library; do
+        ln -s "$top/$part" "$1/$part"
     done
     ln -s "$program" "$1/ldvbi"
 }
@@ -162,7 +161,7 @@ in_folder "$top" python3 tests/definitions.py docs/PROMISES.md
 check 'the definitions of PROMISES.md are those of the source' [ "$status" = 0 ]
 
 # The examples of the manual page, one script; the last line that it prints is of the drawn field
-mandoc -T ascii -O width=200 "$top/docs/ldvbi.1" | sed 's/.'"$(printf '\010')"'//g' |
+mandoc -T ascii -O width=200 "$top/share/man/ldvbi.1" | sed 's/.'"$(printf '\010')"'//g' |
     sed -n '/^EXAMPLES/,/^DIAGNOSTICS/s/^           //p' > page.sh
 check 'the manual page has examples' [ "$(grep -c ldvbi page.sh)" = 6 ]
 folder page

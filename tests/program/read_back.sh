@@ -1,11 +1,11 @@
 #!/bin/sh
 # Reads what the built program writes back with other readers of JSON, Python's `json` and `jq`:
 # they find the words that were drawn. Its own reader takes a document as metadata, and the settings are the document's.
-# usage: sh tests/read_back.sh PROGRAM
+# usage: sh tests/program/read_back.sh PROGRAM
 # shellcheck disable=SC2086
 
 # shellcheck source=tests/helpers.sh
-. "$(dirname "$0")/helpers.sh"
+. "$(dirname "$0")/../helpers.sh"
 
 # What a reader finds in a document: for each field its number, words, causes and passes, and then the cut field. Python
 # refuses a key that comes twice in an object, and bytes that aren't UTF-8.

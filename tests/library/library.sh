@@ -2,13 +2,12 @@
 # Builds and runs what calls the library from C, C++ and Python: tests over its border under the C compiler's
 # sanitizers, the examples on drawn discs, and the document that Python's readings make beside the one of `extract`.
 # Needs libldvbi.a and libldvbi.so.1 at the top of the repository (`make lib`).
-# usage: sh tests/library.sh PROGRAM
+# usage: sh tests/library/library.sh PROGRAM
 # shellcheck disable=SC2016,SC2086,SC2317
 
 # shellcheck source=tests/helpers.sh
-. "$(dirname "$0")/helpers.sh"
+. "$(dirname "$0")/../helpers.sh"
 
-top=$(cd "$here/.." && pwd)
 cc=${CC:-cc}
 cxx=${CXX:-c++}
 strict='-Wall -Wextra -Wpedantic -Werror -O1 -g'
@@ -367,7 +366,7 @@ check 'the line in README with the archive' says_with "$work/unpacked/lib"
 for document in README.md CHANGELOG.md docs/RECIPES.md docs/SPEED.md examples/player.cpp; do
     check "the archive has $document" cmp -s "unpacked/share/doc/ldvbi/$document" "$top/$document"
 done
-check 'the archive has the manual page' cmp -s unpacked/share/man/man1/ldvbi.1 "$top/docs/ldvbi.1"
+check 'the archive has the manual page' cmp -s unpacked/share/man/man1/ldvbi.1 "$top/share/man/ldvbi.1"
 
 # The document of Python's readings: drawn discs, a cut one, and a field with each cause and pass
 { cat cav.tbc; head -c 100000 clv.tbc; } > cut.tbc

@@ -3,7 +3,7 @@
 
 compiler=${CC:-cc}
 command -v "$compiler" > /dev/null || {
-    echo "$script: there is no C compiler $compiler to build tests/devices.c" >&2
+    echo "$script: there is no C compiler $compiler to build tests/program/devices.c" >&2
     exit 1
 }
 "$compiler" -std=c99 -shared -fPIC -O2 -Wall -o devices.so "$here/devices.c" -ldl || exit 1

@@ -3,12 +3,12 @@
 # disc's parts, marks with their fields and reasons, and the curve. It is read as XML. Then README's pictures, made
 # again.
 # Needs libldvbi.so.1 at the top of the repository (`make lib`).
-# usage: sh tests/drawing.sh PROGRAM
+# usage: sh tests/python/drawing.sh PROGRAM
 # shellcheck disable=SC2086
 
 # shellcheck source=tests/helpers.sh
-. "$(dirname "$0")/helpers.sh"
-# shellcheck source=tests/python_helpers.sh
+. "$(dirname "$0")/../helpers.sh"
+# shellcheck source=tests/python/python_helpers.sh
 . "$here/python_helpers.sh"
 
 cat > found.py << 'END'

@@ -1,14 +1,14 @@
 #!/bin/sh
 # Refuses each allocation of the built program in turn. Each answer has to be the whole one, or `ldvbi: out of memory`
 # with status 1, nothing written, and nothing read from the input.
-# usage: sh tests/want_of_memory.sh PROGRAM
+# usage: sh tests/program/want_of_memory.sh PROGRAM
 
 # shellcheck source=tests/helpers.sh
-. "$(dirname "$0")/helpers.sh"
+. "$(dirname "$0")/../helpers.sh"
 
 compiler=${CC:-cc}
 command -v "$compiler" > /dev/null || {
-    echo "$script: there is no C compiler $compiler to build tests/refuse.c" >&2
+    echo "$script: there is no C compiler $compiler to build tests/program/refuse.c" >&2
     exit 1
 }
 "$compiler" -shared -fPIC -O2 -Wall -o refuse.so "$here/refuse.c" -ldl || exit 1

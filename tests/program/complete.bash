@@ -1,7 +1,7 @@
 # What bash offers behind each command line of standard input, by a file of completions: `files` where it is file names.
-# usage: bash tests/complete.bash FILE
+# usage: bash tests/program/complete.bash FILE
 compopt() { printf 'files\n'; }
-# shellcheck source=contrib/completions/ldvbi.bash
+# shellcheck source=share/completions/ldvbi.bash
 . "$1"
 while IFS= read -r words; do
     # the words as bash cuts them, with = a word of its own, and an empty one behind a space or =

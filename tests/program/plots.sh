@@ -1,19 +1,19 @@
 #!/bin/sh
 # Makes the pictures of docs/SIGNAL.md again and compares them with those that stand there; and has contrib/plot_line.py
 # draw lines of each kind, and compares what it marks with what the lines are made of.
-# usage: sh tests/plots.sh PROGRAM
+# usage: sh tests/program/plots.sh PROGRAM
 # shellcheck disable=SC2086
 
 # shellcheck source=tests/helpers.sh
-. "$(dirname "$0")/helpers.sh"
+. "$(dirname "$0")/../helpers.sh"
 
-pictures=$here/../docs/pictures
+pictures=$top/docs/pictures
 status=0
 mkdir made
 bounded sh "$pictures/make.sh" "$program" made < empty > out 2> err || status=$?
 for name in word second-reading change-170; do
     check "the picture $name" cmp "made/$name.svg" "$pictures/$name.svg"
-    check "SIGNAL.md shows $name" grep -q "(pictures/$name.svg)" "$here/../docs/SIGNAL.md"
+    check "SIGNAL.md shows $name" grep -q "(pictures/$name.svg)" "$top/docs/SIGNAL.md"
 done
 
 # What a picture of a whole line has: its title, digits and bits, the columns at which cells begin and end, and the
@@ -45,7 +45,7 @@ plotted() {
     shift
     status=0
     {
-        bounded python3 "$here/../contrib/plot_line.py" --program "$program" "$@" line.raw > out &&
+        bounded python3 "$top/contrib/plot_line.py" --program "$program" "$@" line.raw > out &&
             python3 found.py out "$columns" > found
     } < empty 2> err || status=$?
 }
@@ -54,7 +54,7 @@ plotted() {
 # meet
 echo 82CFFF | signal NTSC 0 | ntsc_samples > line.raw
 plotted 910 $ntsc
-sed -n 's/^| [0-9]* | [01] | [a-z]* \([0-9]*\) to .* to \([0-9]*\) (.*/\1 \2/p' "$here/../docs/SIGNAL.md" |
+sed -n 's/^| [0-9]* | [01] | [a-z]* \([0-9]*\) to .* to \([0-9]*\) (.*/\1 \2/p' "$top/docs/SIGNAL.md" |
     awk '{ print $1; last = $2 } END { print last + 1 }' > starts
 check 'the table has 24 cells and an end' [ "$(wc -l < starts)" = 25 ]
 sed -n 's/^cells //p' found | tr ' ' '\n' > cells

@@ -1,10 +1,10 @@
 #!/bin/sh
 # Runs the built program on words that it refuses, on each kind of path, and on words that ask for help.
-# usage: sh tests/words.sh PROGRAM
+# usage: sh tests/program/words.sh PROGRAM
 # shellcheck disable=SC2086
 
 # shellcheck source=tests/helpers.sh
-. "$(dirname "$0")/helpers.sh"
+. "$(dirname "$0")/../helpers.sh"
 
 cp "$stored/stdin" line.raw
 more="For more information, try '--help'."

@@ -1,11 +1,11 @@
 #!/bin/sh
-# Validates documents of every kind that the built program writes by docs/ldvbi.schema.json, and broken ones, which have
-# to be refused.
-# usage: sh tests/schema.sh PROGRAM
+# Validates documents of every kind that the built program writes by share/schema/ldvbi.schema.json, and broken ones,
+# which have to be refused.
+# usage: sh tests/program/schema.sh PROGRAM
 # shellcheck disable=SC2086
 
 # shellcheck source=tests/helpers.sh
-. "$(dirname "$0")/helpers.sh"
+. "$(dirname "$0")/../helpers.sh"
 
 for python in python3 /usr/bin/python3; do
     "$python" -c 'import jsonschema' 2> /dev/null && break
@@ -32,7 +32,7 @@ END
 validated() {
     echo "$2" > answer
     status=0
-    bounded "$python" validate.py "$here/../docs/ldvbi.schema.json" out < empty > said 2> err || status=$?
+    bounded "$python" validate.py "$top/share/schema/ldvbi.schema.json" out < empty > said 2> err || status=$?
     check "$1" cmp said answer
 }
 

@@ -1,13 +1,13 @@
 #!/bin/sh
 # Compares the manual page and the completions with the built program's --help: commands, options, numbers, statuses.
-# usage: sh tests/manual.sh PROGRAM
+# usage: sh tests/program/manual.sh PROGRAM
 # shellcheck disable=SC2086
 
 # shellcheck source=tests/helpers.sh
-. "$(dirname "$0")/helpers.sh"
+. "$(dirname "$0")/../helpers.sh"
 
-page=$here/../docs/ldvbi.1
-completions=$here/../contrib/completions
+page=$top/share/man/ldvbi.1
+completions=$top/share/completions
 status=0
 mandoc -T lint -W warning "$page" > out 2>&1 || status=$?
 cp out err

@@ -1,11 +1,11 @@
 #!/bin/sh
 # Runs the built program's commands `extract`, `show` and `draw` as a user does, and `line` on a drawn field. The
 # fields and texts that are expected are made here (by signal.awk and helpers.sh), not by the program.
-# usage: sh tests/program.sh PROGRAM
+# usage: sh tests/program/program.sh PROGRAM
 # shellcheck disable=SC2086
 
 # shellcheck source=tests/helpers.sh
-. "$(dirname "$0")/helpers.sh"
+. "$(dirname "$0")/../helpers.sh"
 
 # `extract`: no field, a black field in each way that it can come, cut ones, and the limit of fields
 echo '-|-|-' | signal NTSC 1 | ntsc_samples > black.tbc

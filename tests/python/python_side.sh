@@ -2,12 +2,12 @@
 # Compares what the Python module says of words with what `show` says, from TBC files and documents alike, and runs its
 # command on drawn discs: what each option prints, its status, and what is refused.
 # Needs libldvbi.so.1 at the top of the repository (`make lib`).
-# usage: sh tests/python_side.sh PROGRAM
+# usage: sh tests/python/python_side.sh PROGRAM
 # shellcheck disable=SC2086
 
 # shellcheck source=tests/helpers.sh
-. "$(dirname "$0")/helpers.sh"
-# shellcheck source=tests/python_helpers.sh
+. "$(dirname "$0")/../helpers.sh"
+# shellcheck source=tests/python/python_helpers.sh
 . "$here/python_helpers.sh"
 
 # tells NAME STATUS WANTED OPTION..: checks what the command prints, and its status
@@ -19,7 +19,7 @@ tells() {
     told "$@"
     judge "$name" "$wanted_status" wanted_text ''
 }
-# options_of OPTIONS: those of a TBC file that has these levels, as tests/python_side.py takes them
+# options_of OPTIONS: those of a TBC file that has these levels, as tests/python/python_side.py takes them
 options_of() {
     echo "$1" | sed 's/--[a-z]* //g'
 }
@@ -37,7 +37,7 @@ alike() {
 # Every word's meaning: words at the corners of the patterns and 20,000 drawn ones, as the report of `show` has them
 grep -o 'IsBetween 0x[0-9A-F]* 0x[0-9A-F]*' "$top/crates/vbi_words/specs/Codes.antt" | sed 's/0x//g' > patterns
 check 'there are eleven patterns' [ "$(wc -l < patterns)" = 11 ]
-awk -f "$here/code_words.awk" patterns > items
+awk -f "$tests/code_words.awk" patterns > items
 check 'there are 20,000 words and those of the corners' [ "$(wc -l < items)" -gt 20300 ]
 { cat items; echo -; echo -; } | paste -d ' ' - - - | sed -n '/[^ ] [^ ]* [^ ]/p' > all_words
 split -l 1000 all_words part.

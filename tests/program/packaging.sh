@@ -1,14 +1,15 @@
 #!/bin/sh
-# Installs the built program from a copy of the source without the toolchain, takes it away again, and packs both.
-# usage: sh tests/packaging.sh PROGRAM
+# Installs the built program from a copy of the source without the toolchain, takes it away again, and packs both. Then
+# what `make` prints of the toolchain's work.
+# usage: sh tests/program/packaging.sh PROGRAM
 
 # shellcheck source=tests/helpers.sh
-. "$(dirname "$0")/helpers.sh"
+. "$(dirname "$0")/../helpers.sh"
 
 # A copy of the source in a repository of its own, with the program behind it; and a PATH without `rt`
 mkdir tree tools
 (
-    cd "$here/.." &&
+    cd "$top" &&
         tar --exclude=.git --exclude=out --exclude=./ldvbi --exclude='./libldvbi.*' --exclude=./dist -cf - .
 ) | tar -xf - -C tree
 for tool in sh make install rm mkdir find cp touch git tar gzip sha256sum; do
@@ -97,4 +98,43 @@ output_of --version | sed 's/^ldvbi //' > told_version
 check 'the version of the program and of make' cmp made_version told_version
 sed -n 's/^## \([0-9.]*\).*/\1/p' tree/CHANGELOG.md | head -n 1 > changed_version
 check 'the version of the change log' cmp changed_version told_version
+
+# What `make` prints: a line for each crate, and none of the toolchain's. This one says a hundred lines of a crate.
+mkdir toolchain
+cat > toolchain/rt << 'END'
+#!/bin/sh
+crate=$(basename "$PWD")
+echo "rt $*"
+seq 99 >&2
+[ "$crate" != "$FAILS" ] || exit 7
+touch "out/$crate" "out/lib$crate.a"
+END
+chmod +x toolchain/rt
+# proves CRATE TARGET: `make` of this target by that toolchain, which fails in this crate; its times are N
+proves() {
+    status=0
+    (cd tree && bounded env FAILS="$1" PATH="$work/toolchain:$PATH" make -s "$2") < empty > said 2> err || status=$?
+    sed 's/, [0-9][0-9]* s$/, N s/' said > out
+}
+# proved NAME..: a line for each crate
+proved() {
+    printf '%s proved, N s\n' "$@"
+}
+proves none ldvbi
+proved vbi_words vbi_line vbi_field vbi_meta vbi_cli > wanted_text
+judge 'make says one line of a crate' 0 wanted_text ''
+{ echo 'rt run -- --help'; seq 99; } > wanted
+check 'the log has what the toolchain said' cmp tree/crates/vbi_cli/out/make.log wanted
+check 'the program is copied from where it is built' cmp tree/ldvbi tree/crates/vbi_cli/out/vbi_cli
+proves none libldvbi.a
+proved vbi_words vbi_line vbi_c > wanted_text
+judge 'make lib says one line of a crate' 0 wanted_text ''
+touch tree/crates.txt
+proves vbi_line ldvbi
+{ proved vbi_words; echo 'vbi_line failed'; } > wanted_text
+check 'make stops at a crate that fails' ended 2 wanted_text err
+{ seq 80 99; echo 'make: vbi_line failed; crates/vbi_line/out/make.log has all that the toolchain said'; } > wanted
+head -n 21 err > found
+check 'the end of the log stands above its name' cmp found wanted
+check 'the status is that of the toolchain' [ "$(sed -n '22s/.*\(Error [0-9]*\)$/\1/p' err)" = 'Error 7' ]
 finish

@@ -1,11 +1,11 @@
 #!/bin/sh
-# Validates the answers of the command's --json for sides of every kind by docs/ldvbi-side.schema.json, and broken ones,
-# which have to be refused.
-# usage: sh tests/side_schema.sh PROGRAM
+# Validates the answers of the command's --json for sides of every kind by share/schema/ldvbi-side.schema.json, and
+# broken ones, which have to be refused.
+# usage: sh tests/python/side_schema.sh PROGRAM
 
 # shellcheck source=tests/helpers.sh
-. "$(dirname "$0")/helpers.sh"
-# shellcheck source=tests/python_helpers.sh
+. "$(dirname "$0")/../helpers.sh"
+# shellcheck source=tests/python/python_helpers.sh
 . "$here/python_helpers.sh"
 
 for python in python3 /usr/bin/python3; do
@@ -28,11 +28,11 @@ for path in sys.argv[2:]:
         answer = json.load(file)
     print(path, "valid" if validator.is_valid(answer) else "refused")
 PYTHON
-schema=$top/docs/ldvbi-side.schema.json
+schema=$top/share/schema/ldvbi-side.schema.json
 
 mkdir answers broken
 status=0
-bounded python3 "$here/python/answers.py" answers < empty 2> err || status=$?
+bounded python3 "$here/answers.py" answers < empty 2> err || status=$?
 check 'there are 21 answers' [ "$status $(find answers -name '*.json' | wc -l)" = '0 21' ]
 bounded "$python" validate.py "$schema" answers/*.json < empty > said 2> err || status=$?
 check 'all of them are valid' [ "$status $(grep -c ' valid$' said)" = '0 21' ]

@@ -2,12 +2,12 @@
 # Compares contrib/ldvbi.jq with the Python package: which codes of a field count, on words of every pattern; and the
 # tables of both, on sound sides by the standards' lines, where the package has nothing to judge.
 # Needs libldvbi.so.1 at the top of the repository (`make lib`).
-# usage: sh tests/jq_and_python.sh PROGRAM
+# usage: sh tests/python/jq_and_python.sh PROGRAM
 # shellcheck disable=SC2016,SC2086
 
 # shellcheck source=tests/helpers.sh
-. "$(dirname "$0")/helpers.sh"
-# shellcheck source=tests/python_helpers.sh
+. "$(dirname "$0")/../helpers.sh"
+# shellcheck source=tests/python/python_helpers.sh
 . "$here/python_helpers.sh"
 
 # alike NAME WHAT PROGRAM: checks that jq prints of side.vbi.json by this program what Python prints of it
@@ -29,7 +29,7 @@ lines_of_kinds='codes.byKind | map(. as $code | .lines[] | [., $code.kind,
     else null end]) | sort_by(.[0])'
 grep -o 'IsBetween 0x[0-9A-F]* 0x[0-9A-F]*' "$top/crates/vbi_words/specs/Codes.antt" | sed 's/0x//g' > patterns
 check 'there are eleven patterns' [ "$(wc -l < patterns)" = 11 ]
-awk -f "$here/code_words.awk" patterns |
+awk -f "$tests/code_words.awk" patterns |
     awk 'NR % 4 == 0 { print (NR % 28 == 0 ? "-" : $0); if (NR % 20 == 0) print }' > items
 { cat items; echo -; echo -; } | paste -d ' ' - - - | sed -n '/[^ ] [^ ]* [^ ]/p' > all_words
 check 'there are 2,000 fields of them' [ "$(wc -l < all_words)" -gt 2000 ]

@@ -1,11 +1,10 @@
 # shellcheck shell=sh disable=SC2034,SC2086,SC2154
 # What the tests of the Python package share. They read this in after tests/helpers.sh. The package is found by
 # PYTHONPATH, the library at the top of the repository, where `make lib` puts it. Where LDVBI_LINES names a folder, the
-# lines of the package that run are written to it (tests/python.sh).
+# lines of the package that run are written to it (tests/python/python.sh).
 
-top=$(cd "$here/.." && pwd)
 LDVBI_LIBRARY=$top/libldvbi.so.1
-PYTHONPATH=$top/python${LDVBI_LINES:+:$here/python/site}
+PYTHONPATH=$top/python${LDVBI_LINES:+:$here/site}
 PYTHONDONTWRITEBYTECODE=1
 export LDVBI_LIBRARY PYTHONPATH PYTHONDONTWRITEBYTECODE
 

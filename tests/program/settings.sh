@@ -1,10 +1,10 @@
 #!/bin/sh
 # Runs the built program on what is wrong before a run begins, where several things are, and on metadata.
-# usage: sh tests/settings.sh PROGRAM
+# usage: sh tests/program/settings.sh PROGRAM
 # shellcheck disable=SC2086
 
 # shellcheck source=tests/helpers.sh
-. "$(dirname "$0")/helpers.sh"
+. "$(dirname "$0")/../helpers.sh"
 
 commands='line extract show draw'
 cp "$stored/stdin" line.raw

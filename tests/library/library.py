@@ -58,7 +58,7 @@ def test_document(system, black, white, path):
 
 def test_refusals():
     """The rows of tests/python/test_refusals.py."""
-    sys.path.insert(0, os.path.join(os.path.dirname(os.path.abspath(__file__)), "python"))
+    sys.path.insert(0, os.path.join(os.path.dirname(os.path.abspath(__file__)), os.pardir, "python"))
     unittest.main("test_refusals", argv=sys.argv[:1])
 
 

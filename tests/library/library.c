@@ -239,7 +239,7 @@ static void test_formats(void)
     }
 }
 
-/* ---- Texts; that those of causes, kinds and formats are the program's is shown by tests/library_texts.c */
+/* ---- Texts; that those of causes, kinds and formats are the program's is shown by tests/library/library_texts.c */
 
 static void test_texts(void)
 {

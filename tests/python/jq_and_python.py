@@ -1,5 +1,5 @@
 #!/usr/bin/env python3
-"""Prints of a document what the Python package says of it, in the form in which tests/jq_and_python.sh has
+"""Prints of a document what the Python package says of it, in the form in which tests/python/jq_and_python.sh has
 contrib/ldvbi.jq say it.
 
 usage: jq_and_python.py lines|tables|conflicts DOCUMENT
