@@ -34,7 +34,7 @@ checks_of() {
 
 # path_of NAME: the script with this name, from this folder on
 path_of() {
-    (cd "$here" && find . -name "$1.sh")
+    (cd "$here" && find . -name "$1.sh" | sed 's/^..//')
 }
 
 # is_named FILE: whether the table has it, as a script that is run somewhere or as what isn't run by itself
