@@ -36,6 +36,7 @@ jq_and_python|contrib/ldvbi.jq|s/lines: \[16, /lines: [15, /
 jq_and_python|python/ldvbi_side/codes.py|s/Kind.chapter: (17, 18)/Kind.chapter: (18,)/
 packaging|out|0.1.0|0.1.1
 packaging|Makefile|/install.*MANUAL/d
+packaging|Makefile|s/exit \$\$status/exit 1/
 packaging|CHANGELOG.md|s/^## 0/## 1/
 jq_module|out|chapter 0|chapter 1
 jq_module|hangs
@@ -104,6 +105,8 @@ lines failed: status 2|lines|nothing|||tests/program/lines.sh|s/^finish/fi/
 checks, and scripts.txt has|lines|nothing|||tests/program/lines.sh|/^judge 'a short line' /d
 lines failed: status 0|lines|status|1|0|tests/helpers.sh|s/^    \[ "$judged $passed" = .*/    :/
 scripts.txt doesn't name lines.sh|lines|nothing|||tests/scripts.txt|/^lines /d
+scripts.txt doesn't name streams.py|lines|nothing|||tests/scripts.txt|/^streams/d
+no script, or more than one, has the name absent|absent|nothing
 all 1 passed|lines|err|short line|shirt line|tests/helpers.sh|s/elif "$@"; then/elif "$@" || :; then/
 all 1 passed|lines|err|short line|shirt line|tests/helpers.sh|s/ && cmp -s err "$3"//
 all 1 passed|lines|out|82CFFF|82CFFE|tests/helpers.sh|s/ && cmp -s out "$2"//
