@@ -1,11 +1,11 @@
-//! The input of the program.
+//! The input of the program, whichever it is.
 
 use std::io;
 use std::io::Read;
 
 /// A file, or standard input. Reads aren't buffered: each asks the system once.
 #[derive(Drop)]
-pub(crate) enum Input<F, S> {
+pub enum Input<F, S> {
     /// The file that the command line names.
     File(F),
     /// Standard input.

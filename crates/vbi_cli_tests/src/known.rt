@@ -1,111 +1,7 @@
-//! Jobs between the devices of tests, what they do, and the lines, fields and texts that are known.
+//! The lines, fields and texts that are known.
 
-use crate::command_line::{Job, Verb};
-use crate::fault::AppFault;
-use crate::job::{Ended, run_job};
-use crate::tests_devices::{Feed, Sink, feed_of, torn, wide_sink};
 use std::alloc::{AllocError, Global};
-use vbi_meta::Overrides;
 use vbi_words::System;
-
-pub(crate) const NONE: Overrides = Overrides {
-    system: None,
-    black: None,
-    white: None,
-    max_fields: None,
-};
-
-/// The levels of the stored run, whose samples are two spaces or two `@`.
-pub(crate) const STORED: Overrides = Overrides {
-    system: Some(System::Ntsc),
-    black: Some(8224),
-    white: Some(16448),
-    max_fields: None,
-};
-
-pub(crate) const NTSC: Overrides = Overrides {
-    system: Some(System::Ntsc),
-    black: Some(16384),
-    white: Some(51200),
-    max_fields: None,
-};
-
-pub(crate) const PAL: Overrides = Overrides {
-    system: Some(System::Pal),
-    black: Some(16384),
-    white: Some(54016),
-    max_fields: None,
-};
-
-/// A job with no paths.
-pub(crate) fn job(verb: Verb, overrides: Overrides) -> Job {
-    Job {
-        verb,
-        overrides,
-        meta: None,
-        input: None,
-    }
-}
-
-/// How often the devices of a job were asked, and how often its writer was flushed.
-#[derive(Clone, Copy, Debug, PartialEq, Eq)]
-pub(crate) struct Asked {
-    pub(crate) reads: u32,
-    pub(crate) writes: u32,
-    pub(crate) flushes: u32,
-}
-
-/// What a job did.
-#[derive(Drop)]
-pub(crate) struct Ran {
-    pub(crate) ended: Result<Ended, AppFault>,
-    /// How many bytes of the input weren't read.
-    pub(crate) left: usize,
-    pub(crate) written: Vec<u8>,
-    pub(crate) asked: Asked,
-}
-
-/// Does a job between two devices.
-pub(crate) fn run_between(
-    alloc: Global,
-    job: &Job,
-    meta: Option<&[u8]>,
-    mut feed: Feed,
-    mut sink: Sink,
-) -> Ran {
-    let ended = run_job(alloc, job, meta, &mut feed, &mut sink);
-    let asked = Asked {
-        reads: feed.asks,
-        writes: sink.asks,
-        flushes: sink.flushes,
-    };
-    Ran {
-        ended,
-        left: feed.bytes.len(),
-        written: sink.taken,
-        asked,
-    }
-}
-
-/// Does a job over memory.
-pub(crate) fn run_over(alloc: Global, job: &Job, meta: Option<&[u8]>, input: &[u8]) -> Ran {
-    run_between(alloc, job, meta, feed_of(input), wide_sink(alloc))
-}
-
-/// Does a job over a reader that fails after these bytes.
-pub(crate) fn run_broken(alloc: Global, job: &Job, input: &[u8]) -> Ran {
-    let feed = torn(input, input.len());
-    run_between(alloc, job, None, feed, wide_sink(alloc))
-}
-
-/// Does a job over a writer that takes so many bytes and then fails.
-pub(crate) fn run_full(alloc: Global, job: &Job, input: &[u8], room: usize) -> Ran {
-    let sink = Sink {
-        room,
-        ..wide_sink(alloc)
-    };
-    run_between(alloc, job, None, feed_of(input), sink)
-}
 
 /// So many bytes of some, or all of fewer.
 pub(crate) fn front(bytes: &[u8], count: usize) -> &[u8] {
@@ -120,11 +16,6 @@ pub(crate) fn joined(alloc: Global, texts: &[&str]) -> Result<Vec<u8>, AllocErro
         bytes.extend_from_slice(text.as_bytes())?;
     }
     Ok(bytes)
-}
-
-/// So many bytes, all alike.
-pub(crate) fn alike(alloc: Global, byte: u8, count: usize) -> Result<Vec<u8>, AllocError> {
-    vec![in alloc; byte; count]
 }
 
 /// Appends this sample at each column from one up to another.
@@ -148,7 +39,7 @@ fn black_line(alloc: Global) -> Result<Vec<u8>, AllocError> {
 }
 
 /// Some bytes, so often.
-pub(crate) fn repeated(alloc: Global, part: &[u8], times: usize) -> Result<Vec<u8>, AllocError> {
+fn repeated(alloc: Global, part: &[u8], times: usize) -> Result<Vec<u8>, AllocError> {
     let mut bytes = Vec::new(alloc);
     for _ in 0..times {
         bytes.extend_from_slice(part)?;
@@ -288,27 +179,3 @@ pub(crate) const SECOND_REPORT_BLACK: &str =
 
 /// The last line after one field: 18 bytes.
 pub(crate) const REPORT_TAIL: &str = "fields 1 cut none\n";
-
-pub(crate) const VERBS: [Verb; 4] = [Verb::Line, Verb::Extract, Verb::Show, Verb::Draw];
-
-/// An input of each command with the NTSC levels 16384 and 51200, and what is to be written of it.
-pub(crate) fn known_run(alloc: Global, verb: Verb) -> Result<(Vec<u8>, Vec<u8>), AllocError> {
-    match verb {
-        Verb::Line => Ok((
-            drawn_line(alloc, System::Ntsc, 16384, 51200, 0x82_CFFF)?,
-            joined(alloc, &["82CFFF\n"])?,
-        )),
-        Verb::Extract => Ok((
-            black_stream(alloc, 478_660)?,
-            joined(alloc, &[HEAD, BLACK, TAIL])?,
-        )),
-        Verb::Show => Ok((
-            black_stream(alloc, 478_660)?,
-            joined(alloc, &[REPORT_HEAD, REPORT_BLACK, REPORT_TAIL])?,
-        )),
-        Verb::Draw => Ok((
-            joined(alloc, &["82CFFF F12345 F12345\n"])?,
-            drawn_fields(alloc, &[[0x82_CFFF, 0xF1_2345, 0xF1_2345]])?,
-        )),
-    }
-}

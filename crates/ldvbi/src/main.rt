@@ -1,60 +1,18 @@
-//! The program `ldvbi`: its words, its files and its statuses.
-//!
-//! `command_line` reads the command line into a job, `job` does it over a reader and a writer, and this file opens what
-//! the job names and prints what went wrong. Only the words and the metadata file take memory.
+//! The program `ldvbi`: it opens what the command line names, has the job done over that, and prints what went wrong.
+//! The crate `vbi_cli` reads the words and does the job.
 #![tactic(auto)]
 
-mod command_line;
-mod commands;
 mod fault;
-mod input;
-mod job;
-mod one_line;
-mod source;
 
-use command_line::{Job, WordsFault, read_words};
-use fault::AppFault;
-use input::Input;
-use job::{do_command, settle, status};
-use source::Source;
+use fault::MainFault;
 use std::fs::File;
 use std::io::{Read, Write};
 use std::process::ExitCode;
 use std::rt::{Env, Files};
 use std::{env, io};
-use thiserror::Error;
+use vbi_cli::{AppFault, Input, Job, Source, WordsFault, do_command, read_words, settle, status};
 use vbi_field::Outlet;
 use vbi_meta::META_LIMIT;
-
-/// What fails in the program itself, outside a job.
-#[derive(Clone, Copy, Debug, PartialEq, Eq, Error)]
-enum MainFault {
-    /// A word of the command line isn't text.
-    #[error("arguments are not UTF-8")]
-    NotUtf8,
-    /// Memory for the words or the metadata file was refused.
-    #[error("out of memory")]
-    OutOfMemory,
-    /// The metadata file can't be opened or read.
-    #[error("cannot read metadata")]
-    CannotReadMetadata,
-    /// The input can't be opened.
-    #[error("cannot open input")]
-    CannotOpenInput,
-    /// What was written couldn't be flushed.
-    #[error("flush failed")]
-    FlushFailed,
-}
-
-impl MainFault {
-    /// The status that the program ends with: words that aren't text count as refused.
-    fn status(self) -> u8 {
-        match self {
-            MainFault::NotUtf8 => 2,
-            _ => 1,
-        }
-    }
-}
 
 fn main(rt: HostRuntime) -> ExitCode {
     ExitCode::from(run(&rt))
@@ -152,36 +110,3 @@ fn metadata(rt: &(impl Files + AllocGlobal), path: &str) -> Result<Vec<u8>, Main
         Err(_) => Err(MainFault::CannotReadMetadata),
     }
 }
-
-#[cfg(test)]
-mod command_line_tests;
-#[cfg(test)]
-mod job_tests;
-#[cfg(test)]
-mod tests_asserts;
-#[cfg(test)]
-mod tests_devices;
-#[cfg(test)]
-mod tests_drawing;
-#[cfg(test)]
-mod tests_help;
-#[cfg(test)]
-mod tests_input;
-#[cfg(test)]
-mod tests_interruptions;
-#[cfg(test)]
-mod tests_line;
-#[cfg(test)]
-mod tests_memory;
-#[cfg(test)]
-mod tests_metadata;
-#[cfg(test)]
-mod tests_refusals;
-#[cfg(test)]
-mod tests_run_line;
-#[cfg(test)]
-mod tests_runs;
-#[cfg(test)]
-mod tests_streams;
-#[cfg(test)]
-mod tests_words;

@@ -1,11 +1,9 @@
 //! Asserts that are calls: what the macros write is proved once, here, and not at each assertion.
 
-use crate::fault::AppFault;
-use crate::job::{Ended, status};
-use crate::tests_runs::Ran;
-use std::alloc::AllocError;
+use crate::runs::Ran;
 use std::fmt::Debug;
 use std::process::Abort;
+use vbi_cli::{AppFault, Ended, status};
 
 /// Asserts that what was found is what is expected; `row` names the case where it isn't.
 pub(crate) fn same<T: PartialEq + Debug + Drop>(
@@ -47,15 +45,4 @@ pub(crate) fn writes(
         (ended, written),
         row,
     );
-}
-
-/// Asserts that this is what the program says of a fault.
-pub(crate) fn says(
-    rt: &(impl Abort + AllocGlobal),
-    fault: AppFault,
-    text: &str,
-) -> Result<(), AllocError> {
-    let said = fault.to_string(rt.alloc())?;
-    same(rt, said.as_str(), text, fault);
-    Ok(())
 }

@@ -1,11 +1,11 @@
 //! What the words of the command line put into a job.
 
-use crate::command_line::{Job, Verb, WordsFault, read_words};
-use crate::tests_asserts::same;
-use crate::tests_runs::NONE;
+use crate::asserts::{holds, same};
+use crate::runs::NONE;
 use std::alloc::{AllocError, Global};
 use std::process::Abort;
 use std::test::Fail;
+use vbi_cli::{Job, Verb, WordsFault, read_words};
 use vbi_meta::Overrides;
 use vbi_words::System;
 
@@ -232,4 +232,22 @@ fn the_program_may_be_called_by_any_name(rt: HostRuntime) -> Result<(), Fail> {
         same(&rt, job.verb, Verb::Line, name);
     }
     Ok(())
+}
+
+#[test]
+fn want_of_memory_has_its_text_and_status(rt: HostRuntime) -> Result<(), Fail> {
+    let fault = WordsFault::OutOfMemory;
+    let text = fault.to_string(rt.alloc())?;
+    let found = (text.as_str(), fault.status());
+    same(&rt, found, ("out of memory", 1), "want of memory");
+    Ok(())
+}
+
+/// To be run with each allocation failing in turn: the answer is that of ample memory, or want of memory.
+#[test]
+fn answers_want_of_memory_as_such(rt: HostRuntime) {
+    match read(rt.alloc(), &["ldvbi", "line", "--black", "8224"]) {
+        Ok(job) => same(&rt, job.verb, Verb::Line, "the job"),
+        Err(fault) => holds(&rt, matches!(fault, WordsFault::OutOfMemory), fault),
+    }
 }

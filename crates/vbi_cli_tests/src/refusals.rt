@@ -1,0 +1,320 @@
+//! Words of the command line that are refused, and the texts that say why.
+
+use crate::asserts::{holds, same};
+use crate::known::joined;
+use crate::words::{COMMANDS, read, read_behind};
+use std::alloc::{AllocError, Global};
+use std::process::Abort;
+use std::test::Fail;
+use vbi_cli::{Job, WordsFault};
+
+/// Asserts that words are refused, and returns the text that says why, which is empty where they aren't.
+fn refused(
+    rt: &(impl Abort + AllocGlobal),
+    outcome: Result<Job, WordsFault>,
+    words: &[&str],
+) -> Result<String, AllocError> {
+    match outcome {
+        Err(fault) => {
+            same(rt, fault.status(), 2, words);
+            fault.to_string(rt.alloc())
+        }
+        Ok(job) => {
+            holds(rt, false, (words, job));
+            Ok(String::new(rt.alloc()))
+        }
+    }
+}
+
+/// Asserts that words are refused, and that these texts, one behind another, are all that is said.
+fn is_said(
+    rt: &(impl Abort + AllocGlobal),
+    outcome: Result<Job, WordsFault>,
+    words: &[&str],
+    texts: &[&str],
+) -> Result<(), AllocError> {
+    let text = refused(rt, outcome, words)?;
+    let wanted = joined(rt.alloc(), texts)?;
+    let is_same = text.as_str().as_bytes() == wanted.as_slice();
+    holds(rt, is_same, (words, text));
+    Ok(())
+}
+
+/// What stands behind each refusal.
+const MORE: &str = "\n\nFor more information, try '--help'.\n";
+
+/// Words behind a command that are refused, why, and whether the command's usage is shown.
+const REFUSALS: [(&[&str], &str, bool); 23] = [
+    (
+        &["--meta", "a", "--meta", "b"],
+        "the argument '--meta <PATH>' cannot be used multiple times",
+        true,
+    ),
+    (
+        &["--system", "PAL", "--system", "PAL"],
+        "the argument '--system <NAME>' cannot be used multiple times",
+        true,
+    ),
+    (
+        &["--black", "1", "--black", "2"],
+        "the argument '--black <N>' cannot be used multiple times",
+        true,
+    ),
+    (
+        &["--white", "1", "--white", "2"],
+        "the argument '--white <N>' cannot be used multiple times",
+        true,
+    ),
+    (
+        &["--max-fields", "1", "--max-fields", "2"],
+        "the argument '--max-fields <N>' cannot be used multiple times",
+        true,
+    ),
+    (
+        &["--meta"],
+        "a value is required for '--meta <PATH>' but none was supplied",
+        false,
+    ),
+    (
+        &["--system"],
+        "a value is required for '--system <NAME>' but none was supplied\n  [possible values: NTSC, PAL]",
+        false,
+    ),
+    (
+        &["--black"],
+        "a value is required for '--black <N>' but none was supplied",
+        false,
+    ),
+    (
+        &["--white"],
+        "a value is required for '--white <N>' but none was supplied",
+        false,
+    ),
+    (
+        &["--max-fields"],
+        "a value is required for '--max-fields <N>' but none was supplied",
+        false,
+    ),
+    (
+        &["--system", "ntsc"],
+        "invalid value 'ntsc' for '--system <NAME>'\n  [possible values: NTSC, PAL]",
+        false,
+    ),
+    (
+        &["--black", "65536"],
+        "invalid value '65536' for '--black <N>': 65536 is not in 0..=65535",
+        false,
+    ),
+    (
+        &["--white=-1"],
+        "invalid value '-1' for '--white <N>': -1 is not in 0..=65535",
+        false,
+    ),
+    (
+        &["--white", "1.0"],
+        "invalid value '1.0' for '--white <N>': invalid digit found in string",
+        false,
+    ),
+    (
+        &["--max-fields", "4294967296"],
+        "invalid value '4294967296' for '--max-fields <N>': 4294967296 is not in 0..=4294967295",
+        false,
+    ),
+    (
+        &["--black=-1"],
+        "invalid value '-1' for '--black <N>': -1 is not in 0..=65535",
+        false,
+    ),
+    (
+        &["--black", "8224.0"],
+        "invalid value '8224.0' for '--black <N>': invalid digit found in string",
+        false,
+    ),
+    (
+        &["--white", "65536"],
+        "invalid value '65536' for '--white <N>': 65536 is not in 0..=65535",
+        false,
+    ),
+    (
+        &["--max-fields=-1"],
+        "invalid value '-1' for '--max-fields <N>': -1 is not in 0..=4294967295",
+        false,
+    ),
+    (
+        &["--meta", "--black", "8224"],
+        "a value is required for '--meta <PATH>' but none was supplied",
+        false,
+    ),
+    (
+        &["--black", "-1"],
+        "unexpected argument '-1' found\n\n  tip: to pass '-1' as a value, use '-- -1'",
+        true,
+    ),
+    (
+        &["--zzz"],
+        "unexpected argument '--zzz' found\n\n  tip: to pass '--zzz' as a value, use '-- --zzz'",
+        true,
+    ),
+    (&["one", "two"], "unexpected argument 'two' found", true),
+];
+
+#[test]
+fn each_command_says_why_it_refuses(rt: HostRuntime) -> Result<(), Fail> {
+    for (command, _) in COMMANDS {
+        let usage = ["\n\nUsage: ldvbi ", command, " [OPTIONS] [INPUT]"];
+        let [before, named, behind] = usage;
+        for &(words, why, has_usage) in &REFUSALS {
+            let outcome = read_behind(rt.alloc(), command, words);
+            if has_usage {
+                let texts = ["error: ", why, before, named, behind, MORE];
+                is_said(&rt, outcome, words, &texts)?;
+            } else {
+                is_said(&rt, outcome, words, &["error: ", why, MORE])?;
+            }
+        }
+    }
+    Ok(())
+}
+
+/// More words behind a command that are refused.
+const REFUSED: [&[&str]; 16] = [
+    // An option without its value.
+    &["--black", "--white", "5"],
+    // An unknown system.
+    &["--system", "Pal"],
+    &["--system", "PAL_M"],
+    &["--system", "SECAM"],
+    &["--system", ""],
+    &["--system=NTSC "],
+    // A limit that isn't a number from 0 to 4294967295.
+    &["--max-fields", "18446744073709551616"],
+    &["--max-fields", "-1"],
+    &["--max-fields", "1.0"],
+    &["--max-fields", "1e3"],
+    &["--max-fields", "all"],
+    &["--max-fields", ""],
+    // Two inputs.
+    &["-", "-"],
+    &["one", "--", "two"],
+    &["--", "one", "two"],
+    &["", ""],
+];
+
+/// Values that are no level, a whole number from 0 to 65535.
+const NO_LEVELS: [&str; 9] = [
+    "65536",
+    "4294967296",
+    "-1",
+    "1.0",
+    "1e3",
+    "0x10",
+    "black",
+    "",
+    " 5",
+];
+
+#[test]
+fn each_command_refuses_other_values(rt: HostRuntime) -> Result<(), Fail> {
+    let alloc = rt.alloc();
+    for (command, _) in COMMANDS {
+        for words in &REFUSED {
+            refused(&rt, read_behind(alloc, command, words), words)?;
+        }
+        for value in NO_LEVELS {
+            for option in ["--black", "--white"] {
+                let words = [option, value];
+                refused(&rt, read_behind(alloc, command, &words), &words)?;
+                let word = format!(in alloc; "{option}={value}")?;
+                let words = [word.as_str()];
+                refused(&rt, read_behind(alloc, command, &words), &words)?;
+            }
+        }
+    }
+    Ok(())
+}
+
+/// Words that name no option of a command, though some begin a name or are its first letter.
+const NO_OPTIONS: [&str; 17] = [
+    "--levels",
+    "--blac",
+    "--met",
+    "--sys",
+    "--whi",
+    "--max",
+    "--max_fields",
+    "--BLACK",
+    "--version",
+    "-m",
+    "-s",
+    "-b",
+    "-w",
+    "-l",
+    "-V",
+    "-5",
+    "-1",
+];
+
+#[test]
+fn each_command_refuses_other_options(rt: HostRuntime) -> Result<(), Fail> {
+    let alloc = rt.alloc();
+    for (command, _) in COMMANDS {
+        for word in NO_OPTIONS {
+            let words = [word, "5"];
+            let text = refused(&rt, read_behind(alloc, command, &words), &words)?;
+            let first = format!(in alloc; "error: unexpected argument '{word}' found\n")?;
+            holds(&rt, text.as_str().starts_with(first.as_str()), text);
+        }
+    }
+    Ok(())
+}
+
+/// Words that name no command, the program's name first, and why they are refused.
+const NO_COMMAND: [(&[&str], &str); 5] = [
+    (
+        &["ldvbi"],
+        "'ldvbi' requires a subcommand but one was not provided\n  \
+            [subcommands: line, extract, show, draw, help]",
+    ),
+    (
+        &["ldvbi", "lines"],
+        "unrecognized subcommand 'lines'\n\n  tip: a similar subcommand exists: 'line'",
+    ),
+    (&["ldvbi", "disc.tbc"], "unrecognized subcommand 'disc.tbc'"),
+    // Options stand behind the command.
+    (
+        &["ldvbi", "--black", "1", "line"],
+        "unexpected argument '--black' found\n\n  tip: 'line --black' exists",
+    ),
+    (
+        &["ldvbi", "--system", "PAL", "show"],
+        "unexpected argument '--system' found\n\n  tip: 'show --system' exists",
+    ),
+];
+
+#[test]
+fn the_program_says_why_it_refuses(rt: HostRuntime) -> Result<(), Fail> {
+    for &(words, why) in &NO_COMMAND {
+        let texts = ["error: ", why, "\n\nUsage: ldvbi <COMMAND>", MORE];
+        is_said(&rt, read(rt.alloc(), words), words, &texts)?;
+    }
+    Ok(())
+}
+
+/// More words that name no command.
+const NO_NAMES: [&[&str]; 6] = [
+    // The first word is the program's name, whatever it is.
+    &["line"],
+    &["ldvbi", ""],
+    &["ldvbi", "-"],
+    &["ldvbi", "lin"],
+    &["ldvbi", "LINE"],
+    &["ldvbi", "help", "lines"],
+];
+
+#[test]
+fn words_without_a_command_are_refused(rt: HostRuntime) -> Result<(), Fail> {
+    for words in &NO_NAMES {
+        refused(&rt, read(rt.alloc(), words), words)?;
+    }
+    Ok(())
+}
