@@ -53,8 +53,9 @@ ldvbi: crates.txt $(SOURCES)
 	$(call proved,vbi_line,rt lib)
 	$(call proved,vbi_field,rt lib)
 	$(call proved,vbi_meta,rt lib)
-	$(call proved,vbi_cli,rt run -- --help)
-	cp crates/vbi_cli/out/vbi_cli ldvbi
+	$(call proved,vbi_cli,rt lib)
+	$(call proved,ldvbi,rt run -- --help)
+	cp crates/ldvbi/out/ldvbi ldvbi
 
 lib: libldvbi.a libldvbi.so
 

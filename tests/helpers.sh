@@ -29,7 +29,7 @@ cd "$work" || exit 1
 status=none
 
 # The folder of the stored run, its options, and those of each system's usual levels
-stored=$top/crates/vbi_cli
+stored=$top/crates/ldvbi
 levels='--system NTSC --black 8224 --white 16448'
 ntsc='--system NTSC --black 16384 --white 51200'
 pal='--system PAL --black 16384 --white 54016'

@@ -58,7 +58,8 @@ settings|out|82CFFF|82CFFE
 settings|err|field height|field heighT
 settings|status|1|0
 words|out|<N>|<M>
-words|err|cannot be used|connot be used
+words|err|similar subcommand|similar subkommand
+words|tests/program/help/draw-short.txt|s/Turns rows/Turns words/
 words|status|2|1
 words|hangs
 device_faults|out|],"cutField"|],"cutfield"

@@ -121,11 +121,11 @@ proved() {
     printf '%s proved, N s\n' "$@"
 }
 proves none ldvbi
-proved vbi_words vbi_line vbi_field vbi_meta vbi_cli > wanted_text
+proved vbi_words vbi_line vbi_field vbi_meta vbi_cli ldvbi > wanted_text
 judge 'make says one line of a crate' 0 wanted_text ''
 { echo 'rt run -- --help'; seq 99; } > wanted
-check 'the log has what the toolchain said' cmp tree/crates/vbi_cli/out/make.log wanted
-check 'the program is copied from where it is built' cmp tree/ldvbi tree/crates/vbi_cli/out/vbi_cli
+check 'the log has what the toolchain said' cmp tree/crates/ldvbi/out/make.log wanted
+check 'the program is copied from where it is built' cmp tree/ldvbi tree/crates/ldvbi/out/ldvbi
 proves none libldvbi.a
 proved vbi_words vbi_line vbi_c > wanted_text
 judge 'make lib says one line of a crate' 0 wanted_text ''

@@ -1,5 +1,5 @@
 #!/bin/sh
-# Runs the built program on words that it refuses, on each kind of path, and on words that ask for help.
+# Runs the built program on a few words that it refuses, on each kind of path, and on words that ask for help.
 # usage: sh tests/program/words.sh PROGRAM
 # shellcheck disable=SC2086
 
@@ -15,82 +15,27 @@ refused() {
     check "$1" ended 2 empty refusal
 }
 
-# refused_first NAME LINE: the same of a text whose first line is this one
-refused_first() {
-    check "$1" is_refused_first "error: $2"
-}
-# shellcheck disable=SC2317
-is_refused_first() {
-    [ "$status" = 2 ] && [ ! -s out ] && [ "$(head -n 1 err)" = "$1" ] && [ "$(tail -n 1 err)" = "$more" ] &&
-        ! grep -q '^ldvbi: ' err
-}
-
-# Words that are refused
+# Words that are refused, of each command a few, and no more than one of each text: what else is refused, and how, is
+# tested where the words are read (crates/vbi_cli_tests)
 run
 refused 'no command' "'ldvbi' requires a subcommand but one was not provided
   [subcommands: line, extract, show, draw, help]
 
 Usage: ldvbi <COMMAND>"
 run lines
-refused_first 'an unknown command' "unrecognized subcommand 'lines'"
-run $levels line line.raw
-refused_first 'options before the command' "unexpected argument '--system' found"
+refused 'an unknown command' "unrecognized subcommand 'lines'
+
+  tip: a similar subcommand exists: 'line'
+
+Usage: ldvbi <COMMAND>"
 for command in line extract show draw; do
-    usage="
+    run $command --system ntsc --black 8224 --white 16448 line.raw
+    refused "$command: a system in lower case" "invalid value 'ntsc' for '--system <NAME>'
+  [possible values: NTSC, PAL]"
+    run $command $levels line.raw line.raw
+    refused "$command: two inputs" "unexpected argument 'line.raw' found
 
 Usage: ldvbi $command [OPTIONS] [INPUT]"
-    while read -r option value shown; do
-        run $command --$option $value --$option $value line.raw
-        refused "$command: --$option twice" "the argument '--$option <$shown>' cannot be used multiple times$usage"
-    done << 'END'
-meta line.raw PATH
-system NTSC NAME
-black 8224 N
-white 16448 N
-max-fields 1 N
-END
-    while read -r option value limit; do
-        run $command --$option=$value line.raw
-        refused "$command: --$option=$value" "invalid value '$value' for '--$option <N>': $value is not in 0..=$limit"
-    done << 'END'
-black 65536 65535
-black -1 65535
-white 65536 65535
-white -1 65535
-max-fields 4294967296 4294967295
-max-fields -1 4294967295
-END
-    while read -r option shown; do
-        run $command $levels --$option
-        refused "$command: --$option without its value" "a value is required for '$shown' but none was supplied"
-    done << 'END'
-meta --meta <PATH>
-max-fields --max-fields <N>
-END
-    run $command --black
-    refused "$command: --black without its value" "a value is required for '--black <N>' but none was supplied"
-    run $command --white
-    refused "$command: --white without its value" "a value is required for '--white <N>' but none was supplied"
-    run $command --system
-    refused_first "$command: --system alone" "a value is required for '--system <NAME>' but none was supplied"
-    run $command --system ntsc --black 8224 --white 16448 line.raw
-    refused_first "$command: a system in lower case" "invalid value 'ntsc' for '--system <NAME>'"
-    run $command --system NTSC --black 8224.0 --white 16448 line.raw
-    refused "$command: a point" "invalid value '8224.0' for '--black <N>': invalid digit found in string"
-    run $command --meta --black 8224 line.raw
-    refused "$command: an option for metadata" "a value is required for '--meta <PATH>' but none was supplied"
-    run $command --system NTSC --black -1 --white 16448 line.raw
-    refused "$command: a number below 0 as a word" "unexpected argument '-1' found
-
-  tip: to pass '-1' as a value, use '-- -1'$usage"
-    for word in --met --sys --max -m -s -b -w -l; do
-        run $command $levels $word line.raw
-        refused_first "$command: $word, no name of an option" "unexpected argument '$word' found"
-    done
-    run $command $levels --levels 5 line.raw
-    refused_first "$command: an unknown option" "unexpected argument '--levels' found"
-    run $command $levels line.raw line.raw
-    refused "$command: two inputs" "unexpected argument 'line.raw' found$usage"
     run $command $levels "$(printf '\377')"
     judge "$command: a word that is not text" 2 empty 'ldvbi: arguments are not UTF-8'
 done
@@ -125,46 +70,30 @@ judge 'no input behind two dashes' 1 empty 'ldvbi: cannot open input'
 run line $levels line.raw/line.raw
 judge 'an input in a folder that is a file' 1 empty 'ldvbi: cannot open input'
 
-# Help, and the version
-run --version
-echo 'ldvbi 0.1.0' > version
-judge 'the version' 0 version ''
-cat > program.help << 'END'
-Reads the 24-bit biphase code words (IEC 60857 and IEC 60856) that lines 16, 17 and 18 of each
-field of a LaserDisc carry, from video in ld-decode's TBC format: picture numbers, chapters, times,
-picture stops. System and levels come from the capture's metadata or from options.
-
-Usage: ldvbi <COMMAND>
-
-Commands:
-  line     Prints the word of one line, or why there is none
-  extract  Writes the words of every field as a JSON document
-  show     Prints the words of every field and what they mean
-  draw     Turns rows of words into a TBC stream
-  help     Print this message or the help of the given subcommand(s)
-
-Options:
-  -h, --help
-          Print help (see a summary with '-h')
-
-  -V, --version
-          Print version
-
-Examples:
-  ldvbi extract --meta disc.tbc.json disc.tbc > disc.vbi.json
-  ldvbi show --system PAL --black 16384 --white 54016 disc.tbc
-  echo '82CFFF F12345 F12345' | ldvbi draw --system NTSC --black 16384 --white 51200 > test.tbc
-
-Exit status:
-  0  done, or help
-  1  a fault, named in one line on standard error
-  2  the command line was refused
-  3  extract or show is done, and the last field was cut
+# Help, and the version: rows of a file of the folder `help`, and words that print it
+for command in line extract show draw; do
+    cat << END
+$command.txt $command --help
+$command.txt help $command
+$command.txt $command --meta absent.json --black 5 --help absent.raw
+$command.txt $command --help --black dark
+$command-short.txt $command -h
 END
-run --help
-judge 'the help' 0 program.help ''
-run help
-judge 'the help by its command' 0 program.help ''
+done > rows
+cat >> rows << 'END'
+ldvbi.txt --help
+ldvbi.txt help
+ldvbi-short.txt -h
+END
+while read -r text words; do
+    run $words
+    judge "the help by $words" 0 "$here/help/$text" ''
+done < rows
+echo 'ldvbi 0.1.0' > version
+run --version
+judge 'the version' 0 version ''
+run -V
+judge 'the version in short' 0 version ''
 
 # Help that goes nowhere isn't a fault; a word that is refused is one, wherever that is said.
 status=0
@@ -181,103 +110,4 @@ judge 'no room for what is refused' 2 empty ''
 status=0
 output_of lines > out 2>&- || status=$?
 judge 'what is refused where standard error is closed' 2 empty ''
-
-# The options are the same in each command. A list of values stands behind a line of ten spaces, which is a point here.
-sed 's/^[.]$/          /' > options << 'END'
-Options:
-      --meta <PATH>
-          ld-decode's .tbc.json of the capture, whose videoParameters give system and levels.
-          Levels with decimals are refused; docs/RECIPES.md has a command that rounds them
-
-      --system <NAME>
-          NTSC (fields of 910x263 samples) or PAL (1135x313), in place of the metadata's system
-.
-          [possible values: NTSC, PAL]
-
-      --black <N>
-          The sample of black, 0 to 65535, in place of the metadata's black16bIre
-
-      --white <N>
-          The sample of white, 0 to 65535 and above black, in place of the metadata's white16bIre
-
-      --max-fields <N>
-          The most fields of a run, 1 to 1000000; 1000000 where it isn't given.
-          A stream with more is refused
-
-  -h, --help
-          Print help (see a summary with '-h')
-END
-# help_of COMMAND INPUT < TEXTS: checks the help of a command: INPUT is that of its input, and TEXTS are what stands
-# before all else, a row of dashes, and what stands behind all else
-help_of() {
-    cat > texts
-    {
-        sed '/^--*$/,$d' texts
-        printf '\nUsage: ldvbi %s [OPTIONS] [INPUT]\n\nArguments:\n  [INPUT]\n          %s\n\n' "$1" "$2"
-        cat options
-        echo
-        sed '1,/^--*$/d' texts
-    } > command.help
-    run "$1" --help
-    judge "the help of $1" 0 command.help ''
-    run help "$1"
-    judge "the help of $1 by the command help" 0 command.help ''
-    run "$1" --meta absent.json --help absent.raw
-    judge "the help of $1 among other words" 0 command.help ''
-}
-help_of line "The line's samples; standard input where there is none, or for -" << 'END'
-Reads the bytes of one line (1820 for NTSC, 2270 for PAL; samples of 16 bits, low byte first), and
-leaves the rest unread. Prints the word that the line shows as six hexadecimal digits, or why it
-shows none: blank (no sample is high), unfinished (the line ends within a word), change N or hold N
-(at column N, from 0, a change or a lasting level makes every word impossible).
---------
-Example:
-  ldvbi line --system NTSC --black 16384 --white 51200 line.raw
-
-Exit status:
-  0  done
-  1  a fault, as a short line, named on standard error
-  2  the command line was refused
-END
-help_of extract 'The TBC stream; standard input where there is none, or for -' << 'END'
-Writes one JSON document for a TBC stream: for each field its number, the words of its lines 16, 17
-and 18 (vbiData, 0 where a line has none), why a line has none (vbiCause), and whether a word was
-read from the samples as they are or after short glitches were removed (vbiPass 1 or 2, else 0).
---------
-Example:
-  ldvbi extract --meta disc.tbc.json disc.tbc > disc.vbi.json
-
-Exit status:
-  0  done
-  1  a fault, named in one line on standard error
-  2  the command line was refused
-  3  done, and the last field was cut (cutField has its bytes)
-END
-help_of show 'The TBC stream; standard input where there is none, or for -' << 'END'
-Prints a report of a TBC stream: for each field its number, whether its codes are those of a CAV or
-a CLV disc, and for its lines 16, 17 and 18 the word in hexadecimal with its meaning (as picture
-12345, chapter 07, time 1:09), or none and why.
---------
-Example:
-  ldvbi show --meta disc.tbc.json disc.tbc
-
-Exit status:
-  0  done
-  1  a fault, named in one line on standard error
-  2  the command line was refused
-  3  done, and the last field was cut
-END
-help_of draw 'The rows of words; standard input where there is none, or for -' << 'END'
-Writes a TBC stream with one field for each row of text. A row has three items with one space
-between them, for lines 16, 17 and 18: six hexadecimal digits (a word, 800000 to FFFFFF), or -
-for a line without a word. Every other line is black; sync and colour burst aren't drawn.
---------
-Example:
-  echo '82CFFF F12345 F12345' | ldvbi draw --system NTSC --black 16384 --white 51200 > test.tbc
-
-Exit status:
-  0  done
-  1  a fault, as a malformed row, named on standard error
-  2  the command line was refused
-END
 finish

@@ -39,7 +39,7 @@ fn black_line(alloc: Global) -> Result<Vec<u8>, AllocError> {
 }
 
 /// Some bytes, so often.
-fn repeated(alloc: Global, part: &[u8], times: usize) -> Result<Vec<u8>, AllocError> {
+pub(crate) fn repeated(alloc: Global, part: &[u8], times: usize) -> Result<Vec<u8>, AllocError> {
     let mut bytes = Vec::new(alloc);
     for _ in 0..times {
         bytes.extend_from_slice(part)?;

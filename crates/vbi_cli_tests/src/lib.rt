@@ -18,6 +18,8 @@ mod lines;
 #[cfg(test)]
 mod memory;
 #[cfg(test)]
+mod metadata;
+#[cfg(test)]
 mod refusals;
 #[cfg(test)]
 mod runs;

@@ -11,24 +11,29 @@ use vbi_words::System;
 
 /// What the program makes of these words.
 pub(crate) fn read(alloc: Global, texts: &[&str]) -> Result<Job, WordsFault> {
-    let mut words = Vec::new(alloc);
-    for text in texts {
+    let words = owned(alloc, texts)?;
+    read_words(alloc, words.as_slice())
+}
+
+/// The same of the program's name, a command, and the words behind it.
+pub(crate) fn read_behind(
+    alloc: Global,
+    command: &str,
+    behind: &[&str],
+) -> Result<Job, WordsFault> {
+    let mut words = owned(alloc, &["ldvbi", command])?;
+    for text in behind {
         words.push(String::from_str(alloc, text)?)?;
     }
     read_words(alloc, words.as_slice())
 }
 
-/// The same of the program's name, a command, and the words behind it.
-pub(crate) fn read_behind<'a>(
-    alloc: Global,
-    command: &'a str,
-    behind: &[&'a str],
-) -> Result<Job, WordsFault> {
+fn owned(alloc: Global, texts: &[&str]) -> Result<Vec<String>, AllocError> {
     let mut words = Vec::new(alloc);
-    words.push("ldvbi")?;
-    words.push(command)?;
-    words.extend_from_slice(behind)?;
-    read(alloc, words.as_slice())
+    for text in texts {
+        words.push(String::from_str(alloc, text)?)?;
+    }
+    Ok(words)
 }
 
 pub(crate) const COMMANDS: [(&str, Verb); 4] = [
