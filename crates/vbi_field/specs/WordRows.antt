@@ -1,4 +1,4 @@
--- The text of words that is drawn from (this project's own): a row of three items a field, in ASCII.
+-- The text of words that is drawn from: a row of three items a field, in ASCII.
 use Rattle.std.specs.Prelude.{◌≡◌, ℕ, ◌^◌, ◌==◌, ◌&&◌, if◌then◌else◌, Bool, List, [], ◌∷◌, ◌++◌}
 use Rattle.std.specs.Prelude.{length, map, slice_index, nat_lt, nat_le, codes, Option, Some, None}
 use Rattle.std.specs.List.{slice_split, onto_first, list_all, before_first}

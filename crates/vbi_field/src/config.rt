@@ -7,7 +7,7 @@ use std::fmt;
 use std::marker::Model;
 use vbi_words::{Levels, System};
 
-/// The greatest number of fields that can be allowed in a run: some ten times those of a disc's side.
+/// The greatest number of fields that can be allowed in a run: 4.6 times those of an hour of NTSC, a full CLV side.
 pub const MAX_FIELDS_LIMIT: u32 = 1_000_000;
 
 /// Why there is no `Config`.
