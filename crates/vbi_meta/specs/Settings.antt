@@ -3,12 +3,11 @@
 use Rattle.std.specs.Prelude.{◌≡◌, ℕ, ◌^◌, ◌==◌, ◌&&◌, ◌||◌, Bool, true, false, not, nat_lt, nat_le}
 use Rattle.std.specs.Prelude.{List, [], ◌∷◌, ◌++◌, codes, if◌then◌else◌}
 use Rattle.std.specs.Prelude.{Option, Some, None, is_some, is_none, option_map, option_and_then, unwrap_or}
-use Rattle.std.specs.Str.{bytes_eq}
 use Rattle.serde_json.specs.Data.{Data}
 use Rattle.serde_json.specs.Find.{get, as_bool, as_number, as_str, as_object, as_u64}
 use Rattle.vbi_words.specs.declared.system.System.{System}
 use Rattle.vbi_words.specs.declared.system.System.TheVariants.{Ntsc, Pal}
-use Rattle.vbi_words.specs.Geometry.{width_of, height_of}
+use Rattle.vbi_words.specs.Geometry.{width_of, height_of, system_named}
 use Rattle.vbi_field.specs.ConfigView.{ConfigView}
 use Rattle.vbi_meta.specs.declared.choosing.Overrides.{Overrides}
 use Rattle.vbi_meta.specs.declared.fault.MetaFault.{MetaFault}
@@ -31,15 +30,9 @@ member_of parameters name = option_and_then (get name) parameters
 abbrev pub whole : Data → Option ℕ
 whole member = option_and_then as_u64 (as_number member)
 
--- whether a member is this text
-abbrev pub is_text : List ℕ → Data → Bool
-is_text text member = unwrap_or (option_map (bytes_eq text) (as_str member)) false
-
 -- the system that `system` names
 abbrev pub named_system : Data → Option System
-named_system member =
-    if is_text (codes "NTSC") member then Some Ntsc
-    else (if is_text (codes "PAL") member then Some Pal else None)
+named_system member = option_and_then system_named (as_str member)
 
 -- the system that `isSourcePal` tells
 abbrev pub flagged_system : Data → Option System

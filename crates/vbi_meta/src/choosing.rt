@@ -145,14 +145,7 @@ fn system(
 fn named(text: &Value) -> Option<System>
     ensures { result ≡ named_system (view text.now) }
 {
-    let text = text.as_str()?;
-    if text == "NTSC" {
-        Some(System::Ntsc)
-    } else if text == "PAL" {
-        Some(System::Pal)
-    } else {
-        None
-    }
+    System::named(text.as_str()?)
 }
 
 /// The system that a truth value, whether the source is PAL, tells.
