@@ -1,16 +1,16 @@
 //! Drawing a line.
 
 ghost use Rattle.std.specs.Prelude.{◌≡◌, ◌≢◌, ◌<◌, length, IfOk};
-ghost use Rattle.vbi_words.specs.Geometry.{line_bytes};
-ghost use Rattle.vbi_c.specs.Drawing.{drawing_of, IsDrawnLine, drawn_reading};
+ghost use Rattle.vbi_words.specs.Drawn.{drawn_line_of, drawn_reading};
+ghost use Rattle.vbi_words.specs.Words.{IsWordOrNone};
+ghost use Rattle.vbi_c.specs.Drawing.{drawing_of};
 ghost use Rattle.vbi_c.specs.Readings.{line_reading, reading_for_c};
 ghost use Rattle.vbi_c.specs.Statuses.{status_of};
-ghost use Rattle.vbi_c.specs.Words.{IsWordOrNone};
 
 use crate::setup::{Setup, find_line_setup};
 use crate::status::{DONE, Refusal};
 use crate::word::find_word;
-use vbi_words::{Word24, drawn_sample};
+use vbi_words::{Word24, draw_line};
 
 /// What is to be drawn, and how.
 #[derive(Clone, Copy, Debug)]
@@ -36,23 +36,6 @@ fn find_drawing(
     Ok(Drawing { setup, word })
 }
 
-/// Draws a word, or none, on a line.
-fn draw(drawing: &Drawing, bytes: &mut [u8])
-    requires order { drawing.now.setup.levels.black < drawing.now.setup.levels.white }
-    requires word { IsWordOrNone drawing.now.word }
-    requires long { length bytes.old ≡ line_bytes drawing.now.setup.system }
-    ensures drawn { IsDrawnLine drawing.now bytes.new }
-    ensures reads { line_reading drawing.now.setup bytes.new ≡ reading_for_c (drawn_reading drawing.now.word) }
-{
-    let setup = &drawing.setup;
-    let word = &drawing.word;
-    for column in 0..setup.system.width() {
-        let sample = drawn_sample(setup.system, setup.levels, *word, column);
-        bytes[2 * column] = (sample % 256) as u8;
-        bytes[2 * column + 1] = (sample / 256) as u8;
-    }
-}
-
 /// Writes the samples of a line that shows the word, or of a blank line for 0, into `ldvbi_line_bytes(system)` bytes:
 /// two for each sample, the low one first. The line is read as the word, in the first pass.
 #[unsafe(no_mangle)]
@@ -65,14 +48,15 @@ pub extern "C" fn ldvbi_draw_line(
 ) -> u32
     ensures status { result ≡ status_of (drawing_of system black white word (length bytes.old)) }
     ensures draws { IfOk (drawing_of system black white word (length bytes.old)) (λ drawing.
-        IsDrawnLine drawing bytes.new) }
+        bytes.new ≡ drawn_line_of drawing.setup.system drawing.setup.levels drawing.word) }
     ensures reads { IfOk (drawing_of system black white word (length bytes.old)) (λ drawing.
         line_reading drawing.setup bytes.new ≡ reading_for_c (drawn_reading drawing.word)) }
     ensures unwritten { result ≢ 0 → bytes.new ≡ bytes.old }
 {
     match find_drawing(system, black, white, word, bytes.len()) {
         Ok(drawing) => {
-            draw(&drawing, bytes);
+            let setup = &drawing.setup;
+            draw_line(setup.system, setup.levels, drawing.word, bytes);
             DONE
         }
         Err(refusal) => refusal.status(),

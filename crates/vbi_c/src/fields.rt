@@ -2,7 +2,8 @@
 
 ghost use Rattle.std.specs.Prelude.{◌≡◌, ◌≢◌, ◌+◌, ◌*◌, ◌≤◌, length, IfOk};
 ghost use Rattle.vbi_words.specs.Geometry.{line_bytes, field_bytes};
-ghost use Rattle.vbi_c.specs.Fields.{row_in, three_rows, rows_reading, ReportsRows};
+ghost use Rattle.vbi_words.specs.Rows.{line_at};
+ghost use Rattle.vbi_c.specs.Fields.{three_rows, rows_reading, ReportsRows};
 ghost use Rattle.vbi_c.specs.Fields.{field_reading, ReportsField, fields_reading, ReportsFields};
 ghost use Rattle.vbi_c.specs.Setups.{rows_setup, fields_setup};
 ghost use Rattle.vbi_c.specs.Statuses.{status_of};
@@ -30,7 +31,7 @@ const _: () = prove!(size_of::<LdvbiFieldReadings>() == 24);
 /// The bytes of a row, counted from 0.
 fn row(system: System, bytes: &[u8], row: usize) -> &[u8]
     requires { line_bytes system * row + line_bytes system ≤ length bytes.now }
-    ensures row { result.now ≡ row_in system bytes.now row }
+    ensures row { result.now ≡ line_at system bytes.now 0 row }
     ensures long { length result.now ≡ line_bytes system }
 {
     let line = system.line_bytes();

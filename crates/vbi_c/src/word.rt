@@ -1,7 +1,8 @@
 //! Words that C names by their numbers.
 
 ghost use Rattle.std.specs.Prelude.{◌≡◌, IfOk};
-ghost use Rattle.vbi_c.specs.Words.{word_or_none, IsWordOrNone};
+ghost use Rattle.vbi_words.specs.Words.{IsWordOrNone};
+ghost use Rattle.vbi_c.specs.Words.{word_or_none};
 
 use crate::status::Refusal;
 use vbi_words::Word24;

@@ -21,7 +21,8 @@ use Rattle.vbi_field.specs.CauseTexts.{cause_text_of}
 use Rattle.vbi_field.specs.ConfigView.{ConfigView}
 use Rattle.vbi_field.specs.Document.{value_of}
 use Rattle.vbi_field.specs.Kinds.{document}
-use Rattle.vbi_field.specs.Stream.{fields_of, rest_of, line_at, reading_at, readings_at}
+use Rattle.vbi_words.specs.Rows.{line_at}
+use Rattle.vbi_field.specs.Stream.{fields_of, rest_of, reading_at, readings_at}
 use Rattle.vbi_field.specs.Texts.{whole_text}
 use Rattle.vbi_meta.specs.DocumentValue.{IsOfRun, document_value, field_value, cut_field_value, cut_value}
 use Rattle.vbi_meta.specs.Metadata.{most_bytes, IsMetadata, IsUnread}
