@@ -7,9 +7,9 @@ ghost use Rattle.vbi_c.specs.Drawing.{drawing_of};
 ghost use Rattle.vbi_c.specs.Readings.{line_reading, reading_for_c};
 ghost use Rattle.vbi_c.specs.Statuses.{status_of};
 
-use crate::setup::{Setup, find_line_setup};
+use crate::setup::{Setup, line_setup};
 use crate::status::{DONE, Refusal};
-use crate::word::find_word;
+use crate::word::word_or_none;
 use vbi_words::{Word24, draw_line};
 
 /// What is to be drawn, and how.
@@ -20,7 +20,7 @@ pub(crate) struct Drawing {
 }
 
 /// The drawing of a word, or of none for 0, on so many bytes.
-fn find_drawing(
+fn drawing_of(
     system: u32,
     black: u32,
     white: u32,
@@ -31,8 +31,8 @@ fn find_drawing(
     ensures order { IfOk result (λ drawing. drawing.setup.levels.black < drawing.setup.levels.white) }
     ensures word { IfOk result (λ drawing. IsWordOrNone drawing.word) }
 {
-    let setup = find_line_setup(system, black, white, length)?;
-    let word = find_word(word)?;
+    let setup = line_setup(system, black, white, length)?;
+    let word = word_or_none(word)?;
     Ok(Drawing { setup, word })
 }
 
@@ -53,7 +53,7 @@ pub extern "C" fn ldvbi_draw_line(
         line_reading drawing.setup bytes.new ≡ reading_for_c (drawn_reading drawing.word)) }
     ensures unwritten { result ≢ 0 → bytes.new ≡ bytes.old }
 {
-    match find_drawing(system, black, white, word, bytes.len()) {
+    match drawing_of(system, black, white, word, bytes.len()) {
         Ok(drawing) => {
             let setup = &drawing.setup;
             draw_line(setup.system, setup.levels, drawing.word, bytes);

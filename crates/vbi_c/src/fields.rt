@@ -9,7 +9,7 @@ ghost use Rattle.vbi_c.specs.Setups.{rows_setup, fields_setup};
 ghost use Rattle.vbi_c.specs.Statuses.{status_of};
 
 use crate::reading::{LdvbiReading, read_bytes};
-use crate::setup::{Setup, find_fields_setup, find_rows_setup};
+use crate::setup::{Setup, fields_setup, rows_setup};
 use crate::status::DONE;
 use std::mem::size_of;
 use vbi_words::System;
@@ -91,7 +91,7 @@ pub extern "C" fn ldvbi_read_rows(
         ReportsRows setup (three_rows setup.system bytes.now 0) readings.new) }
     ensures unwritten { result ≢ 0 → readings.new ≡ readings.old }
 {
-    match find_rows_setup(system, black, white, bytes.len()) {
+    match rows_setup(system, black, white, bytes.len()) {
         Ok(setup) => {
             *readings = read_three(&setup, bytes, 0);
             DONE
@@ -116,7 +116,7 @@ pub extern "C" fn ldvbi_read_field(
         ReportsField setup bytes.now readings.new) }
     ensures unwritten { result ≢ 0 → readings.new ≡ readings.old }
 {
-    match find_fields_setup(system, black, white, bytes.len(), 1) {
+    match fields_setup(system, black, white, bytes.len(), 1) {
         Ok(setup) => {
             *readings = read_whole(&setup, bytes);
             DONE
@@ -142,7 +142,7 @@ pub extern "C" fn ldvbi_read_fields(
         ReportsFields setup bytes.now (length readings.old) readings.new) }
     ensures unwritten { result ≢ 0 → readings.new ≡ readings.old }
 {
-    match find_fields_setup(system, black, white, bytes.len(), readings.len()) {
+    match fields_setup(system, black, white, bytes.len(), readings.len()) {
         Ok(setup) => {
             read_all(&setup, bytes, readings);
             DONE

@@ -8,7 +8,7 @@ use crate::status::Refusal;
 use vbi_words::Word24;
 
 /// The word with this number, or none for 0.
-pub(crate) fn find_word(number: u32) -> Result<Option<Word24>, Refusal>
+pub(crate) fn word_or_none(number: u32) -> Result<Option<Word24>, Refusal>
     ensures word { result ≡ word_or_none number }
     ensures is { IfOk result IsWordOrNone }
 {
