@@ -138,10 +138,11 @@ fn system_named(alloc: Global, name: &str) -> Result<System, WordsFault>
     ensures ok { IfOk result (λ system. name.now ≡ name_of system) }
     ensures refused { OnErr result (system_named name.now ≡ None) }
 {
-    match System::named(name) {
-        Some(system) => Ok(system),
-        None => Err(WordsFault::Refused(format!(in alloc; "error: no system is called '{name}'\n")?)),
-    }
+    let Some(system) = System::named(name) else {
+        let text = format!(in alloc; "error: no system is called '{name}'\n")?;
+        return Err(WordsFault::Refused(text));
+    };
+    Ok(system)
 }
 
 fn owned(alloc: Global, text: Option<&str>) -> Result<Option<String>, AllocError> {
