@@ -64,7 +64,8 @@ module _ {R W : Type 0} (remaining : R → Option (List ℕ)) (contents : W → 
     pub same_writer : IsSameDevice (outlets.counted_of o0) (outlets.counted_of o)
     pub black : line ≡ drawn_line_of c.system c.levels None
 
-  pub start : (line : List ℕ) → IsFresh i0 → outlets.IsFresh o0 → line ≡ drawn_line_of c.system c.levels None → Drawn 0 i0 o0 line
+  pub start : (line : List ℕ) → IsFresh i0 → outlets.IsFresh o0 → line ≡ drawn_line_of c.system c.levels None
+      → Drawn 0 i0 o0 line
   start line fresh clean black =
       let f = fresh.fetched in
       let n = fresh.failures in

@@ -71,7 +71,8 @@ row_reads : (c : ConfigView) (rows : List WordRow) (i r : ℕ) (words : WordRow)
     → RowReads c (draw_out c rows) i r (drawn_reading (word_at words r))
 row_reads c rows i r words order e inside is =
     let P : List ℕ → Type 0 = λ l. IsReading c.system (row_levels c.levels l) (drawn_reading (word_at words r)) in
-    subst P (sym (line_at-draw_out c rows i r words e inside)) (drawn_reads c.system c.levels (word_at words r) order is)
+    subst P (sym (line_at-draw_out c rows i r words e inside))
+    (drawn_reads c.system c.levels (word_at words r) order is)
 
 pub drawn_field : (c : ConfigView) (rows : List WordRow) (i : ℕ) (words : WordRow) → c.levels.black < c.levels.white
     → slice_get rows i ≡ Some words → AreDrawable words → FieldReads c (draw_out c rows) i (drawn_readings words)

@@ -45,7 +45,8 @@ module _ {W : Type 0} (contents : W → Option (List ℕ)) (c : ConfigView) (wor
   }
 
   -- the length of a drawn line
-  long_line : (line : List ℕ) (word : Option ℕ) → line ≡ drawn_line_of c.system c.levels word → length line ≡ line_bytes c.system
+  long_line : (line : List ℕ) (word : Option ℕ) → line ≡ drawn_line_of c.system c.levels word
+      → length line ≡ line_bytes c.system
   long_line line word e = ap length e ∙ length-drawn_line_of c.system c.levels word
 
   -- one row more
@@ -93,7 +94,8 @@ module _ {W : Type 0} (contents : W → Option (List ℕ)) (c : ConfigView) (wor
       let most = p.most in
       let sizes = sizes_of c.system in (
         record { appended = rw (← whole) p.appended; written = omega arith },
-        p.drawn ∙ ap (λ (r : ℕ). drawn_line_of c.system c.levels (word_at words (r - 1))) e ∙ ap (drawn_line_of c.system c.levels) (last_word c words),
+        p.drawn ∙ ap (λ (r : ℕ). drawn_line_of c.system c.levels (word_at words (r - 1))) e
+            ∙ ap (drawn_line_of c.system c.levels) (last_word c words),
         omega arith,
       )
 

@@ -72,7 +72,8 @@ one_column system slicing word line column s inside is before =
     ∙ ap (flat_map sample_bytes) (sym (map-range_with_len_more f 0 column column (zero-add column)))
 
 pub all_columns : (system : System) (slicing : LevelsView) (word : Option ℕ) (line : List ℕ)
-    → length line ≡ line_bytes system → take (2 * width_of system) line ≡ first_columns system slicing word (width_of system)
+    → length line ≡ line_bytes system
+    → take (2 * width_of system) line ≡ first_columns system slicing word (width_of system)
     → line ≡ drawn_line_of system slicing word
 unfolding drawn_line_of drawn_row_of
 all_columns system slicing word line long all =

@@ -40,8 +40,8 @@ pub fn run_limit()
         → EndsOtherwise levels v → Viable system (levels ++ v ∷ []) → HasRunLimit system levels v }
 {}
 
-/// The row drawn for a word shows the word; the row drawn for none has no high level. So the bytes drawn are read as the
-/// word in the first pass, or as blank.
+/// The row drawn for a word shows the word; the row drawn for none has no high level. So the bytes drawn are read as
+/// the word in the first pass, or as blank.
 pub fn drawn_shows()
     ensures word { (system : System) (slicing : LevelsView) (word : ℕ)
         → slicing.black < slicing.white → IsWord word

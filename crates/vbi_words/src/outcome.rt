@@ -33,8 +33,8 @@ impl Outcome {
     }
 }
 
-/// The reading of a line: the outcome of its own levels, or, where these show no word and aren't blank, the word that its
-/// smoothed levels show.
+/// The reading of a line: the outcome of its own levels, or, where these show no word and aren't blank, the word that
+/// its smoothed levels show.
 #[derive(Clone, Copy, Debug, PartialEq, Eq)]
 pub struct Reading {
     /// The word, or why the line's own levels show none.

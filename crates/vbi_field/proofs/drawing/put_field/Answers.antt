@@ -12,8 +12,9 @@ loop-row-init g c = Putting-none _ _ _ _ _ c.requires.black
 
 pub put_all-requires-clause-few : goal.put_all-requires-clause-few
 put_all-requires-clause-few g c =
+    let config = c.args.config.now in
     let long = ap length c.next_line.ensures
-    ∙ length-drawn_line_of c.args.config.now.system c.args.config.now.levels (word_at c.args.words.now c.loop-row.row) in
+    ∙ length-drawn_line_of config.system config.levels (word_at c.args.words.now c.loop-row.row) in
     let sizes = sizes_of c.args.config.now.system in
     omega arith
 

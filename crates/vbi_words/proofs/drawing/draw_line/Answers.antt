@@ -6,7 +6,8 @@ use Rattle.vbi_words.proofs.drawing.draw_line.Goals as goal
 
 pub loop-column-preserved : goal.loop-column-preserved
 loop-column-preserved c =
-    one_column c.args.system c.args.slicing c.args.word c.loop-column.line c.loop-column.column c.drawn_sample-sample.result
+    one_column c.args.system c.args.slicing c.args.word c.loop-column.line c.loop-column.column
+    c.drawn_sample-sample.result
     (omega (arith, line_bytes-twice c.args.system)) c.drawn_sample-sample.ensures c.loop-column.invariant
 
 pub returns : goal.returns
