@@ -1,7 +1,8 @@
 //! Fields drawn from rows of words.
 ghost use Rattle.std.specs.Prelude.{◌≡◌, ◌+◌, ◌-◌, ◌*◌, ◌^◌, ◌≤◌, None, length, OnOk, OnErr, IfErr};
 ghost use Rattle.vbi_words.specs.Drawn.{drawn_line_of};
-ghost use Rattle.vbi_line.specs.Counted.{failures_of, NoError, HasCause, IsSameDevice};
+ghost use Rattle.vbi_line.specs.Counted.{tries, failures_of, NoError, HasCause, IsSameDevice};
+ghost use Rattle.vbi_field.specs.Limits.{most_rows};
 ghost use Rattle.vbi_field.specs.Outlet as outlets;
 ghost use Rattle.vbi_field.specs.Outlet.{written_of, Wrote, WrotePart};
 ghost use Rattle.vbi_field.specs.RowIntake as intakes;
@@ -96,7 +97,7 @@ fn put_field<W: Write>(
     ensures least { (failures_of (outlets.counted_of outlet.old)).all
         ≤ (failures_of (outlets.counted_of outlet.new)).all }
     ensures most { (failures_of (outlets.counted_of outlet.new)).all ≤ (failures_of (outlets.counted_of outlet.old)).all
-        + 17 * (length (drawn_field_of config.now words.now) + 313) }
+        + tries * (length (drawn_field_of config.now words.now) + most_rows) }
     ensures no_error { OnOk result (NoError (outlets.counted_of outlet.old) (outlets.counted_of outlet.new)) }
     ensures failed { OnErr result (HasCause (outlets.counted_of outlet.old) (outlets.counted_of outlet.new)) }
     ensures fault { IfErr result (λ e. e ≡ DrawFault.Write (written_of outlet.new)) }
