@@ -1,2 +1,2 @@
-mod DrawnLines
+mod Drawn
 mod Reported

@@ -1,9 +1,5 @@
--- Drawn lines, as C asks for them (this project's own).
-use Rattle.std.specs.Prelude.{ℕ, List, Option, Some, None, Result, Ok, Err}
-use Rattle.vbi_words.specs.declared.outcome.Reading.{Reading}
-use Rattle.vbi_words.specs.declared.outcome.Outcome.TheVariants.{Word, Blank}
-use Rattle.vbi_words.specs.Levels.{samples_of}
-use Rattle.vbi_words.specs.Drawn.{IsDrawnRow}
+-- Drawn lines, as C asks for them.
+use Rattle.std.specs.Prelude.{ℕ, Option, Result, Ok, Err}
 use Rattle.vbi_c.specs.declared.setup.Setup.{Setup}
 use Rattle.vbi_c.specs.declared.drawing.Drawing.{Drawing}
 use Rattle.vbi_c.specs.declared.status.Refusal.{Refusal}
@@ -19,12 +15,3 @@ with_word (Ok setup) (Ok word) = Ok (record { setup = setup; word = word })
 -- what these numbers ask to be drawn on so many bytes: after the setup and the length the word is looked at
 abbrev pub drawing_of : ℕ → ℕ → ℕ → ℕ → ℕ → Result Drawing Refusal
 drawing_of system black white word length = with_word (line_setup system black white length) (word_or_none word)
-
--- the bytes are those of the drawn row of the word, or of none
-abbrev pub IsDrawnLine : Drawing → List ℕ → Type 0
-IsDrawnLine drawing bytes = IsDrawnRow drawing.setup.system drawing.setup.levels drawing.word (samples_of bytes)
-
--- what a drawn row is read as: the word, in the first pass, or blank where there is none
-abbrev pub drawn_reading : Option ℕ → Reading
-drawn_reading None = record { outcome = Blank; pass = 0 }
-drawn_reading (Some word) = record { outcome = Word word; pass = 1 }

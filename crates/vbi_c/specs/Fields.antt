@@ -1,20 +1,17 @@
--- The readings of a field's lines 16, 17 and 18, and of each field of a stream, as C sees them (this project's own).
+-- The readings of a field's lines 16, 17 and 18, and of each field of a stream, as C sees them.
 use Rattle.std.specs.Prelude.{ℕ, ◌+◌, ◌*◌, List, [], ◌∷◌, take, drop, map}
 use Rattle.std.specs.List.{AllZip, range_with_len}
 use Rattle.vbi_words.specs.declared.system.System.{System}
-use Rattle.vbi_words.specs.Geometry.{line_bytes, field_bytes}
+use Rattle.vbi_words.specs.Geometry.{field_bytes}
+use Rattle.vbi_words.specs.Rows.{line_at}
 use Rattle.vbi_c.specs.declared.setup.Setup.{Setup}
 use Rattle.vbi_c.specs.declared.fields.LdvbiFieldReadings.{LdvbiFieldReadings}
 use Rattle.vbi_c.specs.Readings.{line_reading, ReportsLine}
 
--- the bytes of a row, counted from 0
-abbrev pub row_in : System → List ℕ → ℕ → List ℕ
-row_in system bytes row = take (line_bytes system) (drop (line_bytes system * row) bytes)
-
 -- three rows, one after the other, from this one on
 abbrev pub three_rows : System → List ℕ → ℕ → List (List ℕ)
 three_rows system bytes first =
-    row_in system bytes first ∷ row_in system bytes (first + 1) ∷ row_in system bytes (first + 2) ∷ []
+    line_at system bytes 0 first ∷ line_at system bytes 0 (first + 1) ∷ line_at system bytes 0 (first + 2) ∷ []
 
 -- the readings of rows
 abbrev pub rows_reading : Setup → List (List ℕ) → LdvbiFieldReadings

@@ -1,4 +1,4 @@
--- The reading of a line as C sees it (the numbers are this project's own).
+-- The reading of a line as C sees it.
 use Rattle.std.specs.Prelude.{◌≡◌, ℕ, List}
 use Rattle.vbi_words.specs.declared.outcome.Outcome.{Outcome}
 use Rattle.vbi_words.specs.declared.outcome.Outcome.TheVariants.{Word, Blank, Unfinished, Change, Hold}

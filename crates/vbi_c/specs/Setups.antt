@@ -1,5 +1,5 @@
--- What the numbers of a call stand for, and why they are refused (this project's own): the system is looked at first,
--- then black and white, then the length. The numbers of systems and levels may be any of 32 bits.
+-- What the numbers of a call stand for, and why they are refused: the system is looked at first, then black and white,
+-- then the length. The numbers of systems and levels may be any of 32 bits.
 use Rattle.std.specs.Prelude.{ℕ, ◌*◌, ◌==◌, ◌&&◌, nat_lt, nat_le, if◌then◌else◌}
 use Rattle.std.specs.Prelude.{Option, Some, None, Result, Ok, Err}
 use Rattle.vbi_words.specs.declared.system.System as words

@@ -1,7 +1,6 @@
--- Words that C names by their numbers, where 0 is none (this project's own).
+-- Words that C names by their numbers, where 0 is none.
 use Rattle.std.specs.Prelude.{ℕ, ◌==◌, ◌^◌, ◌&&◌, nat_le, nat_lt, if◌then◌else◌, List, [], ◌∷◌, Option, Some, None}
 use Rattle.std.specs.Prelude.{Result, Ok, Err}
-use Rattle.vbi_words.specs.Words.{IsWord}
 use Rattle.vbi_c.specs.declared.status.Refusal.{Refusal}
 use Rattle.vbi_c.specs.declared.status.Refusal.TheVariants.{Word}
 
@@ -10,11 +9,6 @@ abbrev pub word_or_none : ℕ → Result (Option ℕ) Refusal
 word_or_none number =
     if number == 0 then Ok None
     else (if nat_le (2 ^ 23) number && nat_lt number (2 ^ 24) then Ok (Some number) else Err Word)
-
--- a word, or none
-abbrev pub IsWordOrNone : Option ℕ → Type 0
-IsWordOrNone None = Unit {0}
-IsWordOrNone (Some word) = IsWord word
 
 -- one word more before these
 abbrev pub with_word : Result (Option ℕ) Refusal → Result (List (Option ℕ)) Refusal

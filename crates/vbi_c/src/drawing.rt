@@ -1,16 +1,16 @@
 //! Drawing a line.
 
 ghost use Rattle.std.specs.Prelude.{◌≡◌, ◌≢◌, ◌<◌, length, IfOk};
-ghost use Rattle.vbi_words.specs.Geometry.{line_bytes};
-ghost use Rattle.vbi_c.specs.Drawing.{drawing_of, IsDrawnLine, drawn_reading};
+ghost use Rattle.vbi_words.specs.Drawn.{drawn_line_of, drawn_reading};
+ghost use Rattle.vbi_words.specs.Words.{IsWordOrNone};
+ghost use Rattle.vbi_c.specs.Drawing.{drawing_of};
 ghost use Rattle.vbi_c.specs.Readings.{line_reading, reading_for_c};
 ghost use Rattle.vbi_c.specs.Statuses.{status_of};
-ghost use Rattle.vbi_c.specs.Words.{IsWordOrNone};
 
-use crate::setup::{Setup, find_line_setup};
+use crate::setup::{Setup, line_setup};
 use crate::status::{DONE, Refusal};
-use crate::word::find_word;
-use vbi_words::{Word24, drawn_sample};
+use crate::word::word_or_none;
+use vbi_words::{Word24, draw_line};
 
 /// What is to be drawn, and how.
 #[derive(Clone, Copy, Debug)]
@@ -20,7 +20,7 @@ pub(crate) struct Drawing {
 }
 
 /// The drawing of a word, or of none for 0, on so many bytes.
-fn find_drawing(
+fn drawing_of(
     system: u32,
     black: u32,
     white: u32,
@@ -31,26 +31,9 @@ fn find_drawing(
     ensures order { IfOk result (λ drawing. drawing.setup.levels.black < drawing.setup.levels.white) }
     ensures word { IfOk result (λ drawing. IsWordOrNone drawing.word) }
 {
-    let setup = find_line_setup(system, black, white, length)?;
-    let word = find_word(word)?;
+    let setup = line_setup(system, black, white, length)?;
+    let word = word_or_none(word)?;
     Ok(Drawing { setup, word })
-}
-
-/// Draws a word, or none, on a line.
-fn draw(drawing: &Drawing, bytes: &mut [u8])
-    requires order { drawing.now.setup.levels.black < drawing.now.setup.levels.white }
-    requires word { IsWordOrNone drawing.now.word }
-    requires long { length bytes.old ≡ line_bytes drawing.now.setup.system }
-    ensures drawn { IsDrawnLine drawing.now bytes.new }
-    ensures reads { line_reading drawing.now.setup bytes.new ≡ reading_for_c (drawn_reading drawing.now.word) }
-{
-    let setup = &drawing.setup;
-    let word = &drawing.word;
-    for column in 0..setup.system.width() {
-        let sample = drawn_sample(setup.system, setup.levels, *word, column);
-        bytes[2 * column] = (sample % 256) as u8;
-        bytes[2 * column + 1] = (sample / 256) as u8;
-    }
 }
 
 /// Writes the samples of a line that shows the word, or of a blank line for 0, into `ldvbi_line_bytes(system)` bytes:
@@ -65,14 +48,15 @@ pub extern "C" fn ldvbi_draw_line(
 ) -> u32
     ensures status { result ≡ status_of (drawing_of system black white word (length bytes.old)) }
     ensures draws { IfOk (drawing_of system black white word (length bytes.old)) (λ drawing.
-        IsDrawnLine drawing bytes.new) }
+        bytes.new ≡ drawn_line_of drawing.setup.system drawing.setup.levels drawing.word) }
     ensures reads { IfOk (drawing_of system black white word (length bytes.old)) (λ drawing.
         line_reading drawing.setup bytes.new ≡ reading_for_c (drawn_reading drawing.word)) }
     ensures unwritten { result ≢ 0 → bytes.new ≡ bytes.old }
 {
-    match find_drawing(system, black, white, word, bytes.len()) {
+    match drawing_of(system, black, white, word, bytes.len()) {
         Ok(drawing) => {
-            draw(&drawing, bytes);
+            let setup = &drawing.setup;
+            draw_line(setup.system, setup.levels, drawing.word, bytes);
             DONE
         }
         Err(refusal) => refusal.status(),

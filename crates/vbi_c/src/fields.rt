@@ -2,13 +2,14 @@
 
 ghost use Rattle.std.specs.Prelude.{◌≡◌, ◌≢◌, ◌+◌, ◌*◌, ◌≤◌, length, IfOk};
 ghost use Rattle.vbi_words.specs.Geometry.{line_bytes, field_bytes};
-ghost use Rattle.vbi_c.specs.Fields.{row_in, three_rows, rows_reading, ReportsRows};
+ghost use Rattle.vbi_words.specs.Rows.{line_at};
+ghost use Rattle.vbi_c.specs.Fields.{three_rows, rows_reading, ReportsRows};
 ghost use Rattle.vbi_c.specs.Fields.{field_reading, ReportsField, fields_reading, ReportsFields};
 ghost use Rattle.vbi_c.specs.Setups.{rows_setup, fields_setup};
 ghost use Rattle.vbi_c.specs.Statuses.{status_of};
 
 use crate::reading::{LdvbiReading, read_bytes};
-use crate::setup::{Setup, find_fields_setup, find_rows_setup};
+use crate::setup::{Setup, fields_setup, rows_setup};
 use crate::status::DONE;
 use std::mem::size_of;
 use vbi_words::System;
@@ -30,7 +31,7 @@ const _: () = prove!(size_of::<LdvbiFieldReadings>() == 24);
 /// The bytes of a row, counted from 0.
 fn row(system: System, bytes: &[u8], row: usize) -> &[u8]
     requires { line_bytes system * row + line_bytes system ≤ length bytes.now }
-    ensures row { result.now ≡ row_in system bytes.now row }
+    ensures row { result.now ≡ line_at system bytes.now 0 row }
     ensures long { length result.now ≡ line_bytes system }
 {
     let line = system.line_bytes();
@@ -90,7 +91,7 @@ pub extern "C" fn ldvbi_read_rows(
         ReportsRows setup (three_rows setup.system bytes.now 0) readings.new) }
     ensures unwritten { result ≢ 0 → readings.new ≡ readings.old }
 {
-    match find_rows_setup(system, black, white, bytes.len()) {
+    match rows_setup(system, black, white, bytes.len()) {
         Ok(setup) => {
             *readings = read_three(&setup, bytes, 0);
             DONE
@@ -115,7 +116,7 @@ pub extern "C" fn ldvbi_read_field(
         ReportsField setup bytes.now readings.new) }
     ensures unwritten { result ≢ 0 → readings.new ≡ readings.old }
 {
-    match find_fields_setup(system, black, white, bytes.len(), 1) {
+    match fields_setup(system, black, white, bytes.len(), 1) {
         Ok(setup) => {
             *readings = read_whole(&setup, bytes);
             DONE
@@ -141,7 +142,7 @@ pub extern "C" fn ldvbi_read_fields(
         ReportsFields setup bytes.now (length readings.old) readings.new) }
     ensures unwritten { result ≢ 0 → readings.new ≡ readings.old }
 {
-    match find_fields_setup(system, black, white, bytes.len(), readings.len()) {
+    match fields_setup(system, black, white, bytes.len(), readings.len()) {
         Ok(setup) => {
             read_all(&setup, bytes, readings);
             DONE

@@ -7,14 +7,18 @@ ghost use Rattle.vbi_c.specs.Statuses.{status_of};
 ghost use Rattle.vbi_c.specs.Words.{three_words};
 
 use crate::status::{DONE, Refusal};
-use crate::word::find_word;
+use crate::word::word_or_none;
 use vbi_words::{Format, Word24, format_of};
 
 /// The words with these three numbers, each a word or 0 for none.
-fn find_words(first: u32, second: u32, third: u32) -> Result<[Option<Word24>; 3], Refusal>
+fn three_words(first: u32, second: u32, third: u32) -> Result<[Option<Word24>; 3], Refusal>
     ensures { result ≡ three_words first second third }
 {
-    Ok([find_word(first)?, find_word(second)?, find_word(third)?])
+    Ok([
+        word_or_none(first)?,
+        word_or_none(second)?,
+        word_or_none(third)?,
+    ])
 }
 
 /// A format as C sees it.
@@ -48,7 +52,7 @@ pub extern "C" fn ldvbi_format(first: u32, second: u32, third: u32, format: &mut
     ensures reports { IfOk (three_words first second third) (λ lines. ReportsFormat lines format.new) }
     ensures unwritten { result ≢ 0 → format.new ≡ format.old }
 {
-    match find_words(first, second, third) {
+    match three_words(first, second, third) {
         Ok(words) => {
             *format = format_of_words(&words);
             DONE

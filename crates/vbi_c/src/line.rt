@@ -6,7 +6,7 @@ ghost use Rattle.vbi_c.specs.Setups.{line_setup};
 ghost use Rattle.vbi_c.specs.Statuses.{status_of};
 
 use crate::reading::{LdvbiReading, read_bytes};
-use crate::setup::find_line_setup;
+use crate::setup::line_setup;
 use crate::status::DONE;
 
 /// The reading of a line of `ldvbi_line_bytes(system)` bytes: samples of 16 bits, the low byte first, as in ld-decode's
@@ -26,7 +26,7 @@ pub extern "C" fn ldvbi_read_line(
         ReportsLine setup bytes.now reading.new) }
     ensures unwritten { result ≢ 0 → reading.new ≡ reading.old }
 {
-    match find_line_setup(system, black, white, bytes.len()) {
+    match line_setup(system, black, white, bytes.len()) {
         Ok(setup) => {
             *reading = read_bytes(&setup, bytes);
             DONE

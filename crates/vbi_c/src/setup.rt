@@ -14,7 +14,7 @@ pub(crate) struct Setup {
 }
 
 /// The system of a number: 1 is NTSC, 2 is PAL.
-pub(crate) fn find_system(number: u32) -> Option<System>
+pub(crate) fn system_of(number: u32) -> Option<System>
     ensures { result ≡ system_of number }
 {
     match number {
@@ -25,11 +25,11 @@ pub(crate) fn find_system(number: u32) -> Option<System>
 }
 
 /// The system of a number with black and white, or why they are refused.
-fn find_setup(number: u32, black: u32, white: u32) -> Result<Setup, Refusal>
+fn setup_of(number: u32, black: u32, white: u32) -> Result<Setup, Refusal>
     ensures setup { result ≡ setup_of number black white }
     ensures order { IfOk result (λ setup. setup.levels.black < setup.levels.white) }
 {
-    let Some(system) = find_system(number) else {
+    let Some(system) = system_of(number) else {
         return Err(Refusal::System);
     };
     // Samples have 16 bits.
@@ -43,7 +43,7 @@ fn find_setup(number: u32, black: u32, white: u32) -> Result<Setup, Refusal>
 }
 
 /// The same for so many bytes, which have to be those of a line.
-pub(crate) fn find_line_setup(
+pub(crate) fn line_setup(
     number: u32,
     black: u32,
     white: u32,
@@ -52,7 +52,7 @@ pub(crate) fn find_line_setup(
     ensures setup { result ≡ line_setup number black white length }
     ensures order { IfOk result (λ setup. setup.levels.black < setup.levels.white) }
 {
-    let setup = find_setup(number, black, white)?;
+    let setup = setup_of(number, black, white)?;
     if length != setup.system.line_bytes() {
         return Err(Refusal::Length);
     }
@@ -60,7 +60,7 @@ pub(crate) fn find_line_setup(
 }
 
 /// The same for so many bytes, which have to be those of three lines.
-pub(crate) fn find_rows_setup(
+pub(crate) fn rows_setup(
     number: u32,
     black: u32,
     white: u32,
@@ -68,7 +68,7 @@ pub(crate) fn find_rows_setup(
 ) -> Result<Setup, Refusal>
     ensures { result ≡ rows_setup number black white length }
 {
-    let setup = find_setup(number, black, white)?;
+    let setup = setup_of(number, black, white)?;
     if length != 3 * setup.system.line_bytes() {
         return Err(Refusal::Length);
     }
@@ -76,7 +76,7 @@ pub(crate) fn find_rows_setup(
 }
 
 /// The same for so many bytes, which have to be those of that many fields.
-pub(crate) fn find_fields_setup(
+pub(crate) fn fields_setup(
     number: u32,
     black: u32,
     white: u32,
@@ -85,7 +85,7 @@ pub(crate) fn find_fields_setup(
 ) -> Result<Setup, Refusal>
     ensures { result ≡ fields_setup number black white length count }
 {
-    let setup = find_setup(number, black, white)?;
+    let setup = setup_of(number, black, white)?;
     // No product of the two numbers, which C may have chosen too large for one.
     let field = setup.system.field_bytes();
     if length / field != count || length % field != 0 {

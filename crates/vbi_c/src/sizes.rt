@@ -4,14 +4,14 @@ ghost use Rattle.std.specs.Prelude.{◌≡◌};
 ghost use Rattle.vbi_words.specs.Geometry.{width_of, height_of, line_bytes, field_bytes};
 ghost use Rattle.vbi_c.specs.Setups.{system_of, of_system};
 
-use crate::setup::find_system;
+use crate::setup::system_of;
 
 /// The samples of a line, or 0 where there is no system of that number.
 #[unsafe(no_mangle)]
 pub extern "C" fn ldvbi_line_samples(system: u32) -> usize
     ensures { result ≡ of_system width_of (system_of system) }
 {
-    match find_system(system) {
+    match system_of(system) {
         Some(system) => system.width(),
         None => 0,
     }
@@ -22,7 +22,7 @@ pub extern "C" fn ldvbi_line_samples(system: u32) -> usize
 pub extern "C" fn ldvbi_line_bytes(system: u32) -> usize
     ensures { result ≡ of_system line_bytes (system_of system) }
 {
-    match find_system(system) {
+    match system_of(system) {
         Some(system) => system.line_bytes(),
         None => 0,
     }
@@ -33,7 +33,7 @@ pub extern "C" fn ldvbi_line_bytes(system: u32) -> usize
 pub extern "C" fn ldvbi_lines(system: u32) -> usize
     ensures { result ≡ of_system height_of (system_of system) }
 {
-    match find_system(system) {
+    match system_of(system) {
         Some(system) => system.height(),
         None => 0,
     }
@@ -44,7 +44,7 @@ pub extern "C" fn ldvbi_lines(system: u32) -> usize
 pub extern "C" fn ldvbi_field_bytes(system: u32) -> usize
     ensures { result ≡ of_system field_bytes (system_of system) }
 {
-    match find_system(system) {
+    match system_of(system) {
         Some(system) => system.field_bytes(),
         None => 0,
     }

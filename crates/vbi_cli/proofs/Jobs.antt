@@ -8,7 +8,7 @@ use Rattle.vbi_field.specs.Texts.{Texts}
 use Rattle.vbi_field.specs.declared.summary.RunFault.{RunFault}
 use Rattle.vbi_field.specs.declared.summary.RunFault.TheVariants.{Read, Write, TooManyFields, Failed}
 use Rattle.vbi_field.specs.declared.summary.Summary.{Summary}
-use Rattle.vbi_meta.proofs.DocumentTells.{extracted}
+use Rattle.vbi_meta.proofs.DocumentReadings.{extracted}
 use Rattle.vbi_meta.specs.DocumentValue.{IsConfig}
 use Rattle.vbi_meta.specs.ReadBack.{ReadsBack}
 use Rattle.vbi_cli.specs.Jobs.{ExtractsWords}

@@ -1,6 +1,6 @@
 -- What the command `line` does, by its answer: z are the bytes fetched, text is what was written, and n what was
 -- counted.
-use Rattle.std.specs.Prelude.{◌≡◌, ℕ, ◌<◌, List, [], ◌∷◌, ◌++◌, length, Option, Result, Ok, Err}
+use Rattle.std.specs.Prelude.{◌≡◌, ℕ, ◌<◌, List, [], ◌++◌, codes, length, Option, Result, Ok, Err}
 use Rattle.std.specs.Io.KnownBytes.{IsAtEnd}
 use Rattle.vbi_words.specs.Geometry.{width_of, line_bytes}
 use Rattle.vbi_words.specs.Levels.{row_levels}
@@ -34,7 +34,7 @@ answer_of (Hold column) = cause_text_of (Hold column)
 
 -- the answer and a newline
 abbrev pub line_text : Outcome → List ℕ
-line_text outcome = answer_of outcome ++ 10 ∷ []
+line_text outcome = answer_of outcome ++ codes "\n"
 
 module _ (c : ConfigView) (input : Option (List ℕ)) (n : Counts) (z text : List ℕ) where
   -- Ok: one line's bytes were fetched and no more, each sample was looked at once, and the line's answer was written

@@ -1,4 +1,4 @@
--- The statuses that the program ends with (this project's own).
+-- The statuses that the program ends with.
 use Rattle.std.specs.Prelude.{ℕ, Result, Ok, Err}
 use Rattle.vbi_cli.specs.declared.fault.AppFault.{AppFault}
 use Rattle.vbi_cli.specs.declared.job.Ended.{Ended}

@@ -1,6 +1,7 @@
 //! The words of the command line, read into a job.
 
-ghost use Rattle.std.specs.Prelude.{◌≡◌};
+ghost use Rattle.std.specs.Prelude.{◌≡◌, None, IfOk, OnErr};
+ghost use Rattle.vbi_words.specs.Geometry.{name_of, system_named};
 ghost use Rattle.vbi_cli.specs.Statuses.{words_status};
 
 use crate::commands::program;
@@ -101,8 +102,12 @@ fn refusal(alloc: Global, error: &clap::Error) -> Result<WordsFault, AllocError>
 
 /// The job of a command and its options.
 fn job_of(alloc: Global, name: &str, options: &ArgMatches<'_>) -> Result<Job, WordsFault> {
+    let system = match options.get_str("system") {
+        None => None,
+        Some(name) => Some(system_named(alloc, name)?),
+    };
     let overrides = Overrides {
-        system: options.get_str("system").map(system_named),
+        system,
         black: options.get_one::<u16>("black"),
         white: options.get_one::<u16>("white"),
         max_fields: options.get_one::<u32>("max-fields"),
@@ -127,12 +132,17 @@ fn verb_named(name: &str) -> Verb {
     }
 }
 
-/// The system named `NTSC` or `PAL`; `clap` has refused every other.
-fn system_named(name: &str) -> System {
-    match name {
-        "NTSC" => System::Ntsc,
-        _ => System::Pal,
-    }
+/// The system of this name. `clap` has refused each name that isn't among the possible values; should one of these name
+/// no system, it is refused here.
+fn system_named(alloc: Global, name: &str) -> Result<System, WordsFault>
+    ensures ok { IfOk result (λ system. name.now ≡ name_of system) }
+    ensures refused { OnErr result (system_named name.now ≡ None) }
+{
+    let Some(system) = System::named(name) else {
+        let text = format!(in alloc; "error: no system is called '{name}'\n")?;
+        return Err(WordsFault::Refused(text));
+    };
+    Ok(system)
 }
 
 fn owned(alloc: Global, text: Option<&str>) -> Result<Option<String>, AllocError> {

@@ -12,7 +12,8 @@ use Rattle.vbi_field.specs.Outlet as outlets
 use Rattle.vbi_field.specs.RowIntake as intakes
 use Rattle.vbi_field.specs.RowIntake.{IsFresh, HasNoNewline, Fetches, TakesRow, TakesByte}
 use Rattle.vbi_field.specs.WordRows.{AreRows, rows_of, row_words, word_row_of}
-use Rattle.vbi_field.specs.Drawing.{draw_out, drawn_field_of, drawn_line_of}
+use Rattle.vbi_words.specs.Drawn.{drawn_line_of}
+use Rattle.vbi_field.specs.Drawing.{draw_out, drawn_field_of}
 use Rattle.vbi_field.specs.Draws.{EndsRow, Draws, RunsDrawing, counts_of}
 use Rattle.vbi_field.specs.declared.outlet.Outlet.{Outlet}
 use Rattle.vbi_field.specs.declared.row_intake.RowIntake.{RowIntake}
@@ -61,9 +62,10 @@ module _ {R W : Type 0} (remaining : R → Option (List ℕ)) (contents : W → 
     pub calm_reads : (failures_of (intakes.counted_of i)).errors ≡ 0
     pub calm_writes : (failures_of (outlets.counted_of o)).errors ≡ 0
     pub same_writer : IsSameDevice (outlets.counted_of o0) (outlets.counted_of o)
-    pub black : line ≡ drawn_line_of c None
+    pub black : line ≡ drawn_line_of c.system c.levels None
 
-  pub start : (line : List ℕ) → IsFresh i0 → outlets.IsFresh o0 → line ≡ drawn_line_of c None → Drawn 0 i0 o0 line
+  pub start : (line : List ℕ) → IsFresh i0 → outlets.IsFresh o0 → line ≡ drawn_line_of c.system c.levels None
+      → Drawn 0 i0 o0 line
   start line fresh clean black =
       let f = fresh.fetched in
       let n = fresh.failures in
@@ -292,7 +294,7 @@ module _ {R W : Type 0} (remaining : R → Option (List ℕ)) (contents : W → 
 
         -- the field is written, and rows may follow
         next_row : (line : List ℕ) → IsSameDevice (outlets.counted_of o) (outlets.counted_of p)
-            → line ≡ drawn_line_of c None → EndsRow (g.z ++ b)
+            → line ≡ drawn_line_of c.system c.levels None → EndsRow (g.z ++ b)
             → length b ≤ 21
             → (failures_of (intakes.counted_of j)).all ≤ (failures_of (intakes.counted_of i)).all + 357
             → (failures_of (outlets.counted_of p)).all
@@ -351,7 +353,7 @@ module _ {R W : Type 0} (remaining : R → Option (List ℕ)) (contents : W → 
           → IsSameDevice (outlets.counted_of o) (outlets.counted_of p)
           → (failures_of (outlets.counted_of p)).all
           ≤ (failures_of (outlets.counted_of o)).all + 17 * (length (drawn_field_of c words) + 313)
-          → line ≡ drawn_line_of c None → Drawn (done + 1) j p line
+          → line ≡ drawn_line_of c.system c.levels None → Drawn (done + 1) j p line
       row_drawn line wrote no_error same writes black =
           next_row j t.bytes words t.fetches t.caused (line_one t.bytes t.got.0 t.got.1 t.got.2)
           (line_is t.bytes t.got.0 words t.got.1 t.got.2 t.got.3)

@@ -15,7 +15,8 @@ use Rattle.vbi_field.specs.ConfigView.{ConfigView}
 use Rattle.vbi_field.specs.declared.readings.FieldReadings.{FieldReadings}
 use Rattle.vbi_field.specs.declared.progress.PartialReadings.{PartialReadings}
 use Rattle.vbi_field.specs.declared.progress.Progress.{Progress}
-use Rattle.vbi_field.specs.Stream.{line_at, reading_at, readings_at}
+use Rattle.vbi_words.specs.Rows.{line_at}
+use Rattle.vbi_field.specs.Stream.{reading_at, readings_at}
 use Rattle.vbi_field.specs.Position.{reading_among}
 use Rattle.vbi_field.specs.Progress.{IsProgress, IsLineOf, IsKept, Keeps, Advances, all_of}
 use Rattle.vbi_field.proofs.Counts.{sizes_of, times-next, bytes_before}

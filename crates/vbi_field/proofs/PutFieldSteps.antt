@@ -8,11 +8,13 @@ use Rattle.vbi_words.specs.Geometry.{height_of, line_bytes}
 use Rattle.vbi_field.specs.ConfigView.{ConfigView}
 use Rattle.vbi_line.specs.Counted.{device_of, failures_of, NoError, IsSameDevice}
 use Rattle.vbi_field.specs.Outlet.{counted_of, Puts, Wrote, WrotePart}
-use Rattle.vbi_field.specs.Drawing.{drawn_line_of, drawn_field_of, word_at}
+use Rattle.vbi_words.specs.Drawn.{drawn_line_of}
+use Rattle.vbi_field.specs.Drawing.{drawn_field_of, word_at}
 use Rattle.vbi_field.specs.declared.outlet.Outlet.{Outlet}
 use Rattle.vbi_field.specs.declared.word_row.WordRow.{WordRow}
 use Rattle.vbi_field.proofs.Counts.{sizes_of}
-use Rattle.vbi_field.proofs.DrawnLemmas.{length-drawn_line_of, lines_of, lines_of-more}
+use Rattle.vbi_words.proofs.DrawnLines.{length-drawn_line_of}
+use Rattle.vbi_field.proofs.DrawnLemmas.{lines_of, lines_of-more}
 use Rattle.vbi_field.proofs.Settling.{wrote_whole, put_in_part, longer_part, later_part}
 use Rattle.vbi_field.proofs.DrawnLemmas.{lines_of-none, lines_of-all, lines_of-split, last_word}
 
@@ -28,9 +30,9 @@ module _ {W : Type 0} (contents : W → Option (List ℕ)) (c : ConfigView) (wor
         ≤ (failures_of (counted_of old)).all + 17 * (length (lines_of c words row) + row)
     pub errors : NoError (counted_of old) (counted_of now)
     pub same : IsSameDevice (counted_of old) (counted_of now)
-    pub drawn : line ≡ drawn_line_of c (word_at words (row - 1))
+    pub drawn : line ≡ drawn_line_of c.system c.levels (word_at words (row - 1))
 
-  pub Putting-none : (line : List ℕ) → line ≡ drawn_line_of c None → Putting old line 0
+  pub Putting-none : (line : List ℕ) → line ≡ drawn_line_of c.system c.levels None → Putting old line 0
   Putting-none line e = record {
     appended = rw (lines_of-none c words) (Appends-nil _);
     written = rw (lines_of-none c words) (omega arith);
@@ -43,12 +45,13 @@ module _ {W : Type 0} (contents : W → Option (List ℕ)) (c : ConfigView) (wor
   }
 
   -- the length of a drawn line
-  long_line : (line : List ℕ) (word : Option ℕ) → line ≡ drawn_line_of c word → length line ≡ line_bytes c.system
-  long_line line word e = ap length e ∙ length-drawn_line_of c word
+  long_line : (line : List ℕ) (word : Option ℕ) → line ≡ drawn_line_of c.system c.levels word
+      → length line ≡ line_bytes c.system
+  long_line line word e = ap length e ∙ length-drawn_line_of c.system c.levels word
 
   -- one row more
   pub Putting-more : (now new : Outlet W) (before line : List ℕ) (row : ℕ) → Putting now before row
-      → line ≡ drawn_line_of c (word_at words row)
+      → line ≡ drawn_line_of c.system c.levels (word_at words row)
       → Puts contents now new line → new.written ≡ now.written + length line → NoError (counted_of now) (counted_of new)
       → IsSameDevice (counted_of now) (counted_of new) → Putting new line (row + 1)
   Putting-more now new before line row p e puts ok no_error same =
@@ -76,12 +79,12 @@ module _ {W : Type 0} (contents : W → Option (List ℕ)) (c : ConfigView) (wor
         most = omega arith;
         errors = no_error ∙ p.errors;
         same = same ∙ p.same;
-        drawn = e ∙ ap (λ (r : ℕ). drawn_line_of c (word_at words r)) (sym back);
+        drawn = e ∙ ap (λ (r : ℕ). drawn_line_of c.system c.levels (word_at words r)) (sym back);
       }
 
   -- the field is written
   pub put_whole : (now : Outlet W) (line : List ℕ) (row : ℕ) → Putting now line row → row ≡ height_of c.system
-      → Wrote contents old now (drawn_field_of c words) × (line ≡ drawn_line_of c None)
+      → Wrote contents old now (drawn_field_of c words) × (line ≡ drawn_line_of c.system c.levels None)
       × ((failures_of (counted_of now)).all ≤ (failures_of (counted_of old)).all
       + 17 * (length (drawn_field_of c words) + 313))
   put_whole now line row p e =
@@ -91,14 +94,15 @@ module _ {W : Type 0} (contents : W → Option (List ℕ)) (c : ConfigView) (wor
       let most = p.most in
       let sizes = sizes_of c.system in (
         record { appended = rw (← whole) p.appended; written = omega arith },
-        p.drawn ∙ ap (λ (r : ℕ). drawn_line_of c (word_at words (r - 1))) e ∙ ap (drawn_line_of c) (last_word c words),
+        p.drawn ∙ ap (λ (r : ℕ). drawn_line_of c.system c.levels (word_at words (r - 1))) e
+            ∙ ap (drawn_line_of c.system c.levels) (last_word c words),
         omega arith,
       )
 
   -- the writer failed in this row
   pub put_part : (now new : Outlet W) (before line : List ℕ) (row : ℕ) → Putting now before row
       → row < height_of c.system
-      → line ≡ drawn_line_of c (word_at words row) → (puts : Puts contents now new line)
+      → line ≡ drawn_line_of c.system c.levels (word_at words row) → (puts : Puts contents now new line)
       → new.written < now.written + length line
       → WrotePart contents old new (drawn_field_of c words)
       × ((failures_of (counted_of new)).all ≤ (failures_of (counted_of old)).all

@@ -7,7 +7,8 @@ use Rattle.vbi_words.specs.Levels.{row_levels}
 use Rattle.vbi_words.specs.Readings.{IsReading}
 use Rattle.vbi_words.specs.declared.outcome.Reading.{Reading}
 use Rattle.vbi_field.specs.ConfigView.{ConfigView}
-use Rattle.vbi_field.specs.Stream.{line_at, fields_of, rest_of}
+use Rattle.vbi_words.specs.Rows.{line_at}
+use Rattle.vbi_field.specs.Stream.{fields_of, rest_of}
 use Rattle.vbi_field.specs.Texts.{Texts}
 use Rattle.vbi_field.specs.declared.readings.FieldReadings.{FieldReadings}
 

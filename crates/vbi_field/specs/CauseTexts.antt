@@ -1,4 +1,4 @@
--- Why a line has no word, in the document and the report (this project's own texts), as lists of ASCII codes.
+-- Why a line has no word, in the document and the report, as lists of ASCII codes.
 use Rattle.std.specs.Prelude.{ℕ, List, ◌++◌, codes, decimal}
 use Rattle.vbi_words.specs.declared.outcome.Outcome.{Outcome}
 use Rattle.vbi_words.specs.declared.outcome.Outcome.TheVariants.{Word, Blank, Unfinished, Change, Hold}

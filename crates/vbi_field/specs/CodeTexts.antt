@@ -1,4 +1,4 @@
--- The texts of code words and of their codes in the report (this project's own), as lists of ASCII codes.
+-- The texts of code words and of their codes in the report, as lists of ASCII codes.
 use Rattle.std.specs.Prelude.{ℕ, ◌+◌, ◌-◌, List, [], ◌∷◌, ◌++◌, length, replicate, nat_lt, if◌then◌else◌, codes}
 use Rattle.std.specs.Prelude.{decimal}
 use Rattle.vbi_words.specs.declared.code.Code.{Code}

@@ -1,4 +1,4 @@
--- What a run is given (this project's own).
+-- What a run is given.
 use Rattle.std.specs.Prelude.{ℕ, ◌*◌}
 use Rattle.vbi_words.specs.Geometry.{field_bytes}
 use Rattle.vbi_words.specs.declared.system.System.{System}

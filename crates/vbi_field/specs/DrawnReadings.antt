@@ -1,29 +1,18 @@
 -- What the fields of a drawn stream are read as, and the text that is written for it.
-use Rattle.std.specs.Prelude.{ℕ, ◌+◌, ⊤, List, ◌++◌, length, slice_index_or, Option, Some, None}
+use Rattle.std.specs.Prelude.{ℕ, ◌+◌, List, ◌++◌, length, slice_index_or, None}
 use Rattle.std.specs.List.{join_by, range_with_len}
-use Rattle.vbi_words.specs.Words.{IsWord}
-use Rattle.vbi_words.specs.declared.outcome.Reading.{Reading}
-use Rattle.vbi_words.specs.declared.outcome.Outcome.TheVariants.{Word, Blank}
+use Rattle.vbi_words.specs.Drawn.{drawn_reading}
+use Rattle.vbi_words.specs.Words.{IsWordOrNone}
 use Rattle.vbi_field.specs.ConfigView.{ConfigView}
 use Rattle.vbi_field.specs.Texts.{Texts}
 use Rattle.vbi_field.specs.declared.readings.FieldReadings.{FieldReadings}
 use Rattle.vbi_field.specs.declared.word_row.WordRow.{WordRow}
 
--- a word, or none
-abbrev pub IsDrawable : Option ℕ → Type 0
-IsDrawable None = ⊤
-IsDrawable (Some word) = IsWord word
-
 -- a word or none for each line
 pub record AreDrawable (words : WordRow) : Type 0 where
-  pub first : IsDrawable words.first
-  pub second : IsDrawable words.second
-  pub third : IsDrawable words.third
-
--- the word in the first pass, or blank where there is none
-abbrev pub drawn_reading : Option ℕ → Reading
-drawn_reading None = record { outcome = Blank; pass = 0 }
-drawn_reading (Some word) = record { outcome = Word word; pass = 1 }
+  pub first : IsWordOrNone words.first
+  pub second : IsWordOrNone words.second
+  pub third : IsWordOrNone words.third
 
 -- the readings of a field that is drawn with these words
 abbrev pub drawn_readings : WordRow → FieldReadings

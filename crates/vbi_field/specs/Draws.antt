@@ -5,11 +5,12 @@ use Rattle.std.specs.Io.KnownBytes.{IsAtEnd}
 use Rattle.vbi_field.specs.ConfigView.{ConfigView}
 use Rattle.vbi_field.specs.Drawing.{draw_out}
 use Rattle.vbi_line.specs.Counted.{device_of, failures_of}
+use Rattle.vbi_field.specs.Limits.{longest_row}
 use Rattle.vbi_field.specs.Outlet as outlets
 use Rattle.vbi_field.specs.Ran.{Counts, HasFailed, IsCalm, Ran, EndsInside}
 use Rattle.vbi_field.specs.RowIntake as intakes
 use Rattle.vbi_field.specs.RowIntake.{HasNoNewline}
-use Rattle.vbi_field.specs.WordRows.{AreRows, rows_of, row_words}
+use Rattle.vbi_field.specs.WordRows.{newline, AreRows, rows_of, row_words}
 use Rattle.vbi_field.specs.declared.drawing.DrawFault.{DrawFault}
 use Rattle.vbi_field.specs.declared.drawing.DrawFault.TheVariants.{Row, Read, Write, TooManyFields}
 use Rattle.vbi_field.specs.declared.outlet.Outlet.{Outlet}
@@ -18,7 +19,7 @@ use Rattle.vbi_field.specs.declared.word_row.WordRow.{WordRow}
 
 -- the text is empty or ends with a newline, so it is whole rows
 abbrev pub EndsRow : List ℕ → Type 0
-EndsRow text = (text ≡ []) ⊎ ((front : List ℕ) × (text ≡ front ++ 10 ∷ []))
+EndsRow text = (text ≡ []) ⊎ ((front : List ℕ) × (text ≡ front ++ newline ∷ []))
 
 module _ (c : ConfigView) (input : Option (List ℕ)) (n : Counts) (z text : List ℕ) where
   -- Ok: the reader ended behind this many rows, each of them well formed, and their fields were written
@@ -43,7 +44,7 @@ module _ (c : ConfigView) (input : Option (List ℕ)) (n : Counts) (z text : Lis
     pub number_of : number ≡ length rows + 1
     pub few : number ≤ c.max_fields
     pub malformed : row_words row ≡ None
-    pub read_to : ((front : List ℕ) × (row ≡ front ++ 10 ∷ [])) ⊎ (IsAtEnd input ⊎ (length row ≡ 21))
+    pub read_to : ((front : List ℕ) × (row ≡ front ++ newline ∷ [])) ⊎ (IsAtEnd input ⊎ (length row ≡ longest_row))
     pub drawn : text ≡ draw_out c rows
     pub calm : IsCalm n
 

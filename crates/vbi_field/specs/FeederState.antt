@@ -6,6 +6,7 @@ use Rattle.vbi_line.specs.Line.{Line}
 use Rattle.vbi_field.specs.Feed.{IsFed}
 use Rattle.vbi_field.specs.Position.{Position}
 use Rattle.vbi_field.specs.ConfigView.{ConfigView}
+use Rattle.vbi_field.specs.Limits.{most_fields}
 use Rattle.vbi_field.specs.declared.outlet.Outlet.{Outlet}
 use Rattle.vbi_field.specs.declared.progress.Progress.{Progress}
 use Rattle.vbi_field.specs.declared.summary.RunFault.{RunFault}
@@ -33,7 +34,7 @@ pub record IsFeederState (c : ConfigView) (l : Line) (p : Progress) : Type 0 whe
   pub short : length l.held < line_bytes c.system
   pub inside : p.row < height_of c.system
   pub few : p.fields ≤ c.max_fields
-  pub most : p.fields ≤ 1000000
+  pub most : p.fields ≤ most_fields
   pub looked : l.looked ≡ width_of c.system * selected p.fields p.row
 
 -- what the first bytes of a piece did, where the line and the progress were those of z before

@@ -1,4 +1,4 @@
--- What a contract sees of a feeder (this project's own).
+-- What a contract sees of a feeder.
 use Rattle.std.specs.Prelude.{ℕ, Bool}
 use Rattle.vbi_field.specs.Position.{Position}
 use Rattle.vbi_field.specs.ConfigView.{ConfigView}

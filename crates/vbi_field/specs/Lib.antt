@@ -2,6 +2,7 @@ pub mod ByLines
 pub mod CauseTexts
 pub mod CodeTexts
 pub mod ConfigView
+pub mod Limits
 pub mod Document
 pub mod Drawing
 pub mod DrawnReadings

@@ -5,7 +5,7 @@ use Rattle.vbi_words.specs.Geometry.{width_of, line_bytes}
 use Rattle.vbi_words.specs.Levels.{LevelsView, row_levels}
 use Rattle.vbi_words.specs.declared.outcome.Reading.{Reading}
 use Rattle.vbi_line.specs.OneReading.{reading_of}
-use Rattle.vbi_line.specs.Counted.{device_of, failures_of, NoError, HasCause}
+use Rattle.vbi_line.specs.Counted.{tries, device_of, failures_of, NoError, HasCause}
 use Rattle.vbi_line.specs.Intake.{counted_of, fetched_of, held_of, line_of}
 use Rattle.vbi_line.specs.declared.intake.Intake.{Intake}
 use Rattle.vbi_field.specs.declared.run.NextLine.{NextLine}
@@ -54,6 +54,6 @@ module _ {R : Type 0} (remaining : R → Option (List ℕ)) (levels : LevelsView
       pub consumed : Consumes (remaining (device_of (counted_of old))) (remaining (device_of (counted_of new))) bytes
       pub fetched : fetched_of new ≡ fetched_of old + length bytes
       pub least : (failures_of (counted_of old)).all ≤ (failures_of (counted_of new)).all
-      pub most : (failures_of (counted_of new)).all ≤ (failures_of (counted_of old)).all + 17 * (length bytes + 1)
+      pub most : (failures_of (counted_of new)).all ≤ (failures_of (counted_of old)).all + tries * (length bytes + 1)
       pub system : (line_of new).system ≡ (line_of old).system
       pub got : Got remaining levels selected old new bytes result

@@ -1,4 +1,4 @@
--- How far a stream has come (this project's own).
+-- How far a stream has come.
 use Rattle.std.specs.Prelude.{ℕ, ◌-◌, ◌/◌, ◌%◌, List, length, drop, nat_lt, if◌then◌else◌, Option, Some, None}
 use Rattle.vbi_words.specs.Geometry.{line_bytes}
 use Rattle.vbi_words.specs.declared.outcome.Reading.{Reading}

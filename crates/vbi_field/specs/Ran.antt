@@ -3,13 +3,14 @@
 -- where they tell them.
 use Rattle.std.specs.Prelude.{◌≡◌, ℕ, ◌<◌, ◌≤◌, ◌⊎◌, List, ◌++◌, length, take, Option}
 use Rattle.std.specs.Io.KnownBytes.{Consumes, Appends}
+use Rattle.vbi_line.specs.Counted.{tries}
 use Rattle.vbi_line.specs.declared.counted.Failures.{Failures}
 
 -- a device that failed for good: its one error was its last answer, or its last seventeen answers or more were
 -- interruptions
 pub record HasFailed (f : Failures) : Type 0 where
   pub rose : 0 < f.all
-  pub cause : ((f.errors ≡ 1) × (f.streak ≡ 0)) ⊎ ((f.errors ≡ 0) × (17 ≤ f.streak))
+  pub cause : ((f.errors ≡ 1) × (f.streak ≡ 0)) ⊎ ((f.errors ≡ 0) × (tries ≤ f.streak))
 
 -- what a run counted: the bytes fetched and written, the samples looked at, and the failures of its two devices
 pub record Counts : Type 0 where

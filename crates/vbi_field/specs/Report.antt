@@ -1,6 +1,5 @@
--- The report of `show` (this project's own): a head line, four lines a whole field, and a last line; lists of ASCII
--- codes.
-use Rattle.std.specs.Prelude.{ℕ, ◌+◌, List, [], ◌∷◌, ◌++◌, ◌==◌, if◌then◌else◌, codes, decimal, Option, Some, None}
+-- The report of `show`: a head line, four lines a whole field, and a last line; lists of ASCII codes.
+use Rattle.std.specs.Prelude.{ℕ, ◌+◌, List, [], ◌∷◌, ◌++◌, ◌==◌, if◌then◌else◌, codes, decimal, Option}
 use Rattle.vbi_words.specs.declared.system.System.{System}
 use Rattle.vbi_words.specs.declared.outcome.Outcome.{Outcome}
 use Rattle.vbi_words.specs.declared.outcome.Outcome.TheVariants.{Word}
@@ -8,6 +7,7 @@ use Rattle.vbi_words.specs.declared.format.Format.{Format}
 use Rattle.vbi_words.specs.declared.format.Format.TheVariants.{Cav, Clv, Both, Neither}
 use Rattle.vbi_words.specs.Geometry.{name_of, width_of, height_of}
 use Rattle.vbi_words.specs.Levels.{LevelsView}
+use Rattle.vbi_words.specs.Outcomes.{word_of}
 use Rattle.vbi_words.specs.CodeTable.{code_of}
 use Rattle.vbi_words.specs.Formats.{format_of_lines}
 use Rattle.vbi_field.specs.declared.readings.FieldReadings.{FieldReadings}
@@ -20,11 +20,6 @@ report_head_of system slicing =
     codes "system " ++ name_of system ++ codes " " ++ decimal (width_of system) ++ codes "x"
     ++ decimal (height_of system)
     ++ codes " black " ++ decimal slicing.black ++ codes " white " ++ decimal slicing.white ++ codes "\n"
-
--- the word of a line, if it has one
-abbrev pub word_of : Outcome → Option ℕ
-word_of (Word word) = Some word
-word_of _ = None
 
 -- a field's words
 abbrev pub field_words_of : FieldReadings → List (Option ℕ)

@@ -1,9 +1,11 @@
 -- What a contract sees of an intake of rows of words, and what its calls take from the reader.
-use Rattle.std.specs.Prelude.{◌≡◌, ◌≢◌, ℕ, ◌+◌, ◌<◌, ◌≤◌, ◌⊎◌, List, [], ◌∷◌, ◌++◌, All, length, ⊤, Option, Some, None}
+use Rattle.std.specs.Prelude.{◌≡◌, ◌≢◌, ℕ, ◌+◌, ◌*◌, ◌<◌, ◌≤◌, ◌⊎◌, List, [], ◌∷◌, ◌++◌, All, length, ⊤}
+use Rattle.std.specs.Prelude.{Option, Some, None}
 use Rattle.std.specs.Io.KnownBytes.{Consumes, IsAtEnd}
-use Rattle.vbi_line.specs.Counted.{device_of, failures_of, NoError, HasCause, IsSameDevice}
+use Rattle.vbi_line.specs.Counted.{tries, device_of, failures_of, NoError, HasCause, IsSameDevice}
 use Rattle.vbi_line.specs.declared.counted.Counted.{Counted}
-use Rattle.vbi_field.specs.WordRows.{word_row_of}
+use Rattle.vbi_field.specs.Limits.{longest_row}
+use Rattle.vbi_field.specs.WordRows.{newline, word_row_of}
 use Rattle.vbi_field.specs.declared.row_intake.RowIntake.{RowIntake}
 use Rattle.vbi_field.specs.declared.row_intake.NextByte.{NextByte}
 use Rattle.vbi_field.specs.declared.row_intake.NextByte.TheVariants as bytes
@@ -12,7 +14,7 @@ use Rattle.vbi_field.specs.declared.row_intake.NextRow.TheVariants.{Row, LastRow
 
 -- no byte of the text is a newline
 abbrev pub HasNoNewline : List ℕ → Type 0
-HasNoNewline text = All (λ c. c ≢ 10) text
+HasNoNewline text = All (λ c. c ≢ newline) text
 
 -- the bytes that were fetched
 abbrev pub byte_of : NextByte → List ℕ
@@ -55,8 +57,8 @@ module _ {R : Type 0} where
 
   pub record TakesByte (remaining : R → Option (List ℕ)) (old new : RowIntake R) (answer : NextByte) : Type 0 where
     pub fetches : Fetches remaining old new (byte_of answer)
-    pub most : (failures_of (counted_of new)).all ≤ (failures_of (counted_of old)).all + 17
-    pub streak : (failures_of (counted_of new)).streak ≤ (failures_of (counted_of old)).streak + 17
+    pub most : (failures_of (counted_of new)).all ≤ (failures_of (counted_of old)).all + tries
+    pub streak : (failures_of (counted_of new)).streak ≤ (failures_of (counted_of old)).streak + tries
     pub got : GotByte remaining old new answer
     pub caused : HasByteCause old new answer
 
@@ -65,14 +67,14 @@ module _ {R : Type 0} where
     pub row : List ℕ
     pub plain : HasNoNewline row
     pub malformed : word_row_of row ≡ None
-    pub read_to : (bytes ≡ row ++ 10 ∷ [])
+    pub read_to : (bytes ≡ row ++ newline ∷ [])
         ⊎ (((bytes ≡ row) × (0 < length row) × IsAtEnd (remaining (device_of (counted_of new))))
-        ⊎ ((bytes ≡ row) × (length row ≡ 21)))
+        ⊎ ((bytes ≡ row) × (length row ≡ longest_row)))
 
   -- what the bytes taken are
   abbrev pub GotRow : (R → Option (List ℕ)) → RowIntake R → RowIntake R → List ℕ → NextRow → Type 0
   GotRow remaining old new bytes (Row words) =
-      (row : List ℕ) × HasNoNewline row × (bytes ≡ row ++ 10 ∷ []) × (word_row_of row ≡ Some words)
+      (row : List ℕ) × HasNoNewline row × (bytes ≡ row ++ newline ∷ []) × (word_row_of row ≡ Some words)
   GotRow remaining old new bytes (LastRow words) =
       HasNoNewline bytes × (0 < length bytes) × (word_row_of bytes ≡ Some words)
       × IsAtEnd (remaining (device_of (counted_of new)))
@@ -91,7 +93,7 @@ module _ {R : Type 0} where
   pub record TakesRow (remaining : R → Option (List ℕ)) (old new : RowIntake R) (answer : NextRow) : Type 0 where
     pub bytes : List ℕ
     pub fetches : Fetches remaining old new bytes
-    pub short : length bytes ≤ 21
-    pub most : (failures_of (counted_of new)).all ≤ (failures_of (counted_of old)).all + 357
+    pub short : length bytes ≤ longest_row
+    pub most : (failures_of (counted_of new)).all ≤ (failures_of (counted_of old)).all + tries * longest_row
     pub got : GotRow remaining old new bytes answer
     pub caused : HasRowCause old new answer

@@ -1,19 +1,15 @@
 -- Fields and rows of a TBC stream (ld-decode's TBC format: samples of 16 bits, low byte first, line after line and
 -- field after field), and the readings of its fields. Fields and rows are counted from 0; a stream is the list of its
 -- bytes.
-use Rattle.std.specs.Prelude.{ℕ, ◌+◌, ◌-◌, ◌*◌, ◌/◌, ◌%◌, ◌==◌, min, if◌then◌else◌, List, length, take, drop, Option}
+use Rattle.std.specs.Prelude.{ℕ, ◌+◌, ◌-◌, ◌*◌, ◌/◌, ◌%◌, ◌==◌, min, if◌then◌else◌, List, length, Option}
 use Rattle.std.specs.Prelude.{Some, None}
 use Rattle.vbi_words.specs.Geometry.{width_of, line_bytes, field_bytes}
 use Rattle.vbi_words.specs.Levels.{row_levels}
-use Rattle.vbi_words.specs.declared.system.System.{System}
+use Rattle.vbi_words.specs.Rows.{line_at}
 use Rattle.vbi_words.specs.declared.outcome.Reading.{Reading}
 use Rattle.vbi_line.specs.OneReading.{reading_of}
 use Rattle.vbi_field.specs.ConfigView.{ConfigView}
 use Rattle.vbi_field.specs.declared.readings.FieldReadings.{FieldReadings}
-
--- the bytes of row r of field i
-abbrev pub line_at : System → List ℕ → ℕ → ℕ → List ℕ
-line_at system z i r = take (line_bytes system) (drop (i * field_bytes system + line_bytes system * r) z)
 
 -- how many whole fields a stream has
 abbrev pub fields_of : ConfigView → List ℕ → ℕ

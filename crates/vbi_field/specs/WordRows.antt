@@ -1,4 +1,4 @@
--- The text of words that is drawn from (this project's own): a row of three items a field, in ASCII.
+-- The text of words that is drawn from: a row of three items a field, in ASCII.
 use Rattle.std.specs.Prelude.{◌≡◌, ℕ, ◌^◌, ◌==◌, ◌&&◌, if◌then◌else◌, Bool, List, [], ◌∷◌, ◌++◌}
 use Rattle.std.specs.Prelude.{length, map, slice_index, nat_lt, nat_le, codes, Option, Some, None}
 use Rattle.std.specs.List.{slice_split, onto_first, list_all, before_first}
@@ -6,6 +6,18 @@ use Rattle.std.specs.Char.{is_digit}
 use Rattle.std.specs.Str.Parse.{AllDigits, digits_value}
 use Rattle.vbi_words.specs.Words.{IsWord}
 use Rattle.vbi_field.specs.declared.word_row.WordRow.{WordRow}
+
+-- the code of the newline behind a row
+abbrev pub newline : ℕ
+newline = 10
+
+-- the code of the space between two items
+abbrev pub space : ℕ
+space = 32
+
+-- the code of the dash that stands for no word
+abbrev pub dash : ℕ
+dash = 45
 
 -- ---- what an item and a row are
 
@@ -28,7 +40,7 @@ pub record IsWordRow (row : List ℕ) (words : WordRow) : Type 0 where
 
 -- the text is a single -
 abbrev pub is_none_item : List ℕ → Bool
-is_none_item text = length text == 1 && slice_index text 0 == 45
+is_none_item text = length text == 1 && slice_index text 0 == dash
 
 -- the text is six hexadecimal digits
 abbrev pub is_hex_item : List ℕ → Bool
@@ -56,7 +68,7 @@ row_of_parts _ = None
 
 -- the parts of a row between its spaces
 abbrev pub parts_of : List ℕ → List (List ℕ)
-parts_of row = slice_split (λ c. c == 32) row
+parts_of row = slice_split (λ c. c == space) row
 
 -- the words that a row without its newline stands for; `None` where it is malformed
 unfoldable pub word_row_of : List ℕ → Option WordRow
@@ -67,11 +79,11 @@ word_row_of row = row_of_parts (parts_of row)
 -- a text cut after each newline; a last piece that isn't empty is a row without newline
 abbrev pub rows_of : List ℕ → List (List ℕ)
 rows_of [] = []
-rows_of (c ∷ cs) = if c == 10 then (c ∷ []) ∷ rows_of cs else onto_first c (rows_of cs)
+rows_of (c ∷ cs) = if c == newline then (c ∷ []) ∷ rows_of cs else onto_first c (rows_of cs)
 
 -- the words that a row stands for, with its newline or, at the end, without
 abbrev pub row_words : List ℕ → Option WordRow
-row_words row = word_row_of (before_first (λ c. c == 10) row)
+row_words row = word_row_of (before_first (λ c. c == newline) row)
 
 -- each row of the text is well formed, and they stand for these words in order
 abbrev pub AreRows : List ℕ → List WordRow → Type 0

@@ -1,13 +1,14 @@
 //! What a run is given.
 ghost use Rattle.std.specs.Prelude.{◌≡◌, ◌*◌, ◌<◌, ◌≤◌, ◌↔◌, ◌⊎◌, IfOk, Err};
 ghost use Rattle.vbi_words.specs.Geometry.{height_of, line_bytes};
+ghost use Rattle.vbi_field.specs.Limits.{most_fields, most_rows};
 
 use std::error::Error;
 use std::fmt;
 use std::marker::Model;
 use vbi_words::{Levels, System};
 
-/// The greatest number of fields that can be allowed in a run: some ten times those of a disc's side.
+/// The greatest number of fields that can be allowed in a run: 4.6 times those of an hour of NTSC, a full CLV side.
 pub const MAX_FIELDS_LIMIT: u32 = 1_000_000;
 
 /// Why there is no `Config`.
@@ -38,12 +39,13 @@ pub struct Config {
 impl Model for Config {
     ghost use Rattle.std.specs.Prelude.{◌≤◌};
     ghost use Rattle.vbi_field.specs.ConfigView.{ConfigView};
+    ghost use Rattle.vbi_field.specs.Limits.{most_fields};
 
     ghost Value = { ConfigView };
 
     ghost view = { λ c. record { system = c.system; levels = c.levels; max_fields = c.max_fields } };
 
-    ghost invariant = { λ c. (1 ≤ c.max_fields) × (c.max_fields ≤ 1000000) };
+    ghost invariant = { λ c. (1 ≤ c.max_fields) × (c.max_fields ≤ most_fields) };
 
     ghost inverse = { λ v. record { system = v.system; levels = v.levels; max_fields = v.max_fields } };
 }
@@ -52,7 +54,8 @@ impl Config {
     /// The config of these values; at most `max_fields` fields are allowed in a run.
     pub fn new(system: System, levels: Levels, max_fields: u32) -> Result<Config, ConfigFault>
         ensures ok { IfOk result (λ c. c ≡ record { system = system; levels = levels; max_fields = max_fields }) }
-        ensures bad_max_fields { (result ≡ Err ConfigFault.BadMaxFields) ↔ ((max_fields < 1) ⊎ (1000000 < max_fields)) }
+        ensures bad_max_fields { (result ≡ Err ConfigFault.BadMaxFields)
+            ↔ ((max_fields < 1) ⊎ (most_fields < max_fields)) }
     {
         if max_fields < 1 || MAX_FIELDS_LIMIT < max_fields {
             return Err(ConfigFault::BadMaxFields);
@@ -82,7 +85,7 @@ impl Config {
     pub fn max_fields(&self) -> u32
         ensures value { result ≡ self.now.max_fields }
         ensures some { 1 ≤ result }
-        ensures few { result ≤ 1000000 }
+        ensures few { result ≤ most_fields }
     {
         self.max_fields
     }
@@ -90,8 +93,8 @@ impl Config {
     /// The number of rows in the fields that are allowed.
     pub(crate) fn row_limit(&self) -> u64
         ensures value { result ≡ self.now.max_fields * height_of self.now.system }
-        ensures few { result ≤ 313000000 }
-        ensures fields { self.now.max_fields ≤ 1000000 }
+        ensures few { result ≤ most_rows * most_fields }
+        ensures fields { self.now.max_fields ≤ most_fields }
     {
         u64::from(self.max_fields) * self.system.height() as u64
     }

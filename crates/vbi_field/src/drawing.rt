@@ -1,11 +1,12 @@
 //! Fields drawn from rows of words.
-ghost use Rattle.std.specs.Prelude.{◌≡◌, ℕ, ◌+◌, ◌-◌, ◌*◌, ◌^◌, ◌<◌, ◌≤◌, None, length, IfOk, OnOk, OnErr, IfErr};
-ghost use Rattle.vbi_words.specs.Geometry.{line_bytes, height_of};
-ghost use Rattle.vbi_line.specs.Counted.{failures_of, NoError, HasCause, IsSameDevice};
+ghost use Rattle.std.specs.Prelude.{◌≡◌, ◌+◌, ◌-◌, ◌*◌, ◌^◌, ◌≤◌, None, length, OnOk, OnErr, IfErr};
+ghost use Rattle.vbi_words.specs.Drawn.{drawn_line_of};
+ghost use Rattle.vbi_line.specs.Counted.{tries, failures_of, NoError, HasCause, IsSameDevice};
+ghost use Rattle.vbi_field.specs.Limits.{most_rows};
 ghost use Rattle.vbi_field.specs.Outlet as outlets;
 ghost use Rattle.vbi_field.specs.Outlet.{written_of, Wrote, WrotePart};
 ghost use Rattle.vbi_field.specs.RowIntake as intakes;
-ghost use Rattle.vbi_field.specs.Drawing.{drawn_line_of, drawn_field_of, word_at};
+ghost use Rattle.vbi_field.specs.Drawing.{drawn_field_of, word_at};
 ghost use Rattle.vbi_field.specs.Draws.{RunsDrawing};
 
 use crate::config::Config;
@@ -15,7 +16,7 @@ use crate::word_row::WordRow;
 use std::error::Error;
 use std::fmt;
 use std::io::{Read, Write};
-use vbi_words::{LONGEST_LINE, Word24, drawn_sample};
+use vbi_words::{LONGEST_LINE, Word24, draw_line};
 
 /// Why drawing stopped. Rows are counted from 1.
 #[derive(Clone, Copy, Debug, PartialEq, Eq)]
@@ -64,27 +65,18 @@ fn word_of_row(words: &WordRow, row: usize) -> Option<Word24>
     }
 }
 
-/// Draws a word, or none, on a line.
-fn draw_line(config: &Config, word: &Option<Word24>, line: &mut [u8])
-    requires { length line.old ≡ line_bytes config.now.system }
-    ensures { line.new ≡ drawn_line_of config.now word.now }
-{
-    let system = config.system();
-    let levels = config.levels();
-    for column in 0..system.width() {
-        let sample = drawn_sample(system, levels, *word, column);
-        line[2 * column] = (sample % 256) as u8;
-        line[2 * column + 1] = (sample / 256) as u8;
-    }
-}
-
 /// Draws the line of a row of a field over that of the row before. Only rows 15 to 18 differ from the row before them.
 fn next_line(config: &Config, words: &WordRow, row: usize, line: &mut [u8])
-    requires { line.old ≡ drawn_line_of config.now (word_at words.now (row - 1)) }
-    ensures { line.new ≡ drawn_line_of config.now (word_at words.now row) }
+    requires { line.old ≡ drawn_line_of config.now.system config.now.levels (word_at words.now (row - 1)) }
+    ensures { line.new ≡ drawn_line_of config.now.system config.now.levels (word_at words.now row) }
 {
     if 15 <= row && row <= 18 {
-        draw_line(config, &word_of_row(words, row), line);
+        draw_line(
+            config.system(),
+            config.levels(),
+            word_of_row(words, row),
+            line,
+        );
     }
 }
 
@@ -95,17 +87,17 @@ fn put_field<W: Write>(
     line: &mut [u8],
     outlet: &mut Outlet<W>,
 ) -> Result<(), DrawFault>
-    requires black { line.old ≡ drawn_line_of config.now None }
+    requires black { line.old ≡ drawn_line_of config.now.system config.now.levels None }
     requires written { written_of outlet.old ≤ 2 ^ 61 }
     requires failures { (failures_of (outlets.counted_of outlet.old)).all ≤ 2 ^ 61 }
-    ensures black { OnOk result (line.new ≡ drawn_line_of config.now None) }
+    ensures black { OnOk result (line.new ≡ drawn_line_of config.now.system config.now.levels None) }
     ensures same { IsSameDevice (outlets.counted_of outlet.old) (outlets.counted_of outlet.new) }
     ensures ok { OnOk result (Wrote W.contents outlet.old outlet.new (drawn_field_of config.now words.now)) }
     ensures part { OnErr result (WrotePart W.contents outlet.old outlet.new (drawn_field_of config.now words.now)) }
     ensures least { (failures_of (outlets.counted_of outlet.old)).all
         ≤ (failures_of (outlets.counted_of outlet.new)).all }
     ensures most { (failures_of (outlets.counted_of outlet.new)).all ≤ (failures_of (outlets.counted_of outlet.old)).all
-        + 17 * (length (drawn_field_of config.now words.now) + 313) }
+        + tries * (length (drawn_field_of config.now words.now) + most_rows) }
     ensures no_error { OnOk result (NoError (outlets.counted_of outlet.old) (outlets.counted_of outlet.new)) }
     ensures failed { OnErr result (HasCause (outlets.counted_of outlet.old) (outlets.counted_of outlet.new)) }
     ensures fault { IfErr result (λ e. e ≡ DrawFault.Write (written_of outlet.new)) }
@@ -139,7 +131,7 @@ pub fn draw<R: Read, W: Write>(
 {
     let mut cells = [0u8; LONGEST_LINE];
     let line = &mut cells[..config.line_bytes()];
-    draw_line(config, &None, line);
+    draw_line(config.system(), config.levels(), None, line);
     for done in 0..config.max_fields() {
         match rows.next_row() {
             NextRow::Row(words) => put_field(config, &words, line, outlet)?,

@@ -3,7 +3,7 @@
 ghost use Rattle.std.specs.Prelude.{◌≡◌, ◌+◌, ◌-◌, ◌≤◌, ◌<◌, ◌^◌, ◌++◌, length};
 ghost use Rattle.arrayvec.specs.ArrayString.{array_string_len};
 ghost use Rattle.vbi_field.specs.Kinds.{report};
-ghost use Rattle.vbi_field.specs.Report.{report_head_of, report_entry_of, report_tail_of, shown_of, word_of};
+ghost use Rattle.vbi_field.specs.Report.{report_head_of, report_entry_of, report_tail_of, shown_of};
 ghost use Rattle.vbi_field.specs.Report.{format_text_of};
 
 use crate::cause_texts::cause_text;
@@ -13,7 +13,7 @@ use crate::numbers::push_number;
 use crate::readings::FieldReadings;
 use crate::texts::{Form, TEXT_SIZE};
 use arrayvec::ArrayString;
-use vbi_words::{Format, Levels, Outcome, System, Word24, classify, format_of};
+use vbi_words::{Format, Levels, Outcome, System, classify, format_of};
 
 /// The report of `show`.
 pub(crate) struct Report;
@@ -52,16 +52,6 @@ pub(crate) fn report_head(system: System, levels: Levels) -> ArrayString<TEXT_SI
     push_number(&mut text, levels.white());
     text.push_str("\n");
     text
-}
-
-/// The word of a line, if it has one.
-fn word(outcome: Outcome) -> Option<Word24>
-    ensures { result ≡ word_of outcome }
-{
-    match outcome {
-        Outcome::Word(word) => Some(word),
-        _ => None,
-    }
 }
 
 /// What a format is called.
@@ -103,9 +93,9 @@ pub(crate) fn report_entry(number: u32, readings: &FieldReadings) -> ArrayString
     ensures { result.bytes ≡ report_entry_of number readings.now }
 {
     let words = [
-        word(readings.first.outcome),
-        word(readings.second.outcome),
-        word(readings.third.outcome),
+        readings.first.outcome.word(),
+        readings.second.outcome.word(),
+        readings.third.outcome.word(),
     ];
     let mut text = ArrayString::new();
     text.push_str("field ");

@@ -1,6 +1,7 @@
 //! The texts of a stream, of either kind, and how they are written.
 ghost use Rattle.std.specs.Prelude.{◌≡◌, ◌+◌, ◌-◌, ◌^◌, ◌<◌, ◌≤◌, length, OnOk, OnErr, IfOk, IfErr};
 ghost use Rattle.vbi_line.specs.Counted.{failures_of, NoError, HasCause, IsSameDevice};
+ghost use Rattle.vbi_field.specs.Limits.{most_fields};
 ghost use Rattle.vbi_field.specs.Outlet.{counted_of, written_of, Puts};
 ghost use Rattle.vbi_field.specs.Stream.{cut_of};
 ghost use Rattle.vbi_field.specs.Texts.{Texts, joined_entry_of};
@@ -65,7 +66,7 @@ pub(crate) fn end<F: Form, W: Write>(
 ) -> Result<Summary, RunFault>
     requires written { written_of outlet.old ≤ 2 ^ 62 }
     requires failures { (failures_of (counted_of outlet.old)).all ≤ 2 ^ 62 }
-    requires fields { fields ≤ 1000000 }
+    requires fields { fields ≤ most_fields }
     ensures same { IsSameDevice (counted_of outlet.old) (counted_of outlet.new) }
     ensures puts { Puts W.contents outlet.old outlet.new (F.texts.tail fields rest) }
     ensures written { OnOk result (written_of outlet.new ≡ written_of outlet.old + length (F.texts.tail fields rest)) }

@@ -4,7 +4,7 @@ ghost use Rattle.std.specs.Prelude.{MatchOption};
 ghost use Rattle.std.specs.List.{list_all, position};
 ghost use Rattle.std.specs.Char.{is_digit};
 ghost use Rattle.std.specs.Str.Parse.{digits_value};
-ghost use Rattle.vbi_field.specs.WordRows.{item_of, row_of_items, parts_of, word_row_of};
+ghost use Rattle.vbi_field.specs.WordRows.{space, item_of, row_of_items, parts_of, word_row_of};
 
 use vbi_words::Word24;
 
@@ -56,7 +56,7 @@ fn read_item(text: &[u8]) -> Option<Option<Word24>>
 
 /// Where the first space is.
 fn space_in(text: &[u8]) -> Option<usize>
-    ensures { result ≡ position (λ c. c == 32) text.now }
+    ensures { result ≡ position (λ c. c == space) text.now }
 {
     text.iter().position(|byte| *byte == b' ')
 }

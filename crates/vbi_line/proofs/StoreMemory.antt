@@ -56,7 +56,7 @@ pub with_part-same : (xs : List ℕ) (from to : ℕ) (ws : List ℕ) → length 
 with_part-same xs from to ws long =
     ap (λ l. take from xs ++ (l ++ drop to xs)) (sym (take_at ws _ (to - from) long))
 
--- and the list is as long as it was
+-- a list with a part written over is as long as it was
 pub length-with_part : (xs : List ℕ) (from to : ℕ) (ws : List ℕ) → from ≤ to → to ≤ length xs → length ws ≡ to - from
     → length (with_part xs from to ws) ≡ length xs
 length-with_part xs from to ws le inside long =

@@ -53,7 +53,8 @@ pub struct Intake<'a, R> {
 }
 
 impl<'a, R: Read> Intake<'a, R> {
-    ghost use Rattle.vbi_line.specs.Counted.{name_of, device_of, failures_of, NoError, HasCause, IsSameDevice};
+    ghost use Rattle.vbi_line.specs.Counted.{tries, name_of, device_of, failures_of, NoError, HasCause};
+    ghost use Rattle.vbi_line.specs.Counted.{IsSameDevice};
     ghost use Rattle.vbi_line.specs.Intake.{counted_of, fetched_of, held_of, line_of};
     ghost use Rattle.vbi_line.specs.Intake.{IsFresh, Fetches, IsFilled, KeepsReader};
 
@@ -97,7 +98,7 @@ impl<'a, R: Read> Intake<'a, R> {
         ensures no_error { OnOk result (NoError (counted_of self.old) (counted_of self.new)) }
         ensures failed { OnErr result (HasCause (counted_of self.old) (counted_of self.new)) }
         ensures streak { (failures_of (counted_of self.new)).streak
-            ≤ (failures_of (counted_of self.old)).streak + 17 }
+            ≤ (failures_of (counted_of self.old)).streak + tries }
         ensures short { OnErr result (length (held_of self.new) < line_bytes (line_of self.old).system) }
     {
         loop {

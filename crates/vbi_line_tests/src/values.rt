@@ -51,6 +51,7 @@ const SYSTEMS: [(System, &str, [usize; 7]); 2] = [
 fn both_systems_have_their_geometry(rt: HostRuntime) {
     for (system, name, numbers) in SYSTEMS {
         same(&rt, system.name(), name, system);
+        same(&rt, System::named(name), Some(system), name);
         let found = [
             system.width(),
             system.line_bytes(),
@@ -61,6 +62,9 @@ fn both_systems_have_their_geometry(rt: HostRuntime) {
             system.start(),
         ];
         same(&rt, found, numbers, system);
+    }
+    for name in ["", "ntsc", "Pal", "NTSC ", "PALM", "SECAM"] {
+        same(&rt, System::named(name), None, name);
     }
 }
 

@@ -21,7 +21,8 @@ use Rattle.vbi_words.specs.Readings.{Reads}
 use Rattle.vbi_line.proofs.OneReading.{is_reading}
 use Rattle.vbi_field.specs.ConfigView.{ConfigView}
 use Rattle.vbi_field.specs.Kinds.{document}
-use Rattle.vbi_field.specs.Stream.{line_at, fields_of, rest_of, reading_at, readings_at}
+use Rattle.vbi_words.specs.Rows.{line_at}
+use Rattle.vbi_field.specs.Stream.{fields_of, rest_of, reading_at, readings_at}
 use Rattle.vbi_field.specs.Texts.{text_before_tail, whole_text}
 use Rattle.vbi_meta.specs.DocumentValue.{IsOfRun}
 use Rattle.vbi_meta.specs.Plain.{IsPlain, IsSmall, IsPlainText}

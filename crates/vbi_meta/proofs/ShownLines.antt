@@ -23,7 +23,8 @@ use Rattle.vbi_line.proofs.OneReading.{is_reading}
 use Rattle.vbi_field.specs.CauseTexts.{cause_text_of}
 use Rattle.vbi_field.specs.ConfigView.{ConfigView}
 use Rattle.vbi_field.specs.Document.{value_of}
-use Rattle.vbi_field.specs.Stream.{line_at, reading_at, readings_at}
+use Rattle.vbi_words.specs.Rows.{line_at}
+use Rattle.vbi_field.specs.Stream.{reading_at, readings_at}
 use Rattle.vbi_field.specs.declared.readings.FieldReadings.{FieldReadings}
 
 -- a reading that a line of a stream can have

@@ -7,6 +7,7 @@ use Rattle.serde_json.specs.Data.{Data, unsigned, null, number, string, array, o
 use Rattle.serde_json.specs.View.{items_of}
 use Rattle.vbi_words.specs.declared.outcome.Reading.{Reading}
 use Rattle.vbi_words.specs.Geometry.{width_of, height_of, name_of}
+use Rattle.vbi_field.specs.Limits.{most_fields}
 use Rattle.vbi_field.specs.CauseTexts.{cause_text_of}
 use Rattle.vbi_field.specs.ConfigView.{ConfigView, allowed_bytes}
 use Rattle.vbi_field.specs.Document.{value_of}
@@ -19,7 +20,7 @@ use Rattle.vbi_field.specs.declared.readings.FieldReadings.{FieldReadings}
 pub record IsConfig (c : ConfigView) : Type 0 where
   pub black : c.levels.black < 2 ^ 16
   pub white : c.levels.white < 2 ^ 16
-  pub max_fields : c.max_fields ≤ 1000000
+  pub max_fields : c.max_fields ≤ most_fields
 
 -- a stream that a run with such a config reads to its end: no more bytes came than are allowed
 pub record IsOfRun (c : ConfigView) (z : List ℕ) : Type 0 where

@@ -57,14 +57,14 @@ cut_number_in text name = option_and_then whole (member_of (cut_in text) name)
 
 -- ---- what is found is how the lines are read
 
--- for line 16 + k of field i this reading is found: its word or 0, its cause with the column, and its pass
-pub record TellsLine (text : List ℕ) (i k : ℕ) (reading : Reading) : Type 0 where
+-- for line 16 + k of field i the text has this reading: its word or 0, its cause with the column, and its pass
+pub record HasReading (text : List ℕ) (i k : ℕ) (reading : Reading) : Type 0 where
   pub word : word_in text i k ≡ Some (value_of reading.outcome)
   pub cause : cause_in text i k ≡ Some (cause_text_of reading.outcome)
   pub pass : pass_in text i k ≡ Some reading.pass
 
 -- `.cutField` is null where no byte came past the whole fields, and else has the number of the cut field and its bytes
-pub record TellsCut (text : List ℕ) (fields rest : ℕ) : Type 0 where
+pub record HasCut (text : List ℕ) (fields rest : ℕ) : Type 0 where
   pub none : rest ≡ 0 → cut_in text ≡ Some null
   pub number : 0 < rest → cut_number_in text (codes "seqNo") ≡ Some (fields + 1)
   pub bytes : 0 < rest → cut_number_in text (codes "bytes") ≡ Some rest
@@ -80,21 +80,21 @@ pub record ReadsWord (c : ConfigView) (z text : List ℕ) (i k word : ℕ) : Typ
 
 -- What is found in the text is how the lines of the stream are read, by the relation between a row's levels and its
 -- reading. Fields are counted from 0 here; line 16 + k is row 15 + k.
-pub record Tells (c : ConfigView) (z text : List ℕ) : Type 0 where
+pub record HasReadings (c : ConfigView) (z text : List ℕ) : Type 0 where
   -- each whole field has its number from 1, and nothing stands behind the last
   pub numbers : (i : ℕ) → i < fields_of c z → number_in text i ≡ Some (i + 1)
   pub nothing : (i : ℕ) → fields_of c z ≤ i → field_in text i ≡ None
   -- each line has a reading that is found, and what is a line's reading is found
   pub each : (i k : ℕ) → i < fields_of c z → k < 3
-      → (reading : Reading) × RowReads c z i (15 + k) reading × TellsLine text i k reading
+      → (reading : Reading) × RowReads c z i (15 + k) reading × HasReading text i k reading
   pub lines : (i k : ℕ) (reading : Reading) → i < fields_of c z → k < 3 → RowReads c z i (15 + k) reading
-      → TellsLine text i k reading
+      → HasReading text i k reading
   -- a number other than 0 among the words is the word of that line, in pass 1 or 2
   pub words : (i k word : ℕ) → word_in text i k ≡ Some word → 0 < word → ReadsWord c z text i k word
-  pub cut : TellsCut text (fields_of c z) (rest_of c z)
+  pub cut : HasCut text (fields_of c z) (rest_of c z)
 
--- the text is read as the stream's document, tells what its lines show, and is metadata of that value
+-- the text is read as the stream's document, has the readings of its lines, and is metadata of that value
 pub record ReadsBack (c : ConfigView) (z text : List ℕ) : Type 0 where
   pub is_read : IsReadAs text (document_value c z)
-  pub tells : Tells c z text
+  pub readings : HasReadings c z text
   pub metadata : IsMetadata text (document_value c z)

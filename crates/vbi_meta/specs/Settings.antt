@@ -3,13 +3,13 @@
 use Rattle.std.specs.Prelude.{◌≡◌, ℕ, ◌^◌, ◌==◌, ◌&&◌, ◌||◌, Bool, true, false, not, nat_lt, nat_le}
 use Rattle.std.specs.Prelude.{List, [], ◌∷◌, ◌++◌, codes, if◌then◌else◌}
 use Rattle.std.specs.Prelude.{Option, Some, None, is_some, is_none, option_map, option_and_then, unwrap_or}
-use Rattle.std.specs.Str.{bytes_eq}
 use Rattle.serde_json.specs.Data.{Data}
 use Rattle.serde_json.specs.Find.{get, as_bool, as_number, as_str, as_object, as_u64}
 use Rattle.vbi_words.specs.declared.system.System.{System}
 use Rattle.vbi_words.specs.declared.system.System.TheVariants.{Ntsc, Pal}
-use Rattle.vbi_words.specs.Geometry.{width_of, height_of}
+use Rattle.vbi_words.specs.Geometry.{width_of, height_of, system_named}
 use Rattle.vbi_field.specs.ConfigView.{ConfigView}
+use Rattle.vbi_field.specs.Limits.{most_fields}
 use Rattle.vbi_meta.specs.declared.choosing.Overrides.{Overrides}
 use Rattle.vbi_meta.specs.declared.fault.MetaFault.{MetaFault}
 use Rattle.vbi_meta.specs.declared.fault.MetaFault.TheVariants.{NoVideoParameters, NoSystem, UnknownSystem}
@@ -31,17 +31,11 @@ member_of parameters name = option_and_then (get name) parameters
 abbrev pub whole : Data → Option ℕ
 whole member = option_and_then as_u64 (as_number member)
 
--- whether a member is this text
-abbrev pub is_text : List ℕ → Data → Bool
-is_text text member = unwrap_or (option_map (bytes_eq text) (as_str member)) false
-
 -- the system that `system` names
 abbrev pub named_system : Data → Option System
-named_system member =
-    if is_text (codes "NTSC") member then Some Ntsc
-    else (if is_text (codes "PAL") member then Some Pal else None)
+named_system member = option_and_then system_named (as_str member)
 
--- the system that `isSourcePal` tells
+-- the system that `isSourcePal` stands for
 abbrev pub flagged_system : Data → Option System
 flagged_system member = option_map (λ pal. if pal then Pal else Ntsc) (as_bool member)
 
@@ -65,9 +59,9 @@ chosen_system given name flag =
 abbrev pub chosen_level : Option ℕ → Option Data → Option ℕ
 chosen_level given member = or_else given (option_and_then level_of member)
 
--- the option's limit of fields, else 1,000,000
+-- the option's limit of fields, else the greatest
 abbrev pub chosen_limit : Option ℕ → ℕ
-chosen_limit given = unwrap_or given 1000000
+chosen_limit given = unwrap_or given most_fields
 
 -- ---- the tests of the refusals
 
@@ -96,21 +90,21 @@ disagree None t = false
 
 -- ---- the refusals in order
 
--- one refusal, and whether it holds
-abbrev pub Refusal : Type 0
-Refusal = MetaFault × Bool
+-- a fault, and whether it is there
+abbrev pub FaultTest : Type 0
+FaultTest = MetaFault × Bool
 
 -- the first refusal that holds
-unfoldable pub first_refusal : List Refusal → Option MetaFault
+unfoldable pub first_refusal : List FaultTest → Option MetaFault
 first_refusal [] = None
 first_refusal (refusal ∷ refusals) = if refusal.1 then Some refusal.0 else first_refusal refusals
 
 -- of the document, where one is given
-unfoldable pub document_refusals : Option Data → List Refusal
+unfoldable pub document_refusals : Option Data → List FaultTest
 document_refusals document = (NoVideoParameters, is_bad parameters_of document) ∷ []
 
 -- of the system: the option, `system` and `isSourcePal`
-unfoldable pub system_refusals : Option System → Option Data → Option Data → List Refusal
+unfoldable pub system_refusals : Option System → Option Data → Option Data → List FaultTest
 system_refusals given name flag =
     (NoSystem, is_none given && (is_none name && is_none flag))
     ∷ (UnknownSystem, is_none given && (is_bad named_system name || is_bad flagged_system flag))
@@ -121,27 +115,28 @@ system_refusals given name flag =
     ∷ []
 
 -- of one level, where its two faults are these: the option and the member
-unfoldable pub level_refusals : MetaFault → MetaFault → Option ℕ → Option Data → List Refusal
+unfoldable pub level_refusals : MetaFault → MetaFault → Option ℕ → Option Data → List FaultTest
 level_refusals missing bad given member =
     (missing, is_none given && is_none member)
     ∷ (bad, is_none given && is_bad level_of member)
     ∷ []
 
 -- of both levels
-unfoldable pub order_refusals : ℕ → ℕ → List Refusal
+unfoldable pub order_refusals : ℕ → ℕ → List FaultTest
 order_refusals black white = (LevelsOrder, not (nat_lt black white)) ∷ []
 
 -- of one size, where its fault is this: the system's number and the member
-unfoldable pub size_refusals : MetaFault → ℕ → Option Data → List Refusal
+unfoldable pub size_refusals : MetaFault → ℕ → Option Data → List FaultTest
 size_refusals differs size member = (differs, is_other size member) ∷ []
 
 -- of the limit: the option
-unfoldable pub limit_refusals : Option ℕ → List Refusal
-limit_refusals given = (BadMaxFields, not (nat_le 1 (chosen_limit given) && nat_le (chosen_limit given) 1000000)) ∷ []
+unfoldable pub limit_refusals : Option ℕ → List FaultTest
+limit_refusals given =
+    (BadMaxFields, not (nat_le 1 (chosen_limit given) && nat_le (chosen_limit given) most_fields)) ∷ []
 
 -- all twelve. A system or a level that isn't chosen is refused by then, so what the later ones take for it is never
 -- seen
-unfoldable pub refusals_of : Option Data → Overrides → List Refusal
+unfoldable pub refusals_of : Option Data → Overrides → List FaultTest
 refusals_of document given =
     let member = member_of (option_and_then parameters_of document) in
     let name = member (codes "system") in

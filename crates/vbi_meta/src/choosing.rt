@@ -3,6 +3,7 @@
 ghost use Rattle.std.specs.Prelude.{◌≡◌, ◌<◌, ◌≤◌, ◌^◌, Option, Some, None, IfOk, IfErr, OnOk};
 ghost use Rattle.std.specs.Prelude.{option_map, option_and_then};
 ghost use Rattle.serde_json.specs.View.{view};
+ghost use Rattle.vbi_field.specs.Limits.{most_fields};
 ghost use Rattle.vbi_meta.specs.DocumentValue.{IsConfig};
 ghost use Rattle.vbi_meta.specs.Settings.{parameters_of, member_of, named_system, flagged_system};
 ghost use Rattle.vbi_meta.specs.Settings.{chosen_system, chosen_level};
@@ -145,17 +146,10 @@ fn system(
 fn named(text: &Value) -> Option<System>
     ensures { result ≡ named_system (view text.now) }
 {
-    let text = text.as_str()?;
-    if text == "NTSC" {
-        Some(System::Ntsc)
-    } else if text == "PAL" {
-        Some(System::Pal)
-    } else {
-        None
-    }
+    System::named(text.as_str()?)
 }
 
-/// The system that a truth value, whether the source is PAL, tells.
+/// The system that a truth value stands for: whether the source is PAL.
 fn flagged(flag: &Value) -> Option<System>
     ensures { result ≡ flagged_system (view flag.now) }
 {
@@ -227,7 +221,7 @@ fn check_size(member: Option<&Value>, size: usize, differs: MetaFault) -> Result
 fn config(system: System, levels: Levels, limit: Option<u32>) -> Result<Config, MetaFault>
     ensures ok { IfOk result (λ c. (first_refusal (limit_refusals limit) ≡ None)
         × (c.system ≡ system) × (c.levels ≡ levels) × (c.max_fields ≡ chosen_limit limit)) }
-    ensures few { IfOk result (λ c. c.max_fields ≤ 1000000) }
+    ensures few { IfOk result (λ c. c.max_fields ≤ most_fields) }
     ensures err { IfErr result (λ e. first_refusal (limit_refusals limit) ≡ Some e) }
 {
     match Config::new(system, levels, limit.unwrap_or(MAX_FIELDS_LIMIT)) {

@@ -13,7 +13,7 @@ ghost use Rattle.vbi_field.specs.Texts.{whole_text};
 ghost use Rattle.vbi_field.specs.declared.summary.Summary.{Summary};
 ghost use Rattle.vbi_meta.specs.DocumentValue.{IsConfig, IsOfRun, document_value};
 ghost use Rattle.vbi_meta.specs.Metadata.{IsMetadata, IsUnread};
-ghost use Rattle.vbi_meta.specs.ReadBack.{IsReadAs, Tells, ReadsBack};
+ghost use Rattle.vbi_meta.specs.ReadBack.{IsReadAs, HasReadings, ReadsBack};
 ghost use Rattle.vbi_meta.specs.declared.fault.MetaFault.{MetaFault};
 ghost use Rattle.vbi_meta.specs.declared.fault.MetaFault.TheVariants.{OutOfMemory};
 
@@ -26,11 +26,11 @@ pub fn document_reads()
 /// What a reader of JSON finds in the document of a stream is what its lines show: words, causes, passes, the fields'
 /// numbers and the cut field.
 pub fn document_words()
-    ensures { (c : ConfigView) (z : List ℕ) → IsOfRun c z → Tells c z (whole_text document c z) }
+    ensures { (c : ConfigView) (z : List ℕ) → IsOfRun c z → HasReadings c z (whole_text document c z) }
 {}
 
-/// The bytes that `extract` wrote when it answered Ok are read as the document of the bytes that it fetched, and tell
-/// what the lines in them show. `ExtractsAll` is what its contract says then, and `settings` gives such configs.
+/// The bytes that `extract` wrote when it answered Ok are read as the document of the bytes that it fetched, and have
+/// the readings of the lines in them. `ExtractsAll` is what its contract says then, and `settings` gives such configs.
 pub fn extracted_words()
     ensures { (c : ConfigView) (input : Option (List ℕ)) (n : Counts) (z text : List ℕ) (summary : Summary)
         → IsConfig c → ExtractsAll document c input n z text summary → ReadsBack c z text }

@@ -107,7 +107,7 @@ module _ (sizes : Sizes) where
   abbrev pub Single : List Bool → Bool → ℕ → List Bool → Type 0
   Single bits v n s = (least ≤ n) × (n ≤ greatest) × Cells sizes bits (not v ∷ s)
 
-  -- or a double one, with the first half of the next cell
+  -- the run that begins in the middle of a cell ends at a change: it is that half and the first half of the next cell
   abbrev pub Double : List Bool → Bool → ℕ → List Bool → Type 0
   Double bits v n s = (todo : List Bool) × (bits ≡ not v ∷ todo) × (least + least ≤ n) × (n ≤ greatest + greatest)
       × Half sizes (not v) todo (not v ∷ s)

@@ -16,8 +16,9 @@ use Rattle.vbi_words.specs.Words.{IsWord, halves_of, lowest_bits, cell_of}
 use Rattle.vbi_words.specs.Shows.{Shows, Spells}
 use Rattle.vbi_words.specs.Jitter.{ShowsAmply}
 use Rattle.vbi_words.specs.Outcomes.{AllLow}
-use Rattle.vbi_words.specs.Drawn.{boundary, DrawnHigh, IsDrawnRow}
+use Rattle.vbi_words.specs.Drawn.{boundary, drawn_row_of}
 use Rattle.vbi_words.proofs.Bits.{length-lowest_bits}
+use Rattle.vbi_words.proofs.DrawnSamples.{DrawnHigh, IsDrawnRow, is_drawn_row}
 use Rattle.vbi_words.proofs.Runs.{equal_from}
 
 -- ---- the boundaries
@@ -195,7 +196,7 @@ module _ (system : System) (slicing : LevelsView) (word : ℕ) (order : slicing.
   some_left Pal = omega arith
 
   -- there are two columns to spare in each half cell
-  pub drawn_amply : IsWord word → ShowsAmply system levels word
+  drawn_amply : IsWord word → ShowsAmply system levels word
   drawn_amply is_word =
       let d = spelled system levels left same_length back (halves_of word) 0 (omega (arith, many_halves)) has_halves in
       record {
@@ -208,13 +209,10 @@ module _ (system : System) (slicing : LevelsView) (word : ℕ) (order : slicing.
         whole = front ∙ ap (λ (t : List Bool). replicate (edge 0) false ++ t) d.2;
       }
 
-  pub drawn_shows : IsWord word → Shows system levels word
-  drawn_shows is_word = amply_shows system levels word (drawn_amply is_word)
-
 -- the drawn row of no word has no high level
 module _ (system : System) (slicing : LevelsView) (order : slicing.black < slicing.white) (samples : List ℕ)
     (row : IsDrawnRow system slicing None samples) where
-  pub none_low : AllLow (levels_of slicing samples)
+  none_low : AllLow (levels_of slicing samples)
   none_low = All-from_get_or (λ level. level ≡ false) (levels_of slicing samples) false low
     where
       low : (i : ℕ) → i < length (levels_of slicing samples) → get_or (levels_of slicing samples) i false ≡ false
@@ -223,3 +221,22 @@ module _ (system : System) (slicing : LevelsView) (order : slicing.black < slici
           get_or-map (is_high_of slicing) samples i 0 false here
           ∙ ap (is_high_of slicing) (row.each i (omega (arith, row.whole)))
           ∙ le-ltb (slicing.black + slicing.white) (2 * slicing.black) (omega arith)
+
+-- ---- the drawn row itself
+
+pub row_amply : (system : System) (slicing : LevelsView) (word : ℕ) → slicing.black < slicing.white → IsWord word
+    → ShowsAmply system (levels_of slicing (drawn_row_of system slicing (Some word))) word
+row_amply system slicing word order is_word =
+    drawn_amply system slicing word order (drawn_row_of system slicing (Some word))
+    (is_drawn_row system slicing (Some word)) is_word
+
+pub row_shows : (system : System) (slicing : LevelsView) (word : ℕ) → slicing.black < slicing.white → IsWord word
+    → Shows system (levels_of slicing (drawn_row_of system slicing (Some word))) word
+row_shows system slicing word order is_word =
+    amply_shows system (levels_of slicing (drawn_row_of system slicing (Some word))) word
+    (row_amply system slicing word order is_word)
+
+pub row_low : (system : System) (slicing : LevelsView) → slicing.black < slicing.white
+    → AllLow (levels_of slicing (drawn_row_of system slicing None))
+row_low system slicing order =
+    none_low system slicing order (drawn_row_of system slicing None) (is_drawn_row system slicing None)

@@ -61,7 +61,7 @@ module _ (system : System) (levels : List Bool) (v : Bool) where
   begun_is : begun ≡ next_of system (state_after system levels) v
   begun_is = after_append system levels (v ∷ [])
 
-  -- and behind the rest of it
+  -- the state behind the whole run
   more : (k : ℕ) → state_after system (levels ++ replicate (suc k) v) ≡ after_of system begun (replicate k v)
   more k = ap (state_after system) (sym (append_assoc levels (v ∷ []) (replicate k v)))
       ∙ after_append system (levels ++ v ∷ []) (replicate k v)

@@ -1,32 +1,50 @@
 -- How a word is drawn on a row: 48 half cells of one microsecond each (IEC 60857 and IEC 60856), from the start column
--- on.
-use Rattle.std.specs.Prelude.{◌≡◌, ℕ, ◌≤◌, ◌<◌, ◌+◌, ◌*◌, ◌/◌, true, false, List, slice_index, slice_index_or, length}
-use Rattle.std.specs.Prelude.{Option, Some, None}
+-- on; and what the row is read as.
+use Rattle.std.specs.Prelude.{ℕ, ◌+◌, ◌*◌, ◌/◌, ◌%◌, ◌&&◌, nat_le, nat_lt, if◌then◌else◌, Bool, false}
+use Rattle.std.specs.Prelude.{List, [], ◌∷◌, map, slice_index_or, Option, Some, None}
+use Rattle.std.specs.List.{flat_map, list_any, range_with_len}
 use Rattle.vbi_words.specs.declared.system.System.{System}
 use Rattle.vbi_words.specs.declared.system.System.TheVariants.{Ntsc, Pal}
-use Rattle.vbi_words.specs.Geometry.{width_of}
+use Rattle.vbi_words.specs.declared.outcome.Outcome.TheVariants.{Word, Blank}
+use Rattle.vbi_words.specs.declared.outcome.Reading.{Reading}
+use Rattle.vbi_words.specs.Geometry.{width_of, start_of}
 use Rattle.vbi_words.specs.Levels.{LevelsView}
 use Rattle.vbi_words.specs.Words.{halves_of}
 
 -- the column at which half cell j begins, counted from 0: a microsecond is 315/22 samples, or 709379/40000
 abbrev pub boundary : System → ℕ → ℕ
-boundary Ntsc j = 150 + j * 315 / 22
-boundary Pal j = 190 + j * 709379 / 40000
+boundary Ntsc j = start_of Ntsc + j * 315 / 22
+boundary Pal j = start_of Pal + j * 709379 / 40000
 
--- the column lies in a half cell of the word that is high
-abbrev pub DrawnHigh : System → ℕ → ℕ → Type 0
-DrawnHigh system word column =
-    (j : ℕ) × (j < 48) × (boundary system j ≤ column) × (column < boundary system (j + 1))
-    × (slice_index_or (halves_of word) j false ≡ true)
+-- whether the column lies in half cell j of the word, counted from 0, and that half cell is high
+abbrev pub is_drawn_in : System → ℕ → ℕ → ℕ → Bool
+is_drawn_in system word column j =
+    nat_le (boundary system j) column && nat_lt column (boundary system (j + 1)) && slice_index_or (halves_of word) j
+    false
 
--- the sample drawn at the column: of a word white in its high half cells and black elsewhere, of none black
-abbrev pub IsDrawn : System → LevelsView → Option ℕ → ℕ → ℕ → Type 0
-IsDrawn system slicing None column sample = sample ≡ slicing.black
-IsDrawn system slicing (Some word) column sample =
-    (DrawnHigh system word column → sample ≡ slicing.white)
-    × ((DrawnHigh system word column → ⊥) → sample ≡ slicing.black)
+-- whether a column of the drawn word is high
+unfoldable pub is_drawn_high : System → ℕ → ℕ → Bool
+is_drawn_high system word column = list_any (is_drawn_in system word column) (range_with_len 0 48)
 
--- these are the samples of the drawn row of a word, or of none
-pub record IsDrawnRow (system : System) (slicing : LevelsView) (word : Option ℕ) (samples : List ℕ) : Type 0 where
-  pub whole : length samples ≡ width_of system
-  pub each : (column : ℕ) → column < width_of system → IsDrawn system slicing word column (slice_index samples column)
+-- the sample drawn at a column: white where the word is high, else black
+unfoldable pub drawn_sample_of : System → LevelsView → Option ℕ → ℕ → ℕ
+drawn_sample_of system slicing None column = slicing.black
+drawn_sample_of system slicing (Some word) column =
+    if is_drawn_high system word column then slicing.white else slicing.black
+
+-- the samples of the drawn row of a word, or of none
+unfoldable pub drawn_row_of : System → LevelsView → Option ℕ → List ℕ
+drawn_row_of system slicing word = map (drawn_sample_of system slicing word) (range_with_len 0 (width_of system))
+
+-- a sample's two bytes, the low one first
+abbrev pub sample_bytes : ℕ → List ℕ
+sample_bytes sample = sample % 256 ∷ sample / 256 ∷ []
+
+-- the bytes of the drawn row
+unfoldable pub drawn_line_of : System → LevelsView → Option ℕ → List ℕ
+drawn_line_of system slicing word = flat_map sample_bytes (drawn_row_of system slicing word)
+
+-- what the drawn row is read as: the word in the first pass, or blank where there is none
+abbrev pub drawn_reading : Option ℕ → Reading
+drawn_reading None = record { outcome = Blank; pass = 0 }
+drawn_reading (Some word) = record { outcome = Word word; pass = 1 }

@@ -1,4 +1,4 @@
--- The format of a field, by the codes of its three lines (this project's own rule).
+-- The format of a field, by the codes of its three lines.
 use Rattle.std.specs.Prelude.{ℕ, ◌↔◌, Bool, true, false, IsTrue, List, Any, Option, Some, None}
 use Rattle.std.specs.List.{list_any}
 use Rattle.vbi_words.specs.declared.code.Code.{Code}

@@ -1,7 +1,8 @@
 -- The numbers of the two systems. The sizes of a line and a field are those of ld-decode's TBC files, which have four
 -- samples to a cycle of the colour subcarrier (315/22 or 17.734475 million samples a second). The limits of a half cell
 -- and the column at which a word is drawn are this project's own.
-use Rattle.std.specs.Prelude.{ℕ, List, codes}
+use Rattle.std.specs.Prelude.{ℕ, List, codes, if◌then◌else◌, Option, Some, None}
+use Rattle.std.specs.Str.{bytes_eq}
 use Rattle.vbi_words.specs.declared.system.System.{System}
 use Rattle.vbi_words.specs.declared.system.System.TheVariants.{Ntsc, Pal}
 
@@ -44,3 +45,8 @@ start_of Pal = 190
 abbrev pub name_of : System → List ℕ
 name_of Ntsc = codes "NTSC"
 name_of Pal = codes "PAL"
+
+-- the system that is called so
+abbrev pub system_named : List ℕ → Option System
+system_named name =
+    if bytes_eq (name_of Ntsc) name then Some Ntsc else (if bytes_eq (name_of Pal) name then Some Pal else None)

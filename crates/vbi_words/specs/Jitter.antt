@@ -1,5 +1,5 @@
--- Rows that differ a little from a drawn one (this project's own rules): a change of level may lie a column early or
--- late, as jitter has it; the two samples beside it may lie on either side of the middle; there may be glitches.
+-- Rows that differ a little from a drawn one: a change of level may lie a column early or late, as jitter has it; the
+-- two samples beside it may lie on either side of the middle; there may be glitches.
 use Rattle.std.specs.Prelude.{◌≡◌, ◌↔◌, ℕ, suc, zero, ◌≤◌, ◌+◌, ◌-◌, ◌⊎◌, Bool, false, List, length, ◌++◌, replicate}
 use Rattle.vbi_words.specs.declared.system.System.{System}
 use Rattle.vbi_words.specs.declared.outcome.Outcome.TheVariants.{Word}

@@ -1,4 +1,4 @@
--- Samples, and the levels that they are sliced into (this project's own rule).
+-- Samples, and the levels that they are sliced into.
 -- A level is a `Bool`: `false` is low, `true` is high.
 use Rattle.std.specs.Prelude.{ℕ, ◌+◌, ◌*◌, Bool, false, List, [], ◌∷◌, map, nat_lt, slice_index_or}
 

@@ -7,6 +7,7 @@ pub mod RunLimits
 pub mod Smooth
 pub mod Readings
 pub mod Drawn
+pub mod Rows
 pub mod Jitter
 pub mod WorkedLines
 pub mod Distance

@@ -1,5 +1,5 @@
--- The outcome of a line's levels: the word that they show, or why they show none (these causes are this project's own).
-use Rattle.std.specs.Prelude.{◌≡◌, ℕ, ◌<◌, ◌+◌, ◌-◌, Bool, false, List, All, take, length}
+-- The outcome of a line's levels: the word that they show, or why they show none.
+use Rattle.std.specs.Prelude.{◌≡◌, ℕ, ◌<◌, ◌+◌, ◌-◌, Bool, false, List, All, take, length, Option, Some, None}
 use Rattle.vbi_words.specs.declared.system.System.{System}
 use Rattle.vbi_words.specs.declared.outcome.Outcome.{Outcome}
 use Rattle.vbi_words.specs.declared.outcome.Outcome.TheVariants.{Word, Blank, Unfinished, Change, Hold}
@@ -29,3 +29,8 @@ IsOutcome system levels (Change c) =
     ShowsNone system levels × (AllLow levels → ⊥) × FirstHopeless system levels c × (Holds levels c → ⊥)
 IsOutcome system levels (Hold c) =
     ShowsNone system levels × (AllLow levels → ⊥) × FirstHopeless system levels c × Holds levels c
+
+-- the word of an outcome, if it is one
+abbrev pub word_of : Outcome → Option ℕ
+word_of (Word w) = Some w
+word_of _ = None

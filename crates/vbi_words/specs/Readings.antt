@@ -1,4 +1,4 @@
--- The reading of a line's levels: their outcome, or the word that the smoothed levels show (this project's own rule).
+-- The reading of a line's levels: their outcome, or the word that the smoothed levels show.
 use Rattle.std.specs.Prelude.{◌≡◌, ℕ, ◌⊎◌, Bool, List}
 use Rattle.vbi_words.specs.declared.system.System.{System}
 use Rattle.vbi_words.specs.declared.outcome.Outcome.{Outcome}

@@ -1,12 +1,18 @@
 -- The 24-bit code words of a LaserDisc (IEC 60857 for NTSC, IEC 60856 for PAL), and the half cells in which they are
 -- written.
 use Rattle.std.specs.Prelude.{ℕ, suc, zero, ◌≤◌, ◌<◌, ◌^◌, Bool, true, false, List, [], ◌∷◌, nat_eq}
+use Rattle.std.specs.Prelude.{Option, Some, None}
 use Rattle.std.specs.List.{flat_map}
 use Rattle.std.specs.Int.{bit_at}
 
 -- a number of 24 bits whose top bit is 1 (that the top bit must be 1 is this project's own rule)
 abbrev pub IsWord : ℕ → Type 0
 IsWord w = (2 ^ 23 ≤ w) × (w < 2 ^ 24)
+
+-- a word, or none
+abbrev pub IsWordOrNone : Option ℕ → Type 0
+IsWordOrNone None = Unit {0}
+IsWordOrNone (Some word) = IsWord word
 
 -- the n lowest bits of a number, the most significant first
 unfoldable pub lowest_bits : ℕ → ℕ → List Bool

@@ -1,8 +1,8 @@
 //! How a word is drawn on a row of samples.
 
-ghost use Rattle.std.specs.Prelude.{◌≡◌, ◌+◌, ◌≤◌, ◌<◌, Some};
-ghost use Rattle.vbi_words.specs.Drawn.{boundary, IsDrawn};
-ghost use Rattle.vbi_words.specs.Geometry.{width_of, start_of};
+ghost use Rattle.std.specs.Prelude.{◌≡◌, ◌+◌, ◌≤◌, ◌<◌, Some, length};
+ghost use Rattle.vbi_words.specs.Drawn.{boundary, drawn_sample_of, drawn_line_of};
+ghost use Rattle.vbi_words.specs.Geometry.{width_of, start_of, line_bytes};
 
 use crate::levels::Levels;
 use crate::system::System;
@@ -28,7 +28,7 @@ fn half_at(system: System, column: usize) -> usize
 /// word, black elsewhere. The word's 48 half cells last one microsecond each (IEC 60857 and IEC 60856).
 pub fn drawn_sample(system: System, slicing: Levels, word: Option<Word24>, column: usize) -> u16
     requires { column < width_of system }
-    ensures { IsDrawn system slicing word column result }
+    ensures { result ≡ drawn_sample_of system slicing word column }
 {
     match word {
         Some(word) => word_sample(system, slicing, word, column),
@@ -39,7 +39,7 @@ pub fn drawn_sample(system: System, slicing: Levels, word: Option<Word24>, colum
 /// The sample at a column of the row drawn for a word.
 fn word_sample(system: System, slicing: Levels, word: Word24, column: usize) -> u16
     requires { column < width_of system }
-    ensures { IsDrawn system slicing (Some word) column result }
+    ensures { result ≡ drawn_sample_of system slicing (Some word) column }
 {
     if column < system.start() {
         return slicing.black();
@@ -49,5 +49,18 @@ fn word_sample(system: System, slicing: Levels, word: Word24, column: usize) -> 
         slicing.white()
     } else {
         slicing.black()
+    }
+}
+
+/// Writes the row drawn for a word, or for none, into the bytes of a line: two for each sample, the low one first.
+pub fn draw_line(system: System, slicing: Levels, word: Option<Word24>, line: &mut [u8])
+    requires { length line.old ≡ line_bytes system }
+    ensures { line.new ≡ drawn_line_of system slicing word }
+{
+    let word = &word;
+    for column in 0..system.width() {
+        let sample = drawn_sample(system, slicing, *word, column);
+        line[2 * column] = (sample % 256) as u8;
+        line[2 * column + 1] = (sample / 256) as u8;
     }
 }

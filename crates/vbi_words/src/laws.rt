@@ -6,14 +6,14 @@ ghost use Rattle.std.specs.Prelude.{[], ◌∷◌, ◌++◌, replicate, length, 
 ghost use Rattle.vbi_words.specs.declared.system.System.{System};
 ghost use Rattle.vbi_words.specs.declared.system.System.TheVariants.{Ntsc, Pal};
 ghost use Rattle.vbi_words.specs.declared.outcome.Outcome.TheVariants.{Word, Unfinished, Change, Hold};
-ghost use Rattle.vbi_words.specs.Levels.{LevelsView, levels_of, level_at};
-ghost use Rattle.vbi_words.specs.Words.{IsWord};
+ghost use Rattle.vbi_words.specs.Levels.{LevelsView, levels_of, level_at, row_levels};
+ghost use Rattle.vbi_words.specs.Words.{IsWord, IsWordOrNone};
 ghost use Rattle.vbi_words.specs.Shows.{Shows, ShowsNone, Viable};
 ghost use Rattle.vbi_words.specs.Outcomes.{AllLow, IsOutcome};
 ghost use Rattle.vbi_words.specs.RunLimits.{EndsOtherwise, HasRunLimit};
 ghost use Rattle.vbi_words.specs.Smooth.{IsSmooth, smooth_of, Glitch};
 ghost use Rattle.vbi_words.specs.Readings.{IsReading};
-ghost use Rattle.vbi_words.specs.Drawn.{IsDrawnRow};
+ghost use Rattle.vbi_words.specs.Drawn.{drawn_row_of, drawn_line_of, drawn_reading};
 ghost use Rattle.vbi_words.specs.Distance.{differences, least_distance, near_first, near_second};
 ghost use Rattle.vbi_words.specs.Distance.{turned_once, turned_twice, turned_there};
 ghost use Rattle.vbi_words.specs.Geometry.{width_of};
@@ -40,14 +40,17 @@ pub fn run_limit()
         → EndsOtherwise levels v → Viable system (levels ++ v ∷ []) → HasRunLimit system levels v }
 {}
 
-/// The row drawn for a word shows the word; the row drawn for none has no high level.
+/// The row drawn for a word shows the word; the row drawn for none has no high level. So the bytes drawn are read as
+/// the word in the first pass, or as blank.
 pub fn drawn_shows()
-    ensures word { (system : System) (slicing : LevelsView) (word : ℕ) (samples : List ℕ)
+    ensures word { (system : System) (slicing : LevelsView) (word : ℕ)
         → slicing.black < slicing.white → IsWord word
-        → IsDrawnRow system slicing (Some word) samples → Shows system (levels_of slicing samples) word }
-    ensures none { (system : System) (slicing : LevelsView) (samples : List ℕ)
-        → slicing.black < slicing.white
-        → IsDrawnRow system slicing None samples → AllLow (levels_of slicing samples) }
+        → Shows system (levels_of slicing (drawn_row_of system slicing (Some word))) word }
+    ensures none { (system : System) (slicing : LevelsView)
+        → slicing.black < slicing.white → AllLow (levels_of slicing (drawn_row_of system slicing None)) }
+    ensures reading { (system : System) (slicing : LevelsView) (word : Option ℕ)
+        → slicing.black < slicing.white → IsWordOrNone word
+        → IsReading system (row_levels slicing (drawn_line_of system slicing word)) (drawn_reading word) }
 {}
 
 /// A list whose changes of level lie in their columns, or one before or behind, still shows its word: this holds of
@@ -55,9 +58,9 @@ pub fn drawn_shows()
 pub fn jitter_shown()
     ensures any { (system : System) (drawn levels : List Bool) (word : ℕ)
         → ShowsAmply system drawn word → IsJittered drawn levels → Shows system levels word }
-    ensures drawn { (system : System) (slicing : LevelsView) (word : ℕ) (samples : List ℕ) (levels : List Bool)
-        → slicing.black < slicing.white → IsWord word → IsDrawnRow system slicing (Some word) samples
-        → IsJittered (levels_of slicing samples) levels → Shows system levels word }
+    ensures drawn { (system : System) (slicing : LevelsView) (word : ℕ) (levels : List Bool)
+        → slicing.black < slicing.white → IsWord word
+        → IsJittered (levels_of slicing (drawn_row_of system slicing (Some word))) levels → Shows system levels word }
 {}
 
 /// Where the two columns beside each change of level in such a list, the last before it and the first behind it, have
@@ -66,9 +69,10 @@ pub fn jitter_shown()
 pub fn blur_read()
     ensures any { (system : System) (drawn levels : List Bool) (word : ℕ)
         → ShowsAmply system drawn word → IsBlurred drawn levels → ReadsWord system levels word }
-    ensures drawn { (system : System) (slicing : LevelsView) (word : ℕ) (samples : List ℕ) (levels : List Bool)
-        → slicing.black < slicing.white → IsWord word → IsDrawnRow system slicing (Some word) samples
-        → IsBlurred (levels_of slicing samples) levels → ReadsWord system levels word }
+    ensures drawn { (system : System) (slicing : LevelsView) (word : ℕ) (levels : List Bool)
+        → slicing.black < slicing.white → IsWord word
+        → IsBlurred (levels_of slicing (drawn_row_of system slicing (Some word))) levels
+        → ReadsWord system levels word }
 {}
 
 /// Where such a blurred list has one glitch or more besides, of up to three columns each and with four equal columns on
@@ -78,10 +82,10 @@ pub fn glitches_read()
     ensures any { (system : System) (drawn blurred levels : List Bool) (word n : ℕ)
         → ShowsAmply system drawn word → IsBlurred drawn blurred → HasGlitches (suc n) blurred levels
         → IsReading system levels (record { outcome = Word word; pass = 2 }) }
-    ensures drawn { (system : System) (slicing : LevelsView) (word n : ℕ) (samples : List ℕ)
-        → (blurred levels : List Bool)
-        → slicing.black < slicing.white → IsWord word → IsDrawnRow system slicing (Some word) samples
-        → IsBlurred (levels_of slicing samples) blurred → HasGlitches (suc n) blurred levels
+    ensures drawn { (system : System) (slicing : LevelsView) (word n : ℕ) (blurred levels : List Bool)
+        → slicing.black < slicing.white → IsWord word
+        → IsBlurred (levels_of slicing (drawn_row_of system slicing (Some word))) blurred
+        → HasGlitches (suc n) blurred levels
         → IsReading system levels (record { outcome = Word word; pass = 2 }) }
     ensures away { (drawn blurred : List Bool) (g m c : ℕ) → IsBlurred drawn blurred → 5 ≤ g
         → ((b : ℕ) → g ≤ b + 5 → b < g + m + 5 → level_at drawn b ≡ level_at drawn g)

@@ -16,7 +16,7 @@ mod system;
 mod word;
 
 pub use code::{Code, classify, digit};
-pub use drawing::drawn_sample;
+pub use drawing::{draw_line, drawn_sample};
 pub use format::{Format, format_of};
 pub use levels::{Levels, LevelsFault};
 pub use outcome::{Outcome, Reading};

@@ -1,5 +1,8 @@
 //! The outcome of a line, and its reading.
 
+ghost use Rattle.std.specs.Prelude.{◌≡◌};
+ghost use Rattle.vbi_words.specs.Outcomes.{word_of};
+
 use crate::word::Word24;
 
 /// What a line shows: its word, or why it shows none. Columns are counted from 0. A column is hopeless where no list of
@@ -18,7 +21,20 @@ pub enum Outcome {
     Hold(u16),
 }
 
-/// What a line shows when it is read a second time, by its smoothed levels, where its own levels show no word.
+impl Outcome {
+    /// The word that the line shows, if it shows one.
+    pub fn word(self) -> Option<Word24>
+        ensures { result ≡ word_of self }
+    {
+        match self {
+            Outcome::Word(word) => Some(word),
+            _ => None,
+        }
+    }
+}
+
+/// The reading of a line: the outcome of its own levels, or, where these show no word and aren't blank, the word that
+/// its smoothed levels show.
 #[derive(Clone, Copy, Debug, PartialEq, Eq)]
 pub struct Reading {
     /// The word, or why the line's own levels show none.

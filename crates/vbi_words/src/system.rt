@@ -1,8 +1,9 @@
 //! The two television systems and their geometry in ld-decode's TBC files.
 
-ghost use Rattle.std.specs.Prelude.{◌≡◌};
+ghost use Rattle.std.specs.Prelude.{◌≡◌, ◌↔◌, Some};
 ghost use Rattle.vbi_words.specs.Geometry.{width_of, height_of, line_bytes, field_bytes};
-ghost use Rattle.vbi_words.specs.Geometry.{least_half, greatest_half, start_of, name_of};
+ghost use Rattle.vbi_words.specs.Geometry.{least_half, greatest_half, start_of, name_of, system_named};
+ghost use Rattle.vbi_words.specs.declared.system.System.{System};
 
 /// The bytes of the longest line, that of PAL.
 pub const LONGEST_LINE: usize = 2270;
@@ -17,6 +18,18 @@ pub enum System {
 }
 
 impl System {
+    /// The system of this name, which is `NTSC` or `PAL`, in capital letters.
+    pub fn named(name: &str) -> Option<System>
+        ensures is { (system : System) → (result ≡ Some system) ↔ (name.now ≡ name_of system) }
+        ensures value { result ≡ system_named name.now }
+    {
+        match name {
+            "NTSC" => Some(System::Ntsc),
+            "PAL" => Some(System::Pal),
+            _ => None,
+        }
+    }
+
     /// Samples per line.
     pub fn width(self) -> usize
         ensures { result ≡ width_of self }
@@ -51,7 +64,7 @@ impl System {
         self.line_bytes() * self.height()
     }
 
-    /// The fewest samples of a half cell, which lasts one microsecond (this project's own limit).
+    /// The fewest samples of a half cell, which lasts one microsecond.
     pub fn half_min(self) -> usize
         ensures { result ≡ least_half self }
     {
@@ -61,7 +74,7 @@ impl System {
         }
     }
 
-    /// The most samples of a half cell (this project's own limit).
+    /// The most samples of a half cell.
     pub fn half_max(self) -> usize
         ensures { result ≡ greatest_half self }
     {
@@ -71,7 +84,7 @@ impl System {
         }
     }
 
-    /// The column, counted from 0, at which a drawn word begins (this project's own choice).
+    /// The column, counted from 0, at which a drawn word begins.
     pub fn start(self) -> usize
         ensures { result ≡ start_of self }
     {

@@ -1,10 +1,14 @@
-use Rattle.std.proofs.Common.{arith, rules}
+use Rattle.std.proofs.Common.{◌≡◌, None, arith, rules}
+use Rattle.vbi_words.specs.Drawn.{drawn_line_of}
 use Rattle.vbi_field.proofs.DrawSteps.{start, row_failed, row_drawn, last_row_failed, last_row_drawn, bad_row}
 use Rattle.vbi_field.proofs.DrawSteps.{row_ended, row_read_failed, byte_ended, byte_read_failed, too_many}
 use Rattle.vbi_field.proofs.drawing.draw.Goals as goal
 
 pub loop-done-init : goal.loop-done-init
-loop-done-init g c = start _ _ _ _ _ c.draw_line.new.line c.requires.rows c.requires.outlet c.draw_line.ensures
+loop-done-init g c =
+    let config = c.args.config.now in
+    let black : c.draw_line.new.line ≡ drawn_line_of config.system config.levels None = cc in
+    start _ _ config _ _ c.draw_line.new.line c.requires.rows c.requires.outlet black
 
 pub loop-done-preserved : goal.loop-done-preserved
 loop-done-preserved g c =

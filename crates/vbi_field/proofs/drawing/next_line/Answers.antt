@@ -1,8 +1,11 @@
-use Rattle.std.proofs.Common.{ap, ◌∙◌, ◌-◌, length}
+use Rattle.std.proofs.Common.{ap, sym, ◌∙◌, ◌-◌, length}
+use Rattle.vbi_words.specs.Geometry.{line_bytes}
 use Rattle.vbi_field.specs.Drawing.{word_at}
-use Rattle.vbi_field.proofs.DrawnLemmas.{length-drawn_line_of}
+use Rattle.vbi_words.proofs.DrawnLines.{length-drawn_line_of}
 use Rattle.vbi_field.proofs.drawing.next_line.Goals as goal
 
 pub draw_line-requires : goal.draw_line-requires
-draw_line-requires c = ap length c.requires
-    ∙ length-drawn_line_of c.args.config.now (word_at c.args.words.now (c.args.row - 1))
+draw_line-requires c =
+    ap length c.requires
+    ∙ length-drawn_line_of c.args.config.now.system c.args.config.now.levels (word_at c.args.words.now (c.args.row - 1))
+    ∙ ap line_bytes (sym c.system.ensures)

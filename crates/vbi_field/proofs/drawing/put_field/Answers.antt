@@ -3,7 +3,7 @@ use Rattle.vbi_words.specs.Geometry.{height_of}
 use Rattle.vbi_field.specs.Drawing.{word_at}
 use Rattle.vbi_line.proofs.Causes.{cause_later}
 use Rattle.vbi_field.proofs.Counts.{sizes_of}
-use Rattle.vbi_field.proofs.DrawnLemmas.{length-drawn_line_of}
+use Rattle.vbi_words.proofs.DrawnLines.{length-drawn_line_of}
 use Rattle.vbi_field.proofs.PutFieldSteps.{Putting-none, Putting-more, put_whole, put_part}
 use Rattle.vbi_field.proofs.drawing.put_field.Goals as goal
 
@@ -12,8 +12,9 @@ loop-row-init g c = Putting-none _ _ _ _ _ c.requires.black
 
 pub put_all-requires-clause-few : goal.put_all-requires-clause-few
 put_all-requires-clause-few g c =
+    let config = c.args.config.now in
     let long = ap length c.next_line.ensures
-    ∙ length-drawn_line_of c.args.config.now (word_at c.args.words.now c.loop-row.row) in
+    ∙ length-drawn_line_of config.system config.levels (word_at c.args.words.now c.loop-row.row) in
     let sizes = sizes_of c.args.config.now.system in
     omega arith
 

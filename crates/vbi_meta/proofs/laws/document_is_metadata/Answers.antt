@@ -1,4 +1,4 @@
-use Rattle.vbi_meta.proofs.DocumentTells.{document_is_metadata, only_value, only_memory}
+use Rattle.vbi_meta.proofs.DocumentReadings.{document_is_metadata, only_value, only_memory}
 use Rattle.vbi_meta.proofs.laws.document_is_metadata.Goals as goal
 
 pub returns-clause-value : goal.returns-clause-value

@@ -1,8 +1,8 @@
 use Rattle.vbi_field.specs.Kinds.{document}
 use Rattle.vbi_field.specs.Texts.{whole_text}
 use Rattle.vbi_meta.proofs.DocumentReads.{document_is_read}
-use Rattle.vbi_meta.proofs.DocumentTells.{tells}
+use Rattle.vbi_meta.proofs.DocumentReadings.{has_readings}
 use Rattle.vbi_meta.proofs.laws.document_words.Goals as goal
 
 pub returns : goal.returns
-returns _ = λ c z run. tells c z (whole_text document c z) (document_is_read c z run).value_of_text
+returns _ = λ c z run. has_readings c z (whole_text document c z) (document_is_read c z run).value_of_text

@@ -1,4 +1,4 @@
-use Rattle.vbi_meta.proofs.DocumentTells.{extracted}
+use Rattle.vbi_meta.proofs.DocumentReadings.{extracted}
 use Rattle.vbi_meta.proofs.laws.extracted_words.Goals as goal
 
 pub returns : goal.returns

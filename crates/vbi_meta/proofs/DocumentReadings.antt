@@ -21,11 +21,12 @@ use Rattle.vbi_field.specs.CauseTexts.{cause_text_of}
 use Rattle.vbi_field.specs.ConfigView.{ConfigView}
 use Rattle.vbi_field.specs.Document.{value_of}
 use Rattle.vbi_field.specs.Kinds.{document}
-use Rattle.vbi_field.specs.Stream.{fields_of, rest_of, line_at, reading_at, readings_at}
+use Rattle.vbi_words.specs.Rows.{line_at}
+use Rattle.vbi_field.specs.Stream.{fields_of, rest_of, reading_at, readings_at}
 use Rattle.vbi_field.specs.Texts.{whole_text}
 use Rattle.vbi_meta.specs.DocumentValue.{IsOfRun, document_value, field_value, cut_field_value, cut_value}
 use Rattle.vbi_meta.specs.Metadata.{most_bytes, IsMetadata, IsUnread}
-use Rattle.vbi_meta.specs.ReadBack.{IsReadAs, field_in, word_in, cut_in, TellsLine, TellsCut, ReadsWord, Tells}
+use Rattle.vbi_meta.specs.ReadBack.{IsReadAs, field_in, word_in, cut_in, HasReading, HasCut, ReadsWord, HasReadings}
 use Rattle.vbi_meta.specs.ReadBack.{ReadsBack}
 use Rattle.vbi_meta.specs.Settings.{whole, member_of}
 use Rattle.vbi_meta.specs.declared.fault.MetaFault.{MetaFault}
@@ -70,10 +71,10 @@ module _ (c : ConfigView) (z : List ℕ) where
   abbrev field : ℕ → Data
   field i = field_value (i + 1) (readings_at c z i)
 
-  abbrev told : ℕ → ℕ → Reading
-  told i k = reading_at c z i (15 + k)
+  abbrev of_line : ℕ → ℕ → Reading
+  of_line i k = reading_at c z i (15 + k)
 
-  word_there : (i k : ℕ) → k < 3 → word_of_field k (Some (field i)) ≡ Some (value_of (told i k).outcome)
+  word_there : (i k : ℕ) → k < 3 → word_of_field k (Some (field i)) ≡ Some (value_of (of_line i k).outcome)
   word_there i zero h = refl
   word_there i (suc zero) h = refl
   word_there i (suc (suc zero)) h = refl
@@ -85,13 +86,13 @@ module _ (c : ConfigView) (z : List ℕ) where
   no_word_there i (suc (suc zero)) h = absurd (omega arith)
   no_word_there i (suc (suc (suc k))) h = refl
 
-  cause_there : (i k : ℕ) → k < 3 → cause_of_field k (Some (field i)) ≡ Some (cause_text_of (told i k).outcome)
+  cause_there : (i k : ℕ) → k < 3 → cause_of_field k (Some (field i)) ≡ Some (cause_text_of (of_line i k).outcome)
   cause_there i zero h = refl
   cause_there i (suc zero) h = refl
   cause_there i (suc (suc zero)) h = refl
   cause_there i (suc (suc (suc k))) h = absurd (omega arith)
 
-  pass_there : (i k : ℕ) → k < 3 → pass_of_field k (Some (field i)) ≡ Some (told i k).pass
+  pass_there : (i k : ℕ) → k < 3 → pass_of_field k (Some (field i)) ≡ Some (of_line i k).pass
   pass_there i zero h = refl
   pass_there i (suc zero) h = refl
   pass_there i (suc (suc zero)) h = refl
@@ -151,22 +152,22 @@ module _ (c : ConfigView) (z text : List ℕ) (is : read text ≡ Some (document
   cut_found : cut_in text ≡ Some (cut_value (fields_of c z) (rest_of c z))
   cut_found = ap (λ d. member_of d (codes "cutField")) is
 
-  word_found : (i k : ℕ) → i < fields_of c z → k < 3 → word_in text i k ≡ Some (value_of (told c z i k).outcome)
+  word_found : (i k : ℕ) → i < fields_of c z → k < 3 → word_in text i k ≡ Some (value_of (of_line c z i k).outcome)
   word_found i k inside line = ap (word_of_field k) (found i inside) ∙ word_there c z i k line
 
-  tells_told : (i k : ℕ) → i < fields_of c z → k < 3 → TellsLine text i k (told c z i k)
-  tells_told i k inside line = record {
+  has_reading : (i k : ℕ) → i < fields_of c z → k < 3 → HasReading text i k (of_line c z i k)
+  has_reading i k inside line = record {
     word = word_found i k inside line;
     cause = ap (cause_of_field k) (found i inside) ∙ cause_there c z i k line;
     pass = ap (pass_of_field k) (found i inside) ∙ pass_there c z i k line;
   }
 
-  tells_line : (i k : ℕ) (reading : Reading) → i < fields_of c z → k < 3 → RowReads c z i (15 + k) reading
-      → TellsLine text i k reading
-  tells_line i k reading inside line reads =
-      let same : reading ≡ told c z i k = only_reading c.system
+  has_same_reading : (i k : ℕ) (reading : Reading) → i < fields_of c z → k < 3 → RowReads c z i (15 + k) reading
+      → HasReading text i k reading
+  has_same_reading i k reading inside line reads =
+      let same : reading ≡ of_line c z i k = only_reading c.system
       (row_levels c.levels (line_at c.system z i (15 + k))) reading reads in
-      subst (TellsLine text i k) (sym same) (tells_told i k inside line)
+      subst (HasReading text i k) (sym same) (has_reading i k inside line)
 
   reads_word : (i k word : ℕ) → word_in text i k ≡ Some word → 0 < word → ReadsWord c z text i k word
   reads_word i k word e some = go (cases_lt i (fields_of c z)) (cases_lt k 3)
@@ -180,19 +181,19 @@ module _ (c : ConfigView) (z text : List ℕ) (is : read text ≡ Some (document
           absurd (omega arith)
       go (inl inside) (inl line) =
           let levels = row_levels c.levels (line_at c.system z i (15 + k)) in
-          let reading = told c z i k in
+          let reading = of_line c z i k in
           let same : value_of reading.outcome ≡ word = ap value_or (sym (word_found i k inside line) ∙ e) in
           record {
             field = inside;
             line = line;
             pass = reading.pass;
-            found = let tells = tells_told i k inside line in tells.pass;
+            found = let there = has_reading i k inside line in there.pass;
             reads = word_of_value c.system levels reading.outcome reading.pass word
                 (is_reading c.system levels) same some;
           }
 
-  tells_cut : TellsCut text (fields_of c z) (rest_of c z)
-  tells_cut = record {
+  has_cut : HasCut text (fields_of c z) (rest_of c z)
+  has_cut = record {
     none = λ whole. cut_found ∙ ap (λ d. Some d) (cut_is_null (fields_of c z) (rest_of c z) whole);
     number = λ some. ap (λ d. option_and_then whole (member_of d (codes "seqNo"))) cut_found
         ∙ cut_number (fields_of c z) (rest_of c z) some;
@@ -200,14 +201,14 @@ module _ (c : ConfigView) (z text : List ℕ) (is : read text ≡ Some (document
         ∙ cut_bytes (fields_of c z) (rest_of c z) some;
   }
 
-  pub tells : Tells c z text
-  tells = record {
+  pub has_readings : HasReadings c z text
+  has_readings = record {
     numbers = λ i inside. ap (λ d. number_of_field d) (found i inside);
     nothing = not_found;
-    each = λ i k inside line. (told c z i k, is_reading c.system _, tells_told i k inside line);
-    lines = tells_line;
+    each = λ i k inside line. (of_line c z i k, is_reading c.system _, has_reading i k inside line);
+    lines = has_same_reading;
     words = reads_word;
-    cut = tells_cut;
+    cut = has_cut;
   }
 
 -- ---- a text that is the document of a stream
@@ -222,7 +223,7 @@ extracted c z text run e =
     (document_is_read c z run) in
     record {
       is_read = is;
-      tells = tells c z text is.value_of_text;
+      readings = has_readings c z text is.value_of_text;
       metadata = is_metadata text (document_value c z) is (short_enough c z text run e);
     }
 

@@ -1,0 +1,97 @@
+-- The bytes of a drawn row, and what it is read as.
+use Rattle.std.proofs.Common.{◌≡◌, ℕ, ◌+◌, ◌*◌, ◌/◌, ◌%◌, ◌<◌, List, [], ◌∷◌, ◌++◌, length, take, set, map, refl, sym}
+use Rattle.std.proofs.Common.{ap, subst, ◌∙◌, arith, append_assoc, inl, zero-add}
+use Rattle.std.specs.Prelude.{Option, Some, None}
+use Rattle.std.specs.List.{flat_map, range_with_len}
+use Rattle.std.proofs.lemmas.List.{append-nil, take_all, take_more_set, length-set}
+use Rattle.std.proofs.lemmas.List.Concat.{flat_map-append}
+use Rattle.std.proofs.lemmas.List.FromFn.{length-map-range_with_len, map-range_with_len_more}
+use Rattle.vbi_words.specs.declared.system.System.{System}
+use Rattle.vbi_words.specs.Geometry.{width_of, line_bytes}
+use Rattle.vbi_words.specs.Levels.{LevelsView, samples_of, levels_of, row_levels}
+use Rattle.vbi_words.specs.Words.{IsWordOrNone}
+use Rattle.vbi_words.specs.Readings.{IsReading}
+use Rattle.vbi_words.specs.Drawn.{drawn_sample_of, drawn_row_of, sample_bytes, drawn_line_of, drawn_reading}
+use Rattle.vbi_words.proofs.LineSizes.{line_bytes-twice}
+use Rattle.vbi_words.proofs.DrawnShows.{row_shows, row_low}
+use Rattle.vbi_words.proofs.Outcomes.{blank_outcome}
+use Rattle.vbi_words.proofs.Shown.{low_lead}
+
+-- ---- samples as bytes
+
+length-sample_bytes : (samples : List ℕ) → length (flat_map sample_bytes samples) ≡ 2 * length samples
+length-sample_bytes [] = refl
+length-sample_bytes (s ∷ samples) = omega (arith, length-sample_bytes samples)
+
+samples_back : (samples : List ℕ) → samples_of (flat_map sample_bytes samples) ≡ samples
+samples_back [] = refl
+samples_back (s ∷ samples) =
+    let whole : s % 256 + 256 * (s / 256) ≡ s = omega arith in
+    ap (λ (v : ℕ). v ∷ samples_of (flat_map sample_bytes samples)) whole
+    ∙ ap (λ (l : List ℕ). s ∷ l) (samples_back samples)
+
+pub length-drawn_line_of : (system : System) (slicing : LevelsView) (word : Option ℕ)
+    → length (drawn_line_of system slicing word) ≡ line_bytes system
+unfolding drawn_line_of drawn_row_of
+length-drawn_line_of system slicing word =
+    length-sample_bytes (drawn_row_of system slicing word)
+    ∙ ap (λ (n : ℕ). 2 * n) (length-map-range_with_len (drawn_sample_of system slicing word) 0 (width_of system))
+    ∙ sym (line_bytes-twice system)
+
+pub samples_of-drawn_line_of : (system : System) (slicing : LevelsView) (word : Option ℕ)
+    → samples_of (drawn_line_of system slicing word) ≡ drawn_row_of system slicing word
+unfolding drawn_line_of
+samples_of-drawn_line_of system slicing word = samples_back (drawn_row_of system slicing word)
+
+-- ---- column by column
+
+-- the bytes of the first columns
+abbrev pub first_columns : System → LevelsView → Option ℕ → ℕ → List ℕ
+first_columns system slicing word n =
+    flat_map sample_bytes (map (drawn_sample_of system slicing word) (range_with_len 0 n))
+
+-- one column more
+pub one_column : (system : System) (slicing : LevelsView) (word : Option ℕ) (line : List ℕ) (column s : ℕ)
+    → 2 * column + 1 < length line → s ≡ drawn_sample_of system slicing word column
+    → take (2 * column) line ≡ first_columns system slicing word column
+    → take (2 * (column + 1)) (set (set line (2 * column) (s % 256)) (2 * column + 1) (s / 256))
+    ≡ first_columns system slicing word (column + 1)
+one_column system slicing word line column s inside is before =
+    let f : ℕ → ℕ = drawn_sample_of system slicing word in
+    let once = set line (2 * column) (s % 256) in
+    let same = length-set line (2 * column) (s % 256) in
+    let e : 2 * (column + 1) ≡ 2 * column + 1 + 1 = omega arith in
+    ap (λ (k : ℕ). take k (set once (2 * column + 1) (s / 256))) e
+    ∙ take_more_set once (2 * column + 1) (s / 256) (omega arith)
+    ∙ ap (λ (l : List ℕ). l ++ s / 256 ∷ []) (take_more_set line (2 * column) (s % 256) (omega arith)
+    ∙ ap (λ (l : List ℕ). l ++ s % 256 ∷ []) before)
+    ∙ append_assoc (first_columns system slicing word column) (s % 256 ∷ []) (s / 256 ∷ [])
+    ∙ ap (λ (v : ℕ). first_columns system slicing word column ++ sample_bytes v) is
+    ∙ ap (λ (l : List ℕ). first_columns system slicing word column ++ l) (sym (append-nil (sample_bytes (f column))))
+    ∙ sym (flat_map-append sample_bytes (map f (range_with_len 0 column)) (f column ∷ []))
+    ∙ ap (flat_map sample_bytes) (sym (map-range_with_len_more f 0 column column (zero-add column)))
+
+pub all_columns : (system : System) (slicing : LevelsView) (word : Option ℕ) (line : List ℕ)
+    → length line ≡ line_bytes system
+    → take (2 * width_of system) line ≡ first_columns system slicing word (width_of system)
+    → line ≡ drawn_line_of system slicing word
+unfolding drawn_line_of drawn_row_of
+all_columns system slicing word line long all =
+    sym (take_all (2 * width_of system) line (omega (arith, line_bytes-twice system))) ∙ all
+
+-- ---- readings
+
+-- a drawn row is read as its word
+pub drawn_reads : (system : System) (slicing : LevelsView) (word : Option ℕ) → slicing.black < slicing.white
+    → IsWordOrNone word
+    → IsReading system (row_levels slicing (drawn_line_of system slicing word)) (drawn_reading word)
+drawn_reads system slicing word order is =
+    let P : List ℕ → Type 0 = λ samples. IsReading system (levels_of slicing samples) (drawn_reading word) in
+    subst P (sym (samples_of-drawn_line_of system slicing word)) (row_reads word is)
+  where
+    row_reads : (word : Option ℕ) → IsWordOrNone word
+        → IsReading system (levels_of slicing (drawn_row_of system slicing word)) (drawn_reading word)
+    row_reads None is =
+        let levels = levels_of slicing (drawn_row_of system slicing None) in
+        (refl, blank_outcome system levels (low_lead system levels (row_low system slicing order)))
+    row_reads (Some word) is = inl (refl, row_shows system slicing word order is)

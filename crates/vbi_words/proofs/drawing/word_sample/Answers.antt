@@ -1,0 +1,17 @@
+use Rattle.std.proofs.Common.{rules}
+use Rattle.std.specs.Prelude.{Some}
+use Rattle.vbi_words.proofs.DrawnSamples.{drawn_sample_is}
+use Rattle.vbi_words.proofs.drawing.word_sample.Goals as goal
+
+pub returns-then-column-start : goal.returns-then-column-start
+returns-then-column-start c =
+    drawn_sample_is c.args.system c.args.slicing (Some c.args.word) c.args.column c.black.result (search rules)
+
+pub returns-then-half : goal.returns-then-half
+returns-then-half c =
+    drawn_sample_is c.args.system c.args.slicing (Some c.args.word) c.args.column c.white.result (search rules)
+
+pub returns-else-half-lt48 : goal.returns-else-half-lt48
+returns-else-half-lt48 c =
+    drawn_sample_is c.args.system c.args.slicing (Some c.args.word) c.args.column c.black-else-half-lt48.result
+    (search rules)
