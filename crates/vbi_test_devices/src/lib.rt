@@ -2,11 +2,13 @@
 //! counts, and count how often they are asked. Stands on std alone, and no program uses it.
 #![tactic(auto)]
 
+mod asserts;
 mod paper;
 mod resumed;
 mod tape;
 mod zeros;
 
+pub use asserts::{holds, same};
 pub use paper::Paper;
 pub use resumed::Resumed;
 pub use tape::Tape;
