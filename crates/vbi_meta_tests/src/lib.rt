@@ -3,12 +3,8 @@
 #![tactic(auto)]
 
 #[cfg(test)]
-mod asserts;
-#[cfg(test)]
 mod documents;
 #[cfg(test)]
 mod not_json;
-#[cfg(test)]
-mod order;
 #[cfg(test)]
 mod settling;
