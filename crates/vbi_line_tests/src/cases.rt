@@ -127,8 +127,8 @@ pub(crate) fn are_clear(rows: &[Clear]) -> Result<(), Fail> {
     Ok(())
 }
 
-/// A line with columns that are turned over, its outcome, and the word of the second pass, or 0 where the reading is the
-/// outcome.
+/// A line with columns that are turned over, its outcome, and the word of the second pass, or 0 where the reading is
+/// the outcome.
 pub(crate) type Glitch = (System, Shape, Turned, Answer, u32);
 
 /// Fails where one of these lines is read as something else.

@@ -54,8 +54,8 @@ fn with_counts<R: Read>(answer: Answer, intake: &Intake<R>) -> Call {
     (answer, intake.held(), intake.failures(), intake.errors())
 }
 
-/// The most bytes of a read of the stored line, the interruptions before each read, how often the reader then failed and
-/// how often it was asked.
+/// The most bytes of a read of the stored line, the interruptions before each read, how often the reader then failed
+/// and how often it was asked.
 const WHOLE: [(usize, usize, u64, u64); 6] = [
     (1, 0, 0, 1820),
     (3, 0, 0, 607),

@@ -117,8 +117,8 @@ fn refuses(
     same(found, expected, members)
 }
 
-/// Members, and the first of their faults. Beside each row with two faults or more there is one with all of them but the
-/// first.
+/// Members, and the first of their faults. Beside each row with two faults or more there is one with all of them but
+/// the first.
 const REFUSED: [(&str, MetaFault); 29] = [
     ("", NoSystem),
     (r#""system":"PAL""#, NoBlack),
