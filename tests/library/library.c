@@ -91,16 +91,22 @@ static void test_refusals(void)
     for (uint32_t system = 0; system < 256; system++)
         if (system != LDVBI_NTSC && system != LDVBI_PAL)
             refused(system, 2, 2, 1, 7, LDVBI_BAD_SYSTEM, LDVBI_BAD_SYSTEM);
+    refused(3, 5, 5, 0, 0, LDVBI_BAD_SYSTEM, LDVBI_BAD_SYSTEM);
+    refused(3, 5, 6, 0, 0, LDVBI_BAD_SYSTEM, LDVBI_BAD_SYSTEM);
+    refused(3, 5, 6, 1, 1820, LDVBI_BAD_SYSTEM, LDVBI_BAD_SYSTEM);
     for (size_t i = 0; i < 2; i++) {
         uint32_t system = televisions[i].system;
         size_t size = 2 * televisions[i].samples;
 
         refused(system, 2, 2, 1, 7, LDVBI_BAD_LEVELS, LDVBI_BAD_LEVELS);
+        refused(system, 5, 5, 0, 0, LDVBI_BAD_LEVELS, LDVBI_BAD_LEVELS);
+        refused(system, 65536, 65537, 1, 0, LDVBI_BAD_LEVELS, LDVBI_BAD_LEVELS);
         refused(system, 65535, 0, 1, size, LDVBI_BAD_LEVELS, LDVBI_BAD_LEVELS);
         refused(system, 65535, 65535, 0x800000, size, LDVBI_BAD_LEVELS, LDVBI_BAD_LEVELS);
         refused(system, 1, 2, 1, size - 1, LDVBI_BAD_LENGTH, LDVBI_BAD_LENGTH);
         refused(system, 1, 2, 0, size + 1, LDVBI_BAD_LENGTH, LDVBI_BAD_LENGTH);
         refused(system, 1, 2, 0, 0, LDVBI_BAD_LENGTH, LDVBI_BAD_LENGTH);
+        refused(system, 5, 6, 1, 0, LDVBI_BAD_LENGTH, LDVBI_BAD_LENGTH);
         refused(system, 1, 2, 0, 2 * televisions[1 - i].samples, LDVBI_BAD_LENGTH, LDVBI_BAD_LENGTH);
         refused(system, 1, 2, 1, size, LDVBI_DONE, LDVBI_BAD_WORD);
         refused(system, 1, 2, 0x7FFFFF, size, LDVBI_DONE, LDVBI_BAD_WORD);

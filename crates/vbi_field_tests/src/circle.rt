@@ -1,35 +1,32 @@
 //! The words of drawn fields come back, pulled and pushed.
 
-use crate::asserts::same;
 use crate::feeding::feeds_chunks;
 use crate::fields::config;
 use crate::known::{HEAD, PAL_HEAD, PAL_WORDS, TAIL, WORDS};
 use crate::runs::{Verb, drew, whole, writes};
 use std::test::Fail;
-use vbi_test_devices::{Paper, Tape};
+use vbi_test_devices::{Paper, Tape, same};
 use vbi_words::System;
 
-/// A text of words, and the document of its field.
-const CIRCLES: [(System, &str, &[&str]); 2] = [
-    (System::Ntsc, "82CFFF F12345 F12345\n", &[HEAD, WORDS, TAIL]),
-    (
-        System::Pal,
-        "8AE012 87FFFF F0DD00",
-        &[PAL_HEAD, PAL_WORDS, TAIL],
-    ),
+/// A text of words, and the head and the record of its field's document.
+const CIRCLES: [(System, &str, &str, &str); 2] = [
+    (System::Ntsc, "82CFFF F12345 F12345\n", HEAD, WORDS),
+    (System::Pal, "8AE012 87FFFF F0DD00", PAL_HEAD, PAL_WORDS),
 ];
 
 #[test]
 fn drawn_words_come_back(rt: HostRuntime) -> Result<(), Fail> {
-    for &(system, words, texts) in &CIRCLES {
+    let alloc = rt.alloc();
+    for (system, words, head, record) in CIRCLES {
         let config = config(system, 5)?;
-        let mut stream = Paper::new(rt.alloc());
+        let mut stream = Paper::new(alloc);
         let run = drew(&config, Tape::new(words.as_bytes()), &mut stream);
-        same(&rt, run.result, Ok(1), system);
+        same(run.result, Ok(1), system)?;
         let field = stream.taken.as_slice();
         let ended = whole(1, None, 3 * system.width() as u64);
-        writes(&rt, rt.alloc(), Verb::Extract, &config, field, ended, texts);
-        feeds_chunks(&rt, rt.alloc(), config, field, 1821, ended, texts);
+        let texts = [head, record, TAIL];
+        writes(alloc, Verb::Extract, &config, field, ended, &texts)?;
+        feeds_chunks(alloc, config, field, 1821, ended, &texts)?;
     }
     Ok(())
 }

@@ -1,209 +1,267 @@
 //! Documents and reports of known streams.
 
-use crate::asserts::{holds, same};
-use crate::fields::{DRAWN, Line, Lines, NONE, PAL_DRAWN, config, field, front, two_fields};
+use crate::fields::Line::{Black, Run, Scratched, Word};
+use crate::fields::{DRAWN, Lines, NONE, config, field, front, two_fields};
 use crate::known::{
-    BLACK, CAUSES, CUT, CUT_END, HEAD, PAL_HEAD, PAL_REPORT_HEAD, PAL_REPORT_WORDS, PAL_WORDS,
-    RECOVERED, REPORT_BLACK, REPORT_CAUSES, REPORT_HEAD, REPORT_RECOVERED, REPORT_SECOND_BLACK,
-    REPORT_TAIL, REPORT_WORDS, SECOND_BLACK, SECOND_CUT, TAIL, WORDS,
+    BLACK, CUT, CUT_END, HEAD, PAL_HEAD, PAL_REPORT_HEAD, REPORT_BLACK, REPORT_HEAD,
+    REPORT_SECOND_BLACK, REPORT_TAIL, REPORT_WORDS, SECOND_BLACK, TAIL, WORDS,
 };
-use crate::runs::{Done, NO_FAILURE, Verb, answers, total, whole, writes};
+use crate::runs::{Ended, Verb, answers, undisturbed, whole, writes};
 use std::alloc::Global;
-use std::process::Abort;
 use std::test::Fail;
-use vbi_field::{Config, Outlet, RunFault, Summary, extract};
+use vbi_field::{Config, Outlet, extract};
 use vbi_line::Intake;
-use vbi_test_devices::{Paper, Tape};
-use vbi_words::System;
+use vbi_test_devices::{Paper, Tape, holds, same};
+use vbi_words::Levels;
+use vbi_words::System::{self, Ntsc, Pal};
 
-/// Asserts that a stream ends so, and just the texts of its document and of its report.
+/// Fails where a stream ends otherwise, or has other texts in its document and its report.
 fn writes_both(
-    rt: &impl Abort,
     alloc: Global,
     config: &Config,
     stream: &[u8],
-    ended: Result<Summary, RunFault>,
+    ended: Ended,
     document: &[&str],
     report: &[&str],
-) {
-    writes(rt, alloc, Verb::Extract, config, stream, ended, document);
-    writes(rt, alloc, Verb::Show, config, stream, ended, report);
+) -> Result<(), Fail> {
+    writes(alloc, Verb::Extract, config, stream, ended, document)?;
+    writes(alloc, Verb::Show, config, stream, ended, report)
 }
 
-/// The lines 16, 17 and 18 of one field, its record and its part of the report.
-const FIELDS: [(System, Lines, &str, &str); 5] = [
-    (System::Ntsc, NONE, BLACK, REPORT_BLACK),
-    (System::Ntsc, DRAWN, WORDS, REPORT_WORDS),
-    (System::Pal, PAL_DRAWN, PAL_WORDS, PAL_REPORT_WORDS),
+/// The heads of a document and of a report with the usual levels.
+fn heads(system: System) -> (&'static str, &'static str) {
+    match system {
+        Ntsc => (HEAD, REPORT_HEAD),
+        Pal => (PAL_HEAD, PAL_REPORT_HEAD),
+    }
+}
+
+/// A system, the lines 16, 17 and 18 of a field, its record, and its part of the report.
+const FIELDS: [(System, Lines, &str, &str); 11] = [
+    (Ntsc, NONE, BLACK, REPORT_BLACK),
+    (Pal, NONE, BLACK, REPORT_BLACK),
+    (Ntsc, DRAWN, WORDS, REPORT_WORDS),
     (
-        System::Ntsc,
-        [Line::Scratched(0x82CFFF), Line::Black, Line::Black],
-        RECOVERED,
-        REPORT_RECOVERED,
+        Pal,
+        [Word(0x8AE012), Word(0x87FFFF), Word(0xF0DD00)],
+        r#"{"seqNo":1,"vbi":{"vbiData":[9101330,8912895,15785216]},"vbiCause":["word","word","word"],"vbiPass":[1,1,1]}"#,
+        "field 1 clv\n16 8AE012 clv picture 00 12\n17 87FFFF clv\n18 F0DD00 time 0:00\n",
     ),
     (
-        System::Ntsc,
-        [Line::Run(14, 20), Line::Run(14, 14), Line::Run(900, 10)],
-        CAUSES,
-        REPORT_CAUSES,
+        Ntsc,
+        [Scratched(0x82CFFF), Black, Black],
+        r#"{"seqNo":1,"vbi":{"vbiData":[8572927,0,0]},"vbiCause":["word","blank","blank"],"vbiPass":[2,0,0]}"#,
+        "field 1 cav\n16 82CFFF picture stop\n17 none blank\n18 none blank\n",
+    ),
+    (
+        Pal,
+        [Black, Scratched(0x82CFFF), Scratched(0xF12345)],
+        r#"{"seqNo":1,"vbi":{"vbiData":[0,8572927,15803205]},"vbiCause":["blank","word","word"],"vbiPass":[0,2,2]}"#,
+        "field 1 cav\n16 none blank\n17 82CFFF picture stop\n18 F12345 picture 12345\n",
+    ),
+    (
+        Ntsc,
+        [Run(14, 20), Run(14, 14), Run(900, 10)],
+        r#"{"seqNo":1,"vbi":{"vbiData":[0,0,0]},"vbiCause":["change 34","hold 46","unfinished"],"vbiPass":[0,0,0]}"#,
+        "field 1 neither\n16 none change 34\n17 none hold 46\n18 none unfinished\n",
+    ),
+    (
+        Ntsc,
+        [Run(14, 22), Word(0x82CFFF), Scratched(0x87FFFF)],
+        r#"{"seqNo":1,"vbi":{"vbiData":[0,8572927,8912895]},"vbiCause":["hold 72","word","word"],"vbiPass":[0,1,2]}"#,
+        "field 1 both\n16 none hold 72\n17 82CFFF picture stop\n18 87FFFF clv\n",
+    ),
+    (
+        Ntsc,
+        [Run(0, 1), Word(0xF79999), Word(0xFFFFFF)],
+        r#"{"seqNo":1,"vbi":{"vbiData":[0,16226713,16777215]},"vbiCause":["change 0","word","word"],"vbiPass":[0,1,1]}"#,
+        "field 1 cav\n16 none change 0\n17 F79999 picture 79999\n18 FFFFFF other\n",
+    ),
+    (
+        Pal,
+        [Run(1090, 45), Run(17, 17), Run(1111, 23)],
+        r#"{"seqNo":1,"vbi":{"vbiData":[0,0,0]},"vbiCause":["hold 1134","hold 56","change 1134"],"vbiPass":[0,0,0]}"#,
+        "field 1 neither\n16 none hold 1134\n17 none hold 56\n18 none change 1134\n",
+    ),
+    (
+        Pal,
+        [Word(0x88FFFF), Run(1117, 14), Word(0x8DC0A1)],
+        r#"{"seqNo":1,"vbi":{"vbiData":[8978431,0,9289889]},"vbiCause":["word","unfinished","word"],"vbiPass":[1,0,1]}"#,
+        "field 1 neither\n16 88FFFF lead-in\n17 none unfinished\n18 8DC0A1 cx on 0A1\n",
     ),
 ];
 
 #[test]
 fn a_field_has_its_record_and_its_part_of_the_report(rt: HostRuntime) -> Result<(), Fail> {
-    for &(system, lines, record, part) in &FIELDS {
+    for (system, lines, record, part) in FIELDS {
         let config = config(system, 5)?;
         let stream = field(rt.alloc(), &config, lines)?;
         let ended = whole(1, None, 3 * system.width() as u64);
-        let (head, report_head) = match system {
-            System::Ntsc => (HEAD, REPORT_HEAD),
-            System::Pal => (PAL_HEAD, PAL_REPORT_HEAD),
-        };
+        let (head, report_head) = heads(system);
         let document = [head, record, TAIL];
         let report = [report_head, part, REPORT_TAIL];
         writes_both(
-            &rt,
             rt.alloc(),
             &config,
             stream.as_slice(),
             ended,
             &document,
             &report,
-        );
+        )?;
     }
     Ok(())
 }
 
 #[test]
 fn each_field_has_its_own_words(rt: HostRuntime) -> Result<(), Fail> {
-    let config = config(System::Ntsc, 5)?;
+    let config = config(Ntsc, 5)?;
     let stream = two_fields(rt.alloc(), &config, DRAWN)?;
     let ended = whole(2, None, 5460);
     let document = [HEAD, WORDS, SECOND_BLACK, TAIL];
-    let report = [
-        REPORT_HEAD,
-        REPORT_WORDS,
-        REPORT_SECOND_BLACK,
-        "fields 2 cut none\n",
-    ];
+    let tail = "fields 2 cut none\n";
+    let report = [REPORT_HEAD, REPORT_WORDS, REPORT_SECOND_BLACK, tail];
     writes_both(
-        &rt,
         rt.alloc(),
         &config,
         stream.as_slice(),
         ended,
         &document,
         &report,
-    );
-    Ok(())
+    )
 }
+
+/// A system, black and white, and the heads of a document and of a report with these.
+const HEADS: [(System, u16, u16, &str, &str); 4] = [
+    (
+        Ntsc,
+        0,
+        65535,
+        "{\"version\":2,\"videoParameters\":{\"system\":\"NTSC\",\"fieldWidth\":910,\"fieldHeight\":263,\
+         \"black16bIre\":0,\"white16bIre\":65535},\"fields\":[\n",
+        "system NTSC 910x263 black 0 white 65535\n",
+    ),
+    (
+        Ntsc,
+        9,
+        10,
+        "{\"version\":2,\"videoParameters\":{\"system\":\"NTSC\",\"fieldWidth\":910,\"fieldHeight\":263,\
+         \"black16bIre\":9,\"white16bIre\":10},\"fields\":[\n",
+        "system NTSC 910x263 black 9 white 10\n",
+    ),
+    (
+        Pal,
+        0,
+        65535,
+        "{\"version\":2,\"videoParameters\":{\"system\":\"PAL\",\"fieldWidth\":1135,\"fieldHeight\":313,\
+         \"black16bIre\":0,\"white16bIre\":65535},\"fields\":[\n",
+        "system PAL 1135x313 black 0 white 65535\n",
+    ),
+    (
+        Pal,
+        999,
+        1000,
+        "{\"version\":2,\"videoParameters\":{\"system\":\"PAL\",\"fieldWidth\":1135,\"fieldHeight\":313,\
+         \"black16bIre\":999,\"white16bIre\":1000},\"fields\":[\n",
+        "system PAL 1135x313 black 999 white 1000\n",
+    ),
+];
 
 #[test]
 fn an_empty_stream_has_a_head_and_a_tail(rt: HostRuntime) -> Result<(), Fail> {
-    let config = config(System::Ntsc, 5)?;
-    let done = Done {
-        result: whole(0, None, 0),
-        fetched: 0,
-        read_failures: NO_FAILURE,
-        written: 155,
-        write_failures: NO_FAILURE,
-    };
-    let paper = Paper::new(rt.alloc());
-    answers(
-        &rt,
-        Verb::Extract,
-        &config,
-        Tape::new(b""),
-        paper,
-        done,
-        &[HEAD, TAIL],
-    );
-    Ok(())
+    for (system, black, white, head, report_head) in HEADS {
+        let config = Config::new(system, Levels::new(black, white)?, 5)?;
+        let ended = whole(0, None, 0);
+        let report = [report_head, "fields 0 cut none\n"];
+        writes_both(rt.alloc(), &config, b"", ended, &[head, TAIL], &report)?;
+    }
+    same(
+        HEAD.len() + TAIL.len(),
+        155,
+        "the bytes of an empty document",
+    )
 }
 
 #[test]
 fn nothing_is_held_of_an_empty_stream(rt: HostRuntime) -> Result<(), Fail> {
-    let config = config(System::Ntsc, 5)?;
+    let config = config(Ntsc, 5)?;
     let mut tape = Tape::new(b"");
     let mut paper = Paper::new(rt.alloc());
     let mut intake = Intake::new(&mut tape, config.system());
     let mut outlet = Outlet::new(&mut paper);
     let ended = extract(&config, &mut intake, &mut outlet);
-    holds(&rt, ended.is_ok(), "an empty stream");
-    same(&rt, intake.held(), 0, "held");
-    Ok(())
+    holds(ended.is_ok(), "an empty stream")?;
+    same(intake.held(), 0, "held")
 }
 
-/// Bytes that a field is cut to, and the columns looked at.
-const CUTS: [(u32, &str, u64); 6] = [
-    (1, "1", 0),
-    (27299, "27299", 0),
-    (27300, "27300", 0),
-    (27301, "27301", 0),
-    (32760, "32760", 2730),
-    (478659, "478659", 2730),
+/// A system, the bytes that a field is cut to, and the samples looked at of its lines 16 to 18.
+const CUTS: [(System, u32, &str, u64); 14] = [
+    (Ntsc, 1, "1", 0),
+    (Ntsc, 27299, "27299", 0),
+    (Ntsc, 27300, "27300", 0),
+    (Ntsc, 27301, "27301", 0),
+    (Ntsc, 32759, "32759", 1820),
+    (Ntsc, 32760, "32760", 2730),
+    (Ntsc, 478659, "478659", 2730),
+    (Pal, 1, "1", 0),
+    (Pal, 34050, "34050", 0),
+    (Pal, 36320, "36320", 1135),
+    (Pal, 40859, "40859", 2270),
+    (Pal, 40860, "40860", 3405),
+    (Pal, 478660, "478660", 3405),
+    (Pal, 710509, "710509", 3405),
 ];
 
 #[test]
 fn a_cut_field_is_named(rt: HostRuntime) -> Result<(), Fail> {
-    let config = config(System::Ntsc, 5)?;
-    let stream = field(rt.alloc(), &config, NONE)?;
-    for &(length, bytes, looked) in &CUTS {
-        let cut = front(stream.as_slice(), length as usize);
+    let ntsc = field(rt.alloc(), &config(Ntsc, 5)?, NONE)?;
+    let pal = field(rt.alloc(), &config(Pal, 5)?, NONE)?;
+    for (system, length, bytes, looked) in CUTS {
+        let config = config(system, 5)?;
+        let cut = match system {
+            Ntsc => front(ntsc.as_slice(), length as usize),
+            Pal => front(pal.as_slice(), length as usize),
+        };
         let ended = whole(0, Some(length), looked);
-        let document = [HEAD, CUT, bytes, CUT_END];
-        let report = [REPORT_HEAD, "fields 0 cut field 1 bytes ", bytes, "\n"];
-        writes_both(&rt, rt.alloc(), &config, cut, ended, &document, &report);
+        let (head, report_head) = heads(system);
+        let document = [head, CUT, bytes, CUT_END];
+        let report = [report_head, "fields 0 cut field 1 bytes ", bytes, "\n"];
+        writes_both(rt.alloc(), &config, cut, ended, &document, &report)?;
     }
     Ok(())
 }
 
 #[test]
 fn a_second_field_that_is_cut_has_number_two(rt: HostRuntime) -> Result<(), Fail> {
-    let config = config(System::Ntsc, 5)?;
+    let config = config(Ntsc, 5)?;
     let mut stream = field(rt.alloc(), &config, NONE)?;
     stream.push(0)?;
     let ended = whole(1, Some(1), 2730);
-    let document = [HEAD, BLACK, SECOND_CUT];
+    let cut = "\n],\"cutField\":{\"seqNo\":2,\"bytes\":1}}\n";
+    let document = [HEAD, BLACK, cut];
     let report = [REPORT_HEAD, REPORT_BLACK, "fields 1 cut field 2 bytes 1\n"];
     writes_both(
-        &rt,
         rt.alloc(),
         &config,
         stream.as_slice(),
         ended,
         &document,
         &report,
-    );
-    Ok(())
+    )
 }
 
 #[test]
 fn reads_of_any_length_give_one_document(rt: HostRuntime) -> Result<(), Fail> {
-    let config = config(System::Ntsc, 5)?;
+    let config = config(Ntsc, 5)?;
     let stream = field(rt.alloc(), &config, DRAWN)?;
     let texts = [HEAD, WORDS, TAIL];
-    let done = Done {
-        result: whole(1, None, 2730),
-        fetched: 478660,
-        read_failures: NO_FAILURE,
-        written: total(&texts),
-        write_failures: NO_FAILURE,
-    };
+    let done = undisturbed(stream.as_slice(), whole(1, None, 2730), &texts);
     for piece in [1, 3, 1821] {
-        let tape = Tape {
+        let mut tape = Tape {
             piece,
             ..Tape::new(stream.as_slice())
         };
-        answers(
-            &rt,
-            Verb::Extract,
-            &config,
-            tape,
-            Paper::new(rt.alloc()),
-            done,
-            &texts,
-        );
+        let mut paper = Paper::new(rt.alloc());
+        answers(Verb::Extract, &config, &mut tape, &mut paper, done, &texts)?;
     }
     Ok(())
 }

@@ -1,48 +1,55 @@
 //! The texts of faults.
 
-use std::alloc::{AllocError, Global};
-use std::fmt::Display;
 use std::test::Fail;
 use vbi_field::{ConfigFault, DrawFault, OutletFault, RunFault};
+use vbi_test_devices::same;
 
-/// The text of a fault.
-fn text_of(alloc: Global, fault: &impl Display) -> Result<String, AllocError> {
-    format!(in alloc; "{fault}")
-}
+/// Faults of a run, and the text of each.
+const OF_RUNS: [(RunFault, &str); 4] = [
+    (
+        RunFault::Read {
+            field: 2,
+            offset: 1000,
+        },
+        "read failed in field 2 at byte 1000",
+    ),
+    (
+        RunFault::Write { written: 150 },
+        "write failed after 150 bytes",
+    ),
+    (RunFault::TooManyFields, "too many fields"),
+    (RunFault::Failed, "feeder failed before"),
+];
+
+/// Faults of drawing, and the text of each.
+const OF_DRAWING: [(DrawFault, &str); 4] = [
+    (DrawFault::Row { number: 3 }, "row 3 is malformed"),
+    (DrawFault::Read { number: 3 }, "read failed in row 3"),
+    (
+        DrawFault::Write { written: 3 },
+        "write failed after 3 bytes",
+    ),
+    (DrawFault::TooManyFields, "too many fields"),
+];
 
 #[test]
 fn faults_have_their_texts(rt: HostRuntime) -> Result<(), Fail> {
     let alloc = rt.alloc();
-    let read = RunFault::Read {
-        field: 2,
-        offset: 1000,
-    };
-    let found = [
-        text_of(alloc, &ConfigFault::BadMaxFields)?,
-        text_of(alloc, &OutletFault::Write)?,
-        text_of(alloc, &read)?,
-        text_of(alloc, &RunFault::Write { written: 150 })?,
-        text_of(alloc, &RunFault::TooManyFields)?,
-        text_of(alloc, &RunFault::Failed)?,
-        text_of(alloc, &DrawFault::Row { number: 3 })?,
-        text_of(alloc, &DrawFault::Read { number: 3 })?,
-        text_of(alloc, &DrawFault::Write { written: 3 })?,
-        text_of(alloc, &DrawFault::TooManyFields)?,
-    ];
-    let expected = [
-        "max fields is not from 1 to 1000000",
-        "write failed",
-        "read failed in field 2 at byte 1000",
-        "write failed after 150 bytes",
-        "too many fields",
-        "feeder failed before",
-        "row 3 is malformed",
-        "read failed in row 3",
-        "write failed after 3 bytes",
-        "too many fields",
-    ];
-    for (text, wanted) in found.iter().zip(expected) {
-        assert!(rt; text.as_str() == wanted, "{wanted}");
+    for (fault, text) in OF_RUNS {
+        same(fault.to_string(alloc)?.as_str(), text, fault)?;
     }
-    Ok(())
+    for (fault, text) in OF_DRAWING {
+        same(fault.to_string(alloc)?.as_str(), text, fault)?;
+    }
+    let text = "max fields is not from 1 to 1000000";
+    same(
+        ConfigFault::BadMaxFields.to_string(alloc)?.as_str(),
+        text,
+        "a limit",
+    )?;
+    same(
+        OutletFault::Write.to_string(alloc)?.as_str(),
+        "write failed",
+        "an outlet",
+    )
 }

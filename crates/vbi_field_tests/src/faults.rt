@@ -1,153 +1,219 @@
-//! Faults of a run, and what stands after them.
+//! Faults of a run, what stands after them, and how often the devices are asked: a reader that has a byte for each read
+//! once for each, and once more for its end or its error; a writer of one byte a write once for each, and once more
+//! where it fails. No run asks again after these.
 
-use crate::fields::{NONE, config, field, two_fields};
-use crate::known::{BLACK, HEAD, REPORT_BLACK, REPORT_HEAD, REPORT_TAIL, SECOND_BLACK, TAIL};
-use crate::runs::{Done, NO_FAILURE, ONE_ERROR, Verb, answers, interruptions, whole, writes};
+use crate::faults::End::{Cut, Read, TooMany, Whole};
+use crate::fields::{NONE, config, field, front, two_fields};
+use crate::known::{
+    BLACK, HEAD, PAL_HEAD, PAL_REPORT_HEAD, REPORT_BLACK, REPORT_HEAD, REPORT_SECOND_BLACK,
+    REPORT_TAIL, SECOND_BLACK, TAIL,
+};
+use crate::runs::{
+    Done, Ended, NO_FAILURE, ONE_ERROR, VERBS, Verb, answers, interruptions, total, whole,
+};
 use std::test::Fail;
 use vbi_field::{RunFault, Summary};
-use vbi_test_devices::{Paper, Tape, Zeros};
-use vbi_words::System;
+use vbi_test_devices::{Paper, Tape, same};
+use vbi_words::System::{self, Ntsc, Pal};
 
-type Ended = Result<Summary, RunFault>;
+/// How a run over black fields ends.
+#[derive(Clone, Copy, Debug)]
+enum End {
+    /// Whole, after so many fields.
+    Whole(u32),
+    /// Whole, after the first byte of the first field.
+    Cut,
+    /// By an error, in this field behind so many of its bytes.
+    Read(u32, u32),
+    /// By a byte past the last field allowed.
+    TooMany(u32),
+}
 
-/// Bytes of two black fields that come before the fault, its field and offset, and the bytes written of a document and
-/// of a report.
-const READ_FAULTS: [(usize, u32, u32, u64, u64); 7] = [
-    (0, 1, 0, 135, 44),
-    (1, 1, 1, 135, 44),
-    (1819, 1, 1819, 135, 44),
-    (1820, 1, 1820, 135, 44),
-    (478659, 1, 478659, 135, 44),
-    (478660, 2, 0, 227, 102),
-    (479660, 2, 1000, 227, 102),
+/// The bytes of a field, and those of two.
+const FIELD: usize = 478_660;
+
+const TWO: usize = 957_320;
+
+const PAL_FIELD: usize = 710_510;
+
+/// The system, the limit of fields, the bytes of the stream, after how many of them the reader fails, how the run ends,
+/// and how often the reader is asked.
+const READERS: [(System, u32, usize, Option<usize>, End, u64); 22] = [
+    (Ntsc, 5, 0, None, Whole(0), 1),
+    (Ntsc, 5, 1, None, Cut, 2),
+    (Ntsc, 5, FIELD, None, Whole(1), 478_661),
+    (Ntsc, 1, FIELD, None, Whole(1), 478_661),
+    (Ntsc, 2, TWO, None, Whole(2), 957_321),
+    (Ntsc, 5, TWO, Some(0), Read(1, 0), 1),
+    (Ntsc, 5, TWO, Some(1), Read(1, 1), 2),
+    (Ntsc, 5, TWO, Some(1819), Read(1, 1819), 1820),
+    (Ntsc, 5, TWO, Some(1820), Read(1, 1820), 1821),
+    (Ntsc, 5, TWO, Some(478_659), Read(1, 478_659), 478_660),
+    (Ntsc, 5, TWO, Some(FIELD), Read(2, 0), 478_661),
+    (Ntsc, 5, TWO, Some(479_660), Read(2, 1000), 479_661),
+    (Ntsc, 1, TWO, Some(FIELD), Read(2, 0), 478_661),
+    (Ntsc, 1, TWO, Some(478_665), Read(2, 5), 478_666),
+    (Ntsc, 1, 478_665, None, TooMany(1), 478_666),
+    (Ntsc, 2, 957_321, None, TooMany(2), 957_322),
+    // A whole line past the last field, behind which nothing is asked for.
+    (Ntsc, 1, TWO, None, TooMany(1), 480_480),
+    (Pal, 5, 1, None, Cut, 2),
+    (Pal, 1, PAL_FIELD, None, Whole(1), 710_511),
+    (Pal, 5, 1_421_020, Some(710_509), Read(1, 710_509), 710_510),
+    (Pal, 5, 1_421_020, Some(710_511), Read(2, 1), 710_512),
+    (Pal, 1, 1_421_020, None, TooMany(1), 712_780),
 ];
 
-/// How a run ends where the reader fails at a byte of a field, after so many were fetched and others written.
-fn unread(field: u32, offset: u32, fetched: u64, written: u64) -> Done {
-    Done {
-        result: Err(RunFault::Read { field, offset }),
-        fetched,
-        read_failures: ONE_ERROR,
-        written,
-        write_failures: NO_FAILURE,
+/// What stands behind the head of a document or a report of one byte.
+const CUTS: [&str; 2] = [
+    "\n],\"cutField\":{\"seqNo\":1,\"bytes\":1}}\n",
+    "fields 0 cut field 1 bytes 1\n",
+];
+
+/// The last lines of reports.
+const LASTS: [&str; 3] = ["fields 0 cut none\n", REPORT_TAIL, "fields 2 cut none\n"];
+
+/// The head, the records of two black fields and, where the run is whole, the tail that stand after a run.
+fn texts_of(verb: Verb, system: System, end: End) -> [&'static str; 4] {
+    let head = match (verb, system) {
+        (Verb::Extract, Ntsc) => HEAD,
+        (Verb::Extract, Pal) => PAL_HEAD,
+        (Verb::Show, Ntsc) => REPORT_HEAD,
+        (Verb::Show, Pal) => PAL_REPORT_HEAD,
+    };
+    let (first, second, tails, cut) = match verb {
+        Verb::Extract => (BLACK, SECOND_BLACK, [TAIL; 3], CUTS[0]),
+        Verb::Show => (REPORT_BLACK, REPORT_SECOND_BLACK, LASTS, CUTS[1]),
+    };
+    match end {
+        Cut => [head, cut, "", ""],
+        Whole(0) => [head, tails[0], "", ""],
+        Whole(1) => [head, first, tails[1], ""],
+        Whole(_) => [head, first, second, tails[2]],
+        Read(1, _) => [head, "", "", ""],
+        Read(..) | TooMany(1) => [head, first, "", ""],
+        TooMany(_) => [head, first, second, ""],
+    }
+}
+
+fn result_of(system: System, end: End) -> Ended {
+    match end {
+        Cut => whole(0, Some(1), 0),
+        Whole(fields) => whole(fields, None, u64::from(fields) * 3 * system.width() as u64),
+        Read(field, offset) => Err(RunFault::Read { field, offset }),
+        TooMany(_) => Err(RunFault::TooManyFields),
     }
 }
 
 #[test]
-fn a_read_fault_has_its_field_and_offset(rt: HostRuntime) -> Result<(), Fail> {
-    let config = config(System::Ntsc, 5)?;
-    let stream = two_fields(rt.alloc(), &config, NONE)?;
-    let stream = stream.as_slice();
-    for &(count, field, offset, written, shown) in &READ_FAULTS {
-        let tape = Tape::failing(stream, count);
-        let done = unread(field, offset, count as u64, written);
-        let paper = Paper::new(rt.alloc());
-        answers(
-            &rt,
-            Verb::Extract,
-            &config,
-            tape,
-            paper,
-            done,
-            &[HEAD, BLACK],
-        );
-
-        let tape = Tape::failing(stream, count);
-        let done = unread(field, offset, count as u64, shown);
-        let paper = Paper::new(rt.alloc());
-        answers(
-            &rt,
-            Verb::Show,
-            &config,
-            tape,
-            paper,
-            done,
-            &[REPORT_HEAD, REPORT_BLACK],
-        );
+fn no_reader_is_asked_again_after_its_end_or_an_error(rt: HostRuntime) -> Result<(), Fail> {
+    let mut ntsc = two_fields(rt.alloc(), &config(Ntsc, 5)?, NONE)?;
+    ntsc.push(0)?;
+    let pal = two_fields(rt.alloc(), &config(Pal, 5)?, NONE)?;
+    for (system, limit, bytes, fault, end, asked) in READERS {
+        let config = config(system, limit)?;
+        let stream = match system {
+            Ntsc => front(ntsc.as_slice(), bytes),
+            Pal => front(pal.as_slice(), bytes),
+        };
+        // What the reader has before it says its end or fails.
+        let had = match fault {
+            Some(count) => count,
+            None => bytes,
+        };
+        for verb in VERBS {
+            let texts = texts_of(verb, system, end);
+            let mut tape = Tape {
+                piece: 1,
+                fault,
+                ..Tape::new(stream)
+            };
+            let done = Done {
+                result: result_of(system, end),
+                fetched: asked.min(had as u64),
+                read_failures: match end {
+                    Read(..) => ONE_ERROR,
+                    _ => NO_FAILURE,
+                },
+                written: total(&texts),
+                write_failures: NO_FAILURE,
+            };
+            let mut paper = Paper::new(rt.alloc());
+            answers(verb, &config, &mut tape, &mut paper, done, &texts)?;
+            same(tape.asked, asked, (verb, end))?;
+        }
     }
     Ok(())
 }
 
-/// How the run over black fields ends where the writer takes so many bytes, and then fails; the head has `head` of
-/// them.
+/// The bytes of the head and of all texts of a black field's document and report.
+const WRITERS: [(Verb, u32, u32); 2] = [(Verb::Extract, 135, 247), (Verb::Show, 44, 120)];
+
+/// How a run over black fields ends where the writer takes so many bytes, and then fails; the head has `head` of them.
 fn unwritten(room: u32, head: u32) -> Done {
     let written = u64::from(room);
     Done {
         result: Err(RunFault::Write { written }),
-        fetched: if room < head { 0 } else { 478660 },
+        fetched: if room < head { 0 } else { 478_660 },
         read_failures: NO_FAILURE,
         written,
         write_failures: ONE_ERROR,
     }
 }
 
-/// The bytes of the head and of all texts of a black field's document and report.
-const WRITERS: [(Verb, u32, u32, &[&str]); 2] = [
-    (Verb::Extract, 135, 247, &[HEAD, BLACK, TAIL]),
-    (
-        Verb::Show,
-        44,
-        120,
-        &[REPORT_HEAD, REPORT_BLACK, REPORT_TAIL],
-    ),
-];
-
 #[test]
-fn a_writer_may_fail_at_each_byte(rt: HostRuntime) -> Result<(), Fail> {
-    let config = config(System::Ntsc, 5)?;
+fn no_writer_is_asked_again_after_it_failed_at_any_byte(rt: HostRuntime) -> Result<(), Fail> {
+    let config = config(Ntsc, 5)?;
     let stream = field(rt.alloc(), &config, NONE)?;
-    for (verb, head, bytes, texts) in WRITERS {
+    for (verb, head, bytes) in WRITERS {
+        let texts = texts_of(verb, Ntsc, Whole(1));
         for room in 0..bytes {
-            let tape = Tape::new(stream.as_slice());
-            let paper = Paper::failing(rt.alloc(), room as usize);
+            let mut paper = Paper {
+                piece: 1,
+                jams: room % 2 == 0,
+                ..Paper::failing(rt.alloc(), room as usize)
+            };
+            let mut tape = Tape::new(stream.as_slice());
             let done = unwritten(room, head);
-            answers(&rt, verb, &config, tape, paper, done, texts);
+            answers(verb, &config, &mut tape, &mut paper, done, &texts)?;
+            same(paper.asked, u64::from(room) + 1, (verb, room))?;
         }
-    }
-    Ok(())
-}
-
-// A writer that takes 150 bytes in all, and then fails by an error, or takes none of some bytes.
-#[test]
-fn the_first_150_bytes_stand_after_a_write_fault(rt: HostRuntime) -> Result<(), Fail> {
-    let config = config(System::Ntsc, 5)?;
-    let stream = field(rt.alloc(), &config, NONE)?;
-    for jams in [false, true] {
-        let tape = Tape::new(stream.as_slice());
-        let paper = Paper {
-            jams,
-            ..Paper::failing(rt.alloc(), 150)
+        let mut paper = Paper {
+            piece: 1,
+            ..Paper::failing(rt.alloc(), bytes as usize)
         };
-        let done = unwritten(150, 135);
-        answers(
-            &rt,
-            Verb::Extract,
-            &config,
-            tape,
-            paper,
-            done,
-            &[HEAD, BLACK, TAIL],
-        );
+        let mut tape = Tape::new(stream.as_slice());
+        let done = Done {
+            result: whole(1, None, 2730),
+            write_failures: NO_FAILURE,
+            ..unwritten(bytes, head)
+        };
+        answers(verb, &config, &mut tape, &mut paper, done, &texts)?;
+        same(paper.asked, u64::from(bytes), verb)?;
     }
     Ok(())
 }
 
 #[test]
 fn a_record_is_written_before_the_next_field_is_read(rt: HostRuntime) -> Result<(), Fail> {
-    let config = config(System::Ntsc, 5)?;
+    let config = config(Ntsc, 5)?;
     let stream = two_fields(rt.alloc(), &config, NONE)?;
-    let tape = Tape::new(stream.as_slice());
-    let paper = Paper::failing(rt.alloc(), 150);
-    let done = unwritten(150, 135);
-    answers(
-        &rt,
-        Verb::Extract,
-        &config,
-        tape,
-        paper,
-        done,
-        &[HEAD, BLACK],
-    );
+    for jams in [false, true] {
+        let mut tape = Tape::new(stream.as_slice());
+        let mut paper = Paper {
+            jams,
+            ..Paper::failing(rt.alloc(), 150)
+        };
+        let done = unwritten(150, 135);
+        answers(
+            Verb::Extract,
+            &config,
+            &mut tape,
+            &mut paper,
+            done,
+            &[HEAD, BLACK],
+        )?;
+    }
     Ok(())
 }
 
@@ -157,35 +223,32 @@ const BLACK_FIELD: Ended = Ok(Summary {
     looked: 2730,
 });
 
-const READ_FAULT: Ended = Err(RunFault::Read {
+const UNREAD: Ended = Err(RunFault::Read {
     field: 1,
     offset: 0,
 });
 
-const WRITE_FAULT: Ended = Err(RunFault::Write { written: 0 });
+const UNWRITTEN: Ended = Err(RunFault::Write { written: 0 });
 
-/// The interruptions before the first read and before the first write, each of which is a failure and no error, the
-/// most bytes of a write, and how the run over a black field then ends: its result, the bytes fetched and those
-/// written.
-const INTERRUPTIONS: [(usize, usize, usize, Ended, u64, u64); 5] = [
-    (16, 0, 1_000_000, BLACK_FIELD, 478660, 247),
-    (17, 0, 1_000_000, READ_FAULT, 0, 135),
-    (0, 16, 1_000_000, BLACK_FIELD, 478660, 247),
-    (0, 17, 1_000_000, WRITE_FAULT, 0, 0),
-    (0, 0, 1, BLACK_FIELD, 478660, 247),
+/// The interruptions before the first read and before the first write, each of which is a failure and no error, and how
+/// the run over a black field then ends: its result, the bytes fetched and those written.
+const INTERRUPTIONS: [(usize, usize, Ended, u64, u64); 4] = [
+    (16, 0, BLACK_FIELD, 478_660, 247),
+    (17, 0, UNREAD, 0, 135),
+    (0, 16, BLACK_FIELD, 478_660, 247),
+    (0, 17, UNWRITTEN, 0, 0),
 ];
 
 #[test]
 fn sixteen_interruptions_in_a_row_are_borne(rt: HostRuntime) -> Result<(), Fail> {
-    let config = config(System::Ntsc, 5)?;
+    let config = config(Ntsc, 5)?;
     let stream = field(rt.alloc(), &config, NONE)?;
-    for &(reads, interrupts, piece, result, fetched, written) in &INTERRUPTIONS {
-        let tape = Tape {
+    for (reads, interrupts, result, fetched, written) in INTERRUPTIONS {
+        let mut tape = Tape {
             interrupts: reads,
             ..Tape::new(stream.as_slice())
         };
-        let paper = Paper {
-            piece,
+        let mut paper = Paper {
             interrupts,
             ..Paper::new(rt.alloc())
         };
@@ -196,88 +259,8 @@ fn sixteen_interruptions_in_a_row_are_borne(rt: HostRuntime) -> Result<(), Fail>
             written,
             write_failures: interruptions(interrupts),
         };
-        answers(
-            &rt,
-            Verb::Extract,
-            &config,
-            tape,
-            paper,
-            done,
-            &[HEAD, BLACK, TAIL],
-        );
+        let texts = [HEAD, BLACK, TAIL];
+        answers(Verb::Extract, &config, &mut tape, &mut paper, done, &texts)?;
     }
-    Ok(())
-}
-
-#[test]
-fn a_byte_after_the_last_field_is_too_many(rt: HostRuntime) -> Result<(), Fail> {
-    let config = config(System::Ntsc, 2)?;
-    let mut stream = two_fields(rt.alloc(), &config, NONE)?;
-    let ended = whole(2, None, 5460);
-    let texts = [HEAD, BLACK, SECOND_BLACK, TAIL];
-    writes(
-        &rt,
-        rt.alloc(),
-        Verb::Extract,
-        &config,
-        stream.as_slice(),
-        ended,
-        &texts,
-    );
-
-    stream.push(0)?;
-    let fault = Err(RunFault::TooManyFields);
-    let texts = [HEAD, BLACK, SECOND_BLACK];
-    writes(
-        &rt,
-        rt.alloc(),
-        Verb::Extract,
-        &config,
-        stream.as_slice(),
-        fault,
-        &texts,
-    );
-    Ok(())
-}
-
-#[test]
-fn an_endless_reader_is_stopped_at_the_limit(rt: HostRuntime) -> Result<(), Fail> {
-    let config = config(System::Ntsc, 1)?;
-    let done = Done {
-        result: Err(RunFault::TooManyFields),
-        fetched: 480480,
-        read_failures: NO_FAILURE,
-        written: 227,
-        write_failures: NO_FAILURE,
-    };
-    let paper = Paper::new(rt.alloc());
-    answers(
-        &rt,
-        Verb::Extract,
-        &config,
-        Zeros,
-        paper,
-        done,
-        &[HEAD, BLACK],
-    );
-    Ok(())
-}
-
-#[test]
-fn a_read_fault_past_the_limit_is_a_read_fault(rt: HostRuntime) -> Result<(), Fail> {
-    let config = config(System::Ntsc, 1)?;
-    let stream = two_fields(rt.alloc(), &config, NONE)?;
-    let tape = Tape::failing(stream.as_slice(), 478665);
-    let done = unread(2, 5, 478665, 227);
-    let paper = Paper::new(rt.alloc());
-    answers(
-        &rt,
-        Verb::Extract,
-        &config,
-        tape,
-        paper,
-        done,
-        &[HEAD, BLACK],
-    );
     Ok(())
 }

@@ -1,135 +1,77 @@
 //! Known streams that are pushed in pieces.
 
-use crate::asserts::same;
 use crate::fields::{DRAWN, NONE, config, field, front};
-use crate::known::{BLACK, CUT, CUT_END, HEAD, TAIL, WORDS};
-use crate::runs::{Failures, NO_FAILURE, ONE_ERROR, failures_of_writes, total, whole, wrote};
+use crate::known::{BLACK, CUT, CUT_END, HEAD, PAL_HEAD, TAIL, WORDS};
+use crate::runs::{
+    Ended, Failures, NO_FAILURE, ONE_ERROR, failures_of_writes, total, whole, wrote,
+};
 use std::alloc::Global;
-use std::process::Abort;
 use std::test::Fail;
-use vbi_field::{Config, Feeder, Outlet, RunFault, Summary};
-use vbi_test_devices::Paper;
+use vbi_field::{Config, Feeder, Outlet, RunFault};
+use vbi_test_devices::{Paper, holds, same};
 use vbi_words::System;
-
-type Ended = Result<Summary, RunFault>;
 
 /// Feeds a piece, where the outlet's counts are as small as those of the streams here.
 fn push(
-    rt: &impl Abort,
     feeder: &mut Feeder,
     piece: &[u8],
     outlet: &mut Outlet<Paper>,
-) -> Result<(), RunFault> {
-    assert!(rt; outlet.written() < 1_000_000 && outlet.failures() < 1_000_000);
-    feeder.feed(piece, outlet)
+) -> Result<Result<(), RunFault>, Fail> {
+    let is_small = outlet.written() < 1_000_000 && outlet.failures() < 1_000_000;
+    holds(is_small, "small counts")?;
+    Ok(feeder.feed(piece, outlet))
 }
 
 /// Ends a stream, in the same way.
-fn end(rt: &impl Abort, feeder: Feeder, outlet: &mut Outlet<Paper>) -> Ended {
-    assert!(rt; outlet.written() < 1_000_000 && outlet.failures() < 1_000_000);
-    feeder.finish(outlet)
+fn end(feeder: Feeder, outlet: &mut Outlet<Paper>) -> Result<Ended, Fail> {
+    let is_small = outlet.written() < 1_000_000 && outlet.failures() < 1_000_000;
+    holds(is_small, "small counts")?;
+    Ok(feeder.finish(outlet))
 }
 
-/// How a stream that was pushed ended, and how often the writer had then failed.
-#[derive(Clone, Copy, Debug, PartialEq, Eq)]
-pub(crate) struct PushedRun {
-    pub(crate) result: Ended,
-    pub(crate) failures: Failures,
-}
-
-/// Pushes the pieces of a stream and ends it.
-pub(crate) fn pushed(
-    rt: &impl Abort,
-    config: Config,
-    pieces: &[&[u8]],
-    paper: &mut Paper,
-) -> PushedRun {
-    let mut outlet = Outlet::new(paper);
-    let result = match Feeder::begin(config, &mut outlet) {
-        Ok(feeder) => push_pieces(rt, feeder, pieces, &mut outlet),
-        Err(fault) => Err(fault),
-    };
-    PushedRun {
-        result,
-        failures: failures_of_writes(&outlet),
-    }
-}
-
-/// Pushes these pieces to a feeder that has begun, and ends the stream.
-fn push_pieces(
-    rt: &impl Abort,
-    mut feeder: Feeder,
-    pieces: &[&[u8]],
-    outlet: &mut Outlet<Paper>,
-) -> Ended {
-    for piece in pieces {
-        push(rt, &mut feeder, piece, outlet)?;
-    }
-    end(rt, feeder, outlet)
-}
-
-/// The same with a stream in pieces of so many bytes.
+/// Pushes a stream in pieces of so many bytes and pieces of no bytes, and ends it.
 fn push_chunks(
-    rt: &impl Abort,
     mut feeder: Feeder,
     stream: &[u8],
     size: usize,
     outlet: &mut Outlet<Paper>,
-) -> Ended {
+) -> Result<Ended, Fail> {
     let mut rest = stream;
     for _ in 0..stream.len() {
         let (piece, more) = rest.split_at(size.min(rest.len()));
-        push(rt, &mut feeder, piece, outlet)?;
+        if let Err(fault) = push(&mut feeder, piece, outlet)? {
+            return Ok(Err(fault));
+        }
         rest = more;
     }
-    end(rt, feeder, outlet)
+    end(feeder, outlet)
 }
 
-/// Asserts that a stream in pieces ends so, and that just these texts were written.
-fn feeds(
-    rt: &impl Abort,
-    alloc: Global,
-    config: Config,
-    pieces: &[&[u8]],
-    ended: Ended,
-    texts: &[&str],
-) {
-    let mut paper = Paper::new(alloc);
-    let expected = PushedRun {
-        result: ended,
-        failures: NO_FAILURE,
-    };
-    let found = pushed(rt, config, pieces, &mut paper);
-    same(rt, found, expected, "in pieces");
-    wrote(rt, &paper, total(texts), texts);
-}
-
-/// Asserts this of a stream in pieces of so many bytes.
+/// Fails where a stream in pieces of so many bytes ends otherwise, or other texts than these are written.
 pub(crate) fn feeds_chunks(
-    rt: &impl Abort,
     alloc: Global,
     config: Config,
     stream: &[u8],
     size: usize,
     ended: Ended,
     texts: &[&str],
-) {
+) -> Result<(), Fail> {
     let mut paper = Paper::new(alloc);
     let mut outlet = Outlet::new(&mut paper);
-    let result = match Feeder::begin(config, &mut outlet) {
-        Ok(feeder) => push_chunks(rt, feeder, stream, size, &mut outlet),
-        Err(fault) => Err(fault),
-    };
-    same(rt, result, ended, size);
-    same(rt, failures_of_writes(&outlet), NO_FAILURE, size);
-    wrote(rt, &paper, total(texts), texts);
+    let feeder = Feeder::begin(config, &mut outlet)?;
+    let found = push_chunks(feeder, stream, size, &mut outlet)?;
+    same(found, ended, size)?;
+    same(failures_of_writes(&outlet), NO_FAILURE, size)?;
+    wrote(&paper, total(texts), texts)
 }
 
 #[test]
 fn an_empty_stream_has_a_head_and_a_tail(rt: HostRuntime) -> Result<(), Fail> {
-    let config = config(System::Ntsc, 5)?;
-    let ended = whole(0, None, 0);
-    feeds(&rt, rt.alloc(), config, &[], ended, &[HEAD, TAIL]);
+    for (system, head) in [(System::Ntsc, HEAD), (System::Pal, PAL_HEAD)] {
+        let config = config(system, 5)?;
+        let ended = whole(0, None, 0);
+        feeds_chunks(rt.alloc(), config, b"", 1, ended, &[head, TAIL])?;
+    }
     Ok(())
 }
 
@@ -137,37 +79,55 @@ fn an_empty_stream_has_a_head_and_a_tail(rt: HostRuntime) -> Result<(), Fail> {
 fn pieces_of_any_length_give_one_document(rt: HostRuntime) -> Result<(), Fail> {
     let config = config(System::Ntsc, 5)?;
     let stream = field(rt.alloc(), &config, DRAWN)?;
+    let stream = stream.as_slice();
     let ended = whole(1, None, 2730);
     let texts = [HEAD, WORDS, TAIL];
     for size in [1, 3, 1821] {
-        feeds_chunks(
-            &rt,
-            rt.alloc(),
-            config,
-            stream.as_slice(),
-            size,
-            ended,
-            &texts,
-        );
+        feeds_chunks(rt.alloc(), config, stream, size, ended, &texts)?;
     }
     // Inside the first sample of line 16, and a piece of no bytes.
-    let (front, back) = stream.as_slice().split_at_checked(27301).ok_or("short")?;
-    feeds(&rt, rt.alloc(), config, &[front, &[], back], ended, &texts);
-    Ok(())
+    let (front, back) = stream.split_at_checked(27301).ok_or("short")?;
+    let mut paper = Paper::new(rt.alloc());
+    let mut outlet = Outlet::new(&mut paper);
+    let mut feeder = Feeder::begin(config, &mut outlet)?;
+    for piece in [front, &[], back] {
+        same(push(&mut feeder, piece, &mut outlet)?, Ok(()), "a piece")?;
+    }
+    same(end(feeder, &mut outlet)?, ended, "the end")?;
+    wrote(&paper, total(&texts), &texts)
 }
 
 #[test]
 fn one_piece_may_be_a_whole_stream(rt: HostRuntime) -> Result<(), Fail> {
-    let config = config(System::Ntsc, 1)?;
-    let stream = field(rt.alloc(), &config, NONE)?;
-    let ended = whole(1, None, 2730);
-    let texts = [HEAD, BLACK, TAIL];
-    feeds(&rt, rt.alloc(), config, &[stream.as_slice()], ended, &texts);
-
-    let cut = front(stream.as_slice(), 478659);
-    let ended = whole(0, Some(478659), 2730);
-    let texts = [HEAD, CUT, "478659", CUT_END];
-    feeds(&rt, rt.alloc(), config, &[cut], ended, &texts);
+    let alloc = rt.alloc();
+    for (system, head, bytes, cut) in [
+        (System::Ntsc, HEAD, 478_659, "478659"),
+        (System::Pal, PAL_HEAD, 710_509, "710509"),
+    ] {
+        let config = config(system, 1)?;
+        let stream = field(alloc, &config, NONE)?;
+        let stream = stream.as_slice();
+        let looked = 3 * system.width() as u64;
+        let ended = whole(1, None, looked);
+        feeds_chunks(
+            alloc,
+            config,
+            stream,
+            1_000_000,
+            ended,
+            &[head, BLACK, TAIL],
+        )?;
+        let ended = whole(0, Some(bytes), looked);
+        let stream = front(stream, bytes as usize);
+        feeds_chunks(
+            alloc,
+            config,
+            stream,
+            1_000_000,
+            ended,
+            &[head, CUT, cut, CUT_END],
+        )?;
+    }
     Ok(())
 }
 
@@ -180,67 +140,29 @@ fn a_writer_may_fail_at_each_byte(rt: HostRuntime) -> Result<(), Fail> {
             piece: 1,
             ..Paper::failing(rt.alloc(), room as usize)
         };
-        let written = u64::from(room);
-        let expected = PushedRun {
-            result: Err(RunFault::Write { written }),
-            failures: ONE_ERROR,
+        let mut outlet = Outlet::new(&mut paper);
+        let found = match Feeder::begin(config, &mut outlet) {
+            Ok(feeder) => push_chunks(feeder, stream.as_slice(), 1_000_000, &mut outlet)?,
+            Err(fault) => Err(fault),
         };
-        let found = pushed(&rt, config, &[stream.as_slice()], &mut paper);
-        same(&rt, found, expected, room);
-        same(&rt, paper.asked, written + 1, room);
-        wrote(&rt, &paper, written, &[HEAD, BLACK, TAIL]);
+        let written = u64::from(room);
+        same(found, Err(RunFault::Write { written }), room)?;
+        same(failures_of_writes(&outlet), ONE_ERROR, room)?;
+        same(paper.asked, written + 1, room)?;
+        wrote(&paper, written, &[HEAD, BLACK, TAIL])?;
     }
     Ok(())
 }
 
-/// What a piece, a piece of no bytes after it and then the end answer, and how often the writer had then failed.
-#[derive(Clone, Copy, Debug, PartialEq, Eq)]
-struct Answers {
-    piece: Result<(), RunFault>,
-    next: Result<(), RunFault>,
-    end: Ended,
-    failures: Failures,
-}
-
-fn after_a_fault(
-    rt: &impl Abort,
-    config: Config,
-    piece: &[u8],
-    paper: &mut Paper,
-) -> Result<Answers, RunFault> {
-    let mut outlet = Outlet::new(paper);
-    let mut feeder = Feeder::begin(config, &mut outlet)?;
-    let piece = push(rt, &mut feeder, piece, &mut outlet);
-    let next = push(rt, &mut feeder, &[], &mut outlet);
-    Ok(Answers {
-        piece,
-        next,
-        end: end(rt, feeder, &mut outlet),
-        failures: failures_of_writes(&outlet),
-    })
-}
+const WRITE: RunFault = RunFault::Write { written: 150 };
 
 /// The bytes that come beside a black field, those after which the writer fails, the fault, the writer's failures, the
 /// bytes written one by one, and how often the writer was asked for these, in all calls.
 const FAULTS: [(usize, Option<usize>, RunFault, Failures, u64, u64); 3] = [
-    (
-        0,
-        Some(150),
-        RunFault::Write { written: 150 },
-        ONE_ERROR,
-        150,
-        151,
-    ),
+    (0, Some(150), WRITE, ONE_ERROR, 150, 151),
     (1, None, RunFault::TooManyFields, NO_FAILURE, 227, 227),
     // Too many fields as well, behind the record that isn't written.
-    (
-        1,
-        Some(150),
-        RunFault::Write { written: 150 },
-        ONE_ERROR,
-        150,
-        151,
-    ),
+    (1, Some(150), WRITE, ONE_ERROR, 150, 151),
 ];
 
 #[test]
@@ -255,17 +177,23 @@ fn a_feeder_that_failed_writes_nothing_more(rt: HostRuntime) -> Result<(), Fail>
             fault,
             ..Paper::new(rt.alloc())
         };
-        let piece = front(stream.as_slice(), 478660 + more);
-        let answers = after_a_fault(&rt, config, piece, &mut paper);
-        let expected = Answers {
-            piece: Err(error),
-            next: Err(RunFault::Failed),
-            end: Err(RunFault::Failed),
-            failures,
-        };
-        same(&rt, answers, Ok(expected), error);
-        same(&rt, paper.asked, asked, error);
-        wrote(&rt, &paper, written, &[HEAD, BLACK]);
+        let piece = front(stream.as_slice(), 478_660 + more);
+        let mut outlet = Outlet::new(&mut paper);
+        let mut feeder = Feeder::begin(config, &mut outlet)?;
+        same(
+            push(&mut feeder, piece, &mut outlet)?,
+            Err(error),
+            "a piece",
+        )?;
+        same(
+            push(&mut feeder, &[], &mut outlet)?,
+            Err(RunFault::Failed),
+            "no bytes",
+        )?;
+        same(end(feeder, &mut outlet)?, Err(RunFault::Failed), "the end")?;
+        same(failures_of_writes(&outlet), failures, error)?;
+        same(paper.asked, asked, error)?;
+        wrote(&paper, written, &[HEAD, BLACK])?;
     }
     Ok(())
 }

@@ -2,10 +2,10 @@
 ghost use Rattle.std.specs.Prelude.{◌<◌};
 ghost use Rattle.vbi_words.specs.Geometry.{width_of};
 
-use crate::asserts::same;
 use std::alloc::{AllocError, Global};
 use std::test::Fail;
 use vbi_field::{Config, ConfigFault};
+use vbi_test_devices::same;
 use vbi_words::{Levels, System, Word24, drawn_sample};
 
 /// The settings of the streams here.
@@ -23,7 +23,7 @@ pub(crate) enum Line {
     Black,
     /// A drawn word.
     Word(u32),
-    /// A drawn word of which columns 170 and 171 are black.
+    /// A drawn word of which two columns in its first high half cell are black: 170 and 171, or 215 and 216 of PAL.
     Scratched(u32),
     /// So many black columns, so many white ones, and black ones to the end.
     Run(usize, usize),
@@ -40,20 +40,18 @@ pub(crate) const DRAWN: Lines = [
     Line::Word(0xF12345),
 ];
 
-pub(crate) const PAL_DRAWN: Lines = [
-    Line::Word(0x8AE012),
-    Line::Word(0x87FFFF),
-    Line::Word(0xF0DD00),
-];
-
 fn sample_of(config: &Config, line: Line, column: usize) -> u16
     requires { column < width_of config.now.system }
 {
     let levels = config.levels();
+    let scratch = match config.system() {
+        System::Ntsc => 170,
+        System::Pal => 215,
+    };
     let word = match line {
         Line::Black => None,
         Line::Word(value) => Word24::new(value).ok(),
-        Line::Scratched(_) if column == 170 || column == 171 => None,
+        Line::Scratched(_) if column == scratch || column == scratch + 1 => None,
         Line::Scratched(value) => Word24::new(value).ok(),
         Line::Run(low, high) => {
             let is_white = low <= column && column < low.saturating_add(high);
@@ -122,20 +120,23 @@ const LIMITS: [(u32, Option<ConfigFault>); 4] = [
 ];
 
 #[test]
-fn a_limit_is_from_one_to_a_million_fields(rt: HostRuntime) -> Result<(), Fail> {
+fn a_limit_is_from_one_to_a_million_fields() -> Result<(), Fail> {
     let levels = Levels::new(16384, 51200)?;
-    for (limit, fault) in LIMITS {
-        let found = Config::new(System::Ntsc, levels, limit).err();
-        same(&rt, found, fault, limit);
+    for system in [System::Ntsc, System::Pal] {
+        for (limit, fault) in LIMITS {
+            same(Config::new(system, levels, limit).err(), fault, limit)?;
+        }
     }
     Ok(())
 }
 
 #[test]
-fn a_config_keeps_its_values(rt: HostRuntime) -> Result<(), Fail> {
+fn a_config_keeps_its_values() -> Result<(), Fail> {
     let levels = Levels::new(16384, 54016)?;
-    let config = Config::new(System::Pal, levels, 7)?;
-    let found = (config.system(), config.levels(), config.max_fields());
-    same(&rt, found, (System::Pal, levels, 7), "a config");
+    for (system, limit) in [(System::Pal, 7), (System::Ntsc, 1_000_000)] {
+        let config = Config::new(system, levels, limit)?;
+        let found = (config.system(), config.levels(), config.max_fields());
+        same(found, (system, levels, limit), "a config")?;
+    }
     Ok(())
 }

@@ -1,14 +1,12 @@
 //! What a row of the text of words may hold: three items with one space between two of them, each a word in six
 //! hexadecimal digits or a single `-`.
 
-use crate::asserts::same;
 use crate::fields::config;
 use crate::runs::drew;
 use std::alloc::Global;
-use std::process::Abort;
 use std::test::Fail;
-use vbi_field::{Config, DrawFault};
-use vbi_test_devices::{Paper, Tape};
+use vbi_field::DrawFault;
+use vbi_test_devices::{Paper, Tape, same};
 use vbi_words::System;
 
 /// Items that are none, wherever they stand in a row.
@@ -53,34 +51,35 @@ const NO_ITEMS: [&str; 36] = [
     "\r",
 ];
 
-/// How a text of words ends, and how many bytes are written.
-fn ended(
-    rt: &impl Abort,
-    alloc: Global,
-    config: &Config,
-    text: &str,
-) -> (Result<u32, DrawFault>, usize) {
-    let mut paper = Paper::new(alloc);
-    let run = drew(config, Tape::new(text.as_bytes()), &mut paper);
-    same(rt, run.written, paper.taken.len() as u64, text);
-    (run.result, paper.taken.len())
-}
+type Ended = Result<u32, DrawFault>;
 
-const MALFORMED: (Result<u32, DrawFault>, usize) = (Err(DrawFault::Row { number: 1 }), 0);
+const MALFORMED: Ended = Err(DrawFault::Row { number: 1 });
+
+/// Fails where a text of words ends otherwise, or other bytes than so many are written.
+fn ends(
+    alloc: Global,
+    system: System,
+    text: &str,
+    ended: Ended,
+    written: usize,
+) -> Result<(), Fail> {
+    let mut paper = Paper::new(alloc);
+    let run = drew(&config(system, 9)?, Tape::new(text.as_bytes()), &mut paper);
+    let found = (run.result, run.written, paper.taken.len());
+    same(found, (ended, written as u64, written), text)
+}
 
 #[test]
 fn each_of_the_three_items_is_looked_at(rt: HostRuntime) -> Result<(), Fail> {
     let alloc = rt.alloc();
-    let config = config(System::Ntsc, 9)?;
-    for item in &NO_ITEMS {
+    for item in NO_ITEMS {
         for text in [
             format!(in alloc; "{item} - -\n")?,
             format!(in alloc; "- {item} -\n")?,
             format!(in alloc; "- - {item}\n")?,
             format!(in alloc; "- - {item}")?,
         ] {
-            let found = ended(&rt, alloc, &config, text.as_str());
-            same(&rt, found, MALFORMED, *item);
+            ends(alloc, System::Ntsc, text.as_str(), MALFORMED, 0)?;
         }
     }
     Ok(())
@@ -109,15 +108,13 @@ const NO_ROWS: [&str; 17] = [
 
 #[test]
 fn a_row_is_three_items_and_two_spaces(rt: HostRuntime) -> Result<(), Fail> {
-    let config = config(System::Ntsc, 9)?;
-    for text in &NO_ROWS {
-        let found = ended(&rt, rt.alloc(), &config, text);
-        same(&rt, found, MALFORMED, *text);
+    for text in NO_ROWS {
+        ends(rt.alloc(), System::Pal, text, MALFORMED, 0)?;
     }
     Ok(())
 }
 
-/// Rows of PAL's fields, and of every digit, that are drawn.
+/// Rows that are drawn, with each digit in either case.
 const ROWS: [&str; 5] = [
     "- - -\n",
     "800000 FFFFFF -\n",
@@ -128,10 +125,9 @@ const ROWS: [&str; 5] = [
 
 #[test]
 fn words_have_any_digits_behind_the_first(rt: HostRuntime) -> Result<(), Fail> {
-    let config = config(System::Pal, 9)?;
-    for text in &ROWS {
-        let found = ended(&rt, rt.alloc(), &config, text);
-        same(&rt, found, (Ok(1), 710_510), *text);
+    for text in ROWS {
+        ends(rt.alloc(), System::Ntsc, text, Ok(1), 478_660)?;
+        ends(rt.alloc(), System::Pal, text, Ok(1), 710_510)?;
     }
     Ok(())
 }

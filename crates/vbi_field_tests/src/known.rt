@@ -4,6 +4,7 @@
 pub(crate) const HEAD: &str = "{\"version\":2,\"videoParameters\":{\"system\":\"NTSC\",\
     \"fieldWidth\":910,\"fieldHeight\":263,\"black16bIre\":16384,\"white16bIre\":51200},\"fields\":[\n";
 
+/// The head of a document of PAL with black 16384 and white 54016.
 pub(crate) const PAL_HEAD: &str = "{\"version\":2,\"videoParameters\":{\"system\":\"PAL\",\
     \"fieldWidth\":1135,\"fieldHeight\":313,\"black16bIre\":16384,\"white16bIre\":54016},\"fields\":[\n";
 
@@ -11,6 +12,7 @@ pub(crate) const PAL_HEAD: &str = "{\"version\":2,\"videoParameters\":{\"system\
 pub(crate) const BLACK: &str = "{\"seqNo\":1,\"vbi\":{\"vbiData\":[0,0,0]},\
     \"vbiCause\":[\"blank\",\"blank\",\"blank\"],\"vbiPass\":[0,0,0]}";
 
+/// That of a second one, and what joins it to the first: 94 bytes.
 pub(crate) const SECOND_BLACK: &str = ",\n{\"seqNo\":2,\"vbi\":{\"vbiData\":[0,0,0]},\
     \"vbiCause\":[\"blank\",\"blank\",\"blank\"],\"vbiPass\":[0,0,0]}";
 
@@ -20,12 +22,6 @@ pub(crate) const WORDS: &str = "{\"seqNo\":1,\"vbi\":{\"vbiData\":[8572927,15803
 pub(crate) const PAL_WORDS: &str = "{\"seqNo\":1,\"vbi\":{\"vbiData\":[9101330,8912895,15785216]},\
     \"vbiCause\":[\"word\",\"word\",\"word\"],\"vbiPass\":[1,1,1]}";
 
-pub(crate) const RECOVERED: &str = "{\"seqNo\":1,\"vbi\":{\"vbiData\":[8572927,0,0]},\
-    \"vbiCause\":[\"word\",\"blank\",\"blank\"],\"vbiPass\":[2,0,0]}";
-
-pub(crate) const CAUSES: &str = "{\"seqNo\":1,\"vbi\":{\"vbiData\":[0,0,0]},\
-    \"vbiCause\":[\"change 34\",\"hold 46\",\"unfinished\"],\"vbiPass\":[0,0,0]}";
-
 /// The end of a document where no field was cut: 20 bytes.
 pub(crate) const TAIL: &str = "\n],\"cutField\":null}\n";
 
@@ -33,8 +29,6 @@ pub(crate) const TAIL: &str = "\n],\"cutField\":null}\n";
 pub(crate) const CUT: &str = "\n],\"cutField\":{\"seqNo\":1,\"bytes\":";
 
 pub(crate) const CUT_END: &str = "}}\n";
-
-pub(crate) const SECOND_CUT: &str = "\n],\"cutField\":{\"seqNo\":2,\"bytes\":1}}\n";
 
 /// The first line of a report: 44 bytes.
 pub(crate) const REPORT_HEAD: &str = "system NTSC 910x263 black 16384 white 51200\n";
@@ -44,21 +38,12 @@ pub(crate) const PAL_REPORT_HEAD: &str = "system PAL 1135x313 black 16384 white 
 pub(crate) const REPORT_WORDS: &str = "field 1 cav\n16 82CFFF picture stop\n\
     17 F12345 picture 12345\n18 F12345 picture 12345\n";
 
-pub(crate) const PAL_REPORT_WORDS: &str = "field 1 clv\n16 8AE012 clv picture 00 12\n\
-    17 87FFFF clv\n18 F0DD00 time 0:00\n";
-
 /// The four lines of a first field of black samples: 58 bytes.
 pub(crate) const REPORT_BLACK: &str =
     "field 1 neither\n16 none blank\n17 none blank\n18 none blank\n";
 
 pub(crate) const REPORT_SECOND_BLACK: &str =
     "field 2 neither\n16 none blank\n17 none blank\n18 none blank\n";
-
-pub(crate) const REPORT_RECOVERED: &str = "field 1 cav\n16 82CFFF picture stop\n\
-    17 none blank\n18 none blank\n";
-
-pub(crate) const REPORT_CAUSES: &str = "field 1 neither\n16 none change 34\n\
-    17 none hold 46\n18 none unfinished\n";
 
 /// The last line of a report of one field: 18 bytes.
 pub(crate) const REPORT_TAIL: &str = "fields 1 cut none\n";

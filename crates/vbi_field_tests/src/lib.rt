@@ -5,10 +5,6 @@
 #![tactic(auto)]
 
 #[cfg(test)]
-mod asks;
-#[cfg(test)]
-mod asserts;
-#[cfg(test)]
 mod circle;
 #[cfg(test)]
 mod documents;
@@ -22,8 +18,6 @@ mod faults;
 mod feeding;
 #[cfg(test)]
 mod fields;
-#[cfg(test)]
-mod heads;
 #[cfg(test)]
 mod items;
 #[cfg(test)]

@@ -1,8 +1,8 @@
 //! A writer that takes all of some bytes, or says why not.
 
-use crate::asserts::{holds, same};
+use std::test::Fail;
 use vbi_field::{Outlet, OutletFault};
-use vbi_test_devices::Paper;
+use vbi_test_devices::{Paper, holds, same};
 
 type Answer = Result<(), OutletFault>;
 
@@ -10,11 +10,11 @@ const WRITE: Answer = Err(OutletFault::Write);
 
 /// What a call of `put_all` answers, how many bytes are then written and failures and errors counted, and how often the
 /// writer was asked.
-type Told = (Answer, u64, u64, u64, u64);
+type Call = (Answer, u64, u64, u64, u64);
 
 /// How a writer is set: the most of a write, the interruptions before the first and before each other, and the bytes
-/// after which it fails; and what six bytes tell.
-const WRITERS: [(usize, usize, usize, Option<usize>, Told); 8] = [
+/// after which it fails; and what a call with six bytes does.
+const WRITERS: [(usize, usize, usize, Option<usize>, Call); 8] = [
     (6, 0, 0, None, (Ok(()), 6, 0, 0, 1)),
     (1, 0, 0, None, (Ok(()), 6, 0, 0, 6)),
     (6, 16, 0, None, (Ok(()), 6, 16, 0, 17)),
@@ -25,22 +25,17 @@ const WRITERS: [(usize, usize, usize, Option<usize>, Told); 8] = [
     (6, 3, 0, Some(0), (WRITE, 0, 4, 1, 4)),
 ];
 
-fn told_by(paper: &mut Paper) -> Told {
+fn put(paper: &mut Paper) -> Call {
     let mut outlet = Outlet::new(paper);
     let answer = outlet.put_all(b"abcdef");
     let (written, failures, errors) = (outlet.written(), outlet.failures(), outlet.errors());
-    (
-        answer,
-        written,
-        failures,
-        errors,
-        outlet.into_writer().asked,
-    )
+    let asked = outlet.into_writer().asked;
+    (answer, written, failures, errors, asked)
 }
 
 #[test]
-fn bytes_are_written_whole_or_up_to_a_fault(rt: HostRuntime) {
-    for (piece, interrupts, again, fault, told) in WRITERS {
+fn bytes_are_written_whole_or_up_to_a_fault(rt: HostRuntime) -> Result<(), Fail> {
+    for (piece, interrupts, again, fault, expected) in WRITERS {
         for jams in [false, true] {
             let mut paper = Paper {
                 piece,
@@ -50,11 +45,12 @@ fn bytes_are_written_whole_or_up_to_a_fault(rt: HostRuntime) {
                 jams,
                 ..Paper::new(rt.alloc())
             };
-            same(&rt, told_by(&mut paper), told, (piece, again, jams));
-            let (_, written, _, _, _) = told;
+            same(put(&mut paper), expected, (piece, again, jams))?;
             let taken = paper.taken.as_slice();
-            holds(&rt, b"abcdef".starts_with(taken), told);
-            same(&rt, (taken.len() as u64, paper.flushed), (written, 0), told);
+            holds(b"abcdef".starts_with(taken), expected)?;
+            let counts = (taken.len() as u64, paper.flushed);
+            same(counts, (expected.1, 0), expected)?;
         }
     }
+    Ok(())
 }

@@ -1,12 +1,14 @@
 //! Runs between a reader and a writer, what they answer, and what was written.
 
-use crate::asserts::{holds, same};
 use std::alloc::Global;
 use std::io::Read;
-use std::process::Abort;
+use std::test::Fail;
 use vbi_field::{Config, DrawFault, Outlet, RowIntake, RunFault, Summary, draw, extract, show};
 use vbi_line::Intake;
-use vbi_test_devices::{Paper, Tape};
+use vbi_test_devices::{Paper, Tape, holds, same};
+
+/// How a run over a stream ends.
+pub(crate) type Ended = Result<Summary, RunFault>;
 
 /// How often a device failed, and how often of these by an error, which is no interruption.
 #[derive(Clone, Copy, Debug, PartialEq, Eq)]
@@ -27,13 +29,6 @@ pub(crate) fn interruptions(count: usize) -> Failures {
     }
 }
 
-fn failures_of_reads<R: Read>(intake: &Intake<R>) -> Failures {
-    Failures {
-        all: intake.failures(),
-        errors: intake.errors(),
-    }
-}
-
 pub(crate) fn failures_of_writes(outlet: &Outlet<Paper>) -> Failures {
     Failures {
         all: outlet.failures(),
@@ -44,7 +39,7 @@ pub(crate) fn failures_of_writes(outlet: &Outlet<Paper>) -> Failures {
 /// How a run ended, and its counts.
 #[derive(Clone, Copy, Debug, PartialEq, Eq)]
 pub(crate) struct Done {
-    pub(crate) result: Result<Summary, RunFault>,
+    pub(crate) result: Ended,
     pub(crate) fetched: u64,
     pub(crate) read_failures: Failures,
     pub(crate) written: u64,
@@ -57,6 +52,8 @@ pub(crate) enum Verb {
     Show,
 }
 
+pub(crate) const VERBS: [Verb; 2] = [Verb::Extract, Verb::Show];
+
 pub(crate) fn ran<R: Read>(verb: Verb, config: &Config, reader: &mut R, paper: &mut Paper) -> Done {
     let mut intake = Intake::new(reader, config.system());
     let mut outlet = Outlet::new(paper);
@@ -67,7 +64,10 @@ pub(crate) fn ran<R: Read>(verb: Verb, config: &Config, reader: &mut R, paper: &
     Done {
         result,
         fetched: intake.fetched(),
-        read_failures: failures_of_reads(&intake),
+        read_failures: Failures {
+            all: intake.failures(),
+            errors: intake.errors(),
+        },
         written: outlet.written(),
         write_failures: failures_of_writes(&outlet),
     }
@@ -103,7 +103,7 @@ pub(crate) fn drew(config: &Config, mut words: Tape, paper: &mut Paper) -> Drawn
 }
 
 /// What a whole run answers.
-pub(crate) fn whole(fields: u32, cut: Option<u32>, looked: u64) -> Result<Summary, RunFault> {
+pub(crate) fn whole(fields: u32, cut: Option<u32>, looked: u64) -> Ended {
     Ok(Summary {
         fields,
         cut,
@@ -124,10 +124,10 @@ fn took(paper: &Paper, count: u64, texts: &[&str]) -> bool {
     rest.is_empty() && paper.taken.len() as u64 == count
 }
 
-/// Asserts that a writer took so many bytes of these texts and was never flushed.
-pub(crate) fn wrote(rt: &impl Abort, paper: &Paper, count: u64, texts: &[&str]) {
-    holds(rt, took(paper, count, texts), (count, texts));
-    same(rt, paper.flushed, 0, "flushed");
+/// Fails where a writer took other bytes than so many of these texts, or was flushed.
+pub(crate) fn wrote(paper: &Paper, count: u64, texts: &[&str]) -> Result<(), Fail> {
+    holds(took(paper, count, texts), (count, texts))?;
+    same(paper.flushed, 0, "flushed")
 }
 
 /// The bytes of some short texts.
@@ -139,44 +139,41 @@ pub(crate) fn total(texts: &[&str]) -> u64 {
     bytes
 }
 
-/// Asserts that a run between two devices ends so, and that what was written begins these texts.
+/// Fails where a run between two devices ends otherwise, or where what was written doesn't begin these texts.
 pub(crate) fn answers<R: Read + Drop>(
-    rt: &impl Abort,
     verb: Verb,
     config: &Config,
-    mut reader: R,
-    mut paper: Paper,
+    reader: &mut R,
+    paper: &mut Paper,
     done: Done,
     texts: &[&str],
-) {
-    same(rt, ran(verb, config, &mut reader, &mut paper), done, verb);
-    wrote(rt, &paper, done.written, texts);
+) -> Result<(), Fail> {
+    same(ran(verb, config, reader, paper), done, verb)?;
+    wrote(paper, done.written, texts)
 }
 
-/// Asserts that a run takes all of a stream and ends so, that no device fails, and that just these texts are written.
-pub(crate) fn writes(
-    rt: &impl Abort,
-    alloc: Global,
-    verb: Verb,
-    config: &Config,
-    stream: &[u8],
-    ended: Result<Summary, RunFault>,
-    texts: &[&str],
-) {
-    let done = Done {
+/// What a run answers that takes all of a stream and writes these texts, and whose devices don't fail.
+pub(crate) fn undisturbed(stream: &[u8], ended: Ended, texts: &[&str]) -> Done {
+    Done {
         result: ended,
         fetched: stream.len() as u64,
         read_failures: NO_FAILURE,
         written: total(texts),
         write_failures: NO_FAILURE,
-    };
-    answers(
-        rt,
-        verb,
-        config,
-        Tape::new(stream),
-        Paper::new(alloc),
-        done,
-        texts,
-    );
+    }
+}
+
+/// Fails where a run over a stream ends otherwise, a device fails, or other texts than these are written.
+pub(crate) fn writes(
+    alloc: Global,
+    verb: Verb,
+    config: &Config,
+    stream: &[u8],
+    ended: Ended,
+    texts: &[&str],
+) -> Result<(), Fail> {
+    let mut tape = Tape::new(stream);
+    let mut paper = Paper::new(alloc);
+    let done = undisturbed(stream, ended, texts);
+    answers(verb, config, &mut tape, &mut paper, done, texts)
 }

@@ -1,8 +1,9 @@
 //! The texts of known words, codes and causes.
 
-use crate::asserts::same;
+use std::test::Fail;
 use vbi_field::{cause_text, code_text, hex_text};
-use vbi_words::{Code, Outcome, Word24, WordFault, classify};
+use vbi_test_devices::same;
+use vbi_words::{Code, Outcome, Word24, classify};
 
 const WORDS: [(u32, &str, &str); 41] = [
     (0x88FFFF, "88FFFF", "lead-in"),
@@ -50,33 +51,12 @@ const WORDS: [(u32, &str, &str); 41] = [
 ];
 
 // Numbers too wide for their digits, as no word has them.
-const BY_HAND: [(Code, &str); 8] = [
+const BY_HAND: [(Code, &str); 5] = [
     (Code::Picture(4294967295), "picture 4294967295"),
+    (Code::Picture(100_000), "picture 100000"),
     (Code::Chapter(255), "chapter 255"),
-    (
-        Code::Time {
-            hours: 12,
-            minutes: 255,
-        },
-        "time 12:255",
-    ),
-    (
-        Code::ClvPicture {
-            seconds: 100,
-            picture: 255,
-        },
-        "clv picture 100 255",
-    ),
     (Code::CxOn(0xFFFF), "cx on FFFF"),
     (Code::CxOff(0x1000), "cx off 1000"),
-    (Code::Picture(100_000), "picture 100000"),
-    (
-        Code::Users {
-            digit: 255,
-            number: 0x1000,
-        },
-        "users 255 1000",
-    ),
 ];
 
 const CAUSES: [(Outcome, &str); 13] = [
@@ -96,28 +76,36 @@ const CAUSES: [(Outcome, &str); 13] = [
 ];
 
 #[test]
-fn words_have_their_texts(rt: HostRuntime) -> Result<(), WordFault> {
-    for &(value, hex, text) in &WORDS {
+fn words_have_their_texts() -> Result<(), Fail> {
+    for (value, hex, text) in WORDS {
         let word = Word24::new(value)?;
-        same(&rt, hex_text(word).as_str(), hex, "hex");
-        same(&rt, code_text(classify(word)).as_str(), text, hex);
+        same(hex_text(word).as_str(), hex, "hex")?;
+        same(code_text(classify(word)).as_str(), text, hex)?;
     }
     Ok(())
 }
 
 #[test]
-fn wide_numbers_have_all_digits(rt: HostRuntime) {
-    for &(code, text) in &BY_HAND {
-        same(&rt, code_text(code).as_str(), text, code);
+fn wide_numbers_have_all_digits() -> Result<(), Fail> {
+    for (code, text) in BY_HAND {
+        same(code_text(code).as_str(), text, code)?;
     }
+    let (hours, minutes) = (12, 255);
+    let code = Code::Time { hours, minutes };
+    same(code_text(code).as_str(), "time 12:255", code)?;
+    let (seconds, picture) = (100, 255);
+    let code = Code::ClvPicture { seconds, picture };
+    same(code_text(code).as_str(), "clv picture 100 255", code)?;
+    let (digit, number) = (255, 0x1000);
+    let code = Code::Users { digit, number };
+    same(code_text(code).as_str(), "users 255 1000", code)
 }
 
 #[test]
-fn causes_have_their_texts(rt: HostRuntime) -> Result<(), WordFault> {
-    for &(outcome, text) in &CAUSES {
-        same(&rt, cause_text(outcome).as_str(), text, outcome);
+fn causes_have_their_texts() -> Result<(), Fail> {
+    for (outcome, text) in CAUSES {
+        same(cause_text(outcome).as_str(), text, outcome)?;
     }
     let word = Outcome::Word(Word24::new(0x82CFFF)?);
-    same(&rt, cause_text(word).as_str(), "word", word);
-    Ok(())
+    same(cause_text(word).as_str(), "word", word)
 }

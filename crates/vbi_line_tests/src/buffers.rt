@@ -1,23 +1,29 @@
 //! The buffer of a line: its room, and passes over its samples.
 
-use crate::asserts::{holds, same};
 use crate::intakes::stored_line;
 use std::test::Fail;
 use vbi_line::LineBuf;
+use vbi_test_devices::{holds, same};
 use vbi_words::System;
 
+/// A system, the bytes of its line, and those that are left of it after 820.
+const ROOMS: [(System, usize, usize); 2] = [(System::Ntsc, 1820, 1000), (System::Pal, 2270, 1450)];
+
 #[test]
-fn what_is_not_committed_is_not_held(rt: HostRuntime) {
-    let mut line = LineBuf::new(System::Ntsc);
-    holds(&rt, !line.is_full(), "a new line isn't full");
-    line.room().fill(1);
-    same(&rt, line.held(), 0, "held at first");
-    line.commit(820);
-    same(&rt, line.held(), 820, "held after a commit");
-    same(&rt, line.room().len(), 1000, "room after a commit");
-    line.clear();
-    same(&rt, line.held(), 0, "held when cleared");
-    same(&rt, line.room().len(), 1820, "room when cleared");
+fn what_is_not_committed_is_not_held() -> Result<(), Fail> {
+    for (system, bytes, left) in ROOMS {
+        let mut line = LineBuf::new(system);
+        holds(!line.is_full(), "a new line isn't full")?;
+        line.room().fill(1);
+        same(line.held(), 0, (system, "held at first"))?;
+        line.commit(820);
+        same(line.held(), 820, (system, "held after a commit"))?;
+        same(line.room().len(), left, (system, "room after a commit"))?;
+        line.clear();
+        same(line.held(), 0, (system, "held when cleared"))?;
+        same(line.room().len(), bytes, (system, "room when cleared"))?;
+    }
+    Ok(())
 }
 
 /// The passes over a line, the looks at its samples in these, and all looks ever.
@@ -27,29 +33,32 @@ fn counts(line: &LineBuf) -> (usize, usize, u64) {
 
 // The stored line has 0x2020 and 0x4040 as its samples; of 910, 14 are left after 56 blocks of 16.
 #[test]
-fn each_pass_counts_its_looks(rt: HostRuntime) -> Result<(), Fail> {
+fn each_pass_counts_its_looks() -> Result<(), Fail> {
     let bytes = stored_line();
     let mut line = LineBuf::new(System::Ntsc);
     line.room().copy_from_slice(&bytes);
     line.commit(1820);
-    assert!(rt; line.is_full());
-    same(&rt, counts(&line), (0, 0, 0), "before a pass");
+    holds(line.is_full(), "full")?;
+    same(counts(&line), (0, 0, 0), "before a pass")?;
     line.start_pass();
     for _ in 0..56 {
-        assert!(rt; line.passes() == 1);
+        holds(line.passes() == 1, "one pass")?;
         let block = line.next_block().ok_or("block")?;
-        assert!(rt; block[0] == 0x2020 || block[0] == 0x4040);
+        holds(block[0] == 0x2020 || block[0] == 0x4040, "a sample")?;
     }
-    assert!(rt; line.passes() == 1);
-    same(&rt, counts(&line), (1, 896, 896), "after 56 blocks");
-    assert!(rt; line.next_block().is_none());
-    same(&rt, line.next_sample(), Some(0x2020), "sample 897");
-    same(&rt, counts(&line), (1, 897, 897), "after sample 897");
-    assert!(rt; line.is_full() && line.passes() == 1 && line.looked() == 897);
+    holds(line.passes() == 1, "one pass")?;
+    same(counts(&line), (1, 896, 896), "after 56 blocks")?;
+    holds(line.next_block().is_none(), "no more blocks")?;
+    holds(line.passes() == 1, "one pass")?;
+    same(line.next_sample(), Some(0x2020), "sample 897")?;
+    same(counts(&line), (1, 897, 897), "after sample 897")?;
+    holds(
+        line.is_full() && line.passes() == 1 && line.looked() == 897,
+        "to start again",
+    )?;
     line.start_pass();
-    same(&rt, line.next_sample(), Some(0x2020), "sample 1 again");
-    same(&rt, counts(&line), (2, 898, 898), "in a second pass");
+    same(line.next_sample(), Some(0x2020), "sample 1 again")?;
+    same(counts(&line), (2, 898, 898), "in a second pass")?;
     line.clear();
-    same(&rt, counts(&line), (0, 0, 898), "cleared");
-    Ok(())
+    same(counts(&line), (0, 0, 898), "cleared")
 }

@@ -1,10 +1,14 @@
-//! Lines, and what each tells.
+//! Lines by their shapes, and what each reader has to report of them.
 
-use vbi_words::System;
+use crate::lines::{by_bits, by_intake, in_place, levels_of, plain, reading, set};
+use std::fmt::Debug;
+use std::test::Fail;
+use vbi_test_devices::same;
+use vbi_words::{System, Word24, drawn_sample};
 
 /// An outcome, its word as a number.
 #[derive(Clone, Copy, Debug, PartialEq, Eq)]
-pub(crate) enum Told {
+pub(crate) enum Answer {
     Word(u32),
     Blank,
     Unfinished,
@@ -13,359 +17,135 @@ pub(crate) enum Told {
 }
 
 /// How the levels of a line begin; the rest is low.
-#[derive(Clone, Copy)]
+#[derive(Clone, Copy, Debug)]
 pub(crate) enum Shape {
     /// So many lows, and then so many highs.
-    Run {
-        low: usize,
-        high: usize,
-    },
-    /// So many lows, and then so many runs of one length, the first of them high.
-    Runs {
-        low: usize,
-        length: usize,
-        count: usize,
-    },
+    Run(usize, usize),
+    /// So many lows, and then runs, the first of them high: the length of each, and how many they are.
+    Runs(usize, usize, usize),
     /// The drawn row of a word.
     Drawn(u32),
-    /// So many lows, and then the half cells of a word from this one on, all of one length.
-    Halves {
-        lows: usize,
-        word: u32,
-        first: usize,
-        length: usize,
-    },
+    /// A word in half cells of the least length, behind so many lows.
+    Least(u32, usize),
 }
 
-/// A line, and what it tells: its outcome where that is given, and its reading with the pass.
-#[derive(Clone, Copy)]
-pub(crate) struct Case {
-    pub(crate) name: &'static str,
-    pub(crate) system: System,
-    pub(crate) shape: Shape,
-    /// Columns from one to another, without that, which are made high or low.
-    pub(crate) turned: &'static [(usize, usize, bool)],
-    pub(crate) plain: Option<Told>,
-    pub(crate) reading: (Told, u8),
+/// Columns, from one to another without that, which are made high or low.
+#[derive(Clone, Copy, Debug)]
+pub(crate) enum Turned {
+    Nothing,
+    High(usize, usize),
+    Low(usize, usize),
 }
 
-/// Words that are shown, and lines that are one column away from one.
-pub(crate) const WORDS: [Case; 10] = [
-    Case {
-        name: "halves of 11 from column 0",
-        system: System::Ntsc,
-        shape: Shape::Halves {
-            lows: 0,
-            word: 0xFFFFFF,
-            first: 0,
-            length: 11,
-        },
-        turned: &[],
-        plain: Some(Told::Word(0xFFFFFF)),
-        reading: (Told::Word(0xFFFFFF), 1),
-    },
-    Case {
-        name: "ten lows before the first high",
-        system: System::Ntsc,
-        shape: Shape::Halves {
-            lows: 10,
-            word: 0xFFFFFF,
-            first: 1,
-            length: 11,
-        },
-        turned: &[],
-        plain: Some(Told::Change(10)),
-        reading: (Told::Word(0xFFFFFF), 2),
-    },
-    Case {
-        name: "a last high half of 18",
-        system: System::Ntsc,
-        shape: Shape::Halves {
-            lows: 0,
-            word: 0xFFFFFF,
-            first: 0,
-            length: 11,
-        },
-        turned: &[(528, 535, true)],
-        plain: Some(Told::Word(0xFFFFFF)),
-        reading: (Told::Word(0xFFFFFF), 1),
-    },
-    Case {
-        name: "a last high half of 19",
-        system: System::Ntsc,
-        shape: Shape::Halves {
-            lows: 0,
-            word: 0xFFFFFF,
-            first: 0,
-            length: 11,
-        },
-        turned: &[(528, 536, true)],
-        plain: Some(Told::Hold(535)),
-        reading: (Told::Hold(535), 0),
-    },
-    Case {
-        name: "a last low half of 10 to the end",
-        system: System::Ntsc,
-        shape: Shape::Halves {
-            lows: 383,
-            word: 0xFFFFFE,
-            first: 0,
-            length: 11,
-        },
-        turned: &[],
-        plain: Some(Told::Unfinished),
-        reading: (Told::Unfinished, 0),
-    },
-    Case {
-        name: "a last low half of 11 to the end",
-        system: System::Ntsc,
-        shape: Shape::Halves {
-            lows: 382,
-            word: 0xFFFFFE,
-            first: 0,
-            length: 11,
-        },
-        turned: &[],
-        plain: Some(Told::Word(0xFFFFFE)),
-        reading: (Told::Word(0xFFFFFE), 1),
-    },
-    Case {
-        name: "PAL, drawn",
-        system: System::Pal,
-        shape: Shape::Drawn(0x8AE012),
-        turned: &[],
-        plain: Some(Told::Word(0x8AE012)),
-        reading: (Told::Word(0x8AE012), 1),
-    },
-    Case {
-        name: "PAL, a last high half of 22",
-        system: System::Pal,
-        shape: Shape::Halves {
-            lows: 0,
-            word: 0xFFFFFF,
-            first: 0,
-            length: 14,
-        },
-        turned: &[(672, 680, true)],
-        plain: Some(Told::Word(0xFFFFFF)),
-        reading: (Told::Word(0xFFFFFF), 1),
-    },
-    Case {
-        name: "PAL, a last high half of 23",
-        system: System::Pal,
-        shape: Shape::Halves {
-            lows: 0,
-            word: 0xFFFFFF,
-            first: 0,
-            length: 14,
-        },
-        turned: &[(672, 681, true)],
-        plain: Some(Told::Hold(680)),
-        reading: (Told::Hold(680), 0),
-    },
-    Case {
-        name: "halves of 11 to the end",
-        system: System::Ntsc,
-        shape: Shape::Halves {
-            lows: 382,
-            word: 0xFFFFFF,
-            first: 0,
-            length: 11,
-        },
-        turned: &[],
-        plain: Some(Told::Word(0xFFFFFF)),
-        reading: (Told::Word(0xFFFFFF), 1),
-    },
-];
+/// The samples of a line of this shape.
+fn samples_of(system: System, shape: Shape) -> [u16; 1135] {
+    let levels = levels_of(system);
+    let mut samples = [levels.black(); 1135];
+    match shape {
+        Shape::Run(low, high) => {
+            set(&mut samples, low, low.saturating_add(high), levels.white());
+        }
+        Shape::Runs(low, length, count) => {
+            let mut column = low;
+            for run in 0..count {
+                let end = column.saturating_add(length);
+                if run % 2 == 0 {
+                    set(&mut samples, column, end, levels.white());
+                }
+                column = end;
+            }
+        }
+        Shape::Drawn(value) => {
+            for column in 0..system.width() {
+                let word = Word24::new(value).ok();
+                samples[column] = drawn_sample(system, levels, word, column);
+            }
+        }
+        Shape::Least(value, lows) => {
+            if let Ok(word) = Word24::new(value) {
+                let mut column = lows;
+                for half in 0..48 {
+                    let end = column.saturating_add(system.half_min());
+                    if word.half(half) {
+                        set(&mut samples, column, end, levels.white());
+                    }
+                    column = end;
+                }
+            }
+        }
+    }
+    samples
+}
 
-/// Lines of so many lows and then so many highs, and the cause that each tells.
-pub(crate) const RUNS: [(&str, System, usize, usize, Told); 14] = [
-    (
-        "a high run that may still become a double one until the change",
-        System::Ntsc,
-        14,
-        20,
-        Told::Change(34),
-    ),
-    (
-        "a low run from a cell's start, which can't be double",
-        System::Ntsc,
-        14,
-        14,
-        Told::Hold(46),
-    ),
-    (
-        "a low run from a cell's middle, past two halves",
-        System::Ntsc,
-        14,
-        22,
-        Told::Hold(72),
-    ),
-    ("high in column 0", System::Ntsc, 0, 1, Told::Change(0)),
-    (
-        "high from column 164 to the end",
-        System::Ntsc,
-        164,
-        746,
-        Told::Hold(200),
-    ),
-    (
-        "PAL, high from column 207 to the end",
-        System::Pal,
-        207,
-        928,
-        Told::Hold(251),
-    ),
-    (
-        "PAL, a high run of 24",
-        System::Pal,
-        17,
-        24,
-        Told::Change(41),
-    ),
-    ("10 highs last", System::Ntsc, 900, 10, Told::Unfinished),
-    ("19 highs last", System::Ntsc, 891, 19, Told::Unfinished),
-    ("36 highs last", System::Ntsc, 874, 36, Told::Unfinished),
-    ("37 highs last", System::Ntsc, 873, 37, Told::Hold(909)),
-    (
-        "11 highs and 4 lows last",
-        System::Ntsc,
-        895,
-        11,
-        Told::Unfinished,
-    ),
-    (
-        "PAL, a low run from a cell's start",
-        System::Pal,
-        17,
-        17,
-        Told::Hold(56),
-    ),
-    (
-        "PAL, a low run from a cell's middle, past two halves",
-        System::Pal,
-        17,
-        28,
-        Told::Hold(89),
-    ),
-];
+/// Fails where a reader reports another outcome than this of some samples, or another reading.
+fn shows(
+    system: System,
+    samples: &[u16; 1135],
+    outcome: Answer,
+    expected: (Answer, u8),
+    row: impl Debug + Drop,
+) -> Result<(), Fail> {
+    let levels = levels_of(system);
+    let found = (
+        plain(system, levels, samples),
+        by_bits(system, levels, samples),
+        reading(system, levels, samples),
+        in_place(system, levels, samples),
+        by_intake(system, levels, samples),
+    );
+    let by_intake = Some((outcome, expected));
+    same(
+        found,
+        (outcome, outcome, expected, expected, by_intake),
+        row,
+    )
+}
 
-/// Lines with columns turned over.
-pub(crate) const TURNED: [Case; 12] = [
-    Case {
-        name: "a high column behind the word",
-        system: System::Ntsc,
-        shape: Shape::Drawn(0xFFFFFF),
-        turned: &[(850, 851, true)],
-        plain: Some(Told::Change(850)),
-        reading: (Told::Word(0xFFFFFF), 2),
-    },
-    Case {
-        name: "two columns black",
-        system: System::Ntsc,
-        shape: Shape::Drawn(0x82CFFF),
-        turned: &[(170, 172, false)],
-        plain: Some(Told::Change(170)),
-        reading: (Told::Word(0x82CFFF), 2),
-    },
-    Case {
-        name: "three columns black",
-        system: System::Ntsc,
-        shape: Shape::Drawn(0x82CFFF),
-        turned: &[(170, 173, false)],
-        plain: None,
-        reading: (Told::Word(0x82CFFF), 2),
-    },
-    Case {
-        name: "four columns black",
-        system: System::Ntsc,
-        shape: Shape::Drawn(0x82CFFF),
-        turned: &[(170, 174, false)],
-        plain: Some(Told::Change(170)),
-        reading: (Told::Change(170), 0),
-    },
-    Case {
-        name: "five columns black",
-        system: System::Ntsc,
-        shape: Shape::Drawn(0x82CFFF),
-        turned: &[(170, 175, false)],
-        plain: Some(Told::Change(170)),
-        reading: (Told::Change(170), 0),
-    },
-    Case {
-        name: "column 0 white",
-        system: System::Ntsc,
-        shape: Shape::Drawn(0x82CFFF),
-        turned: &[(0, 1, true)],
-        plain: None,
-        reading: (Told::Word(0x82CFFF), 2),
-    },
-    Case {
-        name: "PAL, three columns white",
-        system: System::Pal,
-        shape: Shape::Drawn(0x8AE012),
-        turned: &[(50, 53, true)],
-        plain: None,
-        reading: (Told::Word(0x8AE012), 2),
-    },
-    Case {
-        name: "PAL, four columns white",
-        system: System::Pal,
-        shape: Shape::Drawn(0x8AE012),
-        turned: &[(50, 54, true)],
-        plain: Some(Told::Change(54)),
-        reading: (Told::Change(54), 0),
-    },
-    Case {
-        name: "a white column, and 8 highs last once they are smoothed",
-        system: System::Ntsc,
-        shape: Shape::Halves {
-            lows: 382,
-            word: 0xFFFFFF,
-            first: 0,
-            length: 11,
-        },
-        turned: &[(100, 101, true)],
-        plain: Some(Told::Change(101)),
-        reading: (Told::Change(101), 0),
-    },
-    Case {
-        name: "a white column, and three lows last",
-        system: System::Ntsc,
-        shape: Shape::Halves {
-            lows: 379,
-            word: 0xFFFFFF,
-            first: 0,
-            length: 11,
-        },
-        turned: &[(100, 101, true)],
-        plain: None,
-        reading: (Told::Word(0xFFFFFF), 2),
-    },
-    Case {
-        name: "19 highs last, of which 16 are left when they are smoothed",
-        system: System::Ntsc,
-        shape: Shape::Halves {
-            lows: 374,
-            word: 0xFFFFFF,
-            first: 0,
-            length: 11,
-        },
-        turned: &[(891, 910, true)],
-        plain: Some(Told::Hold(909)),
-        reading: (Told::Word(0xFFFFFF), 2),
-    },
-    Case {
-        name: "19 highs and 11 lows last",
-        system: System::Ntsc,
-        shape: Shape::Halves {
-            lows: 363,
-            word: 0xFFFFFF,
-            first: 0,
-            length: 11,
-        },
-        turned: &[(880, 899, true)],
-        plain: Some(Told::Hold(898)),
-        reading: (Told::Hold(898), 0),
-    },
-];
+/// A line, and its outcome, which is its reading as well.
+pub(crate) type Clear = (System, Shape, Answer);
+
+/// The reading of an outcome that is taken as it is.
+fn as_it_is(outcome: Answer) -> (Answer, u8) {
+    match outcome {
+        Answer::Word(_) => (outcome, 1),
+        _ => (outcome, 0),
+    }
+}
+
+/// Fails where one of these lines is read as something else.
+pub(crate) fn are_clear(rows: &[Clear]) -> Result<(), Fail> {
+    for &(system, shape, outcome) in rows {
+        let samples = samples_of(system, shape);
+        shows(
+            system,
+            &samples,
+            outcome,
+            as_it_is(outcome),
+            (system, shape),
+        )?;
+    }
+    Ok(())
+}
+
+/// A line with columns that are turned over, its outcome, and the word of the second pass, or 0 where the reading is
+/// the outcome.
+pub(crate) type Glitch = (System, Shape, Turned, Answer, u32);
+
+/// Fails where one of these lines is read as something else.
+pub(crate) fn are_read(rows: &[Glitch]) -> Result<(), Fail> {
+    for &(system, shape, turned, outcome, word) in rows {
+        let levels = levels_of(system);
+        let mut samples = samples_of(system, shape);
+        match turned {
+            Turned::Nothing => {}
+            Turned::High(from, to) => set(&mut samples, from, to, levels.white()),
+            Turned::Low(from, to) => set(&mut samples, from, to, levels.black()),
+        }
+        let expected = match word {
+            0 => as_it_is(outcome),
+            _ => (Answer::Word(word), 2),
+        };
+        shows(system, &samples, outcome, expected, (system, shape, turned))?;
+    }
+    Ok(())
+}

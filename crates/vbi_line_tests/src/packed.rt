@@ -3,9 +3,10 @@
 ghost use Rattle.std.specs.Prelude.{◌≡◌, length};
 ghost use Rattle.vbi_words.specs.Geometry.{width_of};
 
-use crate::asserts::{holds, same};
 use crate::lines::{levels_of, line_of, set};
+use std::test::Fail;
 use vbi_line::{Packed, slice_lanes};
+use vbi_test_devices::{holds, same};
 use vbi_words::{Levels, System};
 
 /// The line of these samples as bits.
@@ -29,86 +30,80 @@ fn highs_of(packed: &Packed) -> (usize, Option<usize>) {
 }
 
 #[test]
-fn the_last_column_alone_is_high(rt: HostRuntime) {
+fn the_last_column_alone_is_high() -> Result<(), Fail> {
     for (system, last) in [(System::Ntsc, 909), (System::Pal, 1134)] {
         let levels = levels_of(system);
         let mut samples = [levels.black(); 1135];
         samples[last] = levels.white();
         let packed = packed_of(system, levels, &samples);
-        same(&rt, packed.width(), last + 1, (last, "the width"));
-        same(&rt, highs_of(&packed), (1, Some(last)), (last, "high"));
+        same(packed.width(), last + 1, (last, "the width"))?;
+        same(highs_of(&packed), (1, Some(last)), (last, "high"))?;
     }
+    Ok(())
 }
 
 #[test]
-fn the_comparison_does_not_wrap(rt: HostRuntime) {
-    for (black, white) in [(65534, 65535), (0, 1)] {
-        let levels = Levels::new(black, white).expect(&rt, "black is below white");
-        let mut samples = [black; 1135];
-        samples[1] = white;
-        let packed = packed_of(System::Ntsc, levels, &samples);
-        same(&rt, packed.level(0), false, (black, "is low"));
-        same(&rt, packed.level(1), true, (white, "is high"));
+fn the_comparison_does_not_wrap() -> Result<(), Fail> {
+    for system in [System::Ntsc, System::Pal] {
+        for (black, white) in [(65534, 65535), (0, 1)] {
+            let levels = Levels::new(black, white)?;
+            let mut samples = [black; 1135];
+            samples[1] = white;
+            let packed = packed_of(system, levels, &samples);
+            same(packed.level(0), false, (system, black))?;
+            same(packed.level(1), true, (system, white))?;
+        }
     }
+    Ok(())
 }
 
 /// A system, the whole blocks of its line, and the column behind these.
 const BLOCKS: [(System, usize, usize); 2] = [(System::Ntsc, 56, 896), (System::Pal, 70, 1120)];
 
 #[test]
-fn a_block_needs_sixteen_samples(rt: HostRuntime) {
+fn a_block_needs_sixteen_samples() -> Result<(), Fail> {
     for (system, blocks, column) in BLOCKS {
         let mut samples = [0; 1135];
         set(&mut samples, column, column + 1, 1896);
         let mut line = line_of(system, &samples);
         line.start_pass();
         for _ in 0..blocks {
-            assert!(rt; line.passes() == 1);
-            holds(&rt, line.next_block().is_some(), system);
+            holds(line.passes() == 1, "one pass")?;
+            holds(line.next_block().is_some(), system)?;
         }
-        assert!(rt; line.passes() == 1);
-        same(&rt, line.next_block(), None, system);
-        same(&rt, line.next_sample(), Some(1896), system);
+        holds(line.passes() == 1, "one pass")?;
+        same(line.next_block(), None, system)?;
+        holds(line.passes() == 1, "one pass")?;
+        same(line.next_sample(), Some(1896), system)?;
     }
+    Ok(())
 }
 
-#[test]
-fn runs_go_on_across_words(rt: HostRuntime) {
-    let levels = levels_of(System::Ntsc);
-    let mut samples = [levels.black(); 1135];
-    set(&mut samples, 60, 70, levels.white());
-    let packed = packed_of(System::Ntsc, levels, &samples);
-    for (column, run) in [
-        (0, (false, 60)),
-        (60, (true, 10)),
-        (65, (true, 5)),
-        (70, (false, 840)),
-        (909, (false, 1)),
-    ] {
-        same(&rt, packed.next_run(column), run, column);
-    }
-    let levels = levels_of(System::Pal);
-    let mut samples = [levels.black(); 1135];
-    set(&mut samples, 1000, 1100, levels.white());
-    let packed = packed_of(System::Pal, levels, &samples);
-    for (column, run) in [
-        (0, (false, 1000)),
-        (1000, (true, 100)),
-        (1024, (true, 76)),
-        (1100, (false, 35)),
-        (1134, (false, 1)),
-    ] {
-        same(&rt, packed.next_run(column), run, ("PAL", column));
-    }
-    let blank = packed_of(System::Pal, levels, &[0; 1135]);
-    same(&rt, blank.next_run(0), (false, 1135), "PAL, all low");
-}
+/// A system, the columns that are high, from one to another, and a column with the run from there on.
+const RUNS: [(System, (usize, usize), usize, (bool, u16)); 12] = [
+    (System::Ntsc, (60, 70), 0, (false, 60)),
+    (System::Ntsc, (60, 70), 60, (true, 10)),
+    (System::Ntsc, (60, 70), 65, (true, 5)),
+    (System::Ntsc, (60, 70), 70, (false, 840)),
+    (System::Ntsc, (60, 70), 909, (false, 1)),
+    (System::Ntsc, (0, 0), 0, (false, 910)),
+    (System::Pal, (1000, 1100), 0, (false, 1000)),
+    (System::Pal, (1000, 1100), 1000, (true, 100)),
+    (System::Pal, (1000, 1100), 1024, (true, 76)),
+    (System::Pal, (1000, 1100), 1100, (false, 35)),
+    (System::Pal, (1000, 1100), 1134, (false, 1)),
+    (System::Pal, (0, 0), 0, (false, 1135)),
+];
 
 #[test]
-fn slicing_is_one_pass_over_all_samples(rt: HostRuntime) {
-    for (system, width) in [(System::Ntsc, 910), (System::Pal, 1135)] {
-        let mut line = line_of(system, &[0; 1135]);
-        slice_lanes(&mut line, levels_of(system));
-        same(&rt, (line.passes(), line.looks()), (1, width), system);
+fn runs_go_on_across_words() -> Result<(), Fail> {
+    for (system, (from, to), column, run) in RUNS {
+        let levels = levels_of(system);
+        let mut samples = [levels.black(); 1135];
+        set(&mut samples, from, to, levels.white());
+        let packed = packed_of(system, levels, &samples);
+        holds(column < packed.width(), column)?;
+        same(packed.next_run(column), run, (system, column))?;
     }
+    Ok(())
 }

@@ -1,7 +1,7 @@
 //! Refusals, and the boundaries of drawn half cells.
 
-use crate::asserts::{holds, same};
 use std::test::Fail;
+use vbi_test_devices::{holds, same};
 use vbi_words::{Levels, LevelsFault, System, Word24, WordFault, drawn_sample};
 
 // Columns from the start of the word, at which half cell j begins, and the last ends: the whole part of j times 315/22.
@@ -18,26 +18,49 @@ const PAL: [usize; 49] = [
     691, 709, 727, 744, 762, 780, 798, 815, 833, 851,
 ];
 
-#[test]
-fn levels_out_of_order_are_refused(rt: HostRuntime) {
-    same(
-        &rt,
-        Levels::new(5, 5),
-        Err(LevelsFault::Order),
-        "equal levels",
-    );
-    holds(&rt, Levels::new(5, 6).is_ok(), "white above black");
-}
+/// Black, white, and whether they are refused.
+const LEVELS: [(u16, u16, bool); 6] = [
+    (5, 5, true),
+    (5, 6, false),
+    (6, 5, true),
+    (0, 65535, false),
+    (65535, 65535, true),
+    (65535, 0, true),
+];
 
 #[test]
-fn numbers_that_are_no_words_are_refused(rt: HostRuntime) {
-    for (value, fault) in [
-        (16_777_216, Some(WordFault::TooWide)),
-        (8_388_607, Some(WordFault::TopBitClear)),
-        (8_388_608, None),
-    ] {
-        same(&rt, Word24::new(value).err(), fault, value);
+fn levels_out_of_order_are_refused() -> Result<(), Fail> {
+    for (black, white, is_refused) in LEVELS {
+        let expected = if is_refused {
+            Err(LevelsFault::Order)
+        } else {
+            Ok((black, white))
+        };
+        let found = match Levels::new(black, white) {
+            Ok(levels) => Ok((levels.black(), levels.white())),
+            Err(fault) => Err(fault),
+        };
+        same(found, expected, (black, white))?;
     }
+    Ok(())
+}
+
+/// Numbers, and what each is refused for.
+const NUMBERS: [(u32, Option<WordFault>); 6] = [
+    (0, Some(WordFault::TopBitClear)),
+    (8_388_607, Some(WordFault::TopBitClear)),
+    (8_388_608, None),
+    (16_777_215, None),
+    (16_777_216, Some(WordFault::TooWide)),
+    (4_294_967_295, Some(WordFault::TooWide)),
+];
+
+#[test]
+fn numbers_that_are_no_words_are_refused() -> Result<(), Fail> {
+    for (value, fault) in NUMBERS {
+        same(Word24::new(value).err(), fault, value)?;
+    }
+    Ok(())
 }
 
 /// A system, its name, the samples and the bytes of a line, the lines and the bytes of a field, the fewest and the most
@@ -48,10 +71,10 @@ const SYSTEMS: [(System, &str, [usize; 7]); 2] = [
 ];
 
 #[test]
-fn both_systems_have_their_geometry(rt: HostRuntime) {
+fn both_systems_have_their_geometry() -> Result<(), Fail> {
     for (system, name, numbers) in SYSTEMS {
-        same(&rt, system.name(), name, system);
-        same(&rt, System::named(name), Some(system), name);
+        same(system.name(), name, system)?;
+        same(System::named(name), Some(system), name)?;
         let found = [
             system.width(),
             system.line_bytes(),
@@ -61,16 +84,17 @@ fn both_systems_have_their_geometry(rt: HostRuntime) {
             system.half_max(),
             system.start(),
         ];
-        same(&rt, found, numbers, system);
+        same(found, numbers, system)?;
     }
     for name in ["", "ntsc", "Pal", "NTSC ", "PALM", "SECAM"] {
-        same(&rt, System::named(name), None, name);
+        same(System::named(name), None, name)?;
     }
+    Ok(())
 }
 
 // Of 24 ones each half cell differs from the one before it, so the row changes at each boundary but the first.
 #[test]
-fn a_row_is_drawn_from_boundary_to_boundary(rt: HostRuntime) -> Result<(), Fail> {
+fn a_row_is_drawn_from_boundary_to_boundary() -> Result<(), Fail> {
     let levels = Levels::new(16384, 51200)?;
     let ones = Word24::new(0xFF_FFFF)?;
     for (system, boundaries) in [(System::Ntsc, NTSC), (System::Pal, PAL)] {
@@ -79,14 +103,14 @@ fn a_row_is_drawn_from_boundary_to_boundary(rt: HostRuntime) -> Result<(), Fail>
         for column in 0..system.width() {
             let sample = drawn_sample(system, levels, Some(ones), column);
             if sample != before {
-                assert!(rt; next < 49);
+                holds(next < 49, system)?;
                 let boundary = system.start().wrapping_add(boundaries[next]);
-                same(&rt, column, boundary, (system, next));
+                same(column, boundary, (system, next))?;
                 next += 1;
             }
             before = sample;
         }
-        same(&rt, next, 49, system);
+        same(next, 49, system)?;
     }
     Ok(())
 }

@@ -1,16 +1,10 @@
 //! The vectors of `read_meta`, and the texts of the faults.
 
-use crate::asserts::{holds, same};
+use crate::settling::{FULL, NONE};
 use std::alloc::{AllocError, Global};
 use std::test::Fail;
-use vbi_meta::{META_LIMIT, MetaFault, Overrides, read_meta, settings};
-
-const NONE: Overrides = Overrides {
-    system: None,
-    black: None,
-    white: None,
-    max_fields: None,
-};
+use vbi_meta::{META_LIMIT, MetaFault, read_meta, settings};
+use vbi_test_devices::{holds, same};
 
 /// What bytes are refused for.
 pub(crate) fn refusal(alloc: Global, bytes: &[u8]) -> Option<MetaFault> {
@@ -20,42 +14,37 @@ pub(crate) fn refusal(alloc: Global, bytes: &[u8]) -> Option<MetaFault> {
 /// Arrays nested this deep, the innermost empty.
 fn nested(alloc: Global, depth: usize) -> Result<Vec<u8>, AllocError> {
     let mut text = Vec::new(alloc);
-    for _ in 0..depth {
-        text.push(b'[')?;
-    }
-    for _ in 0..depth {
-        text.push(b']')?;
-    }
+    text.resize(depth, b'[')?;
+    text.resize(depth.saturating_mul(2), b']')?;
     Ok(text)
 }
 
 #[test]
 fn a_document_is_nested_at_most_127_deep(rt: HostRuntime) -> Result<(), Fail> {
     let alloc = rt.alloc();
+    for (depth, fault) in [
+        (127, None),
+        (128, Some(MetaFault::NotJson)),
+        (524_288, Some(MetaFault::NotJson)),
+    ] {
+        let text = nested(alloc, depth)?;
+        same(refusal(alloc, text.as_slice()), fault, depth)?;
+    }
     let value = read_meta(alloc, nested(alloc, 127)?.as_slice())?;
     let found = settings(Some(&value), &NONE).err();
-    same(&rt, found, Some(MetaFault::NoVideoParameters), "127 deep");
-    for depth in [128, 524_288] {
-        let found = refusal(alloc, nested(alloc, depth)?.as_slice());
-        same(&rt, found, Some(MetaFault::NotJson), depth);
-    }
-    Ok(())
-}
-
-fn zeros(alloc: Global, count: usize) -> Result<Vec<u8>, AllocError> {
-    vec![in alloc; 0; count]
+    same(found, Some(MetaFault::NoVideoParameters), "127 deep")
 }
 
 #[test]
 fn a_document_over_the_limit_is_too_large(rt: HostRuntime) -> Result<(), Fail> {
     let alloc = rt.alloc();
+    same(META_LIMIT, 268_435_456, "the limit")?;
     for (count, fault) in [
-        (META_LIMIT + 1, MetaFault::TooLarge),
-        (META_LIMIT, MetaFault::NotJson),
+        (268_435_457, MetaFault::TooLarge),
+        (268_435_456, MetaFault::NotJson),
     ] {
-        let bytes = zeros(alloc, count)?;
-        let found = refusal(alloc, bytes.as_slice());
-        same(&rt, found, Some(fault), count);
+        let bytes: Vec<u8> = vec![in alloc; 0; count]?;
+        same(refusal(alloc, bytes.as_slice()), Some(fault), count)?;
     }
     Ok(())
 }
@@ -98,9 +87,9 @@ const TEXTS: [(MetaFault, &str); 15] = [
 
 #[test]
 fn faults_have_their_texts(rt: HostRuntime) -> Result<(), Fail> {
-    for &(fault, text) in &TEXTS {
+    for (fault, text) in TEXTS {
         let said = fault.to_string(rt.alloc())?;
-        same(&rt, said.as_str(), text, fault);
+        same(said.as_str(), text, fault)?;
     }
     Ok(())
 }
@@ -109,17 +98,15 @@ fn faults_have_their_texts(rt: HostRuntime) -> Result<(), Fail> {
 #[test]
 fn want_of_memory_is_answered_as_such(rt: HostRuntime) -> Result<(), Fail> {
     let alloc = rt.alloc();
-    let text = b"{\"videoParameters\":{\"system\":\"NTSC\",\"fieldWidth\":910,\"fieldHeight\":263,\
-          \"black16bIre\":16384,\"white16bIre\":51200,\"sampleRate\":14318181.5},\"fields\":[]}";
-    match read_meta(alloc, text) {
-        Ok(value) => {
-            let found = settings(Some(&value), &NONE).err();
-            same(&rt, found, None, "the full metadata");
-        }
-        Err(fault) => same(&rt, fault, MetaFault::OutOfMemory, "memory"),
+    match read_meta(alloc, FULL.as_bytes()) {
+        Ok(value) => same(
+            settings(Some(&value), &NONE).err(),
+            None,
+            "the full metadata",
+        )?,
+        Err(fault) => same(fault, MetaFault::OutOfMemory, "memory")?,
     }
     let fault = refusal(alloc, b"{\"a\":NaN}");
     let is_named = matches!(fault, Some(MetaFault::NotJson | MetaFault::OutOfMemory));
-    holds(&rt, is_named, fault);
-    Ok(())
+    holds(is_named, fault)
 }

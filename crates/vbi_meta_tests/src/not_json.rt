@@ -1,11 +1,11 @@
 //! Texts that are no JSON, short and long ones of each kind. No clause can say that memory was refused, so these rows
 //! alone see a reader that reports want of memory of a wrong text.
 
-use crate::asserts::same;
 use crate::documents::refusal;
 use std::alloc::{AllocError, Global};
 use std::test::Fail;
 use vbi_meta::MetaFault;
+use vbi_test_devices::same;
 
 /// Texts of no byte, one and two, and the shortest of the kinds that need more.
 const SHORT: [&[u8]; 58] = [
@@ -78,12 +78,11 @@ const SHORT: [&[u8]; 58] = [
 #[test]
 fn short_texts_that_are_no_json_are_refused_as_such(rt: HostRuntime) -> Result<(), Fail> {
     let alloc = rt.alloc();
-    for bytes in &SHORT {
-        same(&rt, refusal(alloc, bytes), Some(MetaFault::NotJson), *bytes);
+    for bytes in SHORT {
+        same(refusal(alloc, bytes), Some(MetaFault::NotJson), bytes)?;
     }
-    same(&rt, refusal(alloc, b"{}"), None, "an empty object");
-    same(&rt, refusal(alloc, b"1"), None, "a digit");
-    Ok(())
+    same(refusal(alloc, b"{}"), None, "an empty object")?;
+    same(refusal(alloc, b"1"), None, "a digit")
 }
 
 /// Long texts: what they begin with, the byte that fills them, and what they end with.
@@ -132,14 +131,14 @@ fn filled(
 fn long_texts_that_are_no_json_are_refused_as_such(rt: HostRuntime) -> Result<(), Fail> {
     let alloc = rt.alloc();
     for length in LENGTHS {
-        for &(head, fill, tail) in &LONG {
+        for (head, fill, tail) in LONG {
             let text = filled(alloc, length, head, fill, tail)?;
-            same(&rt, text.len(), length, head);
+            same(text.len(), length, head)?;
             let found = refusal(alloc, text.as_slice());
-            same(&rt, found, Some(MetaFault::NotJson), (head, fill, tail));
+            same(found, Some(MetaFault::NotJson), (head, fill, tail))?;
         }
         let text = filled(alloc, length, b"{", b' ', b"}")?;
-        same(&rt, refusal(alloc, text.as_slice()), None, "blanks inside");
+        same(refusal(alloc, text.as_slice()), None, "blanks inside")?;
     }
     Ok(())
 }

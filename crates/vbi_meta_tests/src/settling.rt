@@ -1,9 +1,13 @@
 //! The vectors of `settings`.
 
-use crate::asserts::same;
 use std::alloc::{AllocError, Global};
 use std::test::Fail;
+use vbi_meta::MetaFault::{
+    BadBlack, BadMaxFields, BadWhite, HeightDiffers, LevelsOrder, NoBlack, NoSystem,
+    NoVideoParameters, NoWhite, SystemsDisagree, UnknownSystem, WidthDiffers,
+};
 use vbi_meta::{MetaFault, Overrides, read_meta, settings};
+use vbi_test_devices::same;
 use vbi_words::{Levels, System};
 
 pub(crate) const NONE: Overrides = Overrides {
@@ -15,256 +19,266 @@ pub(crate) const NONE: Overrides = Overrides {
 
 const NTSC: Overrides = Overrides {
     system: Some(System::Ntsc),
-    black: None,
-    white: None,
-    max_fields: None,
+    ..NONE
 };
 
-const BLACK: Overrides = Overrides {
-    system: None,
+const PAL: Overrides = Overrides {
+    system: Some(System::Pal),
+    ..NONE
+};
+
+const PAL_BLACK: Overrides = Overrides {
     black: Some(16384),
-    white: None,
-    max_fields: None,
+    ..PAL
+};
+
+const NTSC_LEVELS: Overrides = Overrides {
+    black: Some(16384),
+    white: Some(51200),
+    ..NTSC
+};
+
+const PAL_LEVELS: Overrides = Overrides {
+    white: Some(51200),
+    ..PAL_BLACK
 };
 
 const ALL: Overrides = Overrides {
-    system: Some(System::Ntsc),
-    black: Some(16384),
-    white: Some(51200),
     max_fields: Some(5),
+    ..NTSC_LEVELS
 };
-
-const LEVELS: Overrides = Overrides {
-    system: Some(System::Ntsc),
-    black: Some(16384),
-    white: Some(51200),
-    max_fields: None,
-};
-
-/// No override but this limit.
-fn limit(max_fields: u32) -> Overrides {
-    Overrides {
-        system: None,
-        black: None,
-        white: None,
-        max_fields: Some(max_fields),
-    }
-}
 
 /// What settings hold: system, black, white and limit.
-pub(crate) type Settled = (System, u16, u16, u32);
+type Settled = (System, u16, u16, u32);
 
 fn held(system: System, levels: Levels, max_fields: u32) -> Settled {
     (system, levels.black(), levels.white(), max_fields)
 }
 
 /// The settings of a document.
-pub(crate) fn settled(
-    alloc: Global,
-    text: &str,
-    overrides: &Overrides,
-) -> Result<Settled, MetaFault> {
+fn settled(alloc: Global, text: &str, overrides: &Overrides) -> Result<Settled, MetaFault> {
     let value = read_meta(alloc, text.as_bytes())?;
     let config = settings(Some(&value), overrides)?;
     Ok(held(config.system(), config.levels(), config.max_fields()))
 }
 
 /// The document with this inner text of `videoParameters`.
-pub(crate) fn document(alloc: Global, members: &str) -> Result<String, AllocError> {
+fn document(alloc: Global, members: &str) -> Result<String, AllocError> {
     format!(in alloc; "{{\"videoParameters\":{{{members}}}}}")
 }
 
-/// The full metadata of an NTSC capture, with these four members.
-fn full(
-    alloc: Global,
-    width: &str,
-    height: &str,
-    black: &str,
-    white: &str,
-) -> Result<String, AllocError> {
-    format!(in alloc;
-        "{{\"videoParameters\":{{\"system\":\"NTSC\",\"fieldWidth\":{width},\"fieldHeight\":{height},\
-         \"black16bIre\":{black},\"white16bIre\":{white},\"sampleRate\":14318181.5}},\"fields\":[]}}"
-    )
+/// Overrides with this limit.
+fn limited(overrides: &Overrides, max_fields: u32) -> Overrides {
+    Overrides {
+        max_fields: Some(max_fields),
+        ..*overrides
+    }
 }
 
-/// Documents that have no settings at all.
-const EMPTY: [&str; 5] = [
+/// Documents without an object `videoParameters`, which have other faults as well.
+const EMPTY: [&str; 8] = [
     "[]",
-    "{\"videoParameters\":3}",
-    "{}",
     "3",
-    "{\"videoParameters\":[]}",
+    "{}",
+    r#"{"videoParameters":3}"#,
+    r#"{"videoParameters":[]}"#,
+    r#"{"videoParameters":null}"#,
+    r#"{"system":"PAL","black16bIre":1,"white16bIre":0}"#,
+    r#"{"videoparameters":{"system":"PAL_M"}}"#,
 ];
 
 #[test]
 fn documents_without_parameters_are_refused(rt: HostRuntime) -> Result<(), Fail> {
-    for text in &EMPTY {
-        for overrides in [NONE, ALL] {
-            let fault = settled(rt.alloc(), text, &overrides).err();
-            same(&rt, fault, Some(MetaFault::NoVideoParameters), *text);
+    for text in EMPTY {
+        for overrides in [NONE, ALL, limited(&NONE, 0)] {
+            let found = settled(rt.alloc(), text, &overrides);
+            same(found, Err(NoVideoParameters), text)?;
         }
     }
     Ok(())
 }
 
-/// Inner texts of `videoParameters` that are refused with these overrides.
-const REFUSED: [(&str, Overrides, MetaFault); 26] = [
-    ("", NONE, MetaFault::NoSystem),
-    ("\"system\":\"PAL_M\"", NONE, MetaFault::UnknownSystem),
+/// Fails where metadata with these members aren't refused for this with some overrides, or with a limit of no field
+/// besides, which is the last of all faults.
+fn refuses(
+    alloc: Global,
+    members: &str,
+    overrides: &Overrides,
+    fault: MetaFault,
+) -> Result<(), Fail> {
+    let text = document(alloc, members)?;
+    let found = settled(alloc, text.as_str(), &limited(overrides, 0));
+    same(found, Err(fault), (members, "no field"))?;
+    let found = settled(alloc, text.as_str(), overrides).err();
+    let expected = match fault {
+        BadMaxFields => None,
+        _ => Some(fault),
+    };
+    same(found, expected, members)
+}
+
+/// Members, and the first of their faults. Beside each row with two faults or more there is one with all of them but
+/// the first.
+const REFUSED: [(&str, MetaFault); 29] = [
+    ("", NoSystem),
+    (r#""system":"PAL""#, NoBlack),
+    (r#""black16bIre":-1"#, NoSystem),
+    (r#""black16bIre":-1,"isSourcePal":true"#, BadBlack),
+    (r#""system":"PAL_M""#, UnknownSystem),
+    (r#""system":null,"isSourcePal":true"#, UnknownSystem),
+    (r#""system":"NTSC","isSourcePal":"no""#, UnknownSystem),
+    (r#""isSourcePal":null"#, UnknownSystem),
+    (r#""isSourcePal":1"#, UnknownSystem),
+    (r#""isSourcePal":true"#, NoBlack),
+    (r#""system":"X","black16bIre":-1"#, UnknownSystem),
+    (r#""system":"pal","black16bIre":"0""#, UnknownSystem),
+    (r#""system":"PAL","black16bIre":"0""#, BadBlack),
+    (r#""system":"PAL","isSourcePal":false"#, SystemsDisagree),
+    (r#""system":"PAL","isSourcePal":true"#, NoBlack),
+    (r#""system":"NTSC","isSourcePal":true"#, SystemsDisagree),
+    (r#""system":"NTSC","isSourcePal":false"#, NoBlack),
     (
-        "\"system\":null,\"isSourcePal\":true",
-        NONE,
-        MetaFault::UnknownSystem,
+        r#""system":"NTSC","isSourcePal":true,"black16bIre":65536"#,
+        SystemsDisagree,
+    ),
+    (r#""system":"PAL","white16bIre":"x""#, NoBlack),
+    (r#""system":"PAL","black16bIre":-1"#, BadBlack),
+    (r#""system":"PAL","black16bIre":65536"#, BadBlack),
+    (r#""system":"PAL","black16bIre":65535"#, NoWhite),
+    (r#""system":"NTSC","black16bIre":65536"#, BadBlack),
+    (r#""system":"NTSC","black16bIre":null"#, BadBlack),
+    (r#""system":"NTSC","black16bIre":16384e0"#, BadBlack),
+    (r#""system":"NTSC","black16bIre":16384.0"#, BadBlack),
+    (r#""system":"NTSC","black16bIre":16384"#, NoWhite),
+    (
+        r#""system":"PAL","black16bIre":9,"white16bIre":9"#,
+        LevelsOrder,
     ),
     (
-        "\"system\":\"NTSC\",\"isSourcePal\":\"no\"",
-        NONE,
-        MetaFault::UnknownSystem,
-    ),
-    (
-        "\"system\":\"NTSC\",\"isSourcePal\":\"no\"",
-        NTSC,
-        MetaFault::NoBlack,
-    ),
-    (
-        "\"system\":\"X\",\"black16bIre\":-1",
-        NONE,
-        MetaFault::UnknownSystem,
-    ),
-    ("\"isSourcePal\":null", NONE, MetaFault::UnknownSystem),
-    (
-        "\"system\":\"PAL\",\"isSourcePal\":false",
-        NONE,
-        MetaFault::SystemsDisagree,
-    ),
-    (
-        "\"system\":\"NTSC\",\"isSourcePal\":true",
-        NONE,
-        MetaFault::SystemsDisagree,
-    ),
-    ("\"system\":\"PAL\"", NONE, MetaFault::NoBlack),
-    (
-        "\"system\":\"PAL\",\"white16bIre\":\"x\"",
-        NONE,
-        MetaFault::NoBlack,
-    ),
-    (
-        "\"system\":\"PAL\",\"black16bIre\":-1",
-        NONE,
-        MetaFault::BadBlack,
-    ),
-    (
-        "\"system\":\"PAL\",\"black16bIre\":65536",
-        NONE,
-        MetaFault::BadBlack,
-    ),
-    (
-        "\"system\":\"NTSC\",\"black16bIre\":null",
-        NONE,
-        MetaFault::BadBlack,
-    ),
-    (
-        "\"system\":\"NTSC\",\"black16bIre\":16384e0",
-        NONE,
-        MetaFault::BadBlack,
-    ),
-    (
-        "\"system\":\"NTSC\",\"black16bIre\":16384.0",
-        NONE,
-        MetaFault::BadBlack,
-    ),
-    (
-        "\"system\":\"PAL\",\"black16bIre\":16384",
-        NONE,
-        MetaFault::NoWhite,
-    ),
-    (
-        "\"system\":\"PAL\",\"black16bIre\":16384,\"white16bIre\":\"x\"",
-        NONE,
-        MetaFault::BadWhite,
-    ),
-    (
-        "\"system\":\"PAL\",\"black16bIre\":65535",
-        NONE,
-        MetaFault::NoWhite,
-    ),
-    (
-        "\"system\":\"PAL\",\"black16bIre\":16384,\"white16bIre\":16384",
-        NONE,
-        MetaFault::LevelsOrder,
-    ),
-    (
-        "\"isSourcePal\":true,\"black16bIre\":16384,\"white16bIre\":54016,\"fieldWidth\":910",
-        NONE,
-        MetaFault::WidthDiffers,
-    ),
-    (
-        "\"isSourcePal\":true,\"black16bIre\":16384,\"white16bIre\":54016,\"fieldHeight\":312",
-        NONE,
-        MetaFault::HeightDiffers,
-    ),
-    (
-        "\"fieldHeight\":312,\"fieldWidth\":null",
-        LEVELS,
-        MetaFault::WidthDiffers,
-    ),
-    ("\"fieldHeight\":null", LEVELS, MetaFault::HeightDiffers),
-    ("\"system\":3,\"black16bIre\":{}", NTSC, MetaFault::BadBlack),
-    (
-        "\"system\":\"PAL\",\"black16bIre\":-1",
-        BLACK,
-        MetaFault::NoWhite,
+        r#""system":"NTSC","black16bIre":8,"white16bIre":9"#,
+        BadMaxFields,
     ),
 ];
 
 #[test]
-fn refusals_come_in_order(rt: HostRuntime) -> Result<(), Fail> {
-    let alloc = rt.alloc();
-    for (members, overrides, fault) in &REFUSED {
-        let text = document(alloc, members)?;
-        let found = settled(alloc, text.as_str(), overrides).err();
-        same(&rt, found, Some(*fault), *members);
+fn of_two_faults_the_first_in_order_is_the_refusal(rt: HostRuntime) -> Result<(), Fail> {
+    for (members, fault) in REFUSED {
+        refuses(rt.alloc(), members, &NONE, fault)?;
     }
     Ok(())
 }
 
-const FLAG: &str = "\"isSourcePal\":true,\"black16bIre\":16384,\"white16bIre\":54016";
-
-/// Inner texts of `videoParameters`, overrides, and what they settle.
-const SETTLED: [(&str, Overrides, Settled); 4] = [
-    (FLAG, NONE, (System::Pal, 16384, 54016, 1_000_000)),
-    (
-        "\"isSourcePal\":true,\"black16bIre\":16384,\"white16bIre\":54016,\"fieldWidth\":910",
-        NTSC,
-        (System::Ntsc, 16384, 54016, 1_000_000),
-    ),
-    (
-        "\"isSourcePal\":false,\"black16bIre\":0,\"white16bIre\":65535",
-        NONE,
-        (System::Ntsc, 0, 65535, 1_000_000),
-    ),
-    // An option replaces any member.
-    (
-        "\"system\":[],\"isSourcePal\":null,\"black16bIre\":null,\"white16bIre\":\"x\"",
-        ALL,
-        (System::Ntsc, 16384, 51200, 5),
-    ),
+/// The same with overrides, each of which replaces its member whatever that holds.
+const OVERRIDDEN: [(&str, Overrides, MetaFault); 20] = [
+    ("", NTSC, NoBlack),
+    ("", NTSC_LEVELS, BadMaxFields),
+    (r#""system":"NTSC","isSourcePal":"no""#, NTSC, NoBlack),
+    (r#""system":3,"black16bIre":{}"#, NTSC, BadBlack),
+    (r#""system":"NTSC","isSourcePal":true"#, PAL, NoBlack),
+    (r#""black16bIre":true,"white16bIre":true"#, PAL, BadBlack),
+    (r#""black16bIre":-1"#, PAL_BLACK, NoWhite),
+    (r#""white16bIre":true"#, PAL_BLACK, BadWhite),
+    (r#""white16bIre":"x""#, PAL_BLACK, BadWhite),
+    (r#""white16bIre":-1"#, PAL_BLACK, BadWhite),
+    (r#""white16bIre":65536"#, PAL_BLACK, BadWhite),
+    (r#""white16bIre":65535"#, PAL_BLACK, BadMaxFields),
+    (r#""white16bIre":16384"#, PAL_BLACK, LevelsOrder),
+    (r#""white16bIre":0"#, PAL_BLACK, LevelsOrder),
+    // Before sizes that are wrong.
+    (r#""fieldWidth":1134"#, PAL_BLACK, NoWhite),
+    (r#""fieldWidth":1,"white16bIre":[]"#, PAL_BLACK, BadWhite),
+    (r#""fieldWidth":1,"white16bIre":9"#, PAL_BLACK, LevelsOrder),
+    (r#""fieldHeight":1,"white16bIre":9"#, PAL_BLACK, LevelsOrder),
+    (r#""fieldWidth":1134"#, PAL_LEVELS, WidthDiffers),
+    (r#""fieldHeight":1"#, PAL_LEVELS, HeightDiffers),
 ];
 
 #[test]
-fn the_flag_or_an_option_gives_the_system(rt: HostRuntime) -> Result<(), Fail> {
-    let alloc = rt.alloc();
-    for (members, overrides, expected) in &SETTLED {
-        let text = document(alloc, members)?;
-        let found = settled(alloc, text.as_str(), overrides);
-        same(&rt, found, Ok(*expected), *members);
+fn options_stand_in_for_members_in_the_same_order(rt: HostRuntime) -> Result<(), Fail> {
+    for (members, overrides, fault) in OVERRIDDEN {
+        refuses(rt.alloc(), members, &overrides, fault)?;
     }
-    let text = document(alloc, FLAG)?;
-    let found = settled(alloc, text.as_str(), &limit(0));
-    same(&rt, found, Err(MetaFault::BadMaxFields), "no field");
     Ok(())
 }
+
+/// Sizes of a field, and what they are refused for where the system is NTSC: that of the other system, one off, or no
+/// whole number.
+const NTSC_SIZES: [(&str, MetaFault); 9] = [
+    (r#""fieldHeight":312,"fieldWidth":null"#, WidthDiffers),
+    (r#""fieldHeight":264,"fieldWidth":911"#, WidthDiffers),
+    (r#""fieldHeight":264,"fieldWidth":910"#, HeightDiffers),
+    (r#""fieldWidth":910.0"#, WidthDiffers),
+    (r#""fieldWidth":1135"#, WidthDiffers),
+    (r#""fieldHeight":null"#, HeightDiffers),
+    (r#""fieldHeight":"263""#, HeightDiffers),
+    (r#""fieldHeight":313"#, HeightDiffers),
+    (r#""fieldWidth":910,"fieldHeight":263"#, BadMaxFields),
+];
+
+/// The same where it is PAL.
+const PAL_SIZES: [(&str, MetaFault); 9] = [
+    (r#""fieldHeight":312,"fieldWidth":{}"#, WidthDiffers),
+    (r#""fieldWidth":1136,"fieldHeight":314"#, WidthDiffers),
+    (r#""fieldWidth":1135,"fieldHeight":314"#, HeightDiffers),
+    (r#""fieldWidth":1135.0"#, WidthDiffers),
+    (r#""fieldWidth":910"#, WidthDiffers),
+    (r#""fieldHeight":312"#, HeightDiffers),
+    (r#""fieldHeight":"313""#, HeightDiffers),
+    (r#""fieldHeight":263"#, HeightDiffers),
+    (r#""fieldWidth":1135,"fieldHeight":313"#, BadMaxFields),
+];
+
+/// How metadata name a system, with levels that are in order.
+const NAMED: [(&str, System); 4] = [
+    (r#""isSourcePal":false"#, System::Ntsc),
+    (r#""isSourcePal":true"#, System::Pal),
+    (r#""system":"NTSC""#, System::Ntsc),
+    (r#""system":"PAL""#, System::Pal),
+];
+
+#[test]
+fn sizes_are_those_of_the_system(rt: HostRuntime) -> Result<(), Fail> {
+    let alloc = rt.alloc();
+    for (members, fault) in NTSC_SIZES {
+        refuses(alloc, members, &NTSC_LEVELS, fault)?;
+    }
+    for (members, fault) in PAL_SIZES {
+        refuses(alloc, members, &PAL_LEVELS, fault)?;
+    }
+    for (name, system) in NAMED {
+        let levels = r#""black16bIre":0,"white16bIre":65535"#;
+        let members = format!(in alloc; "{name},{levels}")?;
+        let text = document(alloc, members.as_str())?;
+        let found = settled(alloc, text.as_str(), &NONE);
+        same(found, Ok((system, 0, 65535, 1_000_000)), name)?;
+        let sizes = match system {
+            System::Ntsc => NTSC_SIZES,
+            System::Pal => PAL_SIZES,
+        };
+        for (size, fault) in sizes {
+            let members = format!(in alloc; "{name},{levels},{size}")?;
+            refuses(alloc, members.as_str(), &NONE, fault)?;
+        }
+    }
+    Ok(())
+}
+
+/// The whole metadata of an NTSC capture.
+pub(crate) const FULL: &str =
+    r#"{"videoParameters":{"system":"NTSC","fieldWidth":910,"fieldHeight":263,
+    "black16bIre":16384,"white16bIre":51200,"sampleRate":14318181.5},"fields":[]}"#;
+
+/// The same of a PAL capture, with members that have to be replaced.
+const REPLACED: &str =
+    r#"{"videoParameters":{"system":[],"isSourcePal":null,"fieldWidth":1135,"fieldHeight":313,
+    "black16bIre":16384.0,"white16bIre":"x"},"fields":[]}"#;
+
+/// Metadata, overrides, and what they settle.
+const SETTLED: [(&str, Overrides, Settled); 3] = [
+    (FULL, NONE, (System::Ntsc, 16384, 51200, 1_000_000)),
+    (FULL, ALL, (System::Ntsc, 16384, 51200, 5)),
+    (REPLACED, PAL_LEVELS, (System::Pal, 16384, 51200, 1_000_000)),
+];
 
 /// Limits of fields, and whether they are refused.
 const LIMITS: [(u32, bool); 4] = [(0, true), (1, false), (1_000_000, false), (1_000_001, true)];
@@ -272,59 +286,40 @@ const LIMITS: [(u32, bool); 4] = [(0, true), (1, false), (1_000_000, false), (1_
 #[test]
 fn the_full_metadata_settles_a_run(rt: HostRuntime) -> Result<(), Fail> {
     let alloc = rt.alloc();
-    let text = full(alloc, "910", "263", "16384", "51200")?;
-    let text = text.as_str();
-    let whole = Ok((System::Ntsc, 16384, 51200, 1_000_000));
-    same(&rt, settled(alloc, text, &NONE), whole, "no override");
+    for (text, overrides, expected) in SETTLED {
+        same(settled(alloc, text, &overrides), Ok(expected), text)?;
+    }
     for (fields, is_refused) in LIMITS {
         let expected = if is_refused {
-            Err(MetaFault::BadMaxFields)
+            Err(BadMaxFields)
         } else {
             Ok((System::Ntsc, 16384, 51200, fields))
         };
-        same(&rt, settled(alloc, text, &limit(fields)), expected, fields);
-    }
-    // An option stands in for the member.
-    let text = full(alloc, "910", "263", "16384.0", "51200")?;
-    let found = settled(alloc, text.as_str(), &BLACK);
-    same(&rt, found, whole, "black by an option");
-    Ok(())
-}
-
-/// Texts of width, height, black and white in the full metadata, and what they are refused for.
-const FULL_REFUSED: [(&str, &str, &str, &str, MetaFault); 4] = [
-    ("910", "263", "16384.0", "51200", MetaFault::BadBlack),
-    ("910", "263", "16384", "16384", MetaFault::LevelsOrder),
-    ("910.0", "263", "16384", "51200", MetaFault::WidthDiffers),
-    ("910", "\"263\"", "16384", "51200", MetaFault::HeightDiffers),
-];
-
-#[test]
-fn members_of_the_full_metadata_are_refused(rt: HostRuntime) -> Result<(), Fail> {
-    let alloc = rt.alloc();
-    for (width, height, black, white, fault) in &FULL_REFUSED {
-        let text = full(alloc, width, height, black, white)?;
-        let found = settled(alloc, text.as_str(), &NONE);
-        same(&rt, found, Err(*fault), (*width, *height, *black, *white));
+        let found = settled(alloc, FULL, &limited(&NONE, fields));
+        same(found, expected, fields)?;
     }
     Ok(())
 }
 
 /// Options without metadata, and what they settle or are refused for.
-const OPTIONS: [(Overrides, Result<Settled, MetaFault>); 4] = [
-    (NONE, Err(MetaFault::NoSystem)),
-    (NTSC, Err(MetaFault::NoBlack)),
-    (LEVELS, Ok((System::Ntsc, 16384, 51200, 1_000_000))),
+const OPTIONS: [(Overrides, Result<Settled, MetaFault>); 7] = [
+    (NONE, Err(NoSystem)),
+    (NTSC, Err(NoBlack)),
+    (PAL, Err(NoBlack)),
+    (PAL_BLACK, Err(NoWhite)),
+    (NTSC_LEVELS, Ok((System::Ntsc, 16384, 51200, 1_000_000))),
+    (PAL_LEVELS, Ok((System::Pal, 16384, 51200, 1_000_000))),
     (ALL, Ok((System::Ntsc, 16384, 51200, 5))),
 ];
 
 #[test]
-fn options_alone_settle_a_run(rt: HostRuntime) {
+fn options_alone_settle_a_run() -> Result<(), Fail> {
     for (overrides, expected) in OPTIONS {
         let found = match settings(None, &overrides) {
             Ok(config) => Ok(held(config.system(), config.levels(), config.max_fields())),
             Err(fault) => Err(fault),
         };
-        same(&rt, found, expected, overrides);
+        same(found, expected, overrides)?;
     }
+    Ok(())
 }
