@@ -205,7 +205,7 @@ SENTENCES = {
         "a `fieldWidth` of `{width_of n}.0` differs from {width_of n}.",
         "Metadata may have {META_LIMIT,} bytes",
         "| it has more than {META_LIMIT,} bytes |",
-        "| `max fields is not from 1 to {MAX_FIELDS_LIMIT}` |",
+        "| `max fields is not from 1 to {MAX_FIELDS_LIMIT}` | `--max-fields` is 0, or more than {MAX_FIELDS_LIMIT,} |",
         "of {line_bytes n} bytes` | `line`: the input ended early |",
     ],
     "docs/RECIPES.md": [
