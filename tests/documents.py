@@ -3,8 +3,8 @@
 on standard error, and then the status is 1.
 
 links   what a document links to is there, a heading (`#..`) too; a link to the net is one of NET
-paths   the files and folders that CONTRIBUTING.md names are there
-names   the functions, clauses, definitions and fields in the tables of PROMISES.md are in the source
+paths   the files and folders that CONTRIBUTING.md names are there, of the repository or of a crate
+names   the functions, clauses, definitions and fields that PROMISES.md names are in the source
 faults  the fault texts of FORMATS.md are those of the source, in its order, and those of the manual page among them
 causes  the names of causes in FORMATS.md, SIGNAL.md and the manual page are those of the source
 sizes   the sizes in FORMATS.md, RECIPES.md, SIGNAL.md and the manual page are those of the source, each in its sentence
@@ -20,7 +20,7 @@ import source_names
 from source_names import read
 
 # How much each check looked at when it last grew. With less it fails, so what is taken out is taken out here as well.
-LEAST = {"links": 35, "paths": 100, "names": 458, "faults": 28, "causes": 20, "sizes": 19}
+LEAST = {"links": 35, "paths": 100, "names": 600, "faults": 28, "causes": 20, "sizes": 19}
 NET = ["https://github.com/happycube/ld-decode"]
 PAGE = "share/man/ldvbi.1"
 # A number in the texts of faults and causes
@@ -95,7 +95,7 @@ def links(faults):
 # ---- paths
 
 def paths(faults):
-    """A path is from the top, from crates/ or from a crate; a name alone is of the folder named before it in its line."""
+    """A path begins at the top, in crates/ or in a crate; a name alone is in the folder named before it in its line."""
     looked_at = 0
     for line in read("CONTRIBUTING.md").split("\n"):
         folder = ""
@@ -126,7 +126,8 @@ def source_faults():
 
 def faults_of_documents(faults):
     patterns = source_faults()
-    settings = [text for row in tables(section("docs/FORMATS.md", "## Input: metadata"))[1][1:] for text in codes(row[0])]
+    table = tables(section("docs/FORMATS.md", "## Input: metadata"))[1]
+    settings = [text for row in table[1:] for text in codes(row[0])]
     others = [text for row in tables(section("docs/FORMATS.md", "## Messages"))[0][1:] for text in codes(row[0])]
     shown = re.findall(r"^\.Sq (.+)$", read(PAGE).partition(".Sh DIAGNOSTICS")[2].partition(".Sh ")[0], re.M)
     shown = [text.rstrip(" .") for text in shown if not text.startswith("ldvbi")]
@@ -210,7 +211,7 @@ SENTENCES = {
     ],
     "docs/RECIPES.md": [
         "A field has {field_bytes, n} bytes (NTSC) or {field_bytes, p} (PAL).",
-        "its line 16, of {line_bytes, n} bytes ({line_bytes, p} in PAL, which has {height_of p} lines for {height_of n})",
+        "of {line_bytes, n} bytes ({line_bytes, p} in PAL, which has {height_of p} lines for {height_of n})",
     ],
     PAGE: [
         "It reads the bytes of one line ({line_bytes n} for NTSC, {line_bytes p} for PAL)",
@@ -274,13 +275,19 @@ def names(faults):
                 looked_at += 1
                 if not source.has(code, functions or above, types):
                     faults.append(f"PROMISES.md: {code} isn't in the source, in the row: {' | '.join(row)[:80]}")
-                elif head[0] == "Crate" and source.places(code) and crate not in source.places(code):
+                elif head[0] == "Crate" and code in codes(row[1]) and not source.is_in(code, crate):
                     faults.append(f"PROMISES.md: {code} isn't in {crate}")
-    print(f"names: {looked_at} in the tables of PROMISES.md")
-    return looked_at
+    in_prose = [code for code in codes(re.sub(r"^\|.*", "", prose("docs/PROMISES.md"), flags=re.M))
+                if not code.startswith(("python3 ", "rattle-kit"))]
+    for code in in_prose:
+        if not source.has_somewhere(code):
+            faults.append(f"PROMISES.md: {code} isn't in the source")
+    print(f"names: {looked_at} in the tables of PROMISES.md, {len(in_prose)} in its prose")
+    return looked_at + len(in_prose)
 
 
-CHECKS = {"links": links, "paths": paths, "faults": faults_of_documents, "causes": causes, "sizes": sizes, "names": names}
+CHECKS = {"links": links, "paths": paths, "names": names, "faults": faults_of_documents, "causes": causes,
+          "sizes": sizes}
 
 
 def main():

@@ -10,9 +10,11 @@ FUNCTION = re.compile(r"\s*(?:pub(?:\(crate\))? )?(?:extern \"C\" )?fn (\w+)")
 CLAUSE = re.compile(r"\s*(?:ensures|requires) (\w+) \{")
 METHODS = re.compile(r"impl(?:<.*?>)? (?:.* for )?(\w+)")
 TYPE = re.compile(r"(?:pub(?:\(crate\))? )?(?:struct|enum|trait) (\w+)")
-MEMBER = re.compile(r"    (?:pub(?:\(crate\))? |ghost )?(\w+)(?:\(.*\))?(?:,|:| \{|$)")
+MEMBER = re.compile(r"    (?:pub(?:\(crate\))? |ghost )?(\w+)(?:\(.*\))?(?:,|:| \{| =|$)")
 INNER = re.compile(r"        (\w+): ")
 DEFINITION = re.compile(r"(?:abbrev |unfoldable )?(?:pub )?(?:(?:record|data|module) )?(\S+) .*")
+# Where a path that a document names may begin
+FOLDERS = ("", "crates/", "crates/*/", "crates/*/src/", "crates/*/specs/")
 FIELD = re.compile(r"\s+(?:pub )?(\w+) : ")
 
 
@@ -59,7 +61,8 @@ class Names:
         for line in read(path).split("\n"):
             if re.match(r"\s*(--|use )", line) or not line.strip():
                 continue
-            head = DEFINITION.match(line.strip()) if re.match(r"(  )?(abbrev|unfoldable|pub|record|data) ", line) else None
+            is_head = re.match(r"(  )?(abbrev|unfoldable|pub|record|data) ", line)
+            head = is_head and DEFINITION.match(line.strip())
             if owner and FIELD.match(line):
                 self.members[owner].add(FIELD.match(line)[1])
             elif head:
@@ -77,9 +80,13 @@ class Names:
                 self.take_schema(part)
 
     def places(self, code):
-        """Returns the crates that have this function, by its own name or with that of its type, its file or its crate."""
+        """Returns the crates that have this function, named alone or behind its type, its file or its crate."""
         *before, name = code.split("::")
         return {crate for crate, file, owner, _ in self.functions.get(name, []) if set(before) <= {crate, file, owner}}
+
+    def is_in(self, code, crate):
+        """Whether what this names is in this crate, as far as it is a function."""
+        return not self.places(code) or crate in self.places(code)
 
     def clauses(self, code):
         name = code.split("::")[-1]
@@ -93,14 +100,23 @@ class Names:
         """Whether the source has what stands in code font: a path; a function; a clause of one of these functions; a
         definition, a member of one of these, a variant of a fault, or a member of the document."""
         if re.fullmatch(r"[\w/]+\.(rt|antt)", code):
-            return bool(glob.glob("crates/" + code) or glob.glob("crates/*/" + code))
+            return any(glob.glob(folder + code) for folder in FOLDERS)
         if not re.match(r"\w", code):
             return all(word in self.words for word in re.findall(r"\w{2,}", code))
         word = re.match(r"[\w.:]*\w", code)[0]
-        owner, _, member = word.rpartition(".")
-        if member and owner:
-            return member in self.members.get(owner, ())
+        owner, _, member = re.sub("::", ".", word).rpartition(".")
+        if owner and member in (self.members if owner in self.crates else self.members.get(owner, ())):
+            return True
+        if "." in word:
+            return False
         return (code in self.words or code in self.crates or word in self.members or bool(self.places(word))
                 or any(word in self.clauses(function) for function in functions)
                 or any(word in self.members.get(kind, ()) for kind in types)
                 or self.is_fault(word, re.findall(r"\w+", code.partition("{")[2])))
+
+    def has_somewhere(self, code):
+        """Whether a path is there, or the source has this name, whatever it is."""
+        if any(glob.glob(folder + code) for folder in FOLDERS):
+            return True
+        clauses = (function for places in self.functions.values() for *_, function in places)
+        return self.has(code, (), self.members) or any(code in names for names in clauses)
