@@ -1,10 +1,11 @@
 #!/bin/sh
-# Runs the command blocks of the documents, in their order, and the examples of the manual page and of the help texts,
-# and compares what they print with what stands there.
+# Compares the documents with the source, runs their command blocks in their order, and the examples of the manual page
+# and of the help texts, and compares what they print with what stands there.
 #
 # A block marked ```sh or ```bash is run, and has to succeed, each of its commands in turn and each part of a pipe. A
-# block marked ```text that comes next is what it prints, on standard output and standard error. A block with 'Not run by
-# the tests' in the paragraph before it is left out, and one with 'After `make lib`' where the library isn't built.
+# block marked ```text that comes next is what it prints, on standard output and standard error. A block marked `skip`
+# as well (```sh skip) is left out. One marked `lib` (```sh lib) is left out where the library isn't built; every other
+# block runs where no library is found, so what needs it has that mark.
 # usage: sh tests/program/docs.sh PROGRAM
 # shellcheck disable=SC2086
 
@@ -19,22 +20,23 @@ export PATH PYTHONDONTWRITEBYTECODE
 library=
 [ ! -e "$top/libldvbi.so.1" ] || library=libldvbi.so.1
 
-# Cuts a document into files: NAME.NUMBER.sh or .bash, and NAME.NUMBER.text for what is printed. What is said on standard
-# error is a fault of the document: a mark of a block that isn't known, a text without its command, or words before a
-# block that are nearly those that leave it out.
+# Cuts a document into files: NAME.NUMBER.sh or .bash, and NAME.NUMBER.text for what is printed. Prints each file that
+# is to be run, with its mark. What is said on standard error is a fault of the document.
 cat > cut.awk << 'END'
 /^```/ && inside { inside = 0; close(file); next }
 /^```/ {
     inside = 1
-    kind = substr($0, 4)
-    if (kind !~ /^(sh|bash|text|c|words)$/)
-        print "a block with the mark " kind > "/dev/stderr"
-    if (kind == "sh" || kind == "bash") {
+    kind = substr($1, 4)
+    is_command = kind == "sh" || kind == "bash"
+    is_marked = NF == 2 && is_command && ($2 == "skip" || $2 == "lib")
+    if (kind !~ /^(sh|bash|text|c|words)$/ || NF > 1 && !is_marked)
+        print "a block with the mark " substr($0, 4) > "/dev/stderr"
+    if (is_command) {
         number++
-        run = !is_left_out()
+        run = $2 != "skip" && ($2 != "lib" || library)
         file = run ? sprintf("%s.%02d.%s", name, number, kind) : "/dev/null"
         if (run)
-            print file
+            print file, $2
     } else {
         file = kind == "text" && run ? sprintf("%s.%02d.text", name, number) : "/dev/null"
         if (kind == "text" && !number)
@@ -42,25 +44,11 @@ cat > cut.awk << 'END'
         run = 0
     }
     printf "" > file
-    paragraph = ""
     next
 }
 inside { print > file; next }
-/^$/ { ended = 1; next }
-{
-    paragraph = ended ? $0 : paragraph " " $0
-    ended = 0
-}
-
-# Whether the paragraph before a block leaves it out
-function is_left_out(    out) {
-    out = gsub(/Not run by the tests/, "", paragraph)
-    if (gsub(/After `make lib`/, "", paragraph) && !library)
-        out = 1
-    if (tolower(paragraph) ~ /not (be )?run|run by|after [^a-z]*make/)
-        print "words that leave out nothing:" paragraph > "/dev/stderr"
-    return out
-}
+/```/ { print "a mark of a block that doesn't begin its line" > "/dev/stderr" }
+END { if (inside) print "a block without its end" > "/dev/stderr" }
 END
 
 # What runs a block, in a folder: each command of a pipe has to succeed, too, as bash can see to. A block that is about
@@ -110,31 +98,72 @@ END
     cp "$top/examples/cav.words" "$1/disc.words"
 }
 
+# marked PATH MARK: how many command blocks of a document have this mark
+marked() {
+    grep -c '^```\(sh\|bash\) '"$2"'$' "$top/$1"
+}
+
 # document PATH FOLDER: runs the blocks of this document in this folder
 document() {
     document_name=$(basename "$1" .md)
     awk -v name="$document_name" -v library=$library -f cut.awk "$top/$1" > blocks 2> cut.err
     cp cut.err err
     status=0
-    check "$1: each block is marked as one that is known" [ ! -s cut.err ]
-    left=$(grep -c 'Not run by the tests' "$top/$1")
+    check "$1: each block has a mark that is known, and its end" [ ! -s cut.err ]
+    left=$(marked "$1" skip)
     if [ ! "$library" ]; then
-        # shellcheck disable=SC2016
-        needy=$(grep -c 'After `make lib`' "$top/$1")
+        needy=$(marked "$1" lib)
         left=$((left + needy))
         leave_out "$needy"
     fi
-    check "$1: each block is run or said not to be" \
-        [ "$(grep -c '^```\(sh\|bash\)$' "$top/$1")" = $(($(wc -l < blocks) + left)) ]
-    while read -r block; do
+    check "$1: each block is run or marked as one that isn't" \
+        [ "$(grep -c '^```\(sh\|bash\)\>' "$top/$1")" = $(($(wc -l < blocks) + left)) ]
+    while read -r block mark; do
         # what rounds the side's levels is run on levels with a decimal point
         if grep -q "white16bIre|=round' side.tbc.json" $block; then
             sed -i 's/\("[a-z]*16bIre":[0-9]*\),/\1.0,/g' $2/side.tbc.json
         fi
+        # The file of no library, where the block isn't marked as one that needs it
+        LDVBI_LIBRARY=$work/absent
+        [ "$mark" != lib ] || LDVBI_LIBRARY=
+        export LDVBI_LIBRARY
         in_folder $2 sh ../strictly ${block##*.} ../$block
         check "$1, block ${block#*.}: $(head -n 1 $block)" prints ${block%.*}.text
     done < blocks
+    unset LDVBI_LIBRARY
 }
+
+# What the documents say, compared with the source
+for what in links paths names faults causes sizes; do
+    in_folder "$top" python3 tests/documents.py $what
+    check "the documents and the source: $what" [ "$status" = 0 ]
+done
+in_folder "$top" python3 tests/definitions.py docs/PROMISES.md
+check 'the definitions of PROMISES.md are those of the source' [ "$status" = 0 ]
+
+# The statuses of FORMATS.md, up to a semicolon, as the help has them
+sed -n '/^| Status |/,$s/^| \([0-9]\) | \(.*\) |$/  \1  \2/p' "$top/docs/FORMATS.md" | sed 's/;.*//; s/`//g' > out
+output_of --help | sed '1,/^Exit status:$/d' > help.statuses
+check 'the statuses of FORMATS.md are those of the help' cmp out help.statuses
+
+# The real examples of causes in FORMATS.md, of which these are the lines in the order of its rows
+signal NTSC 1 << 'END' | ntsc_samples > causes.tbc
+82CFFF|82CFFF @170-171L|-
+L900 H10|82CFFF @170-174L|L164 H746
+END
+output_of extract $ntsc causes.tbc | jq -r '.fields[] | [.vbi.vbiData, .vbiCause, .vbiPass] | transpose[] |
+    "| \(.[0]) | `\(.[1])` | \(.[2]) |"' > causes
+sed -n '/^### A real example/,/^## /s/^|[^|]*\(| [0-9].*\)/\1/p' "$top/docs/FORMATS.md" > out
+check 'the examples of causes in FORMATS.md are those of the program' cmp out causes
+
+# The classes of SIGNAL.md in the report, each of a word with its pattern
+for word in 88FFFF 80EEEE F92345 82CFFF 887DDD 87FFFF F1DD09 8AE712 8DC0A1 8BA0A1 83D0A1 FFFFFF; do
+    echo "$word - -"
+done > classes.words
+output_of draw $ntsc classes.words > classes.tbc
+output_of show $ntsc classes.tbc | sed -n 's/^16 ...... //p' > classes
+sed -n '/^| Pattern |/,/^$/s/^| [8Fa].*| `\(.*\)` |$/\1/p' "$top/docs/SIGNAL.md" > out
+check 'the classes of SIGNAL.md are those of the report' cmp out classes
 
 folder recipes
 document docs/RECIPES.md recipes
@@ -142,23 +171,6 @@ folder trial
 sides trial
 document README.md trial
 document docs/FORMATS.md trial
-
-# What the documents link to, and what CONTRIBUTING.md names of the crates, is there.
-for path in README.md CONTRIBUTING.md CHANGELOG.md $(cd "$top" && echo docs/*.md); do
-    grep -o '](\([^)#]*\))' "$top/$path" | sed 's/^](//; s/)$//' > links
-    while read -r link; do
-        check "$path: $link" [ -e "$(dirname "$top/$path")/$link" ]
-    done < links
-done
-grep -o '[a-z_]*/\(specs\|src\)/[A-Za-z_]*[.][a-z]*' "$top/CONTRIBUTING.md" > named
-check 'CONTRIBUTING.md names files' [ -s named ]
-while read -r path; do
-    check "CONTRIBUTING.md: $path" [ -e "$top/crates/$path" ]
-done < named
-
-# The definitions on which the headline rests stand in PROMISES.md as in the source.
-in_folder "$top" python3 tests/definitions.py docs/PROMISES.md
-check 'the definitions of PROMISES.md are those of the source' [ "$status" = 0 ]
 
 # The examples of the manual page, one script; the last line that it prints is of the drawn field
 mandoc -T ascii -O width=200 "$top/share/man/ldvbi.1" | sed 's/.'"$(printf '\010')"'//g' |

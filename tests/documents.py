@@ -1,0 +1,307 @@
+#!/usr/bin/env python3
+"""Compares what the documents say with the source. Each CHECK prints how much it looked at; what doesn't fit it names
+on standard error, and then the status is 1.
+
+links   what a document links to is there, a heading (`#..`) too; a link to the net is one of NET
+paths   the files and folders that CONTRIBUTING.md names are there, of the repository or of a crate
+names   the functions, clauses, definitions and fields that PROMISES.md names are in the source
+faults  the fault texts of FORMATS.md are those of the source, in its order, and those of the manual page among them
+causes  the names of causes in FORMATS.md, SIGNAL.md and the manual page are those of the source
+sizes   the sizes in FORMATS.md, RECIPES.md, SIGNAL.md and the manual page are those of the source, each in its sentence
+
+usage: python3 tests/documents.py CHECK..     (at the top of the repository)
+"""
+import glob
+import os
+import re
+import sys
+
+import source_names
+from source_names import read
+
+# How much each check looked at when it last grew. With less it fails, so what is taken out is taken out here as well.
+LEAST = {"links": 35, "paths": 100, "names": 600, "faults": 28, "causes": 20, "sizes": 19}
+NET = ["https://github.com/happycube/ld-decode"]
+PAGE = "share/man/ldvbi.1"
+# A number in the texts of faults and causes
+NUMBER = r"(?:[1-9]\d*|0)"
+
+
+def documents():
+    return ["README.md", "CONTRIBUTING.md", "CHANGELOG.md"] + sorted(glob.glob("docs/*.md"))
+
+
+def prose(path):
+    """Returns a document without its blocks."""
+    return re.sub(r"^```.*?^```$", "", read(path), flags=re.M | re.S)
+
+
+def one_line(text):
+    return re.sub(r"\s+", " ", text)
+
+
+def page_text():
+    """Returns the manual page as one line of words, without its macros."""
+    return one_line(re.sub(r"^\.\w+ ?", "", read(PAGE), flags=re.M))
+
+
+def section(path, heading):
+    """Returns what stands under this heading, up to the next one of its kind."""
+    hashes = re.escape(heading.split(" ")[0])
+    found = re.search(rf"^{re.escape(heading)}[^\n]*\n(.*?)(?=^{hashes} |\Z)", read(path), re.M | re.S)
+    return found[1] if found else ""
+
+
+def tables(text):
+    """Returns the tables of a text, each a list of rows, each a list of cells; the first row is the head."""
+    found = re.findall(r"((?:^\|.*\n)+)", text + "\n", re.M)
+    rows = ([re.split(r"(?<!\\)\|", line.strip("|")) for line in table.split("\n") if line] for table in found)
+    return [[[cell.strip() for cell in row] for row in table if not set("".join(row)) <= set("-: ")] for table in rows]
+
+
+def codes(text):
+    """Returns what stands in code font."""
+    return re.findall(r"`([^`]+)`", text)
+
+
+# ---- links
+
+def anchors(path):
+    """Returns the anchors of a document's headings, as they are made of their words."""
+    heads = re.findall(r"^#+ (.*)$", prose(path), re.M)
+    return {re.sub(r"[^\w\- ]", "", head.lower()).replace(" ", "-") for head in heads}
+
+
+def links(faults):
+    looked_at = net = 0
+    for path in documents():
+        for link in re.findall(r"\]\(([^)\s]*)\)", prose(path)):
+            looked_at += 1
+            if link.startswith("https://"):
+                net += 1
+                if link not in NET:
+                    faults.append(f"{path}: {link} is none of the links to the net that are known")
+                continue
+            target, _, anchor = link.partition("#")
+            file = os.path.normpath(os.path.join(os.path.dirname(path), target)) if target else path
+            if not os.path.exists(file):
+                faults.append(f"{path}: {link} isn't there")
+            elif anchor and anchor not in anchors(file):
+                faults.append(f"{path}: {link} is no heading of {file}")
+    print(f"links: {looked_at} in {len(documents())} documents, of which {net} to the net are left out")
+    return looked_at
+
+
+# ---- paths
+
+def paths(faults):
+    """A path begins at the top, in crates/ or in a crate; a name alone is in the folder named before it in its line."""
+    looked_at = 0
+    for line in read("CONTRIBUTING.md").split("\n"):
+        folder = ""
+        for path in re.findall(r"[\w.*-]+(?:/[\w.*-]+)+\w|[\w-]+/(?=[`, |])|\b\w+\.(?:antt|rt)\b", line):
+            places = [path, "crates/" + path, "crates/*/" + path, os.path.join(folder, path)]
+            there = [place for place in places if glob.glob(place)]
+            looked_at += 1
+            if not there:
+                faults.append(f"CONTRIBUTING.md: {path} isn't there")
+            elif "/" in path:
+                folder = there[0] if os.path.isdir(there[0]) else os.path.dirname(there[0])
+    print(f"paths: {looked_at} in CONTRIBUTING.md")
+    return looked_at
+
+
+# ---- faults
+
+def source_faults():
+    """Returns the fault texts of the source, in its order, each as a pattern; those of the command line's words are
+    clap's, and a text that is another fault's is no row."""
+    found = []
+    for path in sorted(glob.glob("crates/*/src/*.rt")):
+        for text in re.findall(r"enum (?:App|Main|Meta|Words)Fault \{(.*?)^\}", read(path), re.M | re.S):
+            found += re.findall(r'#\[error\("([^"]*)"\)\]', text)
+    texts = list(dict.fromkeys(text for text in found if text != "{0}"))
+    return [re.sub(r"\\\{\w+\\\}", lambda _: NUMBER, re.escape(text)) for text in texts]
+
+
+def faults_of_documents(faults):
+    patterns = source_faults()
+    table = tables(section("docs/FORMATS.md", "## Input: metadata"))[1]
+    settings = [text for row in table[1:] for text in codes(row[0])]
+    others = [text for row in tables(section("docs/FORMATS.md", "## Messages"))[0][1:] for text in codes(row[0])]
+    shown = re.findall(r"^\.Sq (.+)$", read(PAGE).partition(".Sh DIAGNOSTICS")[2].partition(".Sh ")[0], re.M)
+    shown = [text.rstrip(" .") for text in shown if not text.startswith("ldvbi")]
+    places = []
+    for text in settings + others + shown:
+        fit = [place for place, pattern in enumerate(patterns) if re.fullmatch(pattern, text)]
+        if len(fit) == 1:
+            places.append(fit[0])
+        else:
+            faults.append(f"'{text}' of FORMATS.md or the manual page is no fault text of the source")
+    for place, pattern in enumerate(patterns):
+        if place not in places:
+            faults.append(f"FORMATS.md doesn't have the fault text '{pattern}'")
+    if places[:len(settings)] != sorted(places[:len(settings)]):
+        faults.append("FORMATS.md has the faults of metadata and settings in another order than the source")
+    print(f"faults: {len(settings)} of metadata and settings, {len(others)} others, {len(shown)} in the manual page; "
+          f"{len(patterns)} in the source")
+    return len(settings) + len(others) + len(shown)
+
+
+# ---- causes
+
+def causes(faults):
+    """Each list of causes is the source's, in its order; the manual page's has those of a line without a word."""
+    body = read(glob.glob("crates/*/src/cause_texts.rt")[0])
+    wanted = [text.strip() for text in re.findall(r'push_str\("([a-z ]+)"\)', body)]
+    bullet = re.search(r"^- `vbiCause`:(.*?)^- ", read("docs/FORMATS.md"), re.M | re.S)
+    outcome = section("docs/SIGNAL.md", "## The outcome of a line")
+    page = read(PAGE).partition("A line without a word is\n")[2].partition(".Sh ")[0]
+    lists = {
+        "FORMATS.md, vbiCause": codes(bullet[1] if bullet else ""),
+        "FORMATS.md, the examples": [row[2] for row in tables(section("docs/FORMATS.md", "### A real example"))[0][2:]],
+        "SIGNAL.md, the outcome of a line": codes(outcome),
+        "the manual page": wanted[:1] + re.findall(r"^\.Sq (\w+)", page, re.M),
+    }
+    for place, found in lists.items():
+        names = [text.strip("` ").split(" ")[0] for text in found]
+        if names != wanted:
+            faults.append(f"{place}: the causes are {', '.join(names)}, and in the source {', '.join(wanted)}")
+    print(f"causes: {len(wanted)} in {len(lists)} places")
+    return len(wanted) * len(lists)
+
+
+# ---- sizes
+
+def geometry():
+    """Returns the numbers of the two systems by the names of their definitions, and the limits of a run."""
+    text = read("crates/vbi_words/specs/Geometry.antt")
+    numbers = {f"{name}.{system.lower()}": int(number)
+               for name, system, number in re.findall(r"^(\w+) (Ntsc|Pal) = (\d+)$", text, re.M)}
+    for system in ("ntsc", "pal"):
+        width, height = numbers[f"width_of.{system}"], numbers[f"height_of.{system}"]
+        numbers[f"line_bytes.{system}"], numbers[f"field_bytes.{system}"] = 2 * width, 2 * width * height
+    for name, crate in (("META_LIMIT", "vbi_meta"), ("MAX_FIELDS_LIMIT", "vbi_field")):
+        found = [number for path in glob.glob(f"crates/{crate}/src/*.rt")
+                 for number in re.findall(rf"pub const {name}: \w+ = ([\d_]+);", read(path))]
+        numbers[name] = int(found[0])
+    return numbers
+
+
+# The sentences with sizes. `{name n}` is a number of the source for NTSC, `{name p}` for PAL, `{name}` of both; with a
+# comma behind the name its thousands are parted.
+SENTENCES = {
+    "docs/SIGNAL.md": [
+        "| Samples of a line | {width_of, n} | {width_of, p} |",
+        "| Lines of a field | {height_of, n} | {height_of, p} |",
+        "| Bytes of a line | {line_bytes, n} | {line_bytes, p} |",
+        "| Bytes of a field | {field_bytes, n} | {field_bytes, p} |",
+        "| Fewest samples of a half cell (own) | {least_half n} | {least_half p} |",
+        "| Most samples of a half cell (own) | {greatest_half n} | {greatest_half p} |",
+        "| Column at which a drawn word starts (own) | {start_of n} | {start_of p} |",
+        "is one half cell long or two: {least_half n} to {greatest_half n} columns or",
+    ],
+    "docs/FORMATS.md": [
+        "they must be the system's: {width_of n} and {height_of n}, or {width_of p} and {height_of p} |",
+        "a `fieldWidth` of `{width_of n}.0` differs from {width_of n}.",
+        "Metadata may have {META_LIMIT,} bytes",
+        "| it has more than {META_LIMIT,} bytes |",
+        "| `max fields is not from 1 to {MAX_FIELDS_LIMIT}` | `--max-fields` is 0, or more than {MAX_FIELDS_LIMIT,} |",
+        "of {line_bytes n} bytes` | `line`: the input ended early |",
+    ],
+    "docs/RECIPES.md": [
+        "A field has {field_bytes, n} bytes (NTSC) or {field_bytes, p} (PAL).",
+        "of {line_bytes, n} bytes ({line_bytes, p} in PAL, which has {height_of p} lines for {height_of n})",
+    ],
+    PAGE: [
+        "It reads the bytes of one line ({line_bytes n} for NTSC, {line_bytes p} for PAL)",
+        "NTSC (fields of {width_of n}x{height_of n} samples) or PAL ({width_of p}x{height_of p})",
+        "The most fields of a run, 1 to {MAX_FIELDS_LIMIT}; {MAX_FIELDS_LIMIT} where it isn't given.",
+    ],
+}
+# Columns of a half cell, of which one has the number of NTSC's lines
+COLUMNS = "| low 250 to 263 (14) |"
+PLACE = re.compile(r"\{(\w+)(,?) ?([np]?)\}")
+
+
+def sizes(faults):
+    numbers = geometry()
+
+    def number(place):
+        name, comma, system = place.groups()
+        value = numbers[name + {"n": ".ntsc", "p": ".pal", "": ""}[system]]
+        return f"{value:,}" if comma else str(value)
+
+    sizes_of_systems = {value for name, value in numbers.items() if value >= 100 and not name.startswith("start_of")}
+    looked_at = 0
+    for path, sentences in SENTENCES.items():
+        text = page_text() if path == PAGE else one_line(prose(path))
+        named = 0
+        for sentence in sentences:
+            wanted = PLACE.sub(number, sentence)
+            looked_at += 1
+            if text.count(wanted) != 1:
+                faults.append(f"{path} hasn't, or not once: {wanted}")
+            named += len(whole_numbers(wanted, sizes_of_systems))
+        found = whole_numbers(text.replace(COLUMNS, ""), sizes_of_systems)
+        if len(found) != named:
+            faults.append(f"{path} has {len(found)} sizes in its prose ({', '.join(found)}), and {named} are looked at")
+    print(f"sizes: {looked_at} sentences in {len(SENTENCES)} texts")
+    return looked_at
+
+
+def whole_numbers(text, wanted):
+    """Returns the numbers in a text that are among these, with commas or without."""
+    return [number for number in re.findall(r"(?<![\d,.])\d[\d,]*\d(?![\d])", text)
+            if int(number.replace(",", "")) in wanted]
+
+
+# ---- names
+
+def names(faults):
+    """A clause is one of the functions in its row, or of those in the rows above where it has none; a field is one of
+    the records in its row or in the table's head, or of `Ran`. What stands beside a crate is in that crate."""
+    looked_at = 0
+    source = source_names.Names()
+    for head, *rows in tables(prose("docs/PROMISES.md")):
+        above, crate = [], None
+        for row in rows:
+            named = [code for cell in row for code in codes(cell)]
+            functions = [code for code in named if source.places(code)]
+            above += functions
+            types = {"Ran"} | {code.partition(".")[0] for code in named + codes(" ".join(head))}
+            crate = next((code for code in codes(row[0]) if code in source.crates), crate)
+            for code in named:
+                looked_at += 1
+                if not source.has(code, functions or above, types):
+                    faults.append(f"PROMISES.md: {code} isn't in the source, in the row: {' | '.join(row)[:80]}")
+                elif head[0] == "Crate" and code in codes(row[1]) and not source.is_in(code, crate):
+                    faults.append(f"PROMISES.md: {code} isn't in {crate}")
+    in_prose = [code for code in codes(re.sub(r"^\|.*", "", prose("docs/PROMISES.md"), flags=re.M))
+                if not code.startswith(("python3 ", "rattle-kit"))]
+    for code in in_prose:
+        if not source.has_somewhere(code):
+            faults.append(f"PROMISES.md: {code} isn't in the source")
+    print(f"names: {looked_at} in the tables of PROMISES.md, {len(in_prose)} in its prose")
+    return looked_at + len(in_prose)
+
+
+CHECKS = {"links": links, "paths": paths, "names": names, "faults": faults_of_documents, "causes": causes,
+          "sizes": sizes}
+
+
+def main():
+    status = 0
+    for check in sys.argv[1:]:
+        faults = []
+        looked_at = CHECKS[check](faults)
+        if looked_at < LEAST[check]:
+            faults.append(f"{check}: {looked_at} looked at, and there were {LEAST[check]}")
+        for fault in faults:
+            print(fault, file=sys.stderr)
+            status = 1
+    return status
+
+
+if __name__ == "__main__":
+    sys.exit(main())
