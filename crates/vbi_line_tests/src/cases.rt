@@ -1,6 +1,6 @@
 //! Lines by their shapes, and what each reader has to report of them.
 
-use crate::lines::{by_bits, by_intake, in_place, levels_of, plain, reading, set};
+use crate::lines::{at_once, by_bits, by_intake, in_place, levels_of, plain, reading, set};
 use std::fmt::Debug;
 use std::test::Fail;
 use vbi_test_devices::same;
@@ -91,12 +91,13 @@ fn shows(
         by_bits(system, levels, samples),
         reading(system, levels, samples),
         in_place(system, levels, samples),
+        at_once(system, levels, samples),
         by_intake(system, levels, samples),
     );
     let by_intake = Some((outcome, expected));
     same(
         found,
-        (outcome, outcome, expected, expected, by_intake),
+        (outcome, outcome, expected, expected, expected, by_intake),
         row,
     )
 }

@@ -7,8 +7,8 @@ use crate::cases::Answer;
 use byteorder::{ByteOrder, LittleEndian};
 use std::test::Fail;
 use vbi_line::{
-    Filled, Intake, LineBuf, read_line, read_packed, read_packed_twice, read_twice, slice_bytes,
-    slice_lanes,
+    Filled, Intake, LineBuf, read_bytes_twice, read_line, read_packed, read_packed_twice, read_twice,
+    slice_bytes, slice_lanes,
 };
 use vbi_test_devices::same;
 use vbi_words::{Levels, Outcome, Reading, System, Word24, drawn_sample};
@@ -81,6 +81,13 @@ pub(crate) fn in_place(system: System, levels: Levels, samples: &[u16; 1135]) ->
     LittleEndian::write_u16_into(samples, &mut bytes);
     let packed = slice_bytes(&bytes[..2 * system.width()], system, levels);
     with_pass(read_packed_twice(&packed, system))
+}
+
+/// The same by one call.
+pub(crate) fn at_once(system: System, levels: Levels, samples: &[u16; 1135]) -> (Answer, u8) {
+    let mut bytes = [0; 2270];
+    LittleEndian::write_u16_into(samples, &mut bytes);
+    with_pass(read_bytes_twice(&bytes[..2 * system.width()], system, levels))
 }
 
 /// The outcome, and the reading with its pass, of an intake that is filled with the line's bytes.
