@@ -133,6 +133,11 @@ document() {
     unset LDVBI_LIBRARY
 }
 
+# The statuses of FORMATS.md, up to a semicolon, as the help has them
+sed -n '/^| Status |/,$s/^| \([0-9]\) | \(.*\) |$/  \1  \2/p' "$top/docs/FORMATS.md" | sed 's/;.*//; s/`//g' > out
+output_of --help | sed '1,/^Exit status:$/d' > help.statuses
+check 'the statuses of FORMATS.md are those of the help' cmp out help.statuses
+
 # What the documents say, compared with the source
 for what in links paths names faults causes sizes; do
     in_folder "$top" python3 tests/documents.py $what
@@ -140,11 +145,6 @@ for what in links paths names faults causes sizes; do
 done
 in_folder "$top" python3 tests/definitions.py docs/PROMISES.md
 check 'the definitions of PROMISES.md are those of the source' [ "$status" = 0 ]
-
-# The statuses of FORMATS.md, up to a semicolon, as the help has them
-sed -n '/^| Status |/,$s/^| \([0-9]\) | \(.*\) |$/  \1  \2/p' "$top/docs/FORMATS.md" | sed 's/;.*//; s/`//g' > out
-output_of --help | sed '1,/^Exit status:$/d' > help.statuses
-check 'the statuses of FORMATS.md are those of the help' cmp out help.statuses
 
 # The real examples of causes in FORMATS.md, of which these are the lines in the order of its rows
 signal NTSC 1 << 'END' | ntsc_samples > causes.tbc
