@@ -176,16 +176,15 @@ def causes(faults):
 
 def geometry():
     """Returns the numbers of the two systems by the names of their definitions, and the limits of a run."""
-    text = read("crates/vbi_words/specs/Geometry.antt")
+    text = "".join(read(path) for path in glob.glob("crates/vbi_words/specs/*.antt"))
     numbers = {f"{name}.{system.lower()}": int(number)
                for name, system, number in re.findall(r"^(\w+) (Ntsc|Pal) = (\d+)$", text, re.M)}
     for system in ("ntsc", "pal"):
         width, height = numbers[f"width_of.{system}"], numbers[f"height_of.{system}"]
         numbers[f"line_bytes.{system}"], numbers[f"field_bytes.{system}"] = 2 * width, 2 * width * height
-    for name, crate in (("META_LIMIT", "vbi_meta"), ("MAX_FIELDS_LIMIT", "vbi_field")):
-        found = [number for path in glob.glob(f"crates/{crate}/src/*.rt")
-                 for number in re.findall(rf"pub const {name}: \w+ = ([\d_]+);", read(path))]
-        numbers[name] = int(found[0])
+    for path in glob.glob("crates/*/src/*.rt"):
+        limits = re.findall(r"pub const (META_LIMIT|MAX_FIELDS_LIMIT): \w+ = ([\d_]+);", read(path))
+        numbers.update((name, int(number)) for name, number in limits)
     return numbers
 
 
