@@ -4,8 +4,8 @@ on standard error, and then the status is 1.
 
 links   what a document links to is there, a heading (`#..`) too; a link to the net is one of NET
 paths   the files and folders that CONTRIBUTING.md names are there, of the repository or of a crate
-names   the functions, clauses, definitions and fields that PROMISES.md names are in the source, and so are the names and
-        files in the prose of DECISIONS.md and SIGNAL.md
+names   the functions, clauses, definitions and fields that PROMISES.md names are in the source, and so are the names
+        and files in the prose of DECISIONS.md and SIGNAL.md
 faults  the fault texts of FORMATS.md are those of the source, in its order, and those of the manual page among them
 causes  the names of causes in FORMATS.md, SIGNAL.md and the manual page are those of the source
 sizes   the sizes in FORMATS.md, RECIPES.md, SIGNAL.md and the manual page are those of the source, each in its sentence
@@ -22,6 +22,7 @@ from source_names import read
 
 # The least that each check has to look at. A check that finds less no longer understands the documents.
 LEAST = {"links": 40, "paths": 95, "names": 680, "faults": 28, "causes": 20, "sizes": 19}
+# The links to the net, of which nothing else is looked at
 NET = ["https://github.com/happycube/ld-decode"]
 PAGE = "share/man/ldvbi.1"
 # A number in the texts of faults and causes
