@@ -4,7 +4,8 @@ on standard error, and then the status is 1.
 
 links   what a document links to is there, a heading (`#..`) too; a link to the net is one of NET
 paths   the files and folders that CONTRIBUTING.md names are there, of the repository or of a crate
-names   the functions, clauses, definitions and fields that PROMISES.md names are in the source
+names   the functions, clauses, definitions and fields that PROMISES.md names are in the source, and so are the names
+        and files in the prose of DECISIONS.md and SIGNAL.md
 faults  the fault texts of FORMATS.md are those of the source, in its order, and those of the manual page among them
 causes  the names of causes in FORMATS.md, SIGNAL.md and the manual page are those of the source
 sizes   the sizes in FORMATS.md, RECIPES.md, SIGNAL.md and the manual page are those of the source, each in its sentence
@@ -19,8 +20,9 @@ import sys
 import source_names
 from source_names import read
 
-# How much each check looked at when it last grew. With less it fails, so what is taken out is taken out here as well.
-LEAST = {"links": 35, "paths": 100, "names": 600, "faults": 28, "causes": 20, "sizes": 19}
+# The least that each check has to look at. A check that finds less no longer understands the documents.
+LEAST = {"links": 40, "paths": 95, "names": 680, "faults": 28, "causes": 20, "sizes": 19}
+# The links to the net, of which nothing else is looked at
 NET = ["https://github.com/happycube/ld-decode"]
 PAGE = "share/man/ldvbi.1"
 # A number in the texts of faults and causes
@@ -175,16 +177,15 @@ def causes(faults):
 
 def geometry():
     """Returns the numbers of the two systems by the names of their definitions, and the limits of a run."""
-    text = read("crates/vbi_words/specs/Geometry.antt")
+    text = "".join(read(path) for path in glob.glob("crates/vbi_words/specs/*.antt"))
     numbers = {f"{name}.{system.lower()}": int(number)
                for name, system, number in re.findall(r"^(\w+) (Ntsc|Pal) = (\d+)$", text, re.M)}
     for system in ("ntsc", "pal"):
         width, height = numbers[f"width_of.{system}"], numbers[f"height_of.{system}"]
         numbers[f"line_bytes.{system}"], numbers[f"field_bytes.{system}"] = 2 * width, 2 * width * height
-    for name, crate in (("META_LIMIT", "vbi_meta"), ("MAX_FIELDS_LIMIT", "vbi_field")):
-        found = [number for path in glob.glob(f"crates/{crate}/src/*.rt")
-                 for number in re.findall(rf"pub const {name}: \w+ = ([\d_]+);", read(path))]
-        numbers[name] = int(found[0])
+    for path in glob.glob("crates/*/src/*.rt"):
+        limits = re.findall(r"pub const (META_LIMIT|MAX_FIELDS_LIMIT): \w+ = ([\d_]+);", read(path))
+        numbers.update((name, int(number)) for name, number in limits)
     return numbers
 
 
@@ -258,6 +259,12 @@ def whole_numbers(text, wanted):
 
 # ---- names
 
+# Documents whose prose names what is in the source, and the form of such a name: a path, a name with its crate or type,
+# one of several words, or that of a type
+PROSE = ["docs/PROMISES.md", "docs/DECISIONS.md", "docs/SIGNAL.md"]
+IS_NAME = re.compile(r"[\w/-]+(?:\.\w+|/)|\w+(?:::\w+)+|[a-z]+_\w+|[A-Z][a-z]\w*")
+
+
 def names(faults):
     """A clause is one of the functions in its row, or of those in the rows above where it has none; a field is one of
     the records in its row or in the table's head, or of `Ran`. What stands beside a crate is in that crate."""
@@ -277,13 +284,15 @@ def names(faults):
                     faults.append(f"PROMISES.md: {code} isn't in the source, in the row: {' | '.join(row)[:80]}")
                 elif head[0] == "Crate" and code in codes(row[1]) and not source.is_in(code, crate):
                     faults.append(f"PROMISES.md: {code} isn't in {crate}")
-    in_prose = [code for code in codes(re.sub(r"^\|.*", "", prose("docs/PROMISES.md"), flags=re.M))
-                if not code.startswith(("python3 ", "rattle-kit"))]
-    for code in in_prose:
-        if not source.has_somewhere(code):
-            faults.append(f"PROMISES.md: {code} isn't in the source")
-    print(f"names: {looked_at} in the tables of PROMISES.md, {len(in_prose)} in its prose")
-    return looked_at + len(in_prose)
+    in_prose = 0
+    for path in PROSE:
+        for code in codes(re.sub(r"^\|.*", "", prose(path), flags=re.M)):
+            if IS_NAME.fullmatch(code):
+                in_prose += 1
+                if not source.has_somewhere(code):
+                    faults.append(f"{path}: {code} isn't in the source")
+    print(f"names: {looked_at} in the tables of PROMISES.md, {in_prose} in the prose of {len(PROSE)} documents")
+    return looked_at + in_prose
 
 
 CHECKS = {"links": links, "paths": paths, "names": names, "faults": faults_of_documents, "causes": causes,

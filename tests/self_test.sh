@@ -44,9 +44,34 @@ jq_module|contrib/ldvbi.jq|s/kind: "chapter"/kind: "chaptre"/
 docs|out|picture stop|picture step
 docs|hangs
 docs|README.md|s/^18 F00003 picture 00003$/18 F00003 picture 00004/
-docs|README.md|s/Not run by the tests/Not run by a test/
+docs|README.md|s/^```sh skip$/```sh skipped/
 docs|README.md|s/](docs/](dogs/
 docs|docs/RECIPES.md|s/^```text$/```test/
+docs|docs/RECIPES.md|s/^```sh lib$/```sh/
+docs|docs/RECIPES.md|s,](SIDES.md),](https://example.org/SIDES.md),
+docs|docs/PROMISES.md|s/](#by-crate)/](#by-crates)/
+docs|docs/PROMISES.md|s/`laws::drawn_rows`/`laws::drawn_lines`/
+docs|docs/PROMISES.md|s/`unwritten`, `failed`, `fault`/`unwritten`, `refailed`, `fault`/
+docs|docs/PROMISES.md|s/`Ran.consumed`/`Ran.eaten`/
+docs|docs/PROMISES.md|s/`StopsAtRow`/`StopsAtRows`/
+docs|docs/PROMISES.md|s/`show` \(.\) The same with the report/`settings` \1 The same with the report/
+docs|docs/DECISIONS.md|s/`Progress::settle`/`Progress::settled`/
+docs|CONTRIBUTING.md|s/Geometry.antt/Geometries.antt/
+docs|CONTRIBUTING.md|s,docs/SIGNAL.md,docs/SIGNALS.md,
+docs|docs/FORMATS.md|s/`field width differs`/`field width differ`/
+docs|docs/FORMATS.md|/^. `too many fields`/d
+docs|docs/FORMATS.md|/^. `no system given`/{h;d};/^. `unknown system`/G
+docs|docs/FORMATS.md|s/ done, or help / done, or no help /
+docs|docs/FORMATS.md|s/`hold 200` (the same/`holds 200` (the same/
+docs|docs/FORMATS.md|s/174 black \(. 0 . `\)change 170/174 black \1change 171/
+docs|docs/FORMATS.md|s/or 1135 and 313/or 1135 and 312/
+docs|docs/SIGNAL.md|s/^2. `blank`/2. `black`/
+docs|docs/SIGNAL.md|s/1,135/1,125/
+docs|docs/SIGNAL.md|s/`users 3 0A1`/`user 3 0A1`/
+docs|docs/RECIPES.md|s/478,660 bytes/478,650 bytes/
+docs|share/man/ldvbi.1|s/is not below white level/is not under white level/
+docs|share/man/ldvbi.1|s/^.Sq unfinished/.Sq unfinish/
+docs|share/man/ldvbi.1|s/1820 for NTSC/1810 for NTSC/
 lines|out|82CFFF|82CFFE
 lines|err|short line|shirt line
 lines|status|1|0

@@ -9,7 +9,7 @@ import re
 FUNCTION = re.compile(r"\s*(?:pub(?:\(crate\))? )?(?:extern \"C\" )?fn (\w+)")
 CLAUSE = re.compile(r"\s*(?:ensures|requires) (\w+) \{")
 METHODS = re.compile(r"impl(?:<.*?>)? (?:.* for )?(\w+)")
-TYPE = re.compile(r"(?:pub(?:\(crate\))? )?(?:struct|enum|trait) (\w+)")
+TYPE = re.compile(r"(?:pub(?:\(crate\))? )?(?:struct|enum|trait|const) (\w+)")
 MEMBER = re.compile(r"    (?:pub(?:\(crate\))? |ghost )?(\w+)(?:\(.*\))?(?:,|:| \{| =|$)")
 INNER = re.compile(r"        (\w+): ")
 DEFINITION = re.compile(r"(?:abbrev |unfoldable )?(?:pub )?(?:(?:record|data|module) )?(\S+) .*")
@@ -40,6 +40,7 @@ class Names:
 
     def take_source(self, crate, path):
         file = os.path.basename(path)[:-3]
+        self.members.setdefault(file, set())
         owner, clauses = None, set()
         for line in read(path).split("\n"):
             function, methods, kind = FUNCTION.match(line), METHODS.match(line), TYPE.match(line)

@@ -22,7 +22,7 @@ library=
 
 # Cuts a document into files: NAME.NUMBER.sh or .bash, and NAME.NUMBER.text for what is printed. Prints each file that
 # is to be run, with its mark. What is said on standard error is a fault of the document.
-cat > cut.awk << 'END'
+cat > cut.awk << 'AWK'
 /^```/ && inside { inside = 0; close(file); next }
 /^```/ {
     inside = 1
@@ -49,7 +49,7 @@ cat > cut.awk << 'END'
 inside { print > file; next }
 /```/ { print "a mark of a block that doesn't begin its line" > "/dev/stderr" }
 END { if (inside) print "a block without its end" > "/dev/stderr" }
-END
+AWK
 
 # What runs a block, in a folder: each command of a pipe has to succeed, too, as bash can see to. A block that is about
 # the statuses in a pipe is left to itself; what is marked `sh` has to be of that shell's grammar.
@@ -133,6 +133,11 @@ document() {
     unset LDVBI_LIBRARY
 }
 
+# The statuses of FORMATS.md, up to a semicolon, as the help has them
+sed -n '/^| Status |/,$s/^| \([0-9]\) | \(.*\) |$/  \1  \2/p' "$top/docs/FORMATS.md" | sed 's/;.*//; s/`//g' > out
+output_of --help | sed '1,/^Exit status:$/d' > help.statuses
+check 'the statuses of FORMATS.md are those of the help' cmp out help.statuses
+
 # What the documents say, compared with the source
 for what in links paths names faults causes sizes; do
     in_folder "$top" python3 tests/documents.py $what
@@ -140,11 +145,6 @@ for what in links paths names faults causes sizes; do
 done
 in_folder "$top" python3 tests/definitions.py docs/PROMISES.md
 check 'the definitions of PROMISES.md are those of the source' [ "$status" = 0 ]
-
-# The statuses of FORMATS.md, up to a semicolon, as the help has them
-sed -n '/^| Status |/,$s/^| \([0-9]\) | \(.*\) |$/  \1  \2/p' "$top/docs/FORMATS.md" | sed 's/;.*//; s/`//g' > out
-output_of --help | sed '1,/^Exit status:$/d' > help.statuses
-check 'the statuses of FORMATS.md are those of the help' cmp out help.statuses
 
 # The real examples of causes in FORMATS.md, of which these are the lines in the order of its rows
 signal NTSC 1 << 'END' | ntsc_samples > causes.tbc
@@ -162,6 +162,7 @@ for word in 88FFFF 80EEEE F92345 82CFFF 887DDD 87FFFF F1DD09 8AE712 8DC0A1 8BA0A
 done > classes.words
 output_of draw $ntsc classes.words > classes.tbc
 output_of show $ntsc classes.tbc | sed -n 's/^16 ...... //p' > classes
+# shellcheck disable=SC2016
 sed -n '/^| Pattern |/,/^$/s/^| [8Fa].*| `\(.*\)` |$/\1/p' "$top/docs/SIGNAL.md" > out
 check 'the classes of SIGNAL.md are those of the report' cmp out classes
 
