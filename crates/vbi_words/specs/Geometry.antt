@@ -46,7 +46,7 @@ abbrev pub name_of : System → List ℕ
 name_of Ntsc = codes "NTSC"
 name_of Pal = codes "PAL"
 
--- the system that is called so
+-- the system of this name, if one has it
 abbrev pub system_named : List ℕ → Option System
 system_named name =
     if bytes_eq (name_of Ntsc) name then Some Ntsc else (if bytes_eq (name_of Pal) name then Some Pal else None)

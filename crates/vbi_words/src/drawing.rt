@@ -1,8 +1,9 @@
 //! How a word is drawn on a row of samples.
 
-ghost use Rattle.std.specs.Prelude.{◌≡◌, ◌+◌, ◌≤◌, ◌<◌, Some, length};
+ghost use Rattle.std.specs.Prelude.{◌≡◌, ◌+◌, ◌≤◌, ◌<◌, ◌&&◌, nat_lt, false, Some, length, slice_index_or};
 ghost use Rattle.vbi_words.specs.Drawn.{boundary, drawn_sample_of, drawn_line_of};
 ghost use Rattle.vbi_words.specs.Geometry.{width_of, start_of, line_bytes};
+ghost use Rattle.vbi_words.specs.Words.{halves_of};
 
 use crate::levels::Levels;
 use crate::system::System;
@@ -26,6 +27,7 @@ fn half_at(system: System, column: usize) -> usize
 
 /// The sample at a column, counted from 0, of the row drawn for a word or for none: white in a high half cell of the
 /// word, black elsewhere. The word's 48 half cells last one microsecond each (IEC 60857 and IEC 60856).
+#[tactic(auto, unfolding(crate::specs::Drawn::drawn_sample_of))]
 pub fn drawn_sample(system: System, slicing: Levels, word: Option<Word24>, column: usize) -> u16
     requires { column < width_of system }
     ensures { result ≡ drawn_sample_of system slicing word column }
@@ -44,12 +46,18 @@ fn word_sample(system: System, slicing: Levels, word: Word24, column: usize) -> 
     if column < system.start() {
         return slicing.black();
     }
-    let half = half_at(system, column);
-    if half < 48 && word.half(half) {
+    if is_high_half(word, half_at(system, column)) {
         slicing.white()
     } else {
         slicing.black()
     }
+}
+
+/// Whether a half cell of a word, counted from 0, is high; from 48 on there is none.
+fn is_high_half(word: Word24, half: usize) -> bool
+    ensures { result ≡ (nat_lt half 48 && slice_index_or (halves_of word) half false) }
+{
+    half < 48 && word.half(half)
 }
 
 /// Writes the row drawn for a word, or for none, into the bytes of a line: two for each sample, the low one first.

@@ -7,11 +7,11 @@ pub returns-then-column-start : goal.returns-then-column-start
 returns-then-column-start c =
     drawn_sample_is c.args.system c.args.slicing (Some c.args.word) c.args.column c.black.result (search rules)
 
-pub returns-then-half : goal.returns-then-half
-returns-then-half c =
+pub returns-then-is_high_half : goal.returns-then-is_high_half
+returns-then-is_high_half c =
     drawn_sample_is c.args.system c.args.slicing (Some c.args.word) c.args.column c.white.result (search rules)
 
-pub returns-else-half-lt48 : goal.returns-else-half-lt48
-returns-else-half-lt48 c =
-    drawn_sample_is c.args.system c.args.slicing (Some c.args.word) c.args.column c.black-else-half-lt48.result
+pub returns-else-is_high_half : goal.returns-else-is_high_half
+returns-else-is_high_half c =
+    drawn_sample_is c.args.system c.args.slicing (Some c.args.word) c.args.column c.black-else-is_high_half.result
     (search rules)
