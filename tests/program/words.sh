@@ -7,6 +7,7 @@
 . "$(dirname "$0")/../helpers.sh"
 
 cp "$stored/stdin" line.raw
+printf '{"videoParameters":{"fieldWidth":911}}' > width.json
 more="For more information, try '--help'."
 
 # refused NAME TEXT: checks that the last run wrote nothing, ended with status 2, and said this text alone
@@ -35,6 +36,16 @@ run lines
 refused_first 'an unknown command' "unrecognized subcommand 'lines'"
 run $levels line line.raw
 refused_first 'options before the command' "unexpected argument '--system' found"
+for word in l lin ext extr sh sho dr dra hel Line EXTRACT; do
+    run $word $levels line.raw
+    refused_first "$word, no name of a command" "unrecognized subcommand '$word'"
+    run help $word
+    refused_first "help $word, no name of a command" "unrecognized subcommand '$word'"
+done
+for word in --hel --he --vers -v -H '-?'; do
+    run $word
+    refused_first "$word, no name of an option" "unexpected argument '$word' found"
+done
 for command in line extract show draw; do
     usage="
 
@@ -83,7 +94,7 @@ END
     refused "$command: a number below 0 as a word" "unexpected argument '-1' found
 
   tip: to pass '-1' as a value, use '-- -1'$usage"
-    for word in --met --sys --max -m -s -b -w -l; do
+    for word in --met --sys --bl --whi --max --maxfields --max_fields --hel -m -s -b -w -l -n -V --version; do
         run $command $levels $word line.raw
         refused_first "$command: $word, no name of an option" "unexpected argument '$word' found"
     done
@@ -111,6 +122,16 @@ run line $levels 'line.raw '
 judge 'an input whose name ends with a space' 0 "$stored/stdout" ''
 run line $levels 'blank.raw '
 judge 'no input whose name ends with a space' 1 empty 'ldvbi: cannot open input'
+run line $levels ' line.raw'
+judge 'no input whose name begins with a space' 1 empty 'ldvbi: cannot open input'
+cp width.json 'width.json '
+run line $levels --meta 'width.json ' line.raw
+judge 'metadata whose name ends with a space' 1 empty 'ldvbi: field width differs'
+run line $levels '--meta=width.json ' line.raw
+judge 'the same behind an equals sign' 1 empty 'ldvbi: field width differs'
+rm 'width.json '
+run line $levels --meta 'width.json ' line.raw
+judge 'no metadata whose name ends with a space' 1 empty 'ldvbi: cannot read metadata'
 run_with line.raw line $levels --meta -
 judge 'no metadata in a file named by a dash' 1 empty 'ldvbi: cannot read metadata'
 run line $levels --meta '' line.raw
@@ -174,13 +195,25 @@ judge 'no room for the help' 0 empty ''
 status=0
 output_of --help >&- 2> err || status=$?
 judge 'the help where standard output is closed' 0 empty ''
-status=0
-output_of lines > out 2> /dev/full || status=$?
-: > err
-judge 'no room for what is refused' 2 empty ''
-status=0
-output_of lines > out 2>&- || status=$?
-judge 'what is refused where standard error is closed' 2 empty ''
+# unsaid NAME STATUS WORD..: checks the status of two runs that are faults, where standard error has no room to say so, and
+# where it is closed
+unsaid() {
+    name=$1
+    wanted_status=$2
+    shift 2
+    status=0
+    output_of "$@" > out 2> /dev/full || status=$?
+    : > err
+    judge "no room for $name" "$wanted_status" empty ''
+    status=0
+    output_of "$@" > out 2>&- || status=$?
+    judge "$name where standard error is closed" "$wanted_status" empty ''
+}
+unsaid 'a word that is refused' 2 lines
+unsaid 'a word that is not text' 2 line "$(printf '\377')"
+unsaid 'metadata that is not there' 1 line --meta absent.json line.raw
+unsaid 'an input that is not there' 1 line $levels absent.raw
+unsaid 'settings that are refused' 1 line $levels --meta width.json line.raw
 
 # The options are the same in each command. A list of values stands behind a line of ten spaces, which is a point here.
 sed 's/^[.]$/          /' > options << 'END'
