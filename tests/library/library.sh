@@ -102,12 +102,65 @@ for standard in c99 c17 c++98 c++20; do
     check "the header in $standard, without attributes" does $cc -std=$standard -Wall -Wextra -Wpedantic -Werror \
         -DLDVBI_NO_ATTRIBUTES -fsyntax-only -x ${standard%%[0-9]*} "$top/include/ldvbi.h"
 done
-printf '%s\n' '#include <ldvbi.h>' 'void f(LdvbiCode *c) { ldvbi_classify(0xF12345, c); }' > unused.c
-check 'a status that nobody looks at is warned of' \
-    sh -c "! $cc -std=c99 -Werror -I'$top/include' -c -o unused.o unused.c 2> err"
-printf '%s\n' '#include <ldvbi.h>' 'uint32_t f(void) { return ldvbi_classify(0xF12345, NULL); }' > null.c
-check 'a pointer that is null is warned of' \
-    sh -c "! $cc -std=c99 -Wall -Werror -I'$top/include' -fsyntax-only null.c 2> err"
+printf '%s\n' '#include <ldvbi.h>' '#include <ldvbi.h>' 'uint32_t NAME(void) { return ldvbi_abi(); }' > twice.c
+for standard in c99 c++98; do
+    check "the header twice in $standard" does $cc -std=$standard -Wall -Wextra -Wpedantic -Werror -I"$top/include" \
+        -fsyntax-only -x ${standard%%[0-9]*} twice.c
+done
+for name in one two; do
+    $cc -std=c99 -I"$top/include" -DNAME=$name -c -o $name.o twice.c
+done
+echo 'int main(void) { return 0; }' > main.c
+check 'the header in two parts of a program' does $cc -o twice main.c one.o two.o "$top/libldvbi.a"
+
+# called_as STATEMENT: makes a file in which a call stands as this statement. What it reads can't be written.
+called_as() {
+    {
+        echo '#include <ldvbi.h>'
+        echo 'uint32_t called(const void *samples, void *drawn, LdvbiReading *reading, LdvbiFieldReadings *readings,'
+        echo '                LdvbiCode *code, uint32_t *format);'
+        echo 'uint32_t called(const void *samples, void *drawn, LdvbiReading *reading, LdvbiFieldReadings *readings,'
+        echo '                LdvbiCode *code, uint32_t *format) {'
+        echo '    (void)samples; (void)drawn; (void)reading; (void)readings; (void)code; (void)format;'
+        echo "    $1;"
+        echo '    return 0;'
+        echo '}'
+    } > called.c
+}
+# compiles: whether the compiler has no warning of that file, in C and in C++
+compiles() {
+    does $cc -std=c99 -Wall -Wextra -Wpedantic -Werror -I"$top/include" -fsyntax-only called.c &&
+        does $cxx -std=c++98 -Wall -Wextra -Wpedantic -Werror -I"$top/include" -fsyntax-only -x c++ called.c
+}
+# is_warned_of WORD: whether it has one with this word
+is_warned_of() {
+    ! does $cc -std=c99 -Wall -Werror -I"$top/include" -c -o called.o called.c && grep -q "$1" err
+}
+while read -r call; do
+    called_as "return $call"
+    check "$call has what it needs" compiles
+    called_as "$call"
+    check "$call: a status that nobody looks at is warned of" is_warned_of unused
+done << 'END'
+ldvbi_read_line(1, 1, 2, samples, 1820, reading)
+ldvbi_read_rows(1, 1, 2, samples, 5460, readings)
+ldvbi_read_field(1, 1, 2, samples, 478660, readings)
+ldvbi_read_fields(1, 1, 2, samples, 478660, readings, 1)
+ldvbi_read_fields(1, 1, 2, NULL, 0, NULL, 0)
+ldvbi_classify(0xF12345, code)
+ldvbi_format(0, 0xF12345, 0, format)
+ldvbi_draw_line(1, 1, 2, 0xF12345, drawn, 1820)
+END
+while read -r call; do
+    called_as "return $call"
+    check "$call: a pointer that is null is warned of" is_warned_of null
+done << 'END'
+ldvbi_read_line(1, 1, 2, samples, 1820, NULL)
+ldvbi_read_rows(1, 1, 2, samples, 5460, NULL)
+ldvbi_read_field(1, 1, 2, samples, 478660, NULL)
+ldvbi_classify(0xF12345, NULL)
+ldvbi_format(0, 0xF12345, 0, NULL)
+END
 check 'what Python refuses' does python3 "$here/library.py" refusals
 
 # Drawn discs, CAV and CLV
@@ -316,7 +369,22 @@ readme_line=$(sed -n 's|^#include <ldvbi.h> */\* \(.*\) \*/$|\1|p' "$top/README.
 says_with() {
     prints 0 'picture 12345' env PKG_CONFIG_PATH="$1/pkgconfig" LD_LIBRARY_PATH="$1" sh -c "$readme_line"
 }
+# Files of others, whose names begin as ours do; and somebody whose new files are for themselves alone
+cat > others << 'END'
+root/usr/include/ldvbi-other.h
+root/usr/lib/libldvbi-other.a
+root/usr/lib/libldvbi.so.0
+root/usr/lib/pkgconfig/ldvbi-other.pc
+END
+xargs dirname < others | xargs mkdir -p
+xargs touch < others
+mask=$(umask)
+umask 077
 check 'make install' makes install DESTDIR="$work/root" PREFIX=/usr
+umask "$mask"
+find root ! -type l -printf '%m %y %p\n' | grep -v -e ldvbi-other -e '\.so\.0' |
+    awk '$1 != ($2 == "d" || $3 ~ /\/bin\/|\.so/ ? 755 : 644)' > err
+check 'what is installed is for all' [ ! -s err ]
 check 'seek is built with what is installed' does $cc -std=c99 -I root/usr/include -o seek "$top/examples/seek.c" \
     -L root/usr/lib -lldvbi
 check 'seek runs with what is installed' prints 0 'field 7' env LD_LIBRARY_PATH=root/usr/lib ./seek cav.tbc $on_cav 3
@@ -332,7 +400,8 @@ check 'the installed Python module' prints 0 'field 7, frame 4' env -u LDVBI_LIB
     PYTHONPATH=root/usr/share/ldvbi/python python3 -m ldvbi cav.tbc $ntsc --seek 3
 check 'the installed program' prints 0 'ldvbi 0.1.0' root/usr/bin/ldvbi --version
 check 'make uninstall' makes uninstall DESTDIR="$work/root" PREFIX=/usr
-check 'nothing is left' [ -z "$(find root -type f -o -type l)" ]
+find root -type f -o -type l | sort > found
+check 'what is left is not ours' cmp -s found others
 
 # As Debian's packages have it: the library below its architecture
 debian='PREFIX=/usr LIBDIR=/usr/lib/x86_64-linux-gnu'
