@@ -212,6 +212,15 @@ head -n 21 err > found
 check 'the end of the log stands above its name' cmp found wanted
 check 'the status is that of the toolchain' [ "$(sed -n '22s/.*\(Error [0-9]*\)$/\1/p' err)" = 'Error 7' ]
 
+# What the tests need and this PATH hasn't
+made check
+missing='gcc libc6-dev g++ binutils python3 jq pkg-config less mandoc parallel pv zsh'
+/usr/bin/python3 -c 'import jsonschema' 2> /dev/null || missing="$missing python3-jsonschema"
+echo "tests: missing on this machine, as Debian's packages: $missing (make setup installs them)" > wanted
+head -n 1 err > found
+check 'make check names the tools that are missing' cmp found wanted
+check 'it runs nothing then' [ "$status $(wc -c < out)" = '2 0' ]
+
 # `make check` looks for its tools, then runs the scripts on the program that it is given, and fails where they do
 printf 'echo tools "$@"\n' > tree/tests/tools.sh
 printf 'echo scripts "$@"\n' > tree/tests/scripts.sh
