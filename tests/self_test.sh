@@ -14,8 +14,8 @@ cat > alterations << 'END'
 large|out|field 8981|field 8980
 library|out|"vbiPass"|"vbiPaSS"
 library|include/ldvbi.h|s/LDVBI_HOLD = 4/LDVBI_HOLD = 5/
-library|include/ldvbi.h|s/^#define LDVBI_H$/#define LDVBI_H_/
-library|include/ldvbi.h|s/^LDVBI_RESULT LDVBI_POINTER(4)$/LDVBI_RESULT/
+header|include/ldvbi.h|s/^#define LDVBI_H$/#define LDVBI_H_/
+header|include/ldvbi.h|s/^LDVBI_RESULT LDVBI_POINTER(4)$/LDVBI_RESULT/
 library|python/ldvbi_side/library.py|s/is no code word/is not a word/
 python|python/ldvbi_side/analysis.py|s/^def analyse(/def analyze(/
 python|tests/python/python.sh|s/\$3 == "python"/$1 == "side_schema"/

@@ -171,6 +171,7 @@ changed() {
     touch -d @1300000000 "tree/$1"
 }
 # is_current TARGET: whether `make` finds that it needn't be built
+# shellcheck disable=SC2317
 is_current() {
     (cd tree && bounded env PATH="$work/tools" make -q "$1") < empty > out 2>&1
 }
@@ -192,9 +193,9 @@ sources_of() {
         done
     done
 }
-# shellcheck disable=SC2046
+# shellcheck disable=SC2046,SC2086
 check 'the program is built anew after a change of a source' is_due ldvbi crates.txt $(sources_of $program_crates)
-# shellcheck disable=SC2046
+# shellcheck disable=SC2046,SC2086
 check 'the library is built anew after a change of a source' is_due libldvbi.a crates.txt $(sources_of $library_crates)
 check 'the shared library is built anew after the library' is_due libldvbi.so libldvbi.a
 for file in README.md Makefile contrib/ldvbi.jq include/ldvbi.h tests/gate.sh; do

@@ -40,8 +40,8 @@ for command in $commands; do
 done
 
 # Metadata: each row has a document, or what videoParameters hold; options; and what `line` says of the stored line.
-# That is 82CFFF where the settings are those of the stored run, that it is blank where black and white are far apart, and
-# that it is too short where the settings are those of PAL.
+# That is 82CFFF where the settings are those of the stored run, blank where black and white are far apart, and that it
+# is too short where the settings are those of PAL.
 all="$levels --max-fields 1"
 while IFS='|' read -r document options answer; do
     case $document in '"'*) document="{\"videoParameters\":{$document},\"fields\":[]}" ;; esac

@@ -195,7 +195,7 @@ judge 'no room for the help' 0 empty ''
 status=0
 output_of --help >&- 2> err || status=$?
 judge 'the help where standard output is closed' 0 empty ''
-# unsaid NAME STATUS WORD..: checks the status of two runs that are faults, where standard error has no room to say so, and
+# unsaid NAME STATUS WORD..: checks the status of a run that is a fault, where standard error has no room to say so, and
 # where it is closed
 unsaid() {
     name=$1
