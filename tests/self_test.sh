@@ -44,7 +44,7 @@ packaging|Makefile|s/-m 644 $(SHARED)/-m 600 $(SHARED)/
 packaging|Makefile|s/ -o -name '\*.antt'//
 packaging|Makefile|s/scripts.sh $(PROGRAM)/scripts.sh .\/ldvbi/
 packaging|Makefile|s/rm -f $(ROOT)\/bin\/ldvbi /rm -f $(ROOT)\/bin\/* /
-packaging|tests/tools.sh|s/jq:jq/python3:jq/
+packaging|tests/tools.sh|s/ jq:jq//
 jq_module|out|chapter 0|chapter 1
 jq_module|hangs
 jq_module|contrib/ldvbi.jq|s/kind: "chapter"/kind: "chaptre"/
