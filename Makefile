@@ -113,6 +113,7 @@ install-lib: lib
 	install -d $(LIBRARIES)/pkgconfig
 	sed -e 's|@PREFIX@|$(DESCRIBED_PREFIX)|' -e 's|@LIBDIR@|$(DESCRIBED_LIBDIR)|' -e 's|@VERSION@|$(VERSION)|' \
 	    include/ldvbi.pc.in > $(LIBRARIES)/pkgconfig/ldvbi.pc
+	chmod 644 $(LIBRARIES)/pkgconfig/ldvbi.pc
 
 uninstall:
 	rm -f $(ROOT)/bin/ldvbi $(MANUAL) $(BASH_COMPLETION) $(ZSH_COMPLETION)

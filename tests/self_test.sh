@@ -14,6 +14,8 @@ cat > alterations << 'END'
 large|out|field 8981|field 8980
 library|out|"vbiPass"|"vbiPaSS"
 library|include/ldvbi.h|s/LDVBI_HOLD = 4/LDVBI_HOLD = 5/
+header|include/ldvbi.h|s/^#define LDVBI_H$/#define LDVBI_H_/
+header|include/ldvbi.h|s/^LDVBI_RESULT LDVBI_POINTER(4)$/LDVBI_RESULT/
 library|python/ldvbi_side/library.py|s/is no code word/is not a word/
 python|python/ldvbi_side/analysis.py|s/^def analyse(/def analyze(/
 python|tests/python/python.sh|s/\$3 == "python"/$1 == "side_schema"/
@@ -38,6 +40,11 @@ packaging|out|0.1.0|0.1.1
 packaging|Makefile|/install.*MANUAL/d
 packaging|Makefile|s/exit \$\$status/exit 1/
 packaging|CHANGELOG.md|s/^## 0/## 1/
+packaging|Makefile|s/-m 644 $(SHARED)/-m 600 $(SHARED)/
+packaging|Makefile|s/ -o -name '\*.antt'//
+packaging|Makefile|s/scripts.sh $(PROGRAM)/scripts.sh .\/ldvbi/
+packaging|Makefile|s/rm -f $(ROOT)\/bin\/ldvbi /rm -f $(ROOT)\/bin\/* /
+packaging|tests/tools.sh|s/ jq:jq//
 jq_module|out|chapter 0|chapter 1
 jq_module|hangs
 jq_module|contrib/ldvbi.jq|s/kind: "chapter"/kind: "chaptre"/
@@ -103,6 +110,8 @@ want_of_memory|hangs
 schema|out|"vbiPass"|"vbiPaSS"
 schema|share/schema/ldvbi.schema.json|s/hold/held/
 schema|share/schema/ldvbi.schema.json|s/: 65534/: 65535/
+schema|share/schema/ldvbi.schema.json|s/"maxItems": 1000000/"maxItems": 100000/
+schema|share/schema/ldvbi.schema.json|s/113\[0-4\]/113[0-3]/
 manual|out|  draw     Turns|  draw     Terns
 manual|share/man/ldvbi.1|s/1000000/1000001/
 manual|share/completions/ldvbi.bash|s/extract/extrakt/

@@ -96,18 +96,6 @@ done
 check 'the tests of pages are built' does $cc -std=c99 $strict -Wno-unused-function -fsanitize=undefined \
     -I"$top/include" -o library_pages "$here/library_pages.c" "$top/libldvbi.a"
 check 'the tests of pages' prints 0 '0 wrong' ./library_pages
-for standard in c99 c17 c++98 c++20; do
-    check "the header in $standard" does $cc -std=$standard -Wall -Wextra -Wpedantic -Wconversion -Werror \
-        -fsyntax-only -x ${standard%%[0-9]*} "$top/include/ldvbi.h"
-    check "the header in $standard, without attributes" does $cc -std=$standard -Wall -Wextra -Wpedantic -Werror \
-        -DLDVBI_NO_ATTRIBUTES -fsyntax-only -x ${standard%%[0-9]*} "$top/include/ldvbi.h"
-done
-printf '%s\n' '#include <ldvbi.h>' 'void f(LdvbiCode *c) { ldvbi_classify(0xF12345, c); }' > unused.c
-check 'a status that nobody looks at is warned of' \
-    sh -c "! $cc -std=c99 -Werror -I'$top/include' -c -o unused.o unused.c 2> err"
-printf '%s\n' '#include <ldvbi.h>' 'uint32_t f(void) { return ldvbi_classify(0xF12345, NULL); }' > null.c
-check 'a pointer that is null is warned of' \
-    sh -c "! $cc -std=c99 -Wall -Werror -I'$top/include' -fsyntax-only null.c 2> err"
 check 'what Python refuses' does python3 "$here/library.py" refusals
 
 # Drawn discs, CAV and CLV
@@ -316,7 +304,22 @@ readme_line=$(sed -n 's|^#include <ldvbi.h> */\* \(.*\) \*/$|\1|p' "$top/README.
 says_with() {
     prints 0 'picture 12345' env PKG_CONFIG_PATH="$1/pkgconfig" LD_LIBRARY_PATH="$1" sh -c "$readme_line"
 }
+# Files of others, whose names begin as ours do; and somebody whose new files are for themselves alone
+cat > others << 'END'
+root/usr/include/ldvbi-other.h
+root/usr/lib/libldvbi-other.a
+root/usr/lib/libldvbi.so.0
+root/usr/lib/pkgconfig/ldvbi-other.pc
+END
+xargs dirname < others | xargs mkdir -p
+xargs touch < others
+mask=$(umask)
+umask 077
 check 'make install' makes install DESTDIR="$work/root" PREFIX=/usr
+umask "$mask"
+find root ! -type l -printf '%m %y %p\n' | grep -v -e ldvbi-other -e '\.so\.0' |
+    awk '$1 != ($2 == "d" || $3 ~ /\/bin\/|\.so/ ? 755 : 644)' > err
+check 'what is installed is for all' [ ! -s err ]
 check 'seek is built with what is installed' does $cc -std=c99 -I root/usr/include -o seek "$top/examples/seek.c" \
     -L root/usr/lib -lldvbi
 check 'seek runs with what is installed' prints 0 'field 7' env LD_LIBRARY_PATH=root/usr/lib ./seek cav.tbc $on_cav 3
@@ -332,7 +335,8 @@ check 'the installed Python module' prints 0 'field 7, frame 4' env -u LDVBI_LIB
     PYTHONPATH=root/usr/share/ldvbi/python python3 -m ldvbi cav.tbc $ntsc --seek 3
 check 'the installed program' prints 0 'ldvbi 0.1.0' root/usr/bin/ldvbi --version
 check 'make uninstall' makes uninstall DESTDIR="$work/root" PREFIX=/usr
-check 'nothing is left' [ -z "$(find root -type f -o -type l)" ]
+find root -type f -o -type l | sort > found
+check 'what is left is not ours' cmp -s found others
 
 # As Debian's packages have it: the library below its architecture
 debian='PREFIX=/usr LIBDIR=/usr/lib/x86_64-linux-gnu'

@@ -59,7 +59,7 @@ of_words() {
 }
 
 # Which lines carry which kind: of each code on all three lines those that count
-of_words "$ntsc" << 'END'
+cat > kind_words << 'END'
 88FFFF 88FFFF 88FFFF
 80EEEE 80EEEE 80EEEE
 F12345 F12345 F12345
@@ -87,11 +87,9 @@ lines_of_kinds='[{"kind":"lead-in","lines":[17,18]}]
 [{"kind":"users","digit":3,"number":161,"lines":[16]}]
 []
 []'
-told 'the lines of each kind' "$lines_of_kinds" 'codes.byKind'
-told 'the same of records alone' "$lines_of_kinds" '.fields[] | by_kind'
 
 # Codes of lines that differ: each line counts for itself. The top bit of a picture's second digit doesn't matter.
-of_words "$ntsc" << 'END'
+cat > differing_words << 'END'
 - F00001 F00002
 - F80005 F00005
 82CFFF 82CFFF F00006
@@ -101,21 +99,19 @@ of_words "$ntsc" << 'END'
 - - F00009
 F00010 F00011 800DDD
 END
-told 'codes of lines that differ' \
-    '[{"kind":"picture","number":1,"lines":[17]},{"kind":"picture","number":2,"lines":[18]}]
+differing_codes='[{"kind":"picture","number":1,"lines":[17]},{"kind":"picture","number":2,"lines":[18]}]
 [{"kind":"picture","number":5,"lines":[17,18]}]
 [{"kind":"picture stop","lines":[16,17]},{"kind":"picture","number":6,"lines":[18]}]
 [{"kind":"picture stop","lines":[16,18]},{"kind":"picture","number":7,"lines":[17]}]
 [{"kind":"picture stop","lines":[17,18]}]
 [{"kind":"picture","number":8,"lines":[17]}]
 [{"kind":"picture","number":9,"lines":[18]}]
-[{"kind":"picture","number":11,"lines":[17]},{"kind":"chapter","number":0,"lines":[18]}]' 'codes.byKind'
-told 'what a field has' '[6,"cav",[null,{"kind":"picture","number":8},null],'\
-'[{"kind":"picture","number":8,"lines":[17]}]]' 'codes | select(.seqNo == 6) | [.seqNo, .format, .codes, .byKind]'
+[{"kind":"picture","number":11,"lines":[17]},{"kind":"chapter","number":0,"lines":[18]}]'
+sixth_field='[6,"cav",[null,{"kind":"picture","number":8},null],[{"kind":"picture","number":8,"lines":[17]}]]'
 
 # A CAV disc: stops on each line, a picture that comes again, lines that differ in picture and in chapter, a picture on
 # line 16, a chapter on one line
-of_words "$ntsc" << 'END'
+cat > cav_words << 'END'
 88FFFF 88FFFF 88FFFF
 - F00001 F00001
 - 800DDD 800DDD
@@ -129,13 +125,28 @@ F00006 - -
 - 802DDD 803DDD
 - F00007 804DDD
 END
-told 'pictures' '{"1":2,"2":4,"5":7,"7":12}' pictures
-told 'chapters' '{"0":3,"1":6,"79":9,"4":12}' chapters
-told 'stops' '[4,5,6,9]' stops
-told 'conflicts' '[{"field":5,"kind":"picture","line17":3,"line18":4},'\
-'{"field":11,"kind":"chapter","line17":2,"line18":3}]' conflicts
-told 'the format of a CAV disc' '"cav"' format
-told 'no times on a CAV disc' '[{},{}]' '[times, minutes]'
+picture_conflict='{"field":5,"kind":"picture","line17":3,"line18":4}'
+chapter_conflict='{"field":11,"kind":"chapter","line17":2,"line18":3}'
+
+for system in NTSC PAL; do
+    case $system in
+        NTSC) options=$ntsc ;;
+        PAL) options=$pal ;;
+    esac
+    of_words "$options" < kind_words
+    told "$system: the lines of each kind" "$lines_of_kinds" 'codes.byKind'
+    told "$system: the same of records alone" "$lines_of_kinds" '.fields[] | by_kind'
+    of_words "$options" < differing_words
+    told "$system: codes of lines that differ" "$differing_codes" codes.byKind
+    told "$system: what a field has" "$sixth_field" 'codes | select(.seqNo == 6) | [.seqNo, .format, .codes, .byKind]'
+    of_words "$options" < cav_words
+    told "$system: pictures" '{"1":2,"2":4,"5":7,"7":12}' pictures
+    told "$system: chapters" '{"0":3,"1":6,"79":9,"4":12}' chapters
+    told "$system: stops" '[4,5,6,9]' stops
+    told "$system: conflicts" "[$picture_conflict,$chapter_conflict]" conflicts
+    told "$system: the format of a CAV disc" '"cav"' format
+    told "$system: no times on a CAV disc" '[{},{}]' '[times, minutes]'
+done
 
 # A CLV disc of each system: the mark on line 17, hours, a time that comes again, lines that differ, minutes and
 # pictures that no clock shows, a mark on line 18, seconds or minutes alone

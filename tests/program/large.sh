@@ -59,6 +59,16 @@ judge 'the document of standard input' 3 large.json ''
 faulty_with large.tbc '0 4298366805 error' 1 extract $ntsc
 stands 'reads fail behind 4 GiB' 1 large.begun 'ldvbi: read failed in field 8981 at byte 5' '2361742 1' '8981 0'
 
+# What isn't a row of words, and what isn't metadata, is refused as early
+run draw $ntsc large.tbc
+judge 'no rows in a file' 1 empty 'ldvbi: row 1 is malformed'
+run_with large.tbc draw $ntsc
+judge 'no rows on standard input' 1 empty 'ldvbi: row 1 is malformed'
+run line $ntsc --meta large.tbc drawn.tbc
+judge 'metadata' 1 empty 'ldvbi: metadata too large'
+run_with large.tbc line $ntsc --meta /dev/stdin drawn.tbc
+judge 'metadata from standard input' 1 empty 'ldvbi: metadata too large'
+
 # As much is drawn
 { awk 'BEGIN { for (row = 1; row <= 8980; row++) print "- - -" }'; echo '82CFFF F12345 F12345'; } > words
 output_of draw $ntsc words | tail -c +4298366801 > rest

@@ -28,6 +28,19 @@ made() {
     status=0
     (cd tree && bounded env PATH="$work/tools" make -s "$@") < empty > out 2> err || status=$?
 }
+# made_privately WORD..: the same of somebody whose new files are for themselves alone
+made_privately() {
+    mask=$(umask)
+    umask 077
+    made "$@"
+    umask "$mask"
+}
+# are_for_all FOLDER: whether all can read what is installed there, and run what is to be run
+# shellcheck disable=SC2317
+are_for_all() {
+    find "$1" ! -type l -printf '%m %y %p\n' |
+        awk '{ wanted = $2 == "d" || $3 ~ /\/bin\// ? 755 : 644 } $1 != wanted { print; wrong = 1 } END { exit wrong }'
+}
 # What is installed, from `usr`
 {
     cat << 'END'
@@ -51,11 +64,20 @@ usr/share/zsh/site-functions/_ldvbi
 END
 } > files
 
-mkdir -p usr/share/man/man1
-echo other > usr/share/man/man1/other.1
+# Files of others, whose names begin as ours do, in each folder that has files of ours
+cat > others << 'END'
+usr/bin/ldvbi-other
+usr/share/bash-completion/completions/ldvbi-other
+usr/share/doc/ldvbi-other/README.md
+usr/share/ldvbi-other/ldvbi.jq
+usr/share/man/man1/ldvbi-other.1
+usr/share/zsh/site-functions/_ldvbi-other
+END
+xargs dirname < others | xargs mkdir -p
+xargs touch < others
 made install PREFIX="$work/usr"
 check 'make install without the toolchain' [ $status = 0 ]
-find usr -type f ! -name other.1 | sort > found
+find usr -type f | sort | comm -13 others - > found
 check 'what is installed' cmp found files
 check 'the program is copied as it is' cmp usr/bin/ldvbi "$program"
 check 'it can be run' [ -x usr/bin/ldvbi ]
@@ -63,11 +85,14 @@ check 'the module is found where it is installed' \
     [ "$(jq -nc -L usr/share/ldvbi 'include "ldvbi"; 8572927 | code')" = '{"kind":"picture stop"}' ]
 made uninstall PREFIX="$work/usr"
 check 'make uninstall' [ $status = 0 ]
-find usr -type f > found
-echo usr/share/man/man1/other.1 > other
-check 'what is left is not ours' cmp found other
+find usr -type f | sort > found
+check 'what is left is not ours' cmp found others
 check 'no folder of ours is left' [ ! -e usr/share/ldvbi ]
 check 'no document of ours is left' [ ! -e usr/share/doc/ldvbi ]
+made uninstall PREFIX="$work/usr"
+check 'make uninstall where nothing of ours is' [ $status = 0 ]
+made_privately install PREFIX="$work/private/usr"
+check 'what is installed is for all' are_for_all private/usr
 made install DESTDIR="$work/stage" PREFIX=/usr
 (cd stage && find usr -type f | sort) > found
 check 'what is installed below DESTDIR' cmp found files
@@ -83,7 +108,7 @@ check 'the source archive has each file' cmp found listed
 tar -tzf first/ldvbi-0.1.0-x86_64-linux.tar.gz | sed '/\/$/d; s/^ldvbi-0.1.0-x86_64-linux/usr/' | sort > found
 check 'the archive of the program has what is installed' cmp found files
 sleep 1
-made dist
+made_privately dist
 check 'archives made again are the same' cmp first/SHA256SUMS tree/dist/SHA256SUMS
 touch tree/crates.txt
 made dist
@@ -121,14 +146,64 @@ proved() {
     printf '%s proved, N s\n' "$@"
 }
 proves none ldvbi
-proved vbi_words vbi_line vbi_field vbi_meta vbi_cli ldvbi > wanted_text
+program_crates='vbi_words vbi_line vbi_field vbi_meta vbi_cli ldvbi'
+library_crates='vbi_words vbi_line vbi_c'
+# shellcheck disable=SC2086
+proved $program_crates > wanted_text
 judge 'make says one line of a crate' 0 wanted_text ''
 { echo 'rt run -- --help'; seq 99; } > wanted
 check 'the log has what the toolchain said' cmp tree/crates/ldvbi/out/make.log wanted
 check 'the program is copied from where it is built' cmp tree/ldvbi tree/crates/ldvbi/out/ldvbi
 proves none libldvbi.a
-proved vbi_words vbi_line vbi_c > wanted_text
+# shellcheck disable=SC2086
+proved $library_crates > wanted_text
 judge 'make lib says one line of a crate' 0 wanted_text ''
+status=0
+(cd tree && bounded make -s lib) < empty > out 2> err || status=$?
+check 'make of the shared library' ended 0 empty empty
+
+# What is built is built anew after a change of any of its sources, and after no other change.
+# changed FILE: makes this file the latest of the copy, behind those that are built
+changed() {
+    find tree -exec touch -h -d @1000000000 {} +
+    touch -d @1100000000 tree/libldvbi.a
+    touch -d @1200000000 tree/ldvbi tree/libldvbi.so.1
+    touch -d @1300000000 "tree/$1"
+}
+# is_current TARGET: whether `make` finds that it needn't be built
+# shellcheck disable=SC2317
+is_current() {
+    (cd tree && bounded env PATH="$work/tools" make -q "$1") < empty > out 2>&1
+}
+# is_due TARGET FILE..: whether it is built anew after a change of any of these files
+# shellcheck disable=SC2317
+is_due() {
+    target=$1
+    shift
+    for file in "$@"; do
+        changed "$file"
+        ! is_current "$target" || { echo "$script: $target isn't built anew after a change of $file" >&2; return 1; }
+    done
+}
+# sources_of CRATE..: a file of each kind of these crates
+sources_of() {
+    for crate in "$@"; do
+        for folder in src specs proofs; do
+            (cd tree && git ls-files "crates/$crate/$folder") | head -n 1
+        done
+    done
+}
+# shellcheck disable=SC2046,SC2086
+check 'the program is built anew after a change of a source' is_due ldvbi crates.txt $(sources_of $program_crates)
+# shellcheck disable=SC2046,SC2086
+check 'the library is built anew after a change of a source' is_due libldvbi.a crates.txt $(sources_of $library_crates)
+check 'the shared library is built anew after the library' is_due libldvbi.so libldvbi.a
+for file in README.md Makefile contrib/ldvbi.jq include/ldvbi.h tests/gate.sh; do
+    changed $file
+    check "the program isn't built anew after a change of $file" is_current ldvbi
+    check "the library isn't built anew after a change of $file" is_current lib
+done
+
 touch tree/crates.txt
 proves vbi_line ldvbi
 { proved vbi_words; echo 'vbi_line failed'; } > wanted_text
@@ -137,4 +212,35 @@ check 'make stops at a crate that fails' ended 2 wanted_text err
 head -n 21 err > found
 check 'the end of the log stands above its name' cmp found wanted
 check 'the status is that of the toolchain' [ "$(sed -n '22s/.*\(Error [0-9]*\)$/\1/p' err)" = 'Error 7' ]
+
+# What the tests need and this PATH hasn't
+made check
+missing='gcc libc6-dev g++ binutils python3 jq pkg-config less mandoc parallel pv zsh'
+/usr/bin/python3 -c 'import jsonschema' 2> /dev/null || missing="$missing python3-jsonschema"
+echo "tests: missing on this machine, as Debian's packages: $missing (make setup installs them)" > wanted
+head -n 1 err > found
+check 'make check names the tools that are missing' cmp found wanted
+check 'it runs nothing then' [ "$status $(wc -c < out)" = '2 0' ]
+
+# `make check` looks for its tools, then runs the scripts on the program that it is given, and fails where they do
+printf 'echo tools "$@"\n' > tree/tests/tools.sh
+printf 'echo scripts "$@"\n' > tree/tests/scripts.sh
+made check PROGRAM=/where/it/is/ldvbi
+printf '%s\n' tools 'scripts /where/it/is/ldvbi --as-built' > wanted_text
+judge 'make check of a program' 0 wanted_text ''
+made check
+printf '%s\n' tools 'scripts ./ldvbi --as-built' > wanted_text
+judge 'make check of the program that is built here' 0 wanted_text ''
+echo 'exit 1' >> tree/tests/scripts.sh
+made check
+check 'make check of a program that fails' [ "$status $(wc -l < out)" = '2 2' ]
+echo 'exit 1' >> tree/tests/tools.sh
+made check
+check 'make check without its tools' [ "$status $(cat out)" = '2 tools' ]
+
+# `make clean` takes away what was built, and leaves the source
+made clean
+(cd tree && find . -type f ! -path './.git/*' | sed 's/^..//' | sort) > found
+(cd tree && git ls-files | sort) > listed
+check 'make clean leaves the source' cmp found listed
 finish

@@ -28,13 +28,48 @@ for path in sys.argv[2:]:
     print("valid" if validator.is_valid(document) else "refused")
 END
 
-# validated NAME ANSWER: checks what is said of the document in `out`
+# validated NAME ANSWER: keeps the document in `out`, of which this is to be said when all are looked at
+mkdir documents
+: > answers
+kept=0
 validated() {
-    echo "$2" > answer
-    status=0
-    bounded "$python" validate.py "$top/share/schema/ldvbi.schema.json" out < empty > said 2> err || status=$?
-    check "$1" cmp said answer
+    kept=$((kept + 1))
+    cp out documents/$kept.json
+    printf '%s|%s\n' "$2" "$1" >> answers
 }
+
+# Looks at each column that a cause can name, and at numbers of fields, and prints what is wrong of these.
+cat > bounds.py << 'END'
+import json
+import sys
+
+import jsonschema
+
+with open(sys.argv[1], encoding="ascii") as file:
+    schema = json.load(file)
+
+
+def validator_of(part):
+    return jsonschema.Draft202012Validator(dict(part, **{"$defs": schema["$defs"]}))
+
+
+FORMS = ("%s", "%s ", "%s 0100", "%s +100", "%s 100.0", "%s 1e2", "%s  100", " %s 100", "%s 100 ", "%s100", "x%s 100")
+# of each system the width, and the first column before which no level is held too long
+for system, width, hold in (("Ntsc", 910, 40), ("Pal", 1135, 50)):
+    cause = validator_of(schema["$defs"]["cause" + system])
+    for name, least in (("change", 0), ("hold", hold)):
+        for column in [*range(-1, 1200), 1910, 9099, 9100, 11340, 11350]:
+            text = "%s %d" % (name, column)
+            if cause.is_valid(text) != (least <= column < width):
+                print(system, text)
+        for form in FORMS:
+            if cause.is_valid(form % name):
+                print(system, repr(form % name))
+fields = validator_of(schema["properties"]["fields"])
+for count in (0, 1, 999999, 1000000, 1000001):
+    if fields.is_valid([{}] * count) != (count <= 1000000):
+        print("a list of", count)
+END
 
 # Documents of every kind: no field, each cause with the least and the greatest columns, both passes, a cut field
 run extract $ntsc empty
@@ -79,6 +114,31 @@ jq -c . out > pal.json
 head -c 710509 fields.tbc > cut.tbc
 run extract $pal cut.tbc
 validated 'the longest cut field, PAL' valid
+
+# Good ones at the bounds, each made of a good one by a change
+while IFS='|' read -r document change; do
+    jq -c "$change" $document.json > out
+    validated "$document with $change" valid
+done << 'END'
+whole|.fields[0].seqNo = 1000000
+whole|.fields[0].vbi.vbiData[0] = 8388608
+whole|.fields[0].vbi.vbiData[0] = 16777215
+whole|.fields[0].vbiPass[0] = 2
+whole|.fields[1].vbiCause = ["change 9", "change 10", "change 100"]
+whole|.fields[1].vbiCause = ["hold 40", "hold 99", "hold 100"]
+whole|.videoParameters.black16bIre = 65534 | .videoParameters.white16bIre = 65535
+whole|.videoParameters.black16bIre = 0 | .videoParameters.white16bIre = 1
+whole|.cutField = {"seqNo":6,"bytes":1}
+cut|.cutField = null
+cut|.cutField.bytes = 478659
+cut|.cutField.seqNo = 1000000
+pal|.fields[0].seqNo = 1000000
+pal|.fields[1].vbiCause[1] = "change 999"
+pal|.fields[1].vbiCause[1] = "change 1000"
+pal|.fields[3].vbiCause[0] = "hold 1000"
+pal|.videoParameters.black16bIre = 65534 | .videoParameters.white16bIre = 65535
+pal|.cutField = {"seqNo":1000000,"bytes":710509}
+END
 
 # differs FILE FILE: whether the two files differ
 # shellcheck disable=SC2317
@@ -132,5 +192,28 @@ cut|.cutField.bytes = 0
 cut|.cutField.bytes = 478660
 cut|.cutField.seqNo = 0
 cut|.cutField.videoParameters = null
+cut|.cutField.seqNo = 1000001
+cut|del(.cutField.bytes)
+pal|.cutField = {"seqNo":1,"bytes":710510}
+pal|.fields[3].vbiCause[0] = "hold 1135"
+whole|.fields[4].vbiCause[0] = "word "
+whole|.videoParameters.black16bIre = 0.5
 END
+
+# What is said of all of them
+status=0
+# shellcheck disable=SC2046
+bounded "$python" validate.py "$top/share/schema/ldvbi.schema.json" $(seq -f 'documents/%g.json' $kept) \
+    < empty > said 2> err || status=$?
+check 'all documents are looked at' [ "$status $(wc -l < said)" = "0 $kept" ]
+paste -d '|' said answers > rows
+while IFS='|' read -r said answer name; do
+    check "$name" [ "$said" = "$answer" ]
+done < rows
+
+# Each column that a line has, and no other; as many fields as a document can have
+status=0
+bounded "$python" bounds.py "$top/share/schema/ldvbi.schema.json" < empty > said 2> err || status=$?
+cat said >> err
+check 'columns and counts of fields at and beyond each bound' [ "$status $(wc -l < said)" = '0 0' ]
 finish

@@ -40,17 +40,17 @@ for command in $commands; do
 done
 
 # Metadata: each row has a document, or what videoParameters hold; options; and what `line` says of the stored line.
-# That is 82CFFF where the settings are those of the stored run, and that it is too short where they are those of PAL.
+# That is 82CFFF where the settings are those of the stored run, blank where black and white are far apart, and that it
+# is too short where the settings are those of PAL.
 all="$levels --max-fields 1"
 while IFS='|' read -r document options answer; do
     case $document in '"'*) document="{\"videoParameters\":{$document},\"fields\":[]}" ;; esac
     printf '%s' "$document" > row.json
     run line --meta row.json $options line.raw
-    if [ "$answer" = 82CFFF ]; then
-        judge "$document $options" 0 "$stored/stdout" ''
-    else
-        judge "$document $options" 1 empty "ldvbi: $answer"
-    fi
+    case $answer in
+        82CFFF | blank) echo "$answer" > answer; judge "$document $options" 0 answer '' ;;
+        *) judge "$document $options" 1 empty "ldvbi: $answer" ;;
+    esac
 done << END
 |$all|metadata is not JSON
 {"a":NaN}||metadata is not JSON
@@ -74,6 +74,16 @@ done << END
 "system":"NTSC","black16bIre":8224.0||black level is not a whole number from 0 to 65535
 "system":"NTSC","black16bIre":8224e0||black level is not a whole number from 0 to 65535
 "system":"NTSC","black16bIre":8224.0,"white16bIre":16448|--black 8224|82CFFF
+"system":"NTSC","black16bIre":16448,"white16bIre":16448|--black 8224|82CFFF
+"system":"NTSC","black16bIre":8224,"white16bIre":8224|--white 16448|82CFFF
+"system":"NTSC","black16bIre":8224,"white16bIre":16448|--black 16448|black level is not below white level
+"system":"NTSC","black16bIre":8224,"white16bIre":16448|--white 8224|black level is not below white level
+"system":"NTSC","black16bIre":0,"white16bIre":1|--black 8224 --white 16448|82CFFF
+"system":"NTSC","black16bIre":8224,"white16bIre":16448|--black 0 --white 65535|blank
+"system":"PAL","black16bIre":8224,"white16bIre":16448|--system NTSC|82CFFF
+"system":"NTSC","black16bIre":8224,"white16bIre":16448|--system PAL|short line: 1820 of 2270 bytes
+"system":"NTSC","isSourcePal":true,"black16bIre":8224,"white16bIre":16448|--system NTSC|82CFFF
+"system":"PAL","black16bIre":1,"white16bIre":2|$all|82CFFF
 "system":"PAL","black16bIre":8224||no white level given
 "system":"PAL","black16bIre":8224,"white16bIre":"x"||white level is not a whole number from 0 to 65535
 "system":"PAL","black16bIre":8224,"white16bIre":8224||black level is not below white level

@@ -7,12 +7,23 @@
 . "$(dirname "$0")/../helpers.sh"
 
 cp "$stored/stdin" line.raw
+printf '{"videoParameters":{"fieldWidth":911}}' > width.json
 more="For more information, try '--help'."
 
 # refused NAME TEXT: checks that the last run wrote nothing, ended with status 2, and said this text alone
 refused() {
     printf 'error: %s\n\n%s\n' "$2" "$more" > refusal
     check "$1" ended 2 empty refusal
+}
+
+# refused_first NAME LINE: the same of a text whose first line is this one
+refused_first() {
+    check "$1" is_refused_first "error: $2"
+}
+# shellcheck disable=SC2317
+is_refused_first() {
+    [ "$status" = 2 ] && [ ! -s out ] && [ "$(head -n 1 err)" = "$1" ] && [ "$(tail -n 1 err)" = "$more" ] &&
+        ! grep -q '^ldvbi: ' err
 }
 
 # Words that are refused, of each command a few, and no more than one of each text: what else is refused, and how, is
@@ -28,6 +39,18 @@ refused 'an unknown command' "unrecognized subcommand 'lines'
   tip: a similar subcommand exists: 'line'
 
 Usage: ldvbi <COMMAND>"
+run $levels line line.raw
+refused_first 'options before the command' "unexpected argument '--system' found"
+for word in l lin ext extr sh sho dr dra hel Line EXTRACT; do
+    run $word $levels line.raw
+    refused_first "$word, no name of a command" "unrecognized subcommand '$word'"
+    run help $word
+    refused_first "help $word, no name of a command" "unrecognized subcommand '$word'"
+done
+for word in --hel --he --vers -v -H '-?'; do
+    run $word
+    refused_first "$word, no name of an option" "unexpected argument '$word' found"
+done
 for command in line extract show draw; do
     run $command --system ntsc --black 8224 --white 16448 line.raw
     refused "$command: a system in lower case" "invalid value 'ntsc' for '--system <NAME>'
@@ -36,6 +59,10 @@ for command in line extract show draw; do
     refused "$command: two inputs" "unexpected argument 'line.raw' found
 
 Usage: ldvbi $command [OPTIONS] [INPUT]"
+    for word in --met --sys --bl --whi --max --maxfields --max_fields --hel -m -s -b -w -l -n -V --version; do
+        run $command $levels $word line.raw
+        refused_first "$command: $word, no name of an option" "unexpected argument '$word' found"
+    done
     run $command $levels "$(printf '\377')"
     judge "$command: a word that is not text" 2 empty 'ldvbi: arguments are not UTF-8'
 done
@@ -56,6 +83,16 @@ run line $levels 'line.raw '
 judge 'an input whose name ends with a space' 0 "$stored/stdout" ''
 run line $levels 'blank.raw '
 judge 'no input whose name ends with a space' 1 empty 'ldvbi: cannot open input'
+run line $levels ' line.raw'
+judge 'no input whose name begins with a space' 1 empty 'ldvbi: cannot open input'
+cp width.json 'width.json '
+run line $levels --meta 'width.json ' line.raw
+judge 'metadata whose name ends with a space' 1 empty 'ldvbi: field width differs'
+run line $levels '--meta=width.json ' line.raw
+judge 'the same behind an equals sign' 1 empty 'ldvbi: field width differs'
+rm 'width.json '
+run line $levels --meta 'width.json ' line.raw
+judge 'no metadata whose name ends with a space' 1 empty 'ldvbi: cannot read metadata'
 run_with line.raw line $levels --meta -
 judge 'no metadata in a file named by a dash' 1 empty 'ldvbi: cannot read metadata'
 run line $levels --meta '' line.raw
@@ -103,11 +140,24 @@ judge 'no room for the help' 0 empty ''
 status=0
 output_of --help >&- 2> err || status=$?
 judge 'the help where standard output is closed' 0 empty ''
-status=0
-output_of lines > out 2> /dev/full || status=$?
-: > err
-judge 'no room for what is refused' 2 empty ''
-status=0
-output_of lines > out 2>&- || status=$?
-judge 'what is refused where standard error is closed' 2 empty ''
+
+# unsaid NAME STATUS WORD..: checks the status of a run that is a fault, where standard error has no room to say so, and
+# where it is closed
+unsaid() {
+    name=$1
+    wanted_status=$2
+    shift 2
+    status=0
+    output_of "$@" > out 2> /dev/full || status=$?
+    : > err
+    judge "no room for $name" "$wanted_status" empty ''
+    status=0
+    output_of "$@" > out 2>&- || status=$?
+    judge "$name where standard error is closed" "$wanted_status" empty ''
+}
+unsaid 'a word that is refused' 2 lines
+unsaid 'a word that is not text' 2 line "$(printf '\377')"
+unsaid 'metadata that is not there' 1 line --meta absent.json line.raw
+unsaid 'an input that is not there' 1 line $levels absent.raw
+unsaid 'settings that are refused' 1 line $levels --meta width.json line.raw
 finish

@@ -114,6 +114,17 @@ judge 'a document on standard input' 0 wanted_text ''
 echo '{"videoParameters":{"system":"NTSC","black16bIre":16384.0,"white16bIre":51200,"fieldWidth":910.0}}' > meta.json
 tells 'levels from metadata' 0 'field 7, frame 4' side.tbc --meta meta.json --seek 3
 tells 'an option instead of metadata' 1 'not found' side.tbc --meta meta.json --white 65535 --black 65534 --seek 3
+while IFS='|' read -r option parameters; do
+    echo "{\"videoParameters\":{$parameters}}" > meta.json
+    tells "$option instead of metadata" 0 'field 7, frame 4' side.tbc --meta meta.json $option --seek 3
+done << 'END'
+--system NTSC|"system":"PAL","black16bIre":16384,"white16bIre":51200
+--system NTSC|"isSourcePal":true,"black16bIre":16384,"white16bIre":51200,"fieldWidth":910,"fieldHeight":263
+--black 16384|"system":"NTSC","black16bIre":51200,"white16bIre":51200
+--white 51200|"system":"NTSC","black16bIre":16384,"white16bIre":16384
+--black 16384 --white 51200|"system":"NTSC","black16bIre":0,"white16bIre":1
+--system NTSC --black 16384 --white 51200|"system":"PAL","black16bIre":60000,"white16bIre":"65535"
+END
 echo '{"videoParameters":{"isSourcePal":false,"black16bIre":16383.5,"white16bIre":51200}}' > meta.json
 told side.tbc --meta meta.json --seek 3
 echo 'field 7, frame 4' > wanted_text

@@ -30,7 +30,7 @@ for path in sys.argv[2:]:
 PYTHON
 schema=$top/share/schema/ldvbi-side.schema.json
 
-mkdir answers broken
+mkdir answers broken bounds
 status=0
 bounded python3 "$here/answers.py" answers < empty 2> err || status=$?
 check 'there are 21 answers' [ "$status $(find answers -name '*.json' | wc -l)" = '0 21' ]
@@ -94,4 +94,35 @@ status=0
 bounded "$python" validate.py "$schema" broken/*.json < empty > said 2> err || status=$?
 check "all $number broken ones are refused" [ "$status $(grep -c ' refused$' said) $number" = "0 $number 38" ]
 [ "$status" = 0 ] && grep ' valid$' said >&2
+
+# Sound answers at the bounds, made in the same way
+number=0
+while IFS='|' read -r side change; do
+    number=$((number + 1))
+    bounded jq -c "$change" "answers/$side.json" < empty > bounds/$number.json
+done << 'END'
+cav-pal|.numbers.least = 0
+cav-pal|.numbers.greatest = 79999
+cav-pal|.chapters[0].chapter = 0
+cav-pal|.chapters[0].chapter = 79
+cav-pal|.doubtful[0].word = "800000"
+cav-pal|.doubtful[0].word = "FFFFFF"
+cav-pal|.doubtful[0].line = 16
+cav-pal|.badLines[0] += {"cause":"change 0","column":0}
+cav-pal|.badLines[0] += {"cause":"change 1134","column":1134}
+cav-pal|.badLines[0] += {"cause":"hold 1134","column":1134,"line":18}
+cav-pal|.showings[0] = [79999, 999999, 1000000]
+clv-pal|.numbers.least = "0:00:00.00"
+clv-pal|.numbers.greatest = "9:59:59.29"
+clv-minutes|.numbers.least = "0:00"
+clv-minutes|.numbers.greatest = "9:59"
+cut|.cutField = {"seqNo":1,"bytes":1}
+cut|.cutField = {"seqNo":1000000,"bytes":710509}
+conflict|.chapterConflicts[0] += {"line17":0,"line18":79,"taken":79}
+stop|.stops[0].lines = [16, 17, 18]
+END
+status=0
+bounded "$python" validate.py "$schema" bounds/*.json < empty > said 2> err || status=$?
+check "all $number sound ones are valid" [ "$status $(grep -c ' valid$' said) $number" = "0 $number 19" ]
+[ "$status" = 0 ] && grep ' refused$' said >&2
 finish

@@ -2,7 +2,7 @@
 
 import unittest
 
-from discs import BLANK, LEAD_IN, LEAD_OUT, STOP, answer, film, picture, pictures
+from discs import BLANK, LEAD_IN, LEAD_OUT, STOP, answer, film, picture, pictures, times
 
 
 def missing(found):
@@ -226,6 +226,13 @@ class Breaks(unittest.TestCase):
         self.assertEqual(found["lost"], [{"after": 20, "before": 26, "fields": 1, "by": "number"}])
 
 
+    def test_more_lost_fields_beside_a_picture_that_was_read_in_one_field(self):
+        rows = ["- %s %s" % (picture(number), picture(number)) for number in range(1, 31) for _ in range(2)]
+        rows[39] = "- ? ?"  # the second field of picture 20, of which picture 19 is no part
+        found = answer(rows[:40] + rows[42:])  # picture 21
+        self.assertEqual(found["lost"], [{"after": 39, "before": 41, "fields": 2, "by": "number"}])
+
+
 class Parity(unittest.TestCase):
     def test_frames_begin_with_the_first_field_that_begins_one(self):
         rows = pictures(range(1, 31))
@@ -239,6 +246,20 @@ class Parity(unittest.TestCase):
         rows, first = pictures(range(1, 31)), [True, False] * 30
         found = answer(rows[:39] + rows[40:], first=first[:39] + first[40:])  # the second field of picture 20
         self.assertEqual(found["lost"], [{"after": 39, "before": 40, "fields": 1, "by": "both"}])
+
+    def test_three_lost_fields_by_both(self):
+        """Of more than one it isn't known between which two fields they are."""
+        rows, first = pictures(range(1, 31)), [True, False] * 30
+        rows = rows[:40] + rows[43:]  # picture 21, and the first field of picture 22
+        lost = {"after": 39, "before": 42, "fields": 3}
+        self.assertEqual(answer(rows, first=first[:40] + first[43:])["lost"], [dict(lost, by="both")])
+        twice = first[:40] + [False, False] + first[44:59]  # and once more in these fields
+        self.assertEqual(answer(rows, first=twice)["lost"], [dict(lost, by="both")])
+        self.assertEqual(answer(rows)["lost"], [dict(lost, by="number")])
+
+    def test_parity_where_a_clock_may_leave_out_a_number(self):
+        found = answer(times([0, 1, 3, 4], 30), "NTSC", first=[True, False, True, False] + [False, True] * 2)
+        self.assertEqual(found["lost"], [{"after": 3, "before": 5, "fields": 2, "by": "undecided"}])
 
     def test_parity_alone_where_no_number_is_near(self):
         found = answer([LEAD_IN] * 9, first=[True, False, True, True] + [False, True] * 2 + [False])

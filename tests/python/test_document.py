@@ -48,6 +48,36 @@ class Sound(unittest.TestCase):
         side = side_of_document(text_of(empty))
         self.assertEqual([side.system.name, side.readings, side.cut], ["PAL", [], None])
 
+    def test_the_greatest_columns_and_cuts(self):
+        for system, width, height in (("NTSC", 910, 263), ("PAL", 1135, 313)):
+            with self.subTest(system):
+                whole = document()
+                whole["videoParameters"].update(system=system, fieldWidth=width, fieldHeight=height, black16bIre=0,
+                                                white16bIre=65535)
+                last = width - 1
+                whole["fields"][1]["vbiCause"] = ["change %d" % last, "hold %d" % last, "change 99"]
+                whole["cutField"]["bytes"] = 2 * width * height - 1
+                side = side_of_document(text_of(whole))
+                self.assertEqual([line.column for line in side.readings[1]], [last, last, 99])
+                self.assertEqual((side.cut.bytes, side.levels), (2 * width * height - 1, Levels(0, 65535)))
+                for path, value, text in ((("fields", 1, "vbiCause", 1), "hold %d" % width, "no cause"),
+                                          (("cutField", "bytes"), 2 * width * height, "bytes is not from 1 to")):
+                    broken = copy.deepcopy(whole)
+                    _set(value, *path)(broken)
+                    with self.assertRaisesRegex(ValueError, text):
+                        side_of_document(text_of(broken))
+
+    def test_each_column(self):
+        """Those of 1 to 4 digits that a line has, and no other."""
+        for system, width, height in (("NTSC", 910, 263), ("PAL", 1135, 313)):
+            whole = dict(document(), cutField=None)
+            whole["videoParameters"].update(system=system, fieldWidth=width, fieldHeight=height)
+            whole["fields"] = [record(number + 1, [0, 0, 0], ["change %d" % number, "hold %d" % number, "blank"],
+                                      [0, 0, 0]) for number in range(width)]
+            side = side_of_document(text_of(whole))
+            self.assertEqual([field.first.column for field in side.readings], list(range(width)))
+            self.assertEqual([field.second.column for field in side.readings], list(range(width)))
+
     def test_what_is_taken_for_a_document(self):
         self.assertTrue(is_document("a.json", b""))
         self.assertTrue(is_document("a", b' \n{ "version": 2'))

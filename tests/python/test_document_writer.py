@@ -88,6 +88,9 @@ class Documents(unittest.TestCase):
             with self.subTest(count):
                 self.compare(NTSC, pictures(count))
         self.compare(PAL, pictures(65))
+        for setup in (NTSC, PAL):
+            with self.subTest(setup):
+                self.compare(setup, pictures(1025), 1000)
 
     def test_cut_streams(self):
         for setup in (NTSC, PAL):

@@ -52,12 +52,33 @@ class Json(Metadata):
             "black16bIre is 16383.5, rounded to 16384", "white16bIre is 54016.25, rounded to 54016")))
         path = self.write(system="PAL", black16bIre=16384.0, white16bIre=54016)
         self.assertEqual(settings_of(path), ("PAL", 16384, 54016, ()))
+        # a half goes upwards, also from an even number
+        for value, rounded in ((16384.5, 16385), (16384.49, 16384), (16383.51, 16384), (-0.5, 0), (-0.51, -1),
+                               (65535.5, 65536)):
+            path = self.write(system="NTSC", black16bIre=value, white16bIre=1)
+            note = "black16bIre is %s, rounded to %d" % (value, rounded)
+            self.assertEqual(settings_of(path), ("NTSC", rounded, 1, (note,)))
 
     def test_given_instead(self):
         path = self.write(system="SECAM", black16bIre="?", white16bIre=None)
         self.assertEqual(settings_of(path, "NTSC", 1, 2), ("NTSC", 1, 2, ()))
         self.assertEqual(settings_of(None, "NTSC", 0, 2), ("NTSC", 0, 2, ()))
         self.refused("white level is no number", path, "NTSC", 1)
+
+    def test_each_given_instead(self):
+        """Of a file that has all three, and whose sizes are those of its system."""
+        for of_file, size, other in (("NTSC", {"fieldWidth": 910, "fieldHeight": 263}, "PAL"),
+                                     ("PAL", {"fieldWidth": 1135, "fieldHeight": 313}, "NTSC")):
+            path = self.write(system=of_file, black16bIre=100, white16bIre=200)
+            with self.subTest(of_file):
+                self.assertEqual(settings_of(path, other), (other, 100, 200, ()))
+                self.assertEqual(settings_of(path, None, 0), (of_file, 0, 200, ()))
+                self.assertEqual(settings_of(path, None, None, 0), (of_file, 100, 0, ()))
+                self.assertEqual(settings_of(path, of_file, 3, 4), (of_file, 3, 4, ()))
+            path = self.write(system=of_file, black16bIre=100, white16bIre=200, **size)
+            self.assertEqual(settings_of(path, of_file, 3), (of_file, 3, 200, ()))
+            width = 1135 if other == "PAL" else 910
+            self.refused("fieldWidth is not %d" % width, path, other)
 
     def test_refused(self):
         rows = [("no system given", {}), ("unknown system", {"system": "pal"}),

@@ -178,6 +178,21 @@ class Library(unittest.TestCase):
                 shutil.rmtree(os.path.join(self.folder, "lib"), ignore_errors=True)
                 self.assertEqual(run(READ, **self.installed(place)), "blank\n")
 
+    def test_the_first_place_counts(self):
+        """Each place before those behind it, which have no library that can be loaded; the variable before all."""
+        places = ["share/ldvbi/python", "share/ldvbi", "lib"]
+        for count, place in enumerate(places):
+            with self.subTest(place):
+                shutil.rmtree(os.path.join(self.folder, "share"), ignore_errors=True)
+                variables = self.installed(place)
+                for other in places[count + 1:]:
+                    os.makedirs(os.path.join(self.folder, other), exist_ok=True)
+                    with open(os.path.join(self.folder, other, "libldvbi.so.1"), "w", encoding="ascii") as file:
+                        file.write("no library")
+                self.assertEqual(run(READ, **variables), "blank\n")
+        shutil.rmtree(os.path.join(self.folder, "share"))
+        self.assertIn("(/absent: ", run(READ, **dict(self.installed(*places), LDVBI_LIBRARY="/absent")))
+
     def test_an_empty_variable_names_none(self):
         variables = self.installed("lib")
         variables["LDVBI_LIBRARY"] = ""

@@ -2,7 +2,7 @@
 
 import unittest
 
-from discs import BLANK, LEAD_IN, LEAD_OUT, STOP, answer, chapter, picture, pictures, times
+from discs import BLANK, LEAD_IN, LEAD_OUT, STOP, answer, chapter, film, picture, pictures, times
 from test_cav import doubtful, missing
 
 
@@ -86,6 +86,14 @@ class Stops(unittest.TestCase):
         rows[8] = "%s ? ?" % STOP
         found = answer(rows)
         self.assertEqual(found["stops"], [{"field": 9, "frame": 5, "number": 5, "lines": [16]}])
+
+    def test_in_each_field_of_its_picture(self):
+        """Film has 3 fields of a picture with an odd number; the number itself is on the first one alone."""
+        for rows, numbers in ((film(range(1, 41)), (1, 1, 1, 2, 2, 3, 3, 3, 4, 4)),
+                              (pictures(range(1, 41)), (1, 1, 2, 2, 3, 3))):
+            for field, number in enumerate(numbers, 1):
+                stopped = [STOP + row[1:] if place == field else row for place, row in enumerate(rows, 1)]
+                self.assertEqual([one["number"] for one in answer(stopped, "NTSC")["stops"]], [number], field)
 
     def test_without_numbers(self):
         found = answer([BLANK, STOP + " - -"])

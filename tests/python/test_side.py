@@ -1,5 +1,6 @@
 """The class `Side`, seeking, and what the command prints of an answer."""
 
+import gc
 import json
 import os
 import re
@@ -19,6 +20,18 @@ from ldvbi_side.tables import bad_line_rows, field_rows
 
 def found(known, text):
     return text_of(seek(known, wanted_of(text)))
+
+
+class Collector(unittest.TestCase):
+    def test_it_runs_behind_an_analysis_where_it_ran_before(self):
+        self.assertTrue(gc.isenabled())
+        try:
+            for is_enabled, set_so in ((True, gc.enable), (False, gc.disable)):
+                set_so()
+                answer(pictures([1, 2]))
+                self.assertEqual(gc.isenabled(), is_enabled)
+        finally:
+            gc.enable()
 
 
 class Seeking(unittest.TestCase):

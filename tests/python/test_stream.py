@@ -5,13 +5,15 @@ import gc
 import mmap
 import os
 import pathlib
+import subprocess
+import sys
 import tempfile
 import unittest
 from unittest import mock
 
 import ldvbi
 from ldvbi_side.side import side_of_tbc
-from streams import NTSC, PAL, pictures, write_stream
+from streams import NTSC, PAL, PROGRAM, pictures, write_stream
 
 COUNT = 2 * ldvbi.BLOCK + 3  # two blocks and a part of one
 
@@ -46,6 +48,17 @@ class Sequences(Streams):
                 for index in (0, 1, ldvbi.BLOCK - 1, ldvbi.BLOCK, COUNT - 1, -1, -2, -COUNT):
                     self.assertEqual(number_of(side[index]), index % COUNT)
                     self.assertIsInstance(side[index], ldvbi.FieldReadings)
+
+    def test_one_field(self):
+        for setup in (NTSC, PAL):
+            for rest in (0, 1000):
+                with self.subTest((setup, rest)), self.drawn(1, setup, rest) as side:
+                    self.assertEqual((len(side), side.cut_bytes), (1, rest))
+                    for fields in (side, side[:], side[::-1], side[0:1], [side[0]], [side[-1]]):
+                        self.assertEqual([number_of(field) for field in fields], [0])
+                    for index in (1, -2):
+                        with self.assertRaises(IndexError):
+                            side[index]
 
     def test_slices(self):
         numbers = list(range(COUNT))
@@ -93,6 +106,37 @@ class Sequences(Streams):
     def test_path_objects(self):
         self.drawn(2).close()
         self.assertEqual(len(ldvbi.Stream(pathlib.Path(self.path), *NTSC)), 2)
+
+
+class Large(Streams):
+    def far(self, setup, count):
+        """A stream of black fields, the last of which shows a picture, and 1,000 bytes more: files with holes."""
+        size, line = ldvbi.field_bytes(setup[0]), ldvbi.line_bytes(setup[0])
+        with open(self.path, "wb") as file:
+            file.seek((count - 1) * size + 15 * line)
+            file.write(3 * ldvbi.draw_line(0xF12345, *setup))
+            file.truncate(count * size + 1000)
+        return ldvbi.Stream(self.path, *setup)
+
+    def test_more_than_4_gib(self):
+        for setup, count in ((NTSC, 8982), (PAL, 6052)):
+            with self.subTest(setup), self.far(setup, count) as side:
+                self.assertGreater(os.path.getsize(self.path), 2 ** 32)
+                self.assertEqual((len(side), side.cut_bytes), (count, 1000))
+                self.assertEqual([number_of(side[index]) for index in (count - 1, -1)], [12345, 12345])
+                self.assertEqual([number_of(field) for field in side[count - 1:]], [12345])
+                self.assertEqual(side[count - 2].first.cause, ldvbi.Cause.blank)
+                shown = [number for number, field in enumerate(side, 1) if field.second.word]
+                self.assertEqual(shown, [count])
+
+    def test_its_document(self):
+        with self.far(NTSC, 8982):
+            command = [sys.executable, "-m", "ldvbi", self.path, "--document"]
+            levels = ["--system", "NTSC", "--black", "16384", "--white", "51200"]
+            found, wanted = (subprocess.run(words + levels, stdout=subprocess.PIPE, stderr=subprocess.DEVNULL,
+                                            check=False) for words in (command, [PROGRAM, "extract", self.path]))
+            self.assertEqual((found.returncode, found.stdout), (3, wanted.stdout))
+            self.assertEqual(wanted.stdout.count(b"seqNo"), 8983)
 
 
 class Refused(Streams):

@@ -1,0 +1,88 @@
+#!/bin/sh
+# Compiles what includes ldvbi.h: by each standard, twice, in two parts of a program; and calls whose status nobody
+# looks at or whose pointer is null, of which the compiler has to warn.
+# Needs libldvbi.a at the top of the repository (`make lib`).
+# usage: sh tests/library/header.sh PROGRAM
+# shellcheck disable=SC2086,SC2317
+
+# shellcheck source=tests/helpers.sh
+. "$(dirname "$0")/../helpers.sh"
+
+cc=${CC:-cc}
+cxx=${CXX:-c++}
+
+# compiles LANGUAGE STANDARD OPTION.. FILE: whether the compiler has no warning of this file
+compiles() {
+    compiler=$cc
+    [ "$1" = c ] || compiler=$cxx
+    dialect="-x $1 -std=$2"
+    shift 2
+    status=0
+    bounded $compiler $dialect -Wall -Wextra -Wpedantic -Wconversion -Werror -I"$top/include" \
+        -c -o compiled.o "$@" < empty > out 2> err || status=$?
+    [ "$status" = 0 ]
+}
+# compiles_in_both FILE: the same in C and in C++, by the oldest standard of each
+compiles_in_both() {
+    compiles c c99 "$1" && compiles c++ c++98 "$1"
+}
+# is_warned_of FILE WORD: whether the compiler for C has a warning of this file, with this word
+is_warned_of() {
+    ! compiles c c99 "$1" && grep -q "$2" err
+}
+
+echo '#include <ldvbi.h>' > once.c
+printf '%s\n' '#include <ldvbi.h>' '#include <ldvbi.h>' 'uint32_t NAME(void);' \
+    'uint32_t NAME(void) { return ldvbi_abi(); }' > twice.c
+for standard in 'c c99' 'c c17' 'c++ c++98' 'c++ c++20'; do
+    check "the header in ${standard#* }" compiles $standard once.c
+    check "the header in ${standard#* }, without attributes" compiles $standard -DLDVBI_NO_ATTRIBUTES once.c
+    check "the header twice in ${standard#* }" compiles $standard twice.c
+done
+for name in one two; do
+    bounded $cc -std=c99 -I"$top/include" -DNAME=$name -c -o $name.o twice.c
+done
+echo 'int main(void) { return 0; }' > main.c
+status=0
+bounded $cc -o program main.c one.o two.o "$top/libldvbi.a" < empty > out 2> err || status=$?
+check 'the header in two parts of a program' ended 0 empty empty
+
+# called_as STATEMENT: makes a file in which a call stands as this statement. What it reads can't be written.
+called_as() {
+    taken='const void *samples, void *drawn, LdvbiReading *reading, LdvbiFieldReadings *readings'
+    cat > called.c << END
+#include <ldvbi.h>
+uint32_t called($taken, LdvbiCode *code, uint32_t *format);
+uint32_t called($taken, LdvbiCode *code, uint32_t *format) {
+    (void)samples; (void)drawn; (void)reading; (void)readings; (void)code; (void)format;
+    $1;
+    return 0;
+}
+END
+}
+while read -r call; do
+    called_as "return $call"
+    check "$call has what it needs" compiles_in_both called.c
+    called_as "$call"
+    check "$call: a status that nobody looks at is warned of" is_warned_of called.c unused
+done << 'END'
+ldvbi_read_line(1, 1, 2, samples, 1820, reading)
+ldvbi_read_rows(1, 1, 2, samples, 5460, readings)
+ldvbi_read_field(1, 1, 2, samples, 478660, readings)
+ldvbi_read_fields(1, 1, 2, samples, 478660, readings, 1)
+ldvbi_read_fields(1, 1, 2, NULL, 0, NULL, 0)
+ldvbi_classify(0xF12345, code)
+ldvbi_format(0, 0xF12345, 0, format)
+ldvbi_draw_line(1, 1, 2, 0xF12345, drawn, 1820)
+END
+while read -r call; do
+    called_as "return $call"
+    check "$call: a pointer that is null is warned of" is_warned_of called.c null
+done << 'END'
+ldvbi_read_line(1, 1, 2, samples, 1820, NULL)
+ldvbi_read_rows(1, 1, 2, samples, 5460, NULL)
+ldvbi_read_field(1, 1, 2, samples, 478660, NULL)
+ldvbi_classify(0xF12345, NULL)
+ldvbi_format(0, 0xF12345, 0, NULL)
+END
+finish
