@@ -121,8 +121,8 @@ fn shows_what_was_drawn(rt: HostRuntime) -> Result<(), Fail> {
     Ok(())
 }
 
-/// The bytes of a line that there are, after how many of them the reader fails, the bytes that the writer takes before it
-/// fails, and how `line` ends.
+/// The system, the bytes that there are of its line, after how many of them the reader fails, the bytes that the writer
+/// takes before it fails, and how `line` ends.
 const LINES: [(System, usize, Option<usize>, Option<usize>, AppFault); 4] = [
     (
         System::Ntsc,
