@@ -1,5 +1,5 @@
-//! Jobs over memory: what metadata and options settle, what is written, how the command `line` ends, and the texts of the
-//! faults.
+//! Jobs over memory: what metadata and options settle, what is written, how the command `line` ends, and the texts of
+//! the faults.
 
 use crate::asserts::{ends, same, writes};
 use crate::known::{black_stream, drawn_line, front, stored_line};
