@@ -1,26 +1,15 @@
 -- What a run's clause says besides.
-use Rattle.std.proofs.Common.{◌≢◌, ℕ, List, Option, Result, Ok, Err, IfOk}
+use Rattle.std.proofs.Common.{ℕ, List, Option, Result, Ok, Err, IfOk}
 use Rattle.vbi_field.specs.ConfigView.{ConfigView}
 use Rattle.vbi_field.specs.Extracts.{Extracts}
 use Rattle.vbi_field.specs.Kinds.{document}
 use Rattle.vbi_field.specs.Ran.{Counts, Ran}
-use Rattle.vbi_field.specs.Texts.{Texts}
 use Rattle.vbi_field.specs.declared.summary.RunFault.{RunFault}
-use Rattle.vbi_field.specs.declared.summary.RunFault.TheVariants.{Read, Write, TooManyFields, Failed}
 use Rattle.vbi_field.specs.declared.summary.Summary.{Summary}
 use Rattle.vbi_meta.proofs.DocumentReadings.{extracted}
 use Rattle.vbi_meta.specs.DocumentValue.{IsConfig}
 use Rattle.vbi_meta.specs.ReadBack.{ReadsBack}
 use Rattle.vbi_cli.specs.Jobs.{ExtractsWords}
-
--- a run doesn't answer `Failed`
-pub never_failed : (t : Texts) (c : ConfigView) (input : Option (List ℕ)) (n : Counts) (r : Result Summary RunFault)
-    (z text : List ℕ) → Extracts t c input n r z text → r ≢ Err Failed
-never_failed t c input n (Ok s) z text says is = cc
-never_failed t c input n (Err (Read field offset)) z text says is = cc
-never_failed t c input n (Err (Write written)) z text says is = cc
-never_failed t c input n (Err TooManyFields) z text says is = cc
-never_failed t c input n (Err Failed) z text says is = absurd says
 
 -- where a run of `extract` ended Ok, what a reader of JSON finds in its text are the words that the lines show
 read_back : (c : ConfigView) (input : Option (List ℕ)) (n : Counts) (result : Result Summary RunFault)

@@ -33,8 +33,8 @@ type End = Result<Ended, AppFault>;
 const WHOLE: End = Ok(Ended::Whole);
 
 /// The limit and the text of words, after how many of its bytes the reader fails, how the run ends, the fields that are
-/// written, and the reads: one for each byte, and one for the end or the fault; up to the newline of a malformed row, or
-/// a byte past the limit.
+/// written, and the reads: one for each byte up to the newline of a malformed row or the byte past the limit, or else
+/// for all bytes and one for the end or the fault.
 const ROWS: [(Option<u32>, &[u8], Option<usize>, End, &[Words], u64); 12] = [
     (None, b"", None, WHOLE, &[], 1),
     (

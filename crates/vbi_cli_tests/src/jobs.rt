@@ -1,5 +1,5 @@
-//! Jobs over memory: what metadata and options settle, what is written, how the command `line` ends, and the texts of the
-//! faults.
+//! Jobs over memory: what metadata and options settle, what is written, how the command `line` ends, and the texts of
+//! the faults.
 
 use crate::asserts::{ends, same, writes};
 use crate::known::{black_stream, drawn_line, front, stored_line};
@@ -121,8 +121,8 @@ fn shows_what_was_drawn(rt: HostRuntime) -> Result<(), Fail> {
     Ok(())
 }
 
-/// The bytes of a line that there are, after how many of them the reader fails, the bytes that the writer takes before it
-/// fails, and how `line` ends.
+/// The system, the bytes that there are of its line, after how many of them the reader fails, the bytes that the writer
+/// takes before it fails, and how `line` ends.
 const LINES: [(System, usize, Option<usize>, Option<usize>, AppFault); 4] = [
     (
         System::Ntsc,

@@ -1,5 +1,5 @@
-//! Large metadata: two million bytes of a list of fields are read, and where they are no JSON this is said and nothing is
-//! read or written.
+//! Large metadata: two million bytes of a list of fields are read, and where they are no JSON this is said and the
+//! devices aren't asked.
 
 use crate::asserts::{ends, same, writes};
 use crate::jobs::BLACK_FIELD;
