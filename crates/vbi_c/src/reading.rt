@@ -6,7 +6,7 @@ ghost use Rattle.vbi_c.specs.Readings.{outcome_for_c, line_reading, ReportsLine}
 
 use crate::setup::Setup;
 use std::mem::size_of;
-use vbi_line::{read_packed_twice, slice_bytes};
+use vbi_line::read_bytes_twice;
 use vbi_words::Outcome;
 
 /// What a line shows: its word, or the cause for which it has none.
@@ -63,7 +63,6 @@ pub(crate) fn read_bytes(setup: &Setup, bytes: &[u8]) -> LdvbiReading
     ensures value { result ≡ line_reading setup.now bytes.now }
     ensures reports { ReportsLine setup.now bytes.now result }
 {
-    let packed = slice_bytes(bytes, setup.system, setup.levels);
-    let reading = read_packed_twice(&packed, setup.system);
+    let reading = read_bytes_twice(bytes, setup.system, setup.levels);
     outcome_for_c(reading.outcome, reading.pass)
 }

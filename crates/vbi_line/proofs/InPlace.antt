@@ -1,7 +1,7 @@
 -- The bits of samples that lie in a row's bytes, and the levels that they are.
-use Rattle.std.proofs.Common.{◌≡◌, ℕ, ◌+◌, ◌-◌, ◌*◌, ◌%◌, ◌^◌, ◌<◌, ◌≤◌, inl, inr, Bool, false, nat_lt}
+use Rattle.std.proofs.Common.{◌≡◌, ℕ, ◌+◌, ◌-◌, ◌*◌, ◌/◌, ◌%◌, ◌^◌, ◌<◌, ◌≤◌, inl, inr, Bool, false, nat_eq, nat_lt}
 use Rattle.std.proofs.Common.{List, ◌++◌, length, length-append, get_or, ap, sym, ◌∙◌, arith, lit<}
-use Rattle.std.proofs.Math.Nat.{mod-eq_of_lt, mul-lt-mul_of_pos_right, pow-le-pow_right}
+use Rattle.std.proofs.Math.Nat.{mod-eq_of_lt, mul-lt-mul_of_pos_right, pow-le-pow_right, div-lt_iff_lt-mul}
 use Rattle.std.proofs.lemmas.Bool.{cases_lt}
 use Rattle.std.proofs.lemmas.List.{get_or-map}
 use Rattle.std.proofs.lemmas.List.FromFn.{get_or-map-range_with_len, length-map-range_with_len}
@@ -10,7 +10,7 @@ use Rattle.std.proofs.lemmas.Nat.Bits.{bit_at_above}
 use Rattle.vbi_words.specs.Levels.{LevelsView, is_high_of, level_at}
 use Rattle.vbi_line.specs.Line.{sample_at}
 use Rattle.vbi_line.specs.Packing.{level_of_bit, levels_in, TellsAbove}
-use Rattle.vbi_line.proofs.Packs.{joined, joined_below, joined_inside}
+use Rattle.vbi_line.proofs.Packs.{bit_behind, joined, joined_below, joined_inside}
 use Rattle.vbi_line.proofs.Slicing.{Sliced, above, sliced_more}
 
 -- ---- more bits behind those of the first samples
@@ -55,6 +55,23 @@ block_tells low bytes column samples bits long each are i l =
     sym bit ∙ ap (λ (t : List Bool). level_at t i) are
     ∙ get_or-map (λ sample. nat_lt low sample) samples i 0 false (omega (arith, long))
     ∙ ap (λ (sample : ℕ). nat_lt low sample) (each i l)
+
+-- the last bits of a block that ends with its samples
+pub last_tells : (low : ℕ) (bytes : List ℕ) (column count bits : ℕ) → 16 ≤ column + count → count < 16
+    → TellsAbove low bytes (column + count - 16) 16 bits → TellsAbove low bytes column count (bits / 2 ^ (16 - count))
+last_tells low bytes column count bits block few tells i l =
+    let skipped : ℕ = 16 - count in
+    let place : (column + count - 16) + (skipped + i) ≡ column + i = omega arith in
+    ap (λ (b : ℕ). nat_eq b 1) (bit_behind bits skipped i) ∙ tells (skipped + i) (omega arith)
+    ∙ ap (λ (k : ℕ). nat_lt low (sample_at bytes k)) place
+
+-- no bit is left above them
+pub last-lt : (count bits : ℕ) → count < 16 → bits < 2 ^ 16 → bits / 2 ^ (16 - count) < 2 ^ count
+last-lt count bits few small =
+    let skipped : ℕ = 16 - count in
+    let whole : count + skipped ≡ 16 = omega arith in
+    let product : 2 ^ count * 2 ^ skipped ≡ 2 ^ 16 = sym (pow-add 2 count skipped) ∙ ap (λ (n : ℕ). 2 ^ n) whole in
+    (div-lt_iff_lt-mul (pow_pos skipped)).1 (omega (arith, product))
 
 -- ---- levels of a word behind those of the samples before a column
 

@@ -6,6 +6,7 @@ use Rattle.std.specs.List.{range_with_len}
 use Rattle.std.specs.Int.{bit_at}
 use Rattle.std.proofs.Math.ListN.{set, get_or}
 use Rattle.std.proofs.Math.Nat.{mod-eq_of_lt, mul-lt-mul_of_pos_right, pow-le-pow_right, max-zero, zero-max}
+use Rattle.std.proofs.Math.Nat.{div-div-eq-div-mul}
 use Rattle.std.proofs.lemmas.Nat.{pow-add, pow_pos}
 use Rattle.std.proofs.lemmas.Bool.{eqb-false, cases_eq}
 use Rattle.std.proofs.lemmas.List.{get_or-set_same, get_or-set_other}
@@ -21,6 +22,11 @@ low_bit n i e = let l = bit_at-lt n i in let ne = eqb-false (bit_at n i) 1 e in 
 
 pub bit_low : (n i : ℕ) → bit_at n i ≡ 0 → level_of_bit n i ≡ false
 bit_low n i e = ap (λ (x : ℕ). nat_eq x 1) e
+
+-- the bits of a word from a place on
+pub bit_behind : (word place i : ℕ) → bit_at (word / 2 ^ place) i ≡ bit_at word (place + i)
+bit_behind word place i = ap (λ (x : ℕ). x % 2)
+    (div-div-eq-div-mul word (2 ^ place) (2 ^ i) ∙ ap (λ (x : ℕ). word / x) (sym (pow-add 2 place i)))
 
 -- ---- lists of levels
 

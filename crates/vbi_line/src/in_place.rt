@@ -1,6 +1,6 @@
 //! Slicing a line into levels where its bytes lie, without a buffer of its own.
 
-ghost use Rattle.std.specs.Prelude.{◌≡◌, ℕ, ◌+◌, ◌*◌, ◌^◌, ◌<◌, ◌≤◌, length, slice_index};
+ghost use Rattle.std.specs.Prelude.{◌≡◌, ℕ, ◌+◌, ◌*◌, ◌^◌, ◌<◌, ◌≤◌, [], length, slice_index};
 ghost use Rattle.vbi_words.specs.Geometry.{width_of, line_bytes};
 ghost use Rattle.vbi_words.specs.Levels.{row_levels};
 ghost use Rattle.vbi_line.specs.Line.{sample_at};
@@ -35,22 +35,17 @@ fn block_bits_at(bytes: &[u8], column: usize, low: u16) -> u64
     bits_above(samples, low)
 }
 
-/// The sample at a column.
-fn sample_of(bytes: &[u8], column: usize) -> u16
-    requires { 2 * column + 2 ≤ length bytes.now }
-    ensures { result ≡ sample_at bytes.now column }
+/// The bits of the last samples before a whole block's end, fewer than sixteen, the lowest for the first: set where the
+/// sample is above `low`.
+// They are the last of a block that ends with them; it has the samples before them too.
+fn last_bits_at(bytes: &[u8], column: usize, count: usize, low: u16) -> u64
+    requires inside { 2 * (column + count) ≤ length bytes.now }
+    requires block { 16 ≤ column + count }
+    requires few { count < 16 }
+    ensures levels { TellsAbove low bytes.now column count result }
+    ensures range { result < 2 ^ count }
 {
-    LittleEndian::read_u16(&bytes[2 * column..])
-}
-
-/// One bit for the sample at a column: set where the sample is above `low`.
-fn bit_at(bytes: &[u8], column: usize, low: u16) -> u64
-    requires { 2 * column + 2 ≤ length bytes.now }
-    ensures levels { TellsAbove low bytes.now column 1 result }
-    ensures range { result < 2 ^ 1 }
-{
-    let sample = sample_of(bytes, column);
-    if sample > low { 1 } else { 0 }
+    block_bits_at(bytes, column + count - LANES, low) >> (LANES - count)
 }
 
 /// One bit for each of `count` samples of a line's bytes from a column on, the lowest bit for the first: set where the
@@ -59,6 +54,7 @@ fn bit_at(bytes: &[u8], column: usize, low: u16) -> u64
 #[inline(always)]
 fn bits_at(bytes: &[u8], column: usize, count: usize, low: u16) -> u64
     requires inside { 2 * (column + count) ≤ length bytes.now }
+    requires block { 16 ≤ column + count }
     requires few { count ≤ 64 }
     ensures levels { TellsAbove low bytes.now column count result }
     ensures range { result < 2 ^ count }
@@ -69,23 +65,22 @@ fn bits_at(bytes: &[u8], column: usize, count: usize, low: u16) -> u64
         bits |= block_bits_at(bytes, column + done, low) << done;
         done += LANES;
     }
-    'samples: while done < count {
-        bits |= bit_at(bytes, column + done, low) << done;
-        done += 1;
+    if done < count {
+        bits |= last_bits_at(bytes, column + done, count - done, low) << done;
     }
     bits
 }
 
-/// The levels of a line's bytes, two for each sample, the low one first. Each sample is looked at once; nothing counts
-/// that.
-pub fn slice_bytes(bytes: &[u8], system: System, slicing: Levels) -> Packed
-    requires { length bytes.now ≡ line_bytes system }
-    ensures levels { result ≡ row_levels slicing bytes.now }
-    ensures width { length result ≡ width_of system }
+/// Adds the levels of a line's bytes, two for each sample, the low one first.
+// Into a line of bits that the caller has, since one that is returned would be copied.
+pub(crate) fn slice_into(packed: &mut Packed, bytes: &[u8], system: System, slicing: Levels)
+    requires empty { packed.old ≡ [] }
+    requires bytes { length bytes.now ≡ line_bytes system }
+    ensures levels { packed.new ≡ row_levels slicing bytes.now }
+    ensures width { length packed.new ≡ width_of system }
 {
     let low = greatest_low(slicing);
     let width = system.width();
-    let mut packed = Packed::new();
     let mut column: usize = 0;
     while width - column >= WORD {
         packed.push(bits_at(bytes, column, WORD, low), WORD);
@@ -95,5 +90,16 @@ pub fn slice_bytes(bytes: &[u8], system: System, slicing: Levels) -> Packed
     if rest > 0 {
         packed.push(bits_at(bytes, column, rest, low), rest);
     }
+}
+
+/// The levels of a line's bytes, two for each sample, the low one first. A sample is looked at once or twice; nothing
+/// counts that.
+pub fn slice_bytes(bytes: &[u8], system: System, slicing: Levels) -> Packed
+    requires { length bytes.now ≡ line_bytes system }
+    ensures levels { result ≡ row_levels slicing bytes.now }
+    ensures width { length result ≡ width_of system }
+{
+    let mut packed = Packed::new();
+    slice_into(&mut packed, bytes, system, slicing);
     packed
 }

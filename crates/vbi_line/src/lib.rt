@@ -4,7 +4,7 @@
 //! as the definitions of `vbi_words` say; where a line shows no word, the outcome names the first hopeless column. The
 //! module `laws` says that each line has exactly one outcome and one reading. Bytes fetched, samples looked at and
 //! failed calls of the reader are counted. No sample of a line is looked at more than twice, and nothing allocates. For
-//! callers that have a line's bytes and need no counts there are `slice_bytes` and `read_packed_twice`.
+//! callers that have a line's bytes and need no counts there are `slice_bytes` and `read_bytes_twice`.
 #![tactic(auto)]
 
 mod counted;
@@ -26,4 +26,4 @@ pub use lanes::slice_lanes;
 pub use line::LineBuf;
 pub use outcome::{read_line, read_packed};
 pub use packed::Packed;
-pub use reading::{read_packed_twice, read_twice};
+pub use reading::{read_bytes_twice, read_packed_twice, read_twice};

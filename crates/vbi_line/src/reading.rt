@@ -1,7 +1,7 @@
 //! The reading of a line: its outcome, or the word that its smoothed levels show.
 
 ghost use Rattle.std.specs.Prelude.{◌≡◌, ◌+◌, ◌^◌, ◌<◌, ◌≤◌, [], ◌∷◌, length, IfSome, IfNone};
-ghost use Rattle.vbi_words.specs.Geometry.{width_of};
+ghost use Rattle.vbi_words.specs.Geometry.{width_of, line_bytes};
 ghost use Rattle.vbi_words.specs.Levels.{row_levels};
 ghost use Rattle.vbi_words.specs.Readings.{IsReading};
 ghost use Rattle.vbi_words.specs.Shows.{Shows, ShowsNone};
@@ -10,6 +10,7 @@ ghost use Rattle.vbi_line.specs.Line.{IsFull, KeepsBytes};
 ghost use Rattle.vbi_line.specs.OneReading.{reading_of};
 
 use crate::decoder::Decoder;
+use crate::in_place::slice_into;
 use crate::lanes::slice_lanes;
 use crate::line::LineBuf;
 use crate::outcome::read_packed;
@@ -33,6 +34,18 @@ pub fn read_twice(line: &mut LineBuf, system: System, slicing: Levels) -> Readin
     ensures looked { line.new.looked ≡ line.old.looked + width_of system }
 {
     let packed = slice_lanes(line, slicing);
+    read_packed_twice(&packed, system)
+}
+
+/// The reading of a line's bytes, two for each sample, the low one first. Columns in it are counted from 0. Nothing
+/// counts how often a sample is looked at.
+pub fn read_bytes_twice(bytes: &[u8], system: System, slicing: Levels) -> Reading
+    requires { length bytes.now ≡ line_bytes system }
+    ensures reading { IsReading system (row_levels slicing bytes.now) result }
+    ensures same { result ≡ reading_of system (row_levels slicing bytes.now) }
+{
+    let mut packed = Packed::new();
+    slice_into(&mut packed, bytes, system, slicing);
     read_packed_twice(&packed, system)
 }
 

@@ -11,13 +11,3 @@ invariant-lanes l = record {
 
 abbrev pub decreases-lanes : goal.decreases-lanes
 decreases-lanes l = l.count - l.done
-
-abbrev pub invariant-samples : goal.invariant-samples
-invariant-samples l = record {
-  inside : l.done ≤ l.count;
-  levels : TellsAbove l.low l.bytes l.column l.done l.bits;
-  range : l.bits < 2 ^ l.done;
-}
-
-abbrev pub decreases-samples : goal.decreases-samples
-decreases-samples l = l.count - l.done

@@ -1,7 +1,7 @@
 use Rattle.std.proofs.Common.{◌≡◌, ◌-◌, ◌%◌, ◌≤◌, length}
 use Rattle.vbi_words.specs.Geometry.{width_of}
 use Rattle.vbi_line.proofs.Slicing.{Sliced}
-use Rattle.vbi_line.proofs.in_place.slice_bytes.Given as goal
+use Rattle.vbi_line.proofs.in_place.slice_into.Given as goal
 
 abbrev pub invariant-loop-column : goal.invariant-loop-column
 invariant-loop-column l = record {

@@ -3,7 +3,7 @@ use Rattle.vbi_words.specs.Geometry.{width_of}
 use Rattle.vbi_line.proofs.InPlace.{length_with_word, sliced_with_word}
 use Rattle.vbi_line.proofs.Sizes.{line_bytes-twice}
 use Rattle.vbi_line.proofs.Slicing.{Sliced, sliced_all}
-use Rattle.vbi_line.proofs.in_place.slice_bytes.Goals as goal
+use Rattle.vbi_line.proofs.in_place.slice_into.Goals as goal
 
 pub loop-column-preserved : goal.loop-column-preserved
 loop-column-preserved c =
@@ -34,7 +34,7 @@ returns-then-rest-gt0-clause-levels c =
     let longer : length all ≡ old.column + rest
     = ap length is ∙ length_with_word old.packed old.column rest bits.result count in
     let long : length all ≡ width_of system = omega (arith, longer, old.invariant.inside, c.width-width.ensures) in
-    sliced_all c.args.slicing bytes all (width_of system) (c.requires ∙ line_bytes-twice system) long
+    sliced_all c.args.slicing bytes all (width_of system) (c.requires.bytes ∙ line_bytes-twice system) long
     (subst (Sliced c.args.slicing bytes) (sym is) sliced)
 
 pub returns-else-rest-gt0-clause-levels : goal.returns-else-rest-gt0-clause-levels
@@ -43,5 +43,5 @@ returns-else-rest-gt0-clause-levels c =
     let system = c.args.system in
     let long : length now.packed ≡ width_of system
     = omega (arith, now.invariant.count, now.invariant.inside, c.if-rest-gt0.false, c.width-width.ensures) in
-    sliced_all c.args.slicing c.args.bytes.now now.packed (width_of system) (c.requires ∙ line_bytes-twice system) long
+    sliced_all c.args.slicing c.args.bytes.now now.packed (width_of system) (c.requires.bytes ∙ line_bytes-twice system) long
     now.invariant.sliced
