@@ -1,7 +1,9 @@
 pub mod Causes
+pub mod Changes
 pub mod Ending
 pub mod FillSteps
 pub mod InPlace
+pub mod Middles
 pub mod OneOutcome
 pub mod OneReading
 pub mod PackedRuns
@@ -15,3 +17,4 @@ pub mod Slicing
 pub mod SmoothRuns
 pub mod Steps
 pub mod StoreMemory
+pub mod Windows

@@ -43,7 +43,7 @@ last_level system state v (suc k) some alive =
 
 module _ {levels : List Bool} {column : ℕ} {v : Bool} {count : ℕ} (run : IsRun levels column v count) where
   -- the levels up to a place in the run
-  run_levels : (k : ℕ) → k ≤ count → take (column + k) levels ≡ take column levels ++ replicate k v
+  pub run_levels : (k : ℕ) → k ≤ count → take (column + k) levels ≡ take column levels ++ replicate k v
   run_levels zero l = ap (λ (j : ℕ). take j levels) (add-zero column) ∙ sym (append-nil (take column levels))
   run_levels (suc k) l =
       let place : column + suc k ≡ (column + k) + 1 = omega arith in

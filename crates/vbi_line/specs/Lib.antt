@@ -10,3 +10,4 @@ pub mod PackedView
 pub mod Packing
 pub mod Runs
 pub mod StoreLends
+pub mod Straight

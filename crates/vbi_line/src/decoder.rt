@@ -40,7 +40,7 @@ pub(crate) enum Decoder {
 
 /// These bits with one more at the end.
 #[tactic(auto, using(crate::proofs::Steps::steps))]
-fn with_bit(cells: u32, bits: u32, bit: bool) -> u32
+pub(crate) fn with_bit(cells: u32, bits: u32, bit: bool) -> u32
     requires cells { cells < 24 }
     requires bits { bits < 2 ^ cells }
     ensures list { lowest_bits (cells + 1) result ≡ lowest_bits cells bits ++ bit ∷ [] }
@@ -66,7 +66,7 @@ fn begin_second(level: bool, cells: u32, bits: u32) -> Decoder
 }
 
 /// The word of these bits.
-fn word_of(bits: u32) -> Word24
+pub(crate) fn word_of(bits: u32) -> Word24
     requires { IsWord bits }
     ensures { result ≡ bits }
 {

@@ -18,6 +18,7 @@ mod outcome;
 mod packed;
 mod reading;
 mod store;
+mod straight;
 
 pub use counted::{Counted, Fail, RETRIES};
 pub use in_place::slice_bytes;

@@ -11,6 +11,7 @@ use crate::decoder::Decoder;
 use crate::lanes::slice_lanes;
 use crate::line::LineBuf;
 use crate::packed::Packed;
+use crate::straight::straight_word;
 use vbi_words::{Levels, Outcome, System};
 
 /// The outcome of a line of this system that is held whole, by one pass over its samples. Columns in it are counted
@@ -38,7 +39,10 @@ pub fn read_packed(packed: &Packed, system: System) -> Outcome
     ensures outcome { IsOutcome system packed.now result }
     ensures same { result ≡ outcome_of system packed.now }
 {
-    read_runs(packed, system)
+    match straight_word(packed, system) {
+        Some(word) => Outcome::Word(word),
+        None => read_runs(packed, system),
+    }
 }
 
 /// The cause at the first hopeless column, which is this number of columns behind the first column of its run.

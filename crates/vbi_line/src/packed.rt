@@ -1,8 +1,8 @@
 //! A line's levels as bits.
 
-ghost use Rattle.std.specs.Prelude.{◌≡◌, ◌+◌, ◌-◌, ◌^◌, ◌<◌, ◌≤◌, ◌%◌, [], ◌++◌, length};
+ghost use Rattle.std.specs.Prelude.{◌≡◌, ℕ, ◌+◌, ◌-◌, ◌^◌, ◌<◌, ◌≤◌, ◌%◌, [], ◌++◌, length};
 ghost use Rattle.vbi_words.specs.Levels.{level_at};
-ghost use Rattle.vbi_line.specs.Packing.{levels_in, EqualBits};
+ghost use Rattle.vbi_line.specs.Packing.{level_of_bit, levels_in, EqualBits};
 ghost use Rattle.vbi_line.specs.Runs.{IsRun};
 
 use std::marker::Model;
@@ -27,7 +27,7 @@ impl Model for Packed {
 }
 
 /// How many bits of the word have this level, from a place on up to the first that has the other.
-fn equal_bits(word: u64, place: usize, level: bool) -> usize
+pub(crate) fn equal_bits(word: u64, place: usize, level: bool) -> usize
     requires { place < 64 }
     ensures { EqualBits word place level result }
 {
@@ -79,6 +79,20 @@ impl Packed {
         self.words[column / 64] >> (column % 64) & 1 == 1
     }
 
+    /// The levels of 64 columns from this one on, the lowest bit for the first; those past the line's end are low.
+    pub(crate) fn window(&self, column: usize) -> u64
+        requires { column ≤ 1088 }
+        ensures { (i : ℕ) → i < 64 → level_of_bit result i ≡ level_at self.now (column + i) }
+    {
+        let place = column % 64;
+        let here = self.words[column / 64] >> place;
+        if place == 0 {
+            here
+        } else {
+            here | self.words[column / 64 + 1] << (64 - place)
+        }
+    }
+
     /// The level of a column, counted from 0, and how many columns have it from there on, that column included.
     pub fn next_run(&self, column: usize) -> (bool, u16)
         requires { column < length self.now }
@@ -99,10 +113,11 @@ impl Packed {
         while end < self.width {
             let place = end % 64;
             let equal = equal_bits(self.words[end / 64], place, level);
-            end += equal;
             if place + equal < 64 {
-                return end.min(self.width);
+                return (end + equal).min(self.width);
             }
+            // The next word's first column, by the place, so that the next search needn't wait for this one's count.
+            end = end - place + 64;
         }
         self.width
     }

@@ -1,4 +1,4 @@
-use Rattle.std.proofs.Common.{arith, ap, sym, ◌∙◌, ◌≡◌, ◌<◌, ℕ, List, Bool}
+use Rattle.std.proofs.Common.{arith, ap, sym, ◌∙◌, ◌≡◌, ◌<◌, ◌+◌, ◌-◌, ◌%◌, ℕ, List, Bool}
 use Rattle.vbi_words.specs.Levels.{level_at}
 use Rattle.vbi_line.specs.Packing.{packed_level, unpacked}
 use Rattle.vbi_line.proofs.Packs.{length-unpacked, level_unpacked}
@@ -47,7 +47,10 @@ loop-end-preserved c =
       each = now.invariant.each;
       bits = c.equal_bits-equal.ensures;
     } in
-    record { from = omega arith; each = each_on so_far }
+    let whole : now.end % 64 + c.equal_bits-equal.result ≡ 64
+    = omega (arith, c.if-place-equal-lt64.false, so_far.bits.inside) in
+    let next : now.end + c.equal_bits-equal.result ≡ now.end - now.end % 64 + 64 = omega (arith, whole) in
+    record { from = omega arith; each = λ i l. each_on so_far i (omega (arith, next)) }
 
 pub returns-clause-run : goal.returns-clause-run
 returns-clause-run c =
