@@ -15,7 +15,7 @@ use vbi_words::{Levels, System};
 const WORD: usize = 64;
 
 /// Sixteen samples of a line's bytes, from a column on.
-fn block_at(bytes: &[u8], column: usize) -> [u16; 16]
+pub(crate) fn block_at(bytes: &[u8], column: usize) -> [u16; 16]
     requires { 2 * column + 32 ≤ length bytes.now }
     ensures long { length result ≡ 16 }
     ensures each { (k : ℕ) → k < 16 → slice_index result k ≡ sample_at bytes.now (column + k) }

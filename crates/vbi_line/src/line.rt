@@ -4,6 +4,7 @@ ghost use Rattle.std.specs.Prelude.{◌≡◌, ◌+◌, ◌*◌, ◌^◌, ◌<�
 ghost use Rattle.std.specs.Borrow.{sem};
 ghost use Rattle.vbi_words.specs.Geometry.{width_of, line_bytes};
 
+use crate::in_place::block_at;
 use crate::store::LineBytes;
 use byteorder::{ByteOrder, LittleEndian};
 use std::marker::Model;
@@ -150,9 +151,7 @@ impl LineBuf {
         if width - self.cursor < 16 {
             return None;
         }
-        let at = 2 * self.cursor;
-        let mut block = [0; 16];
-        LittleEndian::read_u16_into(&self.store.bytes[at..at + 32], &mut block);
+        let block = block_at(&self.store.bytes, self.cursor);
         self.cursor += 16;
         self.looked += 16;
         Some(block)

@@ -25,7 +25,6 @@ loop-cells-preserved c =
     let columns = c.in-Some.columns in
     let here : level_at levels old.column ≡ c.first_level.result
     = ap (level_at levels) (omega arith) ∙ sym (c.window-window.ensures 0 (omega arith)) ∙ sym c.first_level.ensures in
-    let before : List Bool = lowest_bits old.cells old.bits ++ level_at levels old.column ∷ [] in
     let bits : lowest_bits old.cells old.bits ++ level_at levels old.column ∷ []
     ≡ lowest_bits (old.cells + 1) c.with_bit-bits.result
     = ap (λ (x : Bool). lowest_bits old.cells old.bits ++ x ∷ []) here ∙ sym c.with_bit-bits.ensures.list in
