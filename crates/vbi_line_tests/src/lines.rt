@@ -7,8 +7,8 @@ use crate::asserts::{holds, same};
 use crate::cases::{Case, RUNS, Shape, TURNED, Told, WORDS};
 use byteorder::{ByteOrder, LittleEndian};
 use vbi_line::{
-    Filled, Intake, LineBuf, read_line, read_packed, read_packed_twice, read_twice, slice_bytes,
-    slice_lanes,
+    Filled, Intake, LineBuf, read_bytes_twice, read_line, read_packed, read_packed_twice, read_twice,
+    slice_bytes, slice_lanes,
 };
 use vbi_words::{Levels, Outcome, System, Word24, drawn_sample};
 
@@ -136,6 +136,14 @@ fn in_place(system: System, levels: Levels, samples: &[u16; 1135]) -> (Told, u8)
     (in_numbers(reading.outcome), reading.pass)
 }
 
+/// The same by one call.
+fn at_once(system: System, levels: Levels, samples: &[u16; 1135]) -> (Told, u8) {
+    let mut bytes = [0; 2270];
+    LittleEndian::write_u16_into(samples, &mut bytes);
+    let reading = read_bytes_twice(&bytes[..2 * system.width()], system, levels);
+    (in_numbers(reading.outcome), reading.pass)
+}
+
 /// The outcome, and the reading with its pass, as an intake gives them of the line's bytes.
 fn by_intake(system: System, levels: Levels, samples: &[u16; 1135]) -> Option<(Told, (Told, u8))> {
     let mut bytes = [0; 2270];
@@ -171,6 +179,7 @@ pub(crate) fn is_told(case: &Case) -> bool {
         && by_bits(case.system, levels, &samples) == outcome
         && reading(case.system, levels, &samples) == case.reading
         && in_place(case.system, levels, &samples) == case.reading
+        && at_once(case.system, levels, &samples) == case.reading
         && by_intake(case.system, levels, &samples) == Some((outcome, case.reading))
 }
 
