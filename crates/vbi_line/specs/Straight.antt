@@ -30,7 +30,8 @@ IsOneRun system word columns =
 -- two runs of one half cell each, the first of which is this long
 abbrev pub IsTwoRuns : System → ℕ → ℕ → ℕ → Type 0
 IsTwoRuns system word first columns =
-    IsBitRun word 0 first × IsHalf system first × IsBitRun word first (columns - first) × IsHalf system (columns - first)
+    IsBitRun word 0 first × IsHalf system first
+    × IsBitRun word first (columns - first) × IsHalf system (columns - first)
 
 -- the word's first bit is the first behind the middle of a cell, and after so many comes the middle of the next
 abbrev pub ReachesMiddle : System → ℕ → ℕ → Type 0

@@ -43,5 +43,5 @@ returns-else-rest-gt0-clause-levels c =
     let system = c.args.system in
     let long : length now.packed ≡ width_of system
     = omega (arith, now.invariant.count, now.invariant.inside, c.if-rest-gt0.false, c.width-width.ensures) in
-    sliced_all c.args.slicing c.args.bytes.now now.packed (width_of system) (c.requires.bytes ∙ line_bytes-twice system) long
-    now.invariant.sliced
+    sliced_all c.args.slicing c.args.bytes.now now.packed (width_of system)
+    (c.requires.bytes ∙ line_bytes-twice system) long now.invariant.sliced

@@ -1,4 +1,5 @@
-use Rattle.std.proofs.Common.{◌≡◌, ◌+◌, ◌<◌, Bool, List, true, [], ◌∷◌, ◌++◌, length, length-append, sym, ap, subst, ◌∙◌, arith}
+use Rattle.std.proofs.Common.{◌≡◌, ◌+◌, ◌<◌, Bool, List, true, [], ◌∷◌, ◌++◌}
+use Rattle.std.proofs.Common.{length, length-append, sym, ap, subst, ◌∙◌, arith}
 use Rattle.vbi_words.specs.Levels.{level_at}
 use Rattle.vbi_words.specs.Words.{lowest_bits}
 use Rattle.vbi_words.proofs.Bits.{length-lowest_bits}

@@ -19,7 +19,10 @@ returns-then-end-rest c =
       later = c.equal_bits-rest.ensures;
       is_end = subst (λ (m : ℕ). ((1 + first ≤ m) × (end ≡ 1 + first)) ⊎ ((m < 1 + first) × (end ≡ (m + 1 + far) / 2)))
           most.ensures c.cell_end-end.ensures;
-      half = (omega (arith, c.if-least-end.true, c.half_min-least.ensures), omega (arith, c.if-end-most.true, most.ensures));
+      half = (
+        omega (arith, c.if-least-end.true, c.half_min-least.ensures),
+        omega (arith, c.if-end-most.true, most.ensures),
+      );
       other_half = (
         omega (arith, c.if-least-rest.true, c.half_min-least.ensures),
         omega (arith, c.if-rest-most.true, most.ensures),

@@ -1,4 +1,5 @@
-use Rattle.std.proofs.Common.{arith, ap, sym, ◌∙◌, ◌≡◌, ◌<◌, ◌≤◌, ◌+◌, ◌/◌, ◌%◌, ◌^◌, ◌++◌, ℕ, List, Bool, false, length}
+use Rattle.std.proofs.Common.{arith, ap, sym, ◌∙◌, ◌≡◌, ◌<◌, ◌≤◌, ◌+◌, ◌/◌, ◌%◌, ◌^◌, ◌++◌}
+use Rattle.std.proofs.Common.{ℕ, List, Bool, false, length}
 use Rattle.std.proofs.lemmas.List.{length-set}
 use Rattle.vbi_line.specs.Packing.{levels_in, packed_level, unpacked}
 use Rattle.vbi_line.proofs.Packs.{HasRoom, length-unpacked, pushed_rest, pushed_levels}

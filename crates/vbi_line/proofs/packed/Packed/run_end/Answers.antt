@@ -1,4 +1,5 @@
-use Rattle.std.proofs.Common.{arith, ap, sym, ◌∙◌, ◌≡◌, ◌<◌, ◌≤◌, ◌+◌, ◌-◌, ◌/◌, ◌%◌, ℕ, List, Bool, length, slice_index}
+use Rattle.std.proofs.Common.{arith, ap, sym, ◌∙◌, ◌≡◌, ◌<◌, ◌≤◌, ◌+◌, ◌-◌, ◌/◌, ◌%◌}
+use Rattle.std.proofs.Common.{ℕ, List, Bool, length, slice_index}
 use Rattle.vbi_words.specs.Levels.{level_at}
 use Rattle.vbi_line.specs.Packing.{packed_level, unpacked, EqualBits}
 use Rattle.vbi_line.proofs.Packs.{length-unpacked, level_unpacked}
