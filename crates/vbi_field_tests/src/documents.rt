@@ -3,7 +3,7 @@
 use crate::fields::Line::{Black, Run, Scratched, Word};
 use crate::fields::{DRAWN, Lines, NONE, config, field, front, two_fields};
 use crate::known::{
-    BLACK, CUT, CUT_END, HEAD, PAL_HEAD, PAL_REPORT_HEAD, REPORT_BLACK, REPORT_HEAD,
+    BLACK, CUT, CUT_END, HEAD, PAL_HEAD, PAL_REPORT_HEAD, PAL_WORDS, REPORT_BLACK, REPORT_HEAD,
     REPORT_SECOND_BLACK, REPORT_TAIL, REPORT_WORDS, SECOND_BLACK, TAIL, WORDS,
 };
 use crate::runs::{Ended, Verb, answers, undisturbed, whole, writes};
@@ -44,7 +44,7 @@ const FIELDS: [(System, Lines, &str, &str); 11] = [
     (
         Pal,
         [Word(0x8AE012), Word(0x87FFFF), Word(0xF0DD00)],
-        r#"{"seqNo":1,"vbi":{"vbiData":[9101330,8912895,15785216]},"vbiCause":["word","word","word"],"vbiPass":[1,1,1]}"#,
+        PAL_WORDS,
         "field 1 clv\n16 8AE012 clv picture 00 12\n17 87FFFF clv\n18 F0DD00 time 0:00\n",
     ),
     (
@@ -114,65 +114,65 @@ fn a_field_has_its_record_and_its_part_of_the_report(rt: HostRuntime) -> Result<
 
 #[test]
 fn each_field_has_its_own_words(rt: HostRuntime) -> Result<(), Fail> {
-    let config = config(Ntsc, 5)?;
-    let stream = two_fields(rt.alloc(), &config, DRAWN)?;
-    let ended = whole(2, None, 5460);
-    let document = [HEAD, WORDS, SECOND_BLACK, TAIL];
-    let tail = "fields 2 cut none\n";
-    let report = [REPORT_HEAD, REPORT_WORDS, REPORT_SECOND_BLACK, tail];
-    writes_both(
-        rt.alloc(),
-        &config,
-        stream.as_slice(),
-        ended,
-        &document,
-        &report,
-    )
+    for system in [Ntsc, Pal] {
+        let config = config(system, 5)?;
+        let stream = two_fields(rt.alloc(), &config, DRAWN)?;
+        let stream = stream.as_slice();
+        let ended = whole(2, None, 6 * system.width() as u64);
+        let (head, report_head) = heads(system);
+        let document = [head, WORDS, SECOND_BLACK, TAIL];
+        let tail = "fields 2 cut none\n";
+        let report = [report_head, REPORT_WORDS, REPORT_SECOND_BLACK, tail];
+        writes_both(rt.alloc(), &config, stream, ended, &document, &report)?;
+    }
+    Ok(())
 }
 
-/// A system, black and white, and the heads of a document and of a report with these.
+/// A system, black and white, and what the heads of a document and of a report say of them.
 const HEADS: [(System, u16, u16, &str, &str); 4] = [
     (
         Ntsc,
         0,
         65535,
-        "{\"version\":2,\"videoParameters\":{\"system\":\"NTSC\",\"fieldWidth\":910,\"fieldHeight\":263,\
-         \"black16bIre\":0,\"white16bIre\":65535},\"fields\":[\n",
+        r#""black16bIre":0,"white16bIre":65535"#,
         "system NTSC 910x263 black 0 white 65535\n",
     ),
     (
         Ntsc,
         9,
         10,
-        "{\"version\":2,\"videoParameters\":{\"system\":\"NTSC\",\"fieldWidth\":910,\"fieldHeight\":263,\
-         \"black16bIre\":9,\"white16bIre\":10},\"fields\":[\n",
+        r#""black16bIre":9,"white16bIre":10"#,
         "system NTSC 910x263 black 9 white 10\n",
     ),
     (
         Pal,
         0,
         65535,
-        "{\"version\":2,\"videoParameters\":{\"system\":\"PAL\",\"fieldWidth\":1135,\"fieldHeight\":313,\
-         \"black16bIre\":0,\"white16bIre\":65535},\"fields\":[\n",
+        r#""black16bIre":0,"white16bIre":65535"#,
         "system PAL 1135x313 black 0 white 65535\n",
     ),
     (
         Pal,
         999,
         1000,
-        "{\"version\":2,\"videoParameters\":{\"system\":\"PAL\",\"fieldWidth\":1135,\"fieldHeight\":313,\
-         \"black16bIre\":999,\"white16bIre\":1000},\"fields\":[\n",
+        r#""black16bIre":999,"white16bIre":1000"#,
         "system PAL 1135x313 black 999 white 1000\n",
     ),
 ];
 
 #[test]
 fn an_empty_stream_has_a_head_and_a_tail(rt: HostRuntime) -> Result<(), Fail> {
-    for (system, black, white, head, report_head) in HEADS {
+    for (system, black, white, levels, report_head) in HEADS {
         let config = Config::new(system, Levels::new(black, white)?, 5)?;
         let ended = whole(0, None, 0);
+        let head = match system {
+            Ntsc => r#""system":"NTSC","fieldWidth":910,"fieldHeight":263,"#,
+            Pal => r#""system":"PAL","fieldWidth":1135,"fieldHeight":313,"#,
+        };
         let report = [report_head, "fields 0 cut none\n"];
-        writes_both(rt.alloc(), &config, b"", ended, &[head, TAIL], &report)?;
+        let begin = r#"{"version":2,"videoParameters":{"#;
+        let document = [begin, head, levels, "},\"fields\":[\n", TAIL];
+        writes_both(rt.alloc(), &config, b"", ended, &document, &report)?;
     }
     same(
         HEAD.len() + TAIL.len(),
@@ -232,21 +232,20 @@ fn a_cut_field_is_named(rt: HostRuntime) -> Result<(), Fail> {
 
 #[test]
 fn a_second_field_that_is_cut_has_number_two(rt: HostRuntime) -> Result<(), Fail> {
-    let config = config(Ntsc, 5)?;
-    let mut stream = field(rt.alloc(), &config, NONE)?;
-    stream.push(0)?;
-    let ended = whole(1, Some(1), 2730);
-    let cut = "\n],\"cutField\":{\"seqNo\":2,\"bytes\":1}}\n";
-    let document = [HEAD, BLACK, cut];
-    let report = [REPORT_HEAD, REPORT_BLACK, "fields 1 cut field 2 bytes 1\n"];
-    writes_both(
-        rt.alloc(),
-        &config,
-        stream.as_slice(),
-        ended,
-        &document,
-        &report,
-    )
+    for system in [Ntsc, Pal] {
+        let config = config(system, 5)?;
+        let mut stream = field(rt.alloc(), &config, NONE)?;
+        stream.push(0)?;
+        let stream = stream.as_slice();
+        let ended = whole(1, Some(1), 3 * system.width() as u64);
+        let (head, report_head) = heads(system);
+        let cut = "\n],\"cutField\":{\"seqNo\":2,\"bytes\":1}}\n";
+        let report_cut = "fields 1 cut field 2 bytes 1\n";
+        let document = [head, BLACK, cut];
+        let report = [report_head, REPORT_BLACK, report_cut];
+        writes_both(rt.alloc(), &config, stream, ended, &document, &report)?;
+    }
+    Ok(())
 }
 
 #[test]
