@@ -89,8 +89,7 @@ def draw_curve(svg, axis, scale, answer):
             _draw_run(svg, axis, scale, run)
             run = []
         run.append((count, first, last, number))
-    if run:
-        _draw_run(svg, axis, scale, run)
+    _draw_run(svg, axis, scale, run)
 
 
 def _draw_run(svg, axis, scale, run):

@@ -28,7 +28,7 @@ def drawing_of(side, title):
     bands.draw_bands(svg, fields, axis, BANDS_TOP)
     _draw_disc(svg, axis, answer)
     _draw_stops(svg, axis, answer)
-    if answer["unit"]:
+    if answer["numbers"]["count"]:
         scale = curve.Scale(answer, CURVE_TOP, CURVE_HEIGHT)
         curve.draw_numbers_axis(svg, axis, scale)
         _draw_chapter_lines(svg, axis, answer)
@@ -90,7 +90,7 @@ def _draw_head(svg, answer, title):
 
 def _draw_no_numbers(svg, answer):
     """What is said in the place of the curve, where there is none."""
-    texts = ["no picture number and no time"]
+    texts = ["no picture number and no time" + (" is believed" if answer["unit"] else "")]
     levels = answer["levels"]
     if levels:
         texts.append("lines 17 and 18 have %(words)d words, %(bad)d are bad, %(blank)d blank: "

@@ -23,6 +23,7 @@ def hand_made():
     yield "cut", answer(pictures([1, 2]), cut={"seqNo": 5, "bytes": 7}, first=[False, True, True, False])
     yield "stop", answer([STOP + " - -"])
     yield "conflict", answer(["- %s %s" % (picture(4), picture(5)), "- 800DDD 801DDD"])
+    yield "tie", answer(["- %s %s" % (picture(3), picture(5))])
     yield "second", answer(["%s - -" % second(7, number) for number in range(3)])
     yield "clock", answer(["8AE025 87FFFF F0DD60"] * 2)
     yield "left out", answer(times([number for number in range(4500) if number % 1001 != 400], 30), "NTSC")

@@ -33,9 +33,9 @@ schema=$top/share/schema/ldvbi-side.schema.json
 mkdir answers broken bounds
 status=0
 bounded python3 "$here/answers.py" answers < empty 2> err || status=$?
-check 'there are 21 answers' [ "$status $(find answers -name '*.json' | wc -l)" = '0 21' ]
+check 'there are 22 answers' [ "$status $(find answers -name '*.json' | wc -l)" = '0 22' ]
 bounded "$python" validate.py "$schema" answers/*.json < empty > said 2> err || status=$?
-check 'all of them are valid' [ "$status $(grep -c ' valid$' said)" = '0 21' ]
+check 'all of them are valid' [ "$status $(grep -c ' valid$' said)" = '0 22' ]
 # each list of the schema has an item in one of them, so that its form was looked at
 bounded jq -s -r '[.[] | to_entries[] | select(.value | type == "array" and length > 0) | .key] | unique[]' \
     answers/*.json < empty > full

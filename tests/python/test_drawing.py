@@ -169,6 +169,15 @@ class Drawings(unittest.TestCase):
         self.assertEqual(of_class(drawn([discs.BLANK] * 40), "empty"), [
             nothing, "lines 17 and 18 have 0 words, 0 are bad, 80 blank: are black and white right?"])
 
+    def test_sides_of_whose_numbers_none_is_believed(self):
+        for row, doubts in (("- F00003 F00005", 2), ("8AE001 F0DD01 F0DD02", 3), ("- F0DD01 F0DD02", 2)):
+            for system in ("NTSC", "PAL"):
+                with self.subTest((row, system)):
+                    found = drawn([row], system=system)
+                    self.assertEqual(of_class(found, "empty"), ["no picture number and no time is believed"])
+                    self.assertIn("doubtful: %d" % doubts, of_class(found, "count"))
+                    self.assertEqual([name for name, _ in found if name in ("run", "doubt", "number-label")], [])
+
     def test_a_side_of_one_field_that_is_cut(self):
         found = drawn(["- %s %s" % (discs.picture(9), discs.picture(9))], cut=Cut(2, 5))
         self.assertEqual(of_class(found, "run"), ["9 in field 1"])
