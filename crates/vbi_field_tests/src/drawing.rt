@@ -58,7 +58,7 @@ fn each_text_has_its_answer(rt: HostRuntime) -> Result<(), Fail> {
                 fetched,
                 read_failures: NO_FAILURE,
                 asked,
-                written: fields * field_bytes,
+                written: fields.wrapping_mul(field_bytes),
                 write_failures: NO_FAILURE,
             };
             let paper = Paper::new(rt.alloc());

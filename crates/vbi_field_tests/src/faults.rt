@@ -99,7 +99,13 @@ fn texts_of(verb: Verb, system: System, end: End) -> [&'static str; 4] {
 fn result_of(system: System, end: End) -> Ended {
     match end {
         Cut => whole(0, Some(1), 0),
-        Whole(fields) => whole(fields, None, u64::from(fields) * 3 * system.width() as u64),
+        Whole(fields) => {
+            let looked = match system {
+                Ntsc => 2730 * u64::from(fields),
+                Pal => 3405 * u64::from(fields),
+            };
+            whole(fields, None, looked)
+        }
         Read(field, offset) => Err(RunFault::Read { field, offset }),
         TooMany(_) => Err(RunFault::TooManyFields),
     }

@@ -44,14 +44,14 @@ fn sample_of(config: &Config, line: Line, column: usize) -> u16
     requires { column < width_of config.now.system }
 {
     let levels = config.levels();
-    let scratch = match config.system() {
-        System::Ntsc => 170,
-        System::Pal => 215,
-    };
+    let is_scratch = matches!(
+        (config.system(), column),
+        (System::Ntsc, 170 | 171) | (System::Pal, 215 | 216)
+    );
     let word = match line {
         Line::Black => None,
         Line::Word(value) => Word24::new(value).ok(),
-        Line::Scratched(_) if column == scratch || column == scratch + 1 => None,
+        Line::Scratched(_) if is_scratch => None,
         Line::Scratched(value) => Word24::new(value).ok(),
         Line::Run(low, high) => {
             let is_white = low <= column && column < low.saturating_add(high);
