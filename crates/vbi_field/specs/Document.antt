@@ -4,6 +4,7 @@
 use Rattle.std.specs.Prelude.{ℕ, ◌+◌, List, ◌++◌, ◌==◌, if◌then◌else◌, codes, decimal}
 use Rattle.vbi_words.specs.Geometry.{width_of, height_of, name_of}
 use Rattle.vbi_words.specs.declared.outcome.Outcome.{Outcome}
+use Rattle.vbi_words.specs.declared.outcome.Reading.{Reading}
 use Rattle.vbi_words.specs.declared.outcome.Outcome.TheVariants.{Word, Blank, Unfinished, Change, Hold}
 use Rattle.vbi_field.specs.CauseTexts.{cause_text_of}
 use Rattle.vbi_field.specs.ConfigView.{ConfigView}
@@ -27,31 +28,20 @@ head_of c =
     ++ codes ",\"white16bIre\":" ++ decimal c.levels.white
     ++ codes "},\"fields\":[\n"
 
--- of each of a field's three lines, the word or 0
-unfoldable pub data_of : FieldReadings → List ℕ
-data_of readings =
-    codes ",\"vbi\":{\"vbiData\":[" ++ decimal (value_of readings.first.outcome)
-    ++ codes "," ++ decimal (value_of readings.second.outcome)
-    ++ codes "," ++ decimal (value_of readings.third.outcome) ++ codes "]}"
+-- a text for each of a field's three lines, with commas between, behind what opens them and before what closes them
+unfoldable pub lines_of : List ℕ → (Reading → List ℕ) → List ℕ → FieldReadings → List ℕ
+lines_of opening text_of closing readings =
+    opening ++ text_of readings.first ++ codes "," ++ text_of readings.second ++ codes "," ++ text_of readings.third
+    ++ closing
 
--- of each line, the cause
-unfoldable pub causes_of : FieldReadings → List ℕ
-causes_of readings =
-    codes ",\"vbiCause\":[\"" ++ cause_text_of readings.first.outcome
-    ++ codes "\",\"" ++ cause_text_of readings.second.outcome
-    ++ codes "\",\"" ++ cause_text_of readings.third.outcome ++ codes "\"]"
-
--- of each line, the pass
-unfoldable pub passes_of : FieldReadings → List ℕ
-passes_of readings =
-    codes ",\"vbiPass\":[" ++ decimal readings.first.pass
-    ++ codes "," ++ decimal readings.second.pass
-    ++ codes "," ++ decimal readings.third.pass ++ codes "]"
-
--- the record of a field: its number, and what its three lines show
+-- the record of a field: its number, and of each of its three lines the word or 0, the cause and the pass
 unfoldable pub record_of : ℕ → FieldReadings → List ℕ
 record_of number readings =
-    codes "{\"seqNo\":" ++ decimal number ++ data_of readings ++ causes_of readings ++ passes_of readings ++ codes "}"
+    codes "{\"seqNo\":" ++ decimal number
+    ++ lines_of (codes ",\"vbi\":{\"vbiData\":[") (λ line. decimal (value_of line.outcome)) (codes "]}") readings
+    ++ lines_of (codes ",\"vbiCause\":[") (λ line. codes "\"" ++ cause_text_of line.outcome ++ codes "\"") (codes "]")
+    readings
+    ++ lines_of (codes ",\"vbiPass\":[") (λ line. decimal line.pass) (codes "]") readings ++ codes "}"
 
 -- the end: a cut last field's number and bytes, or null where none was cut
 unfoldable pub tail_of : ℕ → ℕ → List ℕ

@@ -1,6 +1,7 @@
 //! The texts of the document.
-ghost use Rattle.std.specs.Prelude.{◌≡◌, ◌-◌, ◌^◌, ◌<◌};
-ghost use Rattle.vbi_field.specs.Document.{value_of, data_of, causes_of, passes_of, head_of, tail_of};
+ghost use Rattle.std.specs.Prelude.{◌≡◌, ◌-◌, ◌^◌, ◌<◌, ◌++◌, codes, decimal};
+ghost use Rattle.vbi_field.specs.CauseTexts.{cause_text_of};
+ghost use Rattle.vbi_field.specs.Document.{value_of, lines_of, head_of, tail_of};
 ghost use Rattle.vbi_field.specs.Kinds.{document};
 ghost use Rattle.vbi_field.specs.Texts.{joined_entry_of};
 
@@ -64,9 +65,10 @@ fn head_text(config: &Config) -> ArrayString<TEXT_SIZE>
 }
 
 /// The three words, each its number or 0.
-#[tactic(auto, unfolding(crate::specs::Document::data_of))]
+#[tactic(auto, unfolding(crate::specs::Document::lines_of))]
 fn data_text(readings: &FieldReadings) -> ArrayString<56>
-    ensures { result.bytes ≡ data_of readings.now }
+    ensures { result.bytes
+        ≡ lines_of (codes ",\"vbi\":{\"vbiData\":[") (λ line. decimal (value_of line.outcome)) (codes "]}") readings.now }
 {
     let mut text = ArrayString::new();
     text.push_str(",\"vbi\":{\"vbiData\":[");
@@ -79,26 +81,40 @@ fn data_text(readings: &FieldReadings) -> ArrayString<56>
     text
 }
 
-/// The three causes.
-#[tactic(auto, unfolding(crate::specs::Document::causes_of))]
-fn causes_text(readings: &FieldReadings) -> ArrayString<72>
-    ensures { result.bytes ≡ causes_of readings.now }
+/// The cause of a line as a string of JSON; no cause has a byte that would need an escape.
+fn quoted_cause(outcome: Outcome) -> ArrayString<18>
+    ensures { result.bytes ≡ codes "\"" ++ cause_text_of outcome ++ codes "\"" }
 {
     let mut text = ArrayString::new();
-    text.push_str(",\"vbiCause\":[\"");
-    text.push_str(cause_text(readings.first.outcome).as_str());
-    text.push_str("\",\"");
-    text.push_str(cause_text(readings.second.outcome).as_str());
-    text.push_str("\",\"");
-    text.push_str(cause_text(readings.third.outcome).as_str());
-    text.push_str("\"]");
+    text.push_str("\"");
+    text.push_str(cause_text(outcome).as_str());
+    text.push_str("\"");
+    text
+}
+
+/// The three causes.
+#[tactic(auto, unfolding(crate::specs::Document::lines_of))]
+fn causes_text(readings: &FieldReadings) -> ArrayString<72>
+    ensures { result.bytes
+        ≡ lines_of (codes ",\"vbiCause\":[") (λ line. codes "\"" ++ cause_text_of line.outcome ++ codes "\"")
+        (codes "]") readings.now }
+{
+    let mut text = ArrayString::new();
+    text.push_str(",\"vbiCause\":[");
+    text.push_str(quoted_cause(readings.first.outcome).as_str());
+    text.push_str(",");
+    text.push_str(quoted_cause(readings.second.outcome).as_str());
+    text.push_str(",");
+    text.push_str(quoted_cause(readings.third.outcome).as_str());
+    text.push_str("]");
     text
 }
 
 /// The three passes.
-#[tactic(auto, unfolding(crate::specs::Document::passes_of))]
+#[tactic(auto, unfolding(crate::specs::Document::lines_of))]
 fn passes_text(readings: &FieldReadings) -> ArrayString<24>
-    ensures { result.bytes ≡ passes_of readings.now }
+    ensures { result.bytes
+        ≡ lines_of (codes ",\"vbiPass\":[") (λ line. decimal line.pass) (codes "]") readings.now }
 {
     let mut text = ArrayString::new();
     text.push_str(",\"vbiPass\":[");

@@ -8,9 +8,10 @@ use Rattle.std.specs.Prelude.{codes}
 use Rattle.vbi_words.specs.declared.system.System.{System}
 use Rattle.vbi_words.specs.declared.system.System.TheVariants.{Ntsc, Pal}
 use Rattle.vbi_words.specs.Geometry.{width_of, height_of, name_of}
+use Rattle.vbi_words.specs.declared.outcome.Reading.{Reading}
 use Rattle.vbi_field.specs.ConfigView.{ConfigView}
 use Rattle.vbi_field.specs.CauseTexts.{cause_text_of}
-use Rattle.vbi_field.specs.Document.{value_of, head_of, record_of, data_of, causes_of, passes_of, tail_of}
+use Rattle.vbi_field.specs.Document.{value_of, head_of, lines_of, record_of, tail_of}
 use Rattle.vbi_field.specs.Kinds.{document}
 use Rattle.vbi_field.specs.Stream.{fields_of, rest_of, readings_at}
 use Rattle.vbi_field.specs.Texts.{text_before_tail, whole_text, entry_of}
@@ -18,6 +19,7 @@ use Rattle.vbi_field.specs.declared.readings.FieldReadings.{FieldReadings}
 use Rattle.vbi_meta.specs.DocumentValue.{IsOfRun}
 use Rattle.vbi_meta.specs.Metadata.{most_bytes}
 use Rattle.vbi_meta.proofs.DocumentReads.{few_fields, small_rest}
+use Rattle.vbi_meta.proofs.RecordTexts.{words_of, causes_of, passes_of}
 use Rattle.vbi_meta.proofs.ShownLines.{AreShown, field_shown}
 
 -- ---- texts
@@ -94,41 +96,49 @@ either false s t x y = y
 
 -- ---- a record
 
+-- the texts of three lines, each of at most so many bytes
+lines_short : (opening : List ℕ) (text_of : Reading → List ℕ) (closing : List ℕ) (readings : FieldReadings)
+    (each most : ℕ) → length (text_of readings.first) ≤ each → length (text_of readings.second) ≤ each
+    → length (text_of readings.third) ≤ each → length opening + 3 * each + 2 + length closing ≤ most
+    → length (lines_of opening text_of closing readings) ≤ most
+unfolding lines_of
+lines_short opening text_of closing readings each most a b c sum =
+    let comma : length (codes ",") ≤ 1 = lit≤ tt in
+    seven_parts opening (text_of readings.first) (codes ",") (text_of readings.second) (codes ",")
+    (text_of readings.third) closing most (omega (arith, a, b, c, comma, sum))
+
+-- a text between quotes
+quoted_short : (s : List ℕ) {n : ℕ} → length s ≤ n → length (codes "\"" ++ s ++ codes "\"") ≤ n + 2
+quoted_short s le =
+    let quote : length (codes "\"") ≤ 1 = lit≤ tt in
+    omega (arith, le, quote, length-append (codes "\"" ++ s) (codes "\""), length-append (codes "\"") s)
+
 module _ (number : ℕ) (readings : FieldReadings) (few : number ≤ 1000000) (shown : AreShown readings) where
-  data_short : length (data_of readings) ≤ 83
-  unfolding data_of
-  data_short =
+  words_short : length (words_of readings) ≤ 83
+  words_short =
       let t0 : length (codes ",\"vbi\":{\"vbiData\":[") ≤ 19 = lit≤ tt in
-      let t1 : length (codes ",") ≤ 1 = lit≤ tt in
-      let t2 : length (codes "]}") ≤ 2 = lit≤ tt in
-      let a = digits (value_of readings.first.outcome) shown.first.value in
-      let b = digits (value_of readings.second.outcome) shown.second.value in
-      let c = digits (value_of readings.third.outcome) shown.third.value in
-      seven_parts (codes ",\"vbi\":{\"vbiData\":[") (decimal (value_of readings.first.outcome)) (codes ",")
-      (decimal (value_of readings.second.outcome)) (codes ",") (decimal (value_of readings.third.outcome))
-      (codes "]}") 83 (omega (arith, t0, t1, t2, a, b, c))
+      let t1 : length (codes "]}") ≤ 2 = lit≤ tt in
+      lines_short (codes ",\"vbi\":{\"vbiData\":[") (λ line. decimal (value_of line.outcome)) (codes "]}") readings 20 83
+      (digits (value_of readings.first.outcome) shown.first.value)
+      (digits (value_of readings.second.outcome) shown.second.value)
+      (digits (value_of readings.third.outcome) shown.third.value) (omega (arith, t0, t1))
 
   causes_short : length (causes_of readings) ≤ 103
-  unfolding causes_of
   causes_short =
-      let t0 : length (codes ",\"vbiCause\":[\"") ≤ 14 = lit≤ tt in
-      let t1 : length (codes "\",\"") ≤ 3 = lit≤ tt in
-      let t2 : length (codes "\"]") ≤ 2 = lit≤ tt in
-      seven_parts (codes ",\"vbiCause\":[\"") (cause_text_of readings.first.outcome) (codes "\",\"")
-      (cause_text_of readings.second.outcome) (codes "\",\"") (cause_text_of readings.third.outcome) (codes "\"]") 103
-      (omega (arith, t0, t1, t2, shown.first.brief, shown.second.brief, shown.third.brief))
+      let t0 : length (codes ",\"vbiCause\":[") ≤ 13 = lit≤ tt in
+      let t1 : length (codes "]") ≤ 1 = lit≤ tt in
+      lines_short (codes ",\"vbiCause\":[") (λ line. codes "\"" ++ cause_text_of line.outcome ++ codes "\"") (codes "]")
+      readings 29 103 (quoted_short (cause_text_of readings.first.outcome) shown.first.brief)
+      (quoted_short (cause_text_of readings.second.outcome) shown.second.brief)
+      (quoted_short (cause_text_of readings.third.outcome) shown.third.brief) (omega (arith, t0, t1))
 
   passes_short : length (passes_of readings) ≤ 18
-  unfolding passes_of
   passes_short =
       let t0 : length (codes ",\"vbiPass\":[") ≤ 12 = lit≤ tt in
-      let t1 : length (codes ",") ≤ 1 = lit≤ tt in
-      let t2 : length (codes "]") ≤ 1 = lit≤ tt in
-      let a = one_digit readings.first.pass shown.first.digit in
-      let b = one_digit readings.second.pass shown.second.digit in
-      let c = one_digit readings.third.pass shown.third.digit in
-      seven_parts (codes ",\"vbiPass\":[") (decimal readings.first.pass) (codes ",") (decimal readings.second.pass)
-      (codes ",") (decimal readings.third.pass) (codes "]") 18 (omega (arith, t0, t1, t2, a, b, c))
+      let t1 : length (codes "]") ≤ 1 = lit≤ tt in
+      lines_short (codes ",\"vbiPass\":[") (λ line. decimal line.pass) (codes "]") readings 1 18
+      (one_digit readings.first.pass shown.first.digit) (one_digit readings.second.pass shown.second.digit)
+      (one_digit readings.third.pass shown.third.digit) (omega (arith, t0, t1))
 
   record_short : length (record_of number readings) ≤ 221
   unfolding record_of
@@ -136,8 +146,8 @@ module _ (number : ℕ) (readings : FieldReadings) (few : number ≤ 1000000) (s
       let t0 : length (codes "{\"seqNo\":") ≤ 9 = lit≤ tt in
       let t1 : length (codes "}") ≤ 1 = lit≤ tt in
       let n : length (decimal number) ≤ 7 = length-decimal-le 7 number (lit< tt) (omega arith) (omega arith) in
-      six_parts (codes "{\"seqNo\":") (decimal number) (data_of readings) (causes_of readings) (passes_of readings)
-      (codes "}") 221 (omega (arith, t0, t1, n, data_short, causes_short, passes_short))
+      six_parts (codes "{\"seqNo\":") (decimal number) (words_of readings) (causes_of readings) (passes_of readings)
+      (codes "}") 221 (omega (arith, t0, t1, n, words_short, causes_short, passes_short))
 
 -- ---- head and _ _ tail
 

@@ -8,7 +8,7 @@ use Rattle.json.specs.Token.{Token}
 use Rattle.json.specs.Tree.{json_tokens}
 use Rattle.vbi_words.specs.declared.outcome.Reading.{Reading}
 use Rattle.vbi_field.specs.CauseTexts.{cause_text_of}
-use Rattle.vbi_field.specs.Document.{value_of, record_of, data_of, causes_of, passes_of}
+use Rattle.vbi_field.specs.Document.{value_of, record_of, lines_of}
 use Rattle.vbi_field.specs.declared.readings.FieldReadings.{FieldReadings}
 use Rattle.vbi_meta.proofs.ShownLines.{AreShown}
 
@@ -63,56 +63,72 @@ seven t0 v0 t1 v1 t2 v2 t3 r = simp append_assoc
 six : (a b c d e f r : List ℕ) → (a ++ b ++ c ++ d ++ e ++ f) ++ r ≡ a ++ (b ++ (c ++ (d ++ (e ++ (f ++ r)))))
 six a b c d e f r = simp append_assoc
 
-module _ (n : ℕ) (readings : FieldReadings) (r : List ℕ) where
-  -- the words, the causes and the passes as they are printed, and the rest
+-- the texts of three lines as they are printed, and the rest
+module _ (opening : List ℕ) (text_of : Reading → List ℕ) (closing : List ℕ) (readings : FieldReadings) (r : List ℕ)
+  where
+    abbrev lines_then : List ℕ
+    lines_then =
+        opening ++ (text_of readings.first ++ (codes "," ++ (text_of readings.second ++ (codes ","
+        ++ (text_of readings.third ++ (closing ++ r))))))
+
+    lines_text : lines_then ≡ lines_of opening text_of closing readings ++ r
+    unfolding lines_of
+    lines_text =
+        sym (seven opening (text_of readings.first) (codes ",") (text_of readings.second) (codes ",")
+        (text_of readings.third) closing r)
+
+-- other texts of three lines that are the same for these
+lines_same : (opening closing : List ℕ) (f g : Reading → List ℕ) (readings : FieldReadings)
+    → f readings.first ≡ g readings.first → f readings.second ≡ g readings.second → f readings.third ≡ g readings.third
+    → lines_of opening f closing readings ≡ lines_of opening g closing readings
+unfolding lines_of
+lines_same opening closing f g readings first second third = rw (first, second, third)
+
+-- a text that needs no escape, as a string
+quoted_as : (s : List ℕ) → escape s ≡ s → quoted s ≡ codes "\"" ++ s ++ codes "\""
+quoted_as s e = ap (λ l. 34 ∷ (l ++ 34 ∷ [])) e
+
+module _ (readings : FieldReadings) (r : List ℕ) where
   abbrev words_then : List ℕ
   words_then =
-      codes ",\"vbi\":{\"vbiData\":[" ++ (decimal (value_of readings.first.outcome)
-      ++ (codes "," ++ (decimal (value_of readings.second.outcome)
-      ++ (codes "," ++ (decimal (value_of readings.third.outcome) ++ (codes "]}" ++ r))))))
+      lines_then (codes ",\"vbi\":{\"vbiData\":[") (λ line. decimal (value_of line.outcome)) (codes "]}") readings r
 
   abbrev causes_then : List ℕ
   causes_then =
-      codes ",\"vbiCause\":[" ++ (quoted (cause_text_of readings.first.outcome)
-      ++ (codes "," ++ (quoted (cause_text_of readings.second.outcome)
-      ++ (codes "," ++ (quoted (cause_text_of readings.third.outcome) ++ (codes "]" ++ r))))))
+      lines_then (codes ",\"vbiCause\":[") (λ line. quoted (cause_text_of line.outcome)) (codes "]") readings r
 
   abbrev passes_then : List ℕ
-  passes_then =
-      codes ",\"vbiPass\":[" ++ (decimal readings.first.pass ++ (codes "," ++ (decimal readings.second.pass
-      ++ (codes "," ++ (decimal readings.third.pass ++ (codes "]" ++ r))))))
+  passes_then = lines_then (codes ",\"vbiPass\":[") (λ line. decimal line.pass) (codes "]") readings r
 
-  words_text : words_then ≡ data_of readings ++ r
-  unfolding data_of
-  words_text =
-      sym (seven (codes ",\"vbi\":{\"vbiData\":[") (decimal (value_of readings.first.outcome)) (codes ",")
-      (decimal (value_of readings.second.outcome)) (codes ",") (decimal (value_of readings.third.outcome))
-      (codes "]}") r)
+-- the three lists of a record
+abbrev pub words_of : FieldReadings → List ℕ
+words_of readings =
+    lines_of (codes ",\"vbi\":{\"vbiData\":[") (λ line. decimal (value_of line.outcome)) (codes "]}") readings
 
-  passes_text : passes_then ≡ passes_of readings ++ r
-  unfolding passes_of
-  passes_text =
-      sym (seven (codes ",\"vbiPass\":[") (decimal readings.first.pass) (codes ",") (decimal readings.second.pass)
-      (codes ",")
-      (decimal readings.third.pass) (codes "]") r)
+abbrev pub causes_of : FieldReadings → List ℕ
+causes_of readings =
+    lines_of (codes ",\"vbiCause\":[") (λ line. codes "\"" ++ cause_text_of line.outcome ++ codes "\"") (codes "]")
+    readings
 
-  causes_text : AreShown readings → causes_then ≡ causes_of readings ++ r
-  unfolding causes_of
-  causes_text shown =
-      let a = cause_text_of readings.first.outcome in
-      let b = cause_text_of readings.second.outcome in
-      let c = cause_text_of readings.third.outcome in
-      ap (λ l. codes ",\"vbiCause\":[" ++ l)
-      (quoted_then a (44 ∷ (quoted b ++ (44 ∷ (quoted c ++ (codes "]" ++ r))))) shown.first.free
-      ∙ ap (λ l. 34 ∷ (a ++ (34 ∷ 44 ∷ l))) (quoted_then b (44 ∷ (quoted c ++ (codes "]" ++ r))) shown.second.free)
-      ∙ ap (λ l. 34 ∷ (a ++ (34 ∷ 44 ∷ 34 ∷ (b ++ (34 ∷ 44 ∷ l))))) (quoted_then c (codes "]" ++ r) shown.third.free))
-      ∙ sym (seven (codes ",\"vbiCause\":[\"") a (codes "\",\"") b (codes "\",\"") c (codes "\"]") r)
+abbrev pub passes_of : FieldReadings → List ℕ
+passes_of readings = lines_of (codes ",\"vbiPass\":[") (λ line. decimal line.pass) (codes "]") readings
+
+causes_text : (readings : FieldReadings) (r : List ℕ) → AreShown readings
+    → causes_then readings r ≡ causes_of readings ++ r
+causes_text readings r shown =
+    lines_text (codes ",\"vbiCause\":[") (λ line. quoted (cause_text_of line.outcome)) (codes "]") readings r
+    ∙ ap (λ l. l ++ r)
+    (lines_same (codes ",\"vbiCause\":[") (codes "]") (λ line. quoted (cause_text_of line.outcome))
+    (λ line. codes "\"" ++ cause_text_of line.outcome ++ codes "\"") readings
+    (quoted_as (cause_text_of readings.first.outcome) shown.first.free)
+    (quoted_as (cause_text_of readings.second.outcome) shown.second.free)
+    (quoted_as (cause_text_of readings.third.outcome) shown.third.free))
 
 -- the record as it is printed, and the rest
 abbrev record_then : ℕ → FieldReadings → List ℕ → List ℕ
 record_then n readings r =
     codes "{\"seqNo\":" ++ (decimal n
-    ++ words_then n readings (causes_then n readings (passes_then n readings (codes "}" ++ r))))
+    ++ words_then readings (causes_then readings (passes_then readings (codes "}" ++ r))))
 
 record_text : (n : ℕ) (readings : FieldReadings) (r : List ℕ) → AreShown readings
     → record_then n readings r ≡ record_of n readings ++ r
@@ -120,11 +136,13 @@ unfolding record_of
 record_text n readings r shown =
     let last = codes "}" ++ r in
     ap (λ l. codes "{\"seqNo\":" ++ (decimal n ++ l))
-    (words_text n readings (causes_then n readings (passes_then n readings last))
-    ∙ ap (λ l. data_of readings ++ l)
-    (causes_text n readings (passes_then n readings last) shown
-    ∙ ap (λ l. causes_of readings ++ l) (passes_text n readings last)))
-    ∙ sym (six (codes "{\"seqNo\":") (decimal n) (data_of readings) (causes_of readings) (passes_of readings)
+    (lines_text (codes ",\"vbi\":{\"vbiData\":[") (λ line. decimal (value_of line.outcome)) (codes "]}") readings
+    (causes_then readings (passes_then readings last))
+    ∙ ap (λ l. words_of readings ++ l)
+    (causes_text readings (passes_then readings last) shown
+    ∙ ap (λ l. causes_of readings ++ l)
+    (lines_text (codes ",\"vbiPass\":[") (λ line. decimal line.pass) (codes "]") readings last)))
+    ∙ sym (six (codes "{\"seqNo\":") (decimal n) (words_of readings) (causes_of readings) (passes_of readings)
     (codes "}") r)
 
 -- behind a line feed, and a comma where another record is before it
