@@ -1,7 +1,8 @@
 -- What the bytes up to the end of a row do to a feeder.
 use Rattle.std.proofs.Common.{◌≡◌, ℕ, ◌+◌, ◌*◌, ◌≤◌, ◌<◌, inl, inr, Bool, false, cond, List, [], ◌++◌, length}
 use Rattle.std.proofs.Common.{take, drop, refl, sym, ap, ◌∙◌, arith, append_assoc, append-nil}
-use Rattle.std.specs.Prelude.{Option, Result, Err, Ok, IsErrAnd, IsTrue, ◌↔◌}
+use Rattle.std.proofs.lemmas.Bool.{cond-true}
+use Rattle.std.specs.Prelude.{Option, Some, None, Result, Err, Ok, IsErrAnd, IsTrue, ◌↔◌}
 use Rattle.std.proofs.lemmas.List.{length-append, take-append-drop, take_at}
 use Rattle.vbi_words.specs.Geometry.{width_of, height_of, line_bytes, field_bytes}
 use Rattle.vbi_words.specs.Levels.{row_levels}
@@ -30,13 +31,14 @@ pub not_full : (b : Bool) (P : Type 0) → (IsTrue b ↔ P) → b ≡ false → 
 not_full b P iff e p = let t = iff.1 p in cc
 
 -- the line that is held is a row
-pub row_held : (c : ConfigView) (s : System) (sel : Bool) (b : List ℕ) (row : ℕ) (o : Reading)
+pub row_held : (c : ConfigView) (s : System) (sel : Bool) (b : List ℕ) (row : ℕ) (o : Option Reading)
     → (IsTrue sel ↔ ((15 ≤ row) × (row ≤ 17))) → s ≡ c.system → length b ≡ line_bytes s
-    → (IsTrue sel → o ≡ reading_of c.system (row_levels c.levels b)) → IsLineOf c b row o
+    → o ≡ cond sel (Some (reading_of c.system (row_levels c.levels b))) None → IsLineOf c b row o
 row_held c s sel b row o sels ss whole shows =
     record {
       whole = whole ∙ ap line_bytes ss;
-      shows = λ x y. shows (sels.1 (x, y));
+      shows = λ x y. shows
+          ∙ cond-true sel (Some (reading_of c.system (row_levels c.levels b))) None (sels.1 (x, y));
     }
 
 -- where the line is held no longer, and its row is settled

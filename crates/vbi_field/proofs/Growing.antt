@@ -1,7 +1,9 @@
 -- Rows of a stream that grows.
 use Rattle.std.proofs.Common.{◌≡◌, ℕ, ◌+◌, ◌*◌, ◌≤◌, ◌<◌, inl, inr, List, ◌++◌, length, take, drop, sym, ap, ◌∙◌}
-use Rattle.std.proofs.Common.{arith, lit≤}
-use Rattle.std.proofs.Math.Nat.{eq-or-lt_of_le, le_trans, mul-le-mul_right}
+use Rattle.std.proofs.Common.{◌-◌, refl, arith, lit≤}
+use Rattle.std.specs.Prelude.{Option, Some, None}
+use Rattle.std.proofs.lemmas.Bool.{cond_below, cond_above}
+use Rattle.std.proofs.Math.Nat.{eq-or-lt_of_le, eq-zero-or-pos, le_trans, mul-le-mul_right}
 use Rattle.std.proofs.lemmas.List.{length-append, length-drop, take-append-le, drop-append-le, take_all}
 use Rattle.std.proofs.Math.Seq.{drop_at}
 use Rattle.vbi_words.specs.Geometry.{height_of, line_bytes, field_bytes}
@@ -11,9 +13,11 @@ use Rattle.vbi_words.specs.declared.system.System.{System}
 use Rattle.vbi_words.specs.declared.outcome.Reading.{Reading}
 use Rattle.vbi_field.specs.ConfigView.{ConfigView}
 use Rattle.vbi_field.specs.declared.readings.FieldReadings.{FieldReadings}
+use Rattle.vbi_field.specs.declared.progress.PartialReadings.{PartialReadings}
 use Rattle.vbi_field.specs.declared.progress.Progress.{Progress}
 use Rattle.vbi_field.specs.Stream.{line_at, reading_at, readings_at}
-use Rattle.vbi_field.specs.Progress.{IsProgress, IsLineOf, Kept, Keeps}
+use Rattle.vbi_field.specs.Position.{reading_among}
+use Rattle.vbi_field.specs.Progress.{IsProgress, IsLineOf, IsKept, Keeps, Advances, all_of}
 use Rattle.vbi_field.proofs.Counts.{sizes_of, times-next, bytes_before}
 
 -- a row that is whole stays as it is
@@ -62,39 +66,72 @@ readings_at-more c z b i n le long =
       third = reading_at-more c z b i 17 (at 17 (lit≤ tt)) j;
     }
 
--- the reading of a row, once the next has come
-reads_next : (c : ConfigView) (z b : List ℕ) (i row r : ℕ) (o was now : Reading) → 15 ≤ r → r ≤ 17
-    → length z ≡ (i * height_of c.system + row) * line_bytes c.system → IsLineOf c b row o
-    → (r < row → was ≡ reading_at c z i r) → Kept r row o was now → r < row + 1 → now ≡ reading_at c (z ++ b) i r
-reads_next c z b i row r o was now low high long whole before kept lt =
-    elim (eq-or-lt_of_le {n = r} {m = row} (omega arith)) [
-      | inl e ↦
-          let here : length z ≡ (i * height_of c.system + r) * line_bytes c.system = long
-          ∙ ap (λ k. (i * height_of c.system + k) * line_bytes c.system) (sym e) in
-          kept.0 (sym e) ∙ whole.shows (omega arith) (omega arith)
-          ∙ ap (λ l. reading_of c.system (row_levels c.levels l)) (sym (line_at-new c.system z b i r here whole.whole))
-      | inr k ↦
-          let later : i * height_of c.system + r + 1 ≤ i * height_of c.system + row = omega arith in
-          let m = mul-le-mul_right (line_bytes c.system) later in
-          kept.1 k ∙ before k ∙ sym (reading_at-more c z b i r (omega arith))
+-- the reading of a row that is whole, and of one that isn't
+among_some : (c : ConfigView) (z : List ℕ) (i rows r : ℕ) → r < rows
+    → Some (reading_at c z i r) ≡ reading_among c z i rows r
+among_some c z i rows r lt = cond_below r rows (Some (reading_at c z i r)) None lt
+
+among_none : (c : ConfigView) (z : List ℕ) (i rows r : ℕ) → rows ≤ r → None ≡ reading_among c z i rows r
+among_none c z i rows r le = cond_above r rows (Some (reading_at c z i r)) None None le refl
+
+-- of two streams with the same reading of a row, once it is whole
+pub among_same : (c : ConfigView) (z w : List ℕ) (i rows r : ℕ)
+    → (r < rows → reading_at c z i r ≡ reading_at c w i r) → reading_among c z i rows r ≡ reading_among c w i rows r
+among_same c z w i rows r same =
+    elim (eq-zero-or-pos (rows - r)) [
+      | inl none ↦ sym (among_none c z i rows r (omega arith)) ∙ among_none c w i rows r (omega arith)
+      | inr some ↦
+          let lt : r < rows = omega arith in
+          sym (among_some c z i rows r lt) ∙ ap Some (same lt) ∙ among_some c w i rows r lt
     ]
 
-module _ (c : ConfigView) (z b : List ℕ) (p : Progress) (o : Reading) (now : FieldReadings) (at : IsProgress c z p)
-    (whole : IsLineOf c b p.row o) (kept : Keeps p.row o p.readings now) where
-  first : 15 < p.row + 1 → now.first ≡ reading_at c (z ++ b) p.fields 15
-  first =
-      reads_next c z b p.fields p.row 15 o p.readings.first now.first (lit≤ tt) (lit≤ tt) at.whole whole at.first
-      kept.first
+-- the reading of a row, once the next has come
+reads_next : (c : ConfigView) (z b : List ℕ) (i row r : ℕ) (o was now : Option Reading) → 15 ≤ r → r ≤ 17
+    → length z ≡ (i * height_of c.system + row) * line_bytes c.system → IsLineOf c b row o
+    → was ≡ reading_among c z i row r → IsKept r row o was now → now ≡ reading_among c (z ++ b) i (row + 1) r
+reads_next c z b i row r o was now low high long whole before kept =
+    elim (eq-zero-or-pos (r - row)) [
+      | inr later ↦
+          kept.1 (λ e. let zero : r - row ≡ 0 = omega arith in omega arith)
+          ∙ before ∙ sym (among_none c z i row r (omega arith)) ∙ among_none c (z ++ b) i (row + 1) r (omega arith)
+      | inl come ↦
+          elim (eq-or-lt_of_le {n = r} {m = row} (omega arith)) [
+            | inl e ↦
+                let here : length z ≡ (i * height_of c.system + r) * line_bytes c.system = long
+                ∙ ap (λ k. (i * height_of c.system + k) * line_bytes c.system) (sym e) in
+                kept.0 (sym e) ∙ whole.shows (omega arith) (omega arith)
+                ∙ ap (λ l. Some (reading_of c.system (row_levels c.levels l)))
+                (sym (line_at-new c.system z b i r here whole.whole))
+                ∙ among_some c (z ++ b) i (row + 1) r (omega arith)
+            | inr k ↦
+                let later : i * height_of c.system + r + 1 ≤ i * height_of c.system + row = omega arith in
+                let m = mul-le-mul_right (line_bytes c.system) later in
+                kept.1 (λ e. omega arith) ∙ before ∙ sym (among_some c z i row r k)
+                ∙ ap Some (sym (reading_at-more c z b i r (omega arith)))
+                ∙ among_some c (z ++ b) i (row + 1) r (omega arith)
+          ]
+    ]
 
-  second : 16 < p.row + 1 → now.second ≡ reading_at c (z ++ b) p.fields 16
-  second =
-      reads_next c z b p.fields p.row 16 o p.readings.second now.second (lit≤ tt) (lit≤ tt) at.whole whole at.second
-      kept.second
+-- the readings one row further
+record ReadsNext (c : ConfigView) (z : List ℕ) (i row : ℕ) (now : PartialReadings) : Type 0 where
+  pub first : now.first ≡ reading_among c z i row 15
+  pub second : now.second ≡ reading_among c z i row 16
+  pub third : now.third ≡ reading_among c z i row 17
 
-  third : 17 < p.row + 1 → now.third ≡ reading_at c (z ++ b) p.fields 17
-  third =
-      reads_next c z b p.fields p.row 17 o p.readings.third now.third (lit≤ tt) (lit≤ tt) at.whole whole at.third
-      kept.third
+module _ (c : ConfigView) (z b : List ℕ) (p : Progress) (o : Option Reading) (now : PartialReadings)
+    (at : IsProgress c z p) (whole : IsLineOf c b p.row o) (kept : Keeps p.row o p.readings now) where
+  reads : ReadsNext c (z ++ b) p.fields (p.row + 1) now
+  reads = record {
+    first =
+        reads_next c z b p.fields p.row 15 o p.readings.first now.first (lit≤ tt) (lit≤ tt) at.whole whole at.first
+        kept.first;
+    second =
+        reads_next c z b p.fields p.row 16 o p.readings.second now.second (lit≤ tt) (lit≤ tt) at.whole whole at.second
+        kept.second;
+    third =
+        reads_next c z b p.fields p.row 17 o p.readings.third now.third (lit≤ tt) (lit≤ tt) at.whole whole at.third
+        kept.third;
+  }
 
   long : length (z ++ b) ≡ (p.fields * height_of c.system + p.row + 1) * line_bytes c.system
   long =
@@ -104,31 +141,49 @@ module _ (c : ConfigView) (z b : List ℕ) (p : Progress) (o : Reading) (now : F
       let a = at.whole in
       omega arith
 
-  pub within_field : p.row + 1 < height_of c.system
-      → IsProgress c (z ++ b) (record { fields = p.fields; row = p.row + 1; readings = now })
-  within_field lt = record {
-    whole = long ∙ ap (λ k. k * line_bytes c.system) (omega arith);
-    inside = lt;
-    first = first;
-    second = second;
-    third = third;
-  }
+-- a row more inside a field
+pub within_field : (c : ConfigView) (p p' : Progress) (o : Option Reading) → Keeps p.row o p.readings p'.readings
+    → p'.fields ≡ p.fields → p'.row ≡ p.row + 1 → p'.row < height_of c.system
+    → Advances c p o None p'
+within_field c p p' o kept fields row inside = record {
+  over = λ z b at whole.
+      let r = reads c z b p o p'.readings at whole kept in (
+        record {
+          whole = long c z b p o p'.readings at whole kept ∙ ap (λ k. k * line_bytes c.system) (rw (fields, row) (omega arith));
+          inside = inside;
+          first = rw (fields, row) r.first;
+          second = rw (fields, row) r.second;
+          third = rw (fields, row) r.third;
+        },
+        fields,
+      );
+}
 
-  pub past_field : height_of c.system ≤ p.row + 1
-      → IsProgress c (z ++ b) (record { fields = p.fields + 1; row = 0; readings = now })
-      × (p.row + 1 ≡ height_of c.system) ×
-      (now ≡ readings_at c (z ++ b) p.fields)
-  past_field le =
+-- a row more at the end of a field
+pub past_field : (c : ConfigView) (p p' : Progress) (o : Option Reading) (now : PartialReadings)
+    (result : Option FieldReadings) → Keeps p.row o p.readings now → height_of c.system ≤ p.row + 1
+    → result ≡ all_of now.first now.second now.third → p'.fields ≡ p.fields + 1 → p'.row ≡ 0
+    → p'.readings ≡ record { first = None; second = None; third = None }
+    → Advances c p o result p'
+past_field c p p' o now result kept le all fields row none = record {
+  over = λ z b at whole.
       let inside = at.inside in
       let last : p.row + 1 ≡ height_of c.system = omega arith in
-      let sizes = sizes_of c.system in (
+      let sizes = sizes_of c.system in
+      let r = reads c z b p o now at whole kept in
+      let come : (k : ℕ) → k ≤ 17 → reading_among c (z ++ b) p.fields (p.row + 1) k
+      ≡ Some (reading_at c (z ++ b) p.fields k) =
+      λ k le. sym (among_some c (z ++ b) p.fields (p.row + 1) k (omega arith)) in
+      rw (all, r.first ∙ come 15 (lit≤ tt), r.second ∙ come 16 (lit≤ tt), r.third ∙ come 17 (lit≤ tt)) (
         record {
-          whole = long ∙ ap (λ k. k * line_bytes c.system) (omega (arith, times-next p.fields (height_of c.system)));
-          inside = omega arith;
-          first = λ h. absurd (omega arith);
-          second = λ h. absurd (omega arith);
-          third = λ h. absurd (omega arith);
+          whole = long c z b p o now at whole kept
+              ∙ ap (λ k. k * line_bytes c.system) (rw (fields, row) (omega (arith, times-next p.fields (height_of c.system))));
+          inside = rw row (omega arith);
+          first = ap (λ m. m.first) none ∙ rw row (among_none c (z ++ b) p'.fields 0 15 (lit≤ tt));
+          second = ap (λ m. m.second) none ∙ rw row (among_none c (z ++ b) p'.fields 0 16 (lit≤ tt));
+          third = ap (λ m. m.third) none ∙ rw row (among_none c (z ++ b) p'.fields 0 17 (lit≤ tt));
         },
         last,
-        λ j. record { first = first (omega arith) j; second = second (omega arith) j; third = third (omega arith) j },
-      )
+        refl,
+      );
+}

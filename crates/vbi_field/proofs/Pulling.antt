@@ -1,7 +1,8 @@
 -- What a run keeps from row to row, and how it ends.
 use Rattle.std.proofs.Common.{◌≡◌, ℕ, ◌+◌, ◌*◌, ◌≤◌, ◌<◌, inl, inr, Bool, true, false, List, [], ◌++◌, length, take}
 use Rattle.std.proofs.Common.{drop, refl, sym, ap, ◌∙◌, arith, subst, cond, zero-le, add-zero, append_assoc}
-use Rattle.std.specs.Prelude.{Option, Result, Ok, Err, OnOk, IfOk, OnErr, IfErr, IsErrAnd, IsTrue, ◌↔◌, ◌⊎◌}
+use Rattle.std.proofs.lemmas.Bool.{cond-true}
+use Rattle.std.specs.Prelude.{Option, Some, None, Result, Ok, Err, OnOk, IfOk, OnErr, IfErr, IsErrAnd, IsTrue, ◌↔◌, ◌⊎◌}
 use Rattle.std.specs.Io.KnownBytes.{Consumes, Appends}
 use Rattle.std.proofs.KnownBytes.{Appends-trans, Consumes-trans, Appends-nil, Consumes-nil}
 use Rattle.std.proofs.lemmas.List.{length-append, length-drop, length-take-le, take_at, take-append-drop}
@@ -161,9 +162,9 @@ module _ (t : Texts) {R W : Type 0} (remaining : R → Option (List ℕ)) (conte
       → text ≡ t.head c → length text ≤ 192 → outlets.Puts contents o0 o text
       → o.written ≡ o0.written + length text → NoError (outlets.counted_of o0) (outlets.counted_of o)
       → IsSameDevice (outlets.counted_of o0) (outlets.counted_of o)
-      → p.fields ≡ 0 → p.row ≡ 0
+      → p.fields ≡ 0 → p.row ≡ 0 → p.readings ≡ record { first = None; second = None; third = None }
       → Pulled 0 i0 o p
-  start o p text fresh clean is few puts whole no_error same fields row =
+  start o p text fresh clean is few puts whole no_error same fields row readings =
       let begun : text_before_tail t c [] ≡ text = text_before_tail-stood t c [] 0 (zero-div (field_bytes c.system))
       ∙ stood-none t c []
       ∙ sym is in
@@ -186,9 +187,9 @@ module _ (t : Texts) {R W : Type 0} (remaining : R → Option (List ℕ)) (conte
         at = record {
           whole = sym first.bytes;
           inside = first.inside;
-          first = λ h. absurd (omega arith);
-          second = λ h. absurd (omega arith);
-          third = λ h. absurd (omega arith);
+          first = ap (λ m. m.first) readings ∙ rw row refl;
+          second = ap (λ m. m.second) readings ∙ rw row refl;
+          third = ap (λ m. m.third) readings ∙ rw row refl;
         };
         place = first.rows;
         few = omega arith;
@@ -253,15 +254,17 @@ module _ (t : Texts) {R W : Type 0} (remaining : R → Option (List ℕ)) (conte
   -- ---- a whole row was fetched
 
   module _ (k : ℕ) (i i' : Intake R) (o : Outlet W) (p : Progress) (g : Pulled k i o p) (sel : Bool)
-      (sels : IsTrue sel ↔ ((15 ≤ p.row) × (p.row ≤ 17))) (reading : Reading) (lv : LevelsView) (lvs : lv ≡ c.levels)
+      (sels : IsTrue sel ↔ ((15 ≤ p.row) × (p.row ≤ 17))) (reading : Option Reading) (lv : LevelsView) (lvs : lv ≡ c.levels)
       (row : TakesLine remaining lv sel i i' (Whole reading)) where
     pub row_came : IsLineOf c row.bytes p.row reading
     row_came =
         let got = row.got in
         record {
           whole = got.whole ∙ ap line_bytes g.system;
-          shows = λ a b. got.shows (sels.1 (a, b)) ∙ ap (λ s. reading_of s (row_levels lv row.bytes)) g.system
-              ∙ ap (λ l. reading_of c.system (row_levels l row.bytes)) lvs;
+          shows = λ a b. got.shows
+              ∙ cond-true sel (Some (reading_of i.line.system (row_levels lv row.bytes))) None (sels.1 (a, b))
+              ∙ ap (λ s. Some (reading_of s (row_levels lv row.bytes))) g.system
+              ∙ ap (λ l. Some (reading_of c.system (row_levels l row.bytes))) lvs;
         }
 
     looks_after : i'.line.looked ≡ width_of c.system * selected p.fields (p.row + 1)

@@ -1,5 +1,5 @@
 -- The state of a feeder: its line and its progress, and the position that they make.
-use Rattle.std.specs.Prelude.{◌≡◌, ℕ, ◌+◌, ◌-◌, ◌*◌, ◌<◌, ◌≤◌, List, [], ◌∷◌, length, min, take, Option}
+use Rattle.std.specs.Prelude.{◌≡◌, ℕ, ◌+◌, ◌-◌, ◌*◌, ◌<◌, ◌≤◌, List, [], length, min, take, Option}
 use Rattle.std.specs.Prelude.{Result, Ok, Err}
 use Rattle.vbi_words.specs.Geometry.{width_of, height_of, line_bytes}
 use Rattle.vbi_line.specs.Line.{Line}
@@ -16,7 +16,9 @@ position_in c l p = record {
   fields = p.fields;
   rest = p.row * line_bytes c.system + length l.held;
   held = l.held;
-  readings = take (p.row - 15) (p.readings.first ∷ p.readings.second ∷ p.readings.third ∷ []);
+  first = p.readings.first;
+  second = p.readings.second;
+  third = p.readings.third;
 }
 
 -- how many of the rows 15, 16 and 17 are among the rows of f fields and r rows more

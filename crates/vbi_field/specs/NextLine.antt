@@ -1,5 +1,5 @@
 -- What the taking of a line from a reader does.
-use Rattle.std.specs.Prelude.{◌≡◌, ℕ, ◌+◌, ◌*◌, ◌<◌, ◌≤◌, Bool, IsTrue, if◌then◌else◌, List, [], length, Option}
+use Rattle.std.specs.Prelude.{◌≡◌, ℕ, ◌+◌, ◌*◌, ◌<◌, ◌≤◌, Bool, if◌then◌else◌, List, [], length, Option, Some, None}
 use Rattle.std.specs.Io.KnownBytes.{Consumes, IsAtEnd}
 use Rattle.vbi_words.specs.Geometry.{width_of, line_bytes}
 use Rattle.vbi_words.specs.Levels.{LevelsView, row_levels}
@@ -14,12 +14,13 @@ use Rattle.vbi_field.specs.declared.run.NextLine.TheVariants.{Whole, Ended, Fail
 module _ {R : Type 0} (remaining : R → Option (List ℕ)) (levels : LevelsView) (selected : Bool) (old new : Intake R)
     (bytes : List ℕ)
   where
-    -- a whole line, of which each sample was looked at once if its reading was asked for
-    pub record GotWhole (reading : Reading) : Type 0 where
+    -- a whole line, of which each sample was looked at once if its reading was asked for, and else none was
+    pub record GotWhole (reading : Option Reading) : Type 0 where
       pub whole : length bytes ≡ line_bytes (line_of old).system
       pub held : held_of new ≡ []
       pub cursors : (line_of new).cursors ≡ []
-      pub shows : IsTrue selected → reading ≡ reading_of (line_of old).system (row_levels levels bytes)
+      pub shows : reading
+          ≡ (if selected then Some (reading_of (line_of old).system (row_levels levels bytes)) else None)
       pub looked : (line_of new).looked ≡ (line_of old).looked + (if selected then width_of (line_of old).system else 0)
       pub no_error : NoError (counted_of old) (counted_of new)
 

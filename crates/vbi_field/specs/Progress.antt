@@ -1,47 +1,58 @@
 -- How far a stream has come in whole rows, as the code keeps it.
-use Rattle.std.specs.Prelude.{◌≡◌, ℕ, ◌+◌, ◌*◌, ◌<◌, ◌≤◌, ◌⊎◌, List, ◌++◌, length, Option, Some, None, Result, Ok, Err}
+use Rattle.std.specs.Prelude.{◌≡◌, ◌≢◌, ℕ, ◌+◌, ◌*◌, ◌<◌, ◌≤◌, ◌⊎◌, List, ◌++◌, length, Option, Some, None, Result, Ok, Err}
 use Rattle.vbi_words.specs.Geometry.{height_of, line_bytes}
 use Rattle.vbi_words.specs.Levels.{row_levels}
 use Rattle.vbi_words.specs.declared.outcome.Reading.{Reading}
 use Rattle.vbi_line.specs.OneReading.{reading_of}
 use Rattle.vbi_field.specs.declared.readings.FieldReadings.{FieldReadings}
+use Rattle.vbi_field.specs.declared.progress.PartialReadings.{PartialReadings}
 use Rattle.vbi_field.specs.declared.progress.Progress.{Progress}
 use Rattle.vbi_field.specs.ConfigView.{ConfigView}
 use Rattle.vbi_field.specs.Outlet.{Wrote, WrotePart}
-use Rattle.vbi_field.specs.Stream.{reading_at, readings_at}
+use Rattle.vbi_field.specs.Position.{reading_among}
+use Rattle.vbi_field.specs.Stream.{readings_at}
 use Rattle.vbi_field.specs.Texts.{Texts, IsTextBetween}
 use Rattle.vbi_field.specs.declared.outlet.Outlet.{Outlet}
 use Rattle.vbi_field.specs.declared.summary.RunFault.{RunFault}
 
--- the rows of z are whole, and these are the number of its whole fields, the rows past them and those of their readings
--- that are due
+-- the readings of a field, if all three are there
+abbrev pub all_of : Option Reading → Option Reading → Option Reading → Option FieldReadings
+all_of (Some first) (Some second) (Some third) = Some (record { first = first; second = second; third = third })
+all_of _ _ _ = None
+
+-- the rows of z are whole, and these are the number of its whole fields, the rows past them and their readings
 pub record IsProgress (c : ConfigView) (z : List ℕ) (p : Progress) : Type 0 where
   pub whole : length z ≡ (p.fields * height_of c.system + p.row) * line_bytes c.system
   pub inside : p.row < height_of c.system
-  pub first : 15 < p.row → p.readings.first ≡ reading_at c z p.fields 15
-  pub second : 16 < p.row → p.readings.second ≡ reading_at c z p.fields 16
-  pub third : 17 < p.row → p.readings.third ≡ reading_at c z p.fields 17
+  pub first : p.readings.first ≡ reading_among c z p.fields p.row 15
+  pub second : p.readings.second ≡ reading_among c z p.fields p.row 16
+  pub third : p.readings.third ≡ reading_among c z p.fields p.row 17
 
 -- b is a whole row, with this reading if its number in the field is 15, 16 or 17
-pub record IsLineOf (c : ConfigView) (b : List ℕ) (row : ℕ) (reading : Reading) : Type 0 where
+pub record IsLineOf (c : ConfigView) (b : List ℕ) (row : ℕ) (reading : Option Reading) : Type 0 where
   pub whole : length b ≡ line_bytes c.system
-  pub shows : 15 ≤ row → row ≤ 17 → reading ≡ reading_of c.system (row_levels c.levels b)
+  pub shows : 15 ≤ row → row ≤ 17 → reading ≡ Some (reading_of c.system (row_levels c.levels b))
 
 -- one row b more behind z: inside a field, or at its end with the field's readings
 abbrev pub AdvancesOver : ConfigView → List ℕ → List ℕ → Progress → Option FieldReadings → Progress → Type 0
-AdvancesOver c z b old None new = IsProgress c (z ++ b) new
+AdvancesOver c z b old None new = IsProgress c (z ++ b) new × (new.fields ≡ old.fields)
 AdvancesOver c z b old (Some readings) new =
     IsProgress c (z ++ b) new × (old.row + 1 ≡ height_of c.system) × (readings ≡ readings_at c (z ++ b) old.fields)
 
--- a reading that is kept once its row r has passed, and is the one of this row if its turn has come
-abbrev pub Kept : ℕ → ℕ → Reading → Reading → Reading → Type 0
-Kept r row reading was now = (row ≡ r → now ≡ reading) × (r < row → now ≡ was)
+-- a row with this reading leads to this, whatever stream z came before it and whatever the bytes b of the row are
+pub record Advances (c : ConfigView) (old : Progress) (reading : Option Reading) (result : Option FieldReadings)
+    (new : Progress) : Type 0 where
+  pub over : (z b : List ℕ) → IsProgress c z old → IsLineOf c b old.row reading → AdvancesOver c z b old result new
+
+-- in the place of row r: the reading, if it is of this row, and else what was there
+abbrev pub IsKept : ℕ → ℕ → Option Reading → Option Reading → Option Reading → Type 0
+IsKept r row reading was now = (row ≡ r → now ≡ reading) × (row ≢ r → now ≡ was)
 
 -- the reading of a row is put in its place, if it has one
-pub record Keeps (row : ℕ) (reading : Reading) (was now : FieldReadings) : Type 0 where
-  pub first : Kept 15 row reading was.first now.first
-  pub second : Kept 16 row reading was.second now.second
-  pub third : Kept 17 row reading was.third now.third
+pub record Keeps (row : ℕ) (reading : Option Reading) (was now : PartialReadings) : Type 0 where
+  pub first : IsKept 15 row reading was.first now.first
+  pub second : IsKept 16 row reading was.second now.second
+  pub third : IsKept 17 row reading was.third now.third
 
 -- one row further: inside the field, or at its end
 abbrev pub MovesOneRow : ConfigView → Progress → Progress → Type 0

@@ -14,7 +14,7 @@ ghost use Rattle.vbi_field.specs.FeederState.{IsFeederState, IsStep, position_in
 use crate::config::Config;
 use crate::document::Document;
 use crate::outlet::Outlet;
-use crate::progress::{Progress, unread};
+use crate::progress::Progress;
 use crate::summary::{RunFault, Summary};
 use crate::texts::{Form, end, put};
 use std::io::Write;
@@ -47,22 +47,22 @@ fn copy_in(line: &mut LineBuf, bytes: &[u8]) -> usize
 }
 
 /// The reading of the line that is held, if it is selected; the line is held no longer.
-fn read_held(line: &mut LineBuf, config: &Config, is_selected: bool) -> Reading
+fn read_held(line: &mut LineBuf, config: &Config, is_selected: bool) -> Option<Reading>
     requires full { IsFull line.old }
     requires system { line.old.system ≡ config.now.system }
     requires passes { line.old.cursors ≡ [] }
     requires looked { line.old.looked ≤ 2 ^ 61 }
-    ensures shows { IsTrue is_selected
-        → result ≡ reading_of config.now.system (row_levels config.now.levels line.old.held) }
+    ensures shows { result ≡ (if is_selected
+        then Some (reading_of config.now.system (row_levels config.now.levels line.old.held)) else None) }
     ensures system { line.new.system ≡ line.old.system }
     ensures held { line.new.held ≡ [] }
     ensures cursors { line.new.cursors ≡ [] }
     ensures looked { line.new.looked ≡ line.old.looked + (if is_selected then width_of config.now.system else 0) }
 {
     let reading = if is_selected {
-        read_twice(line, config.system(), config.levels())
+        Some(read_twice(line, config.system(), config.levels()))
     } else {
-        unread()
+        None
     };
     line.clear();
     reading

@@ -1,10 +1,9 @@
 //! How far a stream has come in whole rows. A stream that is pulled and one that is pushed both advance by this.
-ghost use Rattle.std.specs.Prelude.{◌≡◌, ◌+◌, ◌*◌, ◌^◌, ◌↔◌, IsTrue, ◌<◌, ◌≤◌, List, ℕ, length, MatchOption, OnOk};
+ghost use Rattle.std.specs.Prelude.{◌≡◌, ◌+◌, ◌*◌, ◌^◌, ◌↔◌, IsTrue, ◌<◌, ◌≤◌, List, ℕ, length, IfSome, Some, None, OnOk};
 ghost use Rattle.std.specs.Prelude.{OnErr, IfErr};
 ghost use Rattle.vbi_words.specs.Geometry.{height_of, line_bytes};
 ghost use Rattle.vbi_line.specs.Counted.{failures_of, NoError, HasCause, IsSameDevice};
 ghost use Rattle.vbi_field.specs.Outlet.{counted_of, written_of, Rises};
-ghost use Rattle.vbi_field.specs.Progress.{Keeps};
 
 use crate::config::Config;
 use crate::outlet::Outlet;
@@ -12,52 +11,75 @@ use crate::readings::FieldReadings;
 use crate::summary::RunFault;
 use crate::texts::{Form, put};
 use std::io::Write;
-use vbi_words::{Outcome, Reading};
+use vbi_words::Reading;
+
+/// The readings of rows 15, 16 and 17 of a field, each once its row is whole.
+#[derive(Clone, Copy, Debug)]
+pub(crate) struct PartialReadings {
+    pub(crate) first: Option<Reading>,
+    pub(crate) second: Option<Reading>,
+    pub(crate) third: Option<Reading>,
+}
+
+impl PartialReadings {
+    ghost use Rattle.vbi_field.specs.Progress.{Keeps, all_of};
+
+    /// Those of a field of which none of these rows is whole.
+    fn none() -> Self
+        ensures { result ≡ record { first = None; second = None; third = None } }
+    {
+        PartialReadings {
+            first: None,
+            second: None,
+            third: None,
+        }
+    }
+
+    /// Puts the reading of a row in its place, if it has one.
+    fn keep(&mut self, row: usize, reading: Option<Reading>)
+        ensures { Keeps row reading self.old self.new }
+    {
+        match row {
+            15 => self.first = reading,
+            16 => self.second = reading,
+            17 => self.third = reading,
+            _ => {}
+        }
+    }
+
+    /// All three, or `None` where one of the rows isn't whole.
+    fn all(&self) -> Option<FieldReadings>
+        ensures { result ≡ all_of self.now.first self.now.second self.now.third }
+    {
+        Some(FieldReadings {
+            first: self.first?,
+            second: self.second?,
+            third: self.third?,
+        })
+    }
+}
 
 /// The number of whole fields, the row of the unfinished one, counted from 0, and its finished readings. No samples.
 #[derive(Clone, Copy, Debug)]
 pub(crate) struct Progress {
     pub(crate) fields: u32,
     pub(crate) row: usize,
-    pub(crate) readings: FieldReadings,
-}
-
-/// A placeholder for the reading of a row that isn't there yet, or that isn't asked for.
-pub(crate) fn unread() -> Reading {
-    Reading {
-        outcome: Outcome::Blank,
-        pass: 0,
-    }
-}
-
-/// Puts the reading of a row in its place, if it has one.
-fn keep_reading(readings: &mut FieldReadings, row: usize, reading: Reading)
-    ensures { Keeps row reading readings.old readings.new }
-{
-    match row {
-        15 => readings.first = reading,
-        16 => readings.second = reading,
-        17 => readings.third = reading,
-        _ => {}
-    }
+    pub(crate) readings: PartialReadings,
 }
 
 impl Progress {
-    ghost use Rattle.vbi_field.specs.Progress.{IsProgress, IsLineOf, MovesOneRow, AdvancesOver, Settles};
+    ghost use Rattle.vbi_field.specs.Progress.{IsProgress, IsLineOf, MovesOneRow, Advances, Settles};
 
     /// Before the first row.
     pub(crate) fn new() -> Self
         ensures fields { result.fields ≡ 0 }
         ensures row { result.row ≡ 0 }
+        ensures readings { result.readings ≡ record { first = None; second = None; third = None } }
     {
         Progress {
             fields: 0,
             row: 0,
-            readings: FieldReadings {
-                first: unread(),
-                second: unread(),
-                third: unread(),
-            },
+            readings: PartialReadings::none(),
         }
     }
 
@@ -77,34 +99,33 @@ impl Progress {
         (self.row * config.line_bytes() + held) as u32
     }
 
-    /// Takes the reading of the next row, and gives the readings of a field that is whole now.
-    fn advance(&mut self, config: &Config, reading: Reading) -> Option<FieldReadings>
+    /// Takes the reading of the next row, if it is selected, and reports the readings of a field that is whole now.
+    #[tactic(auto, using(crate::proofs::Growing::within_field, crate::proofs::Growing::past_field))]
+    fn advance(&mut self, config: &Config, reading: Option<Reading>) -> Option<FieldReadings>
         requires inside { self.old.row < height_of config.now.system }
         requires few { self.old.fields ≤ 1000000 }
         ensures inside { self.new.row < height_of config.now.system }
-        ensures counts { MatchOption result
-            ((self.new.fields ≡ self.old.fields) × (self.new.row ≡ self.old.row + 1))
-            (λ _. (self.new.fields ≡ self.old.fields + 1) × (self.new.row ≡ 0)
-            × (self.old.row + 1 ≡ height_of config.now.system)) }
-        ensures over { (z b : List ℕ) → IsProgress config.now z self.old
-            → IsLineOf config.now b self.old.row reading
-            → AdvancesOver config.now z b self.old result self.new }
+        ensures next { MovesOneRow config.now self.old self.new }
+        ensures field { IfSome result (λ _. (self.new.fields ≡ self.old.fields + 1) × (self.new.row ≡ 0)) }
+        ensures advances { Advances config.now self.old reading result self.new }
     {
-        keep_reading(&mut self.readings, self.row, reading);
+        self.readings.keep(self.row, reading);
         self.row += 1;
         if self.row < config.system().height() {
             return None;
         }
+        let whole = self.readings.all();
         self.row = 0;
         self.fields += 1;
-        Some(self.readings)
+        self.readings = PartialReadings::none();
+        whole
     }
 
-    /// Takes the reading of the next row, and writes the entry of a field that is whole now.
+    /// Takes the reading of the next row, if it is selected, and writes the entry of a field that is whole now.
     pub(crate) fn settle<F: Form, W: Write>(
         &mut self,
         config: &Config,
-        reading: Reading,
+        reading: Option<Reading>,
         outlet: &mut Outlet<W>,
     ) -> Result<(), RunFault>
         requires inside { self.old.row < height_of config.now.system }

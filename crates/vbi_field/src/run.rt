@@ -12,7 +12,7 @@ ghost use Rattle.vbi_field.specs.Outlet as outlets;
 use crate::config::Config;
 use crate::document::Document;
 use crate::outlet::Outlet;
-use crate::progress::{Progress, unread};
+use crate::progress::Progress;
 use crate::report::Report;
 use crate::summary::{RunFault, Summary};
 use crate::texts::{Form, end, put};
@@ -23,8 +23,8 @@ use vbi_words::{Levels, Reading};
 /// What the reader gives when a line is asked for.
 #[derive(Clone, Copy, Debug)]
 pub(crate) enum NextLine {
-    /// A whole line, with its reading where that was asked for.
-    Whole(Reading),
+    /// A whole line, with its reading if that was asked for.
+    Whole(Option<Reading>),
     /// The end, behind this number of bytes of a line.
     Ended(usize),
     /// A fault.
@@ -44,9 +44,9 @@ fn take_line<R: Read>(intake: &mut Intake<R>, levels: Levels, is_selected: bool)
     match intake.fill_line() {
         Ok(Filled::Full) => {
             let reading = if is_selected {
-                intake.reading(levels)
+                Some(intake.reading(levels))
             } else {
-                unread()
+                None
             };
             intake.clear_line();
             NextLine::Whole(reading)

@@ -11,7 +11,7 @@ loop-row-init g c =
     start _ _ _ _ _ _ c.put.new.outlet c.new-progress.result c.as_str.result.now c.requires.intake c.requires.outlet
     (c.as_str.ensures.value ∙ c.head.ensures) c.as_str.ensures.fits c.in_ok-put.ensures.puts
     c.in_ok-put.ensures.ok c.in_ok-put.ensures.no_error c.in_ok-put.ensures.same c.new-progress.ensures.fields
-    c.new-progress.ensures.row
+    c.new-progress.ensures.row c.new-progress.ensures.readings
 
 pub returns-in_err-put-clause-run : goal.returns-in_err-put-clause-run
 returns-in_err-put-clause-run g c =

@@ -4,21 +4,21 @@ use Rattle.vbi_field.proofs.progress.Progress.settle.Goals as goal
 
 pub returns-in_default-clause-settles : goal.returns-in_default-clause-settles
 returns-in_default-clause-settles g c = λ z b at row.
-    let over = c.in_default.ensures.over z b at row in
-    settled_inside _ _ _ _ c.args.outlet.now _ _ _ _ at over c.in_default.ensures.counts.0
+    let over = c.in_default.ensures.advances.over z b at row in
+    settled_inside _ _ _ _ c.args.outlet.now _ _ _ _ at over.0 over.1
 
 pub returns-in_ok-put-clause-settles : goal.returns-in_ok-put-clause-settles
 returns-in_ok-put-clause-settles g c = λ z b at row.
-    let over = c.in-Some.ensures.over z b at row in
-    let counts = c.in-Some.ensures.counts in
+    let over = c.in-Some.ensures.advances.over z b at row in
+    let counts = c.in-Some.ensures.field in
     settled_whole _ _ _ _ _ _ _ _ _ at over.0 counts.0 _ over.2 (c.advance.new.self.fields - 1)
     (omega (arith, counts.0)) _
     (c.as_str.ensures.value ∙ c.entry.ensures) c.in_ok-put.ensures.puts c.in_ok-put.ensures.ok
 
 pub returns-in_err-put-clause-settles : goal.returns-in_err-put-clause-settles
 returns-in_err-put-clause-settles g c = λ z b at row.
-    let over = c.in-Some.ensures.over z b at row in
-    let counts = c.in-Some.ensures.counts in
+    let over = c.in-Some.ensures.advances.over z b at row in
+    let counts = c.in-Some.ensures.field in
     settles_fault _ _ _ _ _ _ _ _ _ c.from_residual.ensures.0
     (settled_in_part _ _ _ _ _ _ _ _ _ at over.0 counts.0 _ over.2 (c.advance.new.self.fields - 1)
     (omega (arith, counts.0)) _
