@@ -16,10 +16,12 @@ use Rattle.vbi_line.specs.Counted.{device_of, failures_of, NoError, HasCause, Is
 use Rattle.vbi_line.specs.Intake as intakes
 use Rattle.vbi_line.specs.OneReading.{reading_of}
 use Rattle.vbi_line.specs.declared.counted.Counted.{Counted}
+use Rattle.vbi_line.specs.declared.intake.Filled.{Filled}
+use Rattle.vbi_line.specs.declared.intake.Filled.TheVariants.{Full, Ended}
 use Rattle.vbi_line.specs.declared.intake.Intake.{Intake}
 use Rattle.vbi_field.specs.ConfigView.{ConfigView, allowed_bytes}
 use Rattle.vbi_field.specs.Extracts.{EndsWithin, Runs}
-use Rattle.vbi_field.specs.NextLine.{TakesLine}
+use Rattle.vbi_field.specs.NextLine.{TakesLine, ReadsLine}
 use Rattle.vbi_field.specs.Outlet as outlets
 use Rattle.vbi_field.specs.Progress.{IsProgress, IsLineOf, MovesOneRow, SettlesWhole, SettlesInPart}
 use Rattle.vbi_field.specs.Ran.{EndsInside, HasFailed}
@@ -28,8 +30,6 @@ use Rattle.vbi_field.specs.FeederState.{selected}
 use Rattle.vbi_field.specs.Texts.{Texts, text_before_tail, whole_text}
 use Rattle.vbi_field.specs.declared.outlet.Outlet.{Outlet}
 use Rattle.vbi_field.specs.declared.progress.Progress.{Progress}
-use Rattle.vbi_field.specs.declared.run.NextLine.{NextLine}
-use Rattle.vbi_field.specs.declared.run.NextLine.TheVariants.{Whole, Ended, Failed}
 use Rattle.vbi_field.specs.declared.summary.RunFault.{RunFault}
 use Rattle.vbi_field.specs.declared.summary.Summary.{Summary}
 use Rattle.vbi_field.specs.declared.summary.RunFault.TheVariants.{Read, Write, TooManyFields}
@@ -253,40 +253,72 @@ module _ (t : Texts) {R W : Type 0} (remaining : R → Option (List ℕ)) (conte
 
   -- ---- a whole row was fetched
 
-  module _ (k : ℕ) (i i' : Intake R) (o : Outlet W) (p : Progress) (g : Pulled k i o p) (sel : Bool)
-      (sels : IsTrue sel ↔ ((15 ≤ p.row) × (p.row ≤ 17))) (reading : Option Reading) (lv : LevelsView) (lvs : lv ≡ c.levels)
-      (row : TakesLine remaining lv sel i i' (Whole reading)) where
+  -- what was taken, where the line has been read since
+  record Took (i i' : Intake R) (bytes : List ℕ) : Type 0 where
+    pub consumed : Consumes (remaining (device_of (intakes.counted_of i)))
+        (remaining (device_of (intakes.counted_of i'))) bytes
+    pub fetched : i'.fetched ≡ i.fetched + length bytes
+    pub most : (failures_of (intakes.counted_of i')).all
+        ≤ (failures_of (intakes.counted_of i)).all + 17 * (length bytes + 1)
+    pub no_error : NoError (intakes.counted_of i) (intakes.counted_of i')
+    pub same : IsSameDevice (intakes.counted_of i) (intakes.counted_of i')
+
+  module _ (k : ℕ) (i f i' : Intake R) (o : Outlet W) (p : Progress) (g : Pulled k i o p) (sel : Bool)
+      (sels : IsTrue sel ↔ ((15 ≤ p.row) × (p.row ≤ 17))) (reading : Option Reading) (lv : LevelsView)
+      (lvs : lv ≡ c.levels) (row : TakesLine remaining i f (Ok Full)) (line : ReadsLine lv sel f i' reading)
+      (named : IsSameDevice (intakes.counted_of i) (intakes.counted_of f)) where
+    system : f.line.system ≡ c.system
+    system = let kept = row.kept in kept.system ∙ g.system
+
+    took : Took i i' row.bytes
+    took =
+        let got = row.got in
+        let reader = line.reader in
+        let P : Counted R → Type 0 = λ d.
+        Consumes (remaining (device_of (intakes.counted_of i))) (remaining (device_of d)) row.bytes
+        × ((failures_of d).all ≤ (failures_of (intakes.counted_of i)).all + 17 * (length row.bytes + 1))
+        × NoError (intakes.counted_of i) d × IsSameDevice (intakes.counted_of i) d in
+        let all = subst P (sym reader.reader) (row.consumed, row.most, got.no_error, named) in
+        record {
+          consumed = all.0;
+          fetched = reader.fetched ∙ row.fetched;
+          most = all.1;
+          no_error = all.2;
+          same = all.3;
+        }
+
     pub row_came : IsLineOf c row.bytes p.row reading
     row_came =
         let got = row.got in
         record {
           whole = got.whole ∙ ap line_bytes g.system;
-          shows = λ a b. got.shows
-              ∙ cond-true sel (Some (reading_of i.line.system (row_levels lv row.bytes))) None (sels.1 (a, b))
-              ∙ ap (λ s. Some (reading_of s (row_levels lv row.bytes))) g.system
+          shows = λ a b. line.shows
+              ∙ cond-true sel (Some (reading_of f.line.system (row_levels lv f.line.held))) None (sels.1 (a, b))
+              ∙ ap (λ s. Some (reading_of s (row_levels lv f.line.held))) system
+              ∙ ap (λ l. Some (reading_of c.system (row_levels lv l))) row.held
               ∙ ap (λ l. Some (reading_of c.system (row_levels l row.bytes))) lvs;
         }
 
     looks_after : i'.line.looked ≡ width_of c.system * selected p.fields (p.row + 1)
     looks_after =
-        let got = row.got in
+        let kept = row.kept in
         looks_next c.system p.fields p.row i.line.looked i'.line.looked sel sels g.looks
-        (got.looked ∙ ap (λ s. i.line.looked + cond sel (width_of s) 0) g.system)
+        (line.looked ∙ ap (λ n. n + cond sel (width_of f.line.system) 0) kept.looked
+        ∙ ap (λ s. i.line.looked + cond sel (width_of s) 0) system)
 
     -- and what is due with it was written
-    pub step : (o' : Outlet W) (p' : Progress) → IsSameDevice (intakes.counted_of i) (intakes.counted_of i')
-        → MovesOneRow c p p'
+    pub step : (o' : Outlet W) (p' : Progress) → MovesOneRow c p p'
         → outlets.Rises o o' p.fields p'.fields
         → SettlesWhole t contents c o o' g.z row.bytes p' → NoError (outlets.counted_of o) (outlets.counted_of o')
         → IsSameDevice (outlets.counted_of o) (outlets.counted_of o')
         → k + 1 ≤ c.max_fields * height_of c.system → Pulled (k + 1) i' o' p'
-    step o' p' same next rises settled no_error same_writer limit =
+    step o' p' next rises settled no_error same_writer limit =
         let z : List ℕ = g.z ++ row.bytes in
         let l = length-append g.z row.bytes in
         let came = row_came.whole in
         let sizes = sizes_of c.system in
-        let got = row.got in
-        let looks = cond_le sel (width_of i.line.system) (narrow i.line.system) in
+        let kept = row.kept in
+        let looks = cond_le sel (width_of f.line.system) (narrow f.line.system) in
         let on = further c p p' i'.line.looked looks_after next in
         let place : p'.fields * height_of c.system + p'.row ≡ k + 1 = on.place ∙ ap (λ n. n + 1) g.place in
         let wrote = settled.wrote in
@@ -297,27 +329,27 @@ module _ (t : Texts) {R W : Type 0} (remaining : R → Option (List ℕ)) (conte
         (contents (device_of (outlets.counted_of o'))) in
         record {
           z = z;
-          consumed = Consumes-trans _ _ _ g.z row.bytes g.consumed row.consumed;
-          fetched = omega (arith, row.fetched, g.fetched);
+          consumed = Consumes-trans _ _ _ g.z row.bytes g.consumed took.consumed;
+          fetched = omega (arith, took.fetched, g.fetched);
           long = omega (arith, g.long);
-          reads = omega (arith, row.most, g.reads);
+          reads = omega (arith, took.most, g.reads);
           appended =
               subst P settled.due
               (Appends-trans _ _ _ (text_before_tail t c g.z) settled.text g.appended wrote.appended);
           written = omega (arith, g.written);
           small = omega (arith, g.small, rises.written);
           writes = omega (arith, g.writes, rises.failures);
-          calm_reads = got.no_error ∙ g.calm_reads;
+          calm_reads = took.no_error ∙ g.calm_reads;
           calm_writes = no_error ∙ g.calm_writes;
           at = settled.position;
           place = place;
           few = few_fields c.system p'.fields p'.row c.max_fields (omega arith);
-          system = row.system ∙ g.system;
-          held = got.held;
-          cursors = got.cursors;
-          looked = omega (arith, got.looked, g.looked);
+          system = line.system ∙ system;
+          held = line.held;
+          cursors = line.cursors;
+          looked = omega (arith, line.looked, kept.looked, g.looked);
           looks = on.looks;
-          same_reader = same ∙ g.same_reader;
+          same_reader = took.same ∙ g.same_reader;
           same_writer = same_writer ∙ g.same_writer;
         }
 
@@ -329,7 +361,6 @@ module _ (t : Texts) {R W : Type 0} (remaining : R → Option (List ℕ)) (conte
     entry_fault o' p' fault next first settled cause fails limit =
         let z : List ℕ = g.z ++ row.bytes in
         let l = length-append g.z row.bytes in
-        let got = row.got in
         let on = further c p p' i'.line.looked looks_after next in
         let after = settled.position in
         let place : p'.fields * height_of c.system + p'.row ≡ k + 1 = on.place ∙ ap (λ n. n + 1) g.place in
@@ -345,9 +376,8 @@ module _ (t : Texts) {R W : Type 0} (remaining : R → Option (List ℕ)) (conte
         let w = settled.wrote in
         let P : List ℕ → Type 0 = λ b. EndsInside b (text_before_tail t c z) (text_before_tail t c g.z ++ w.part) in
         write_fault i' o o' z (text_before_tail t c g.z) w.part fault
-        (Consumes-trans _ _ _ g.z row.bytes g.consumed row.consumed) (omega (arith, row.fetched, g.fetched)) g.appended
-        g.written
-        (got.no_error ∙ g.calm_reads) g.calm_writes w.wrote cause fails within looks
+        (Consumes-trans _ _ _ g.z row.bytes g.consumed took.consumed) (omega (arith, took.fetched, g.fetched))
+        g.appended g.written (took.no_error ∙ g.calm_reads) g.calm_writes w.wrote cause fails within looks
         (inr (inl (
           due.before,
           due.last,
@@ -395,9 +425,8 @@ module _ (t : Texts) {R W : Type 0} (remaining : R → Option (List ℕ)) (conte
     all = long ∙ ap (λ m. m * line_bytes c.system + length b) g.place
 
   -- the reader ended, and the tail was put, or not
-  pub ended : (k : ℕ) (i i' : Intake R) (o o' : Outlet W) (p : Progress) (g : Pulled k i o p) (sel : Bool)
-      (lv : LevelsView) (n : ℕ)
-      (row : TakesLine remaining lv sel i i' (Ended n)) (fields rest looked : ℕ) → fields ≡ p.fields
+  pub ended : (k : ℕ) (i i' : Intake R) (o o' : Outlet W) (p : Progress) (g : Pulled k i o p) (n : ℕ)
+      (row : TakesLine remaining i i' (Ok (Ended n))) (fields rest looked : ℕ) → fields ≡ p.fields
       → rest ≡ p.row * line_bytes c.system + n → k * line_bytes c.system + n ≤ allowed_bytes c
       → looked ≡ i'.line.looked → outlets.Puts contents o o' (t.tail fields rest)
       → (r : Result Summary RunFault) → OnOk r (o'.written ≡ o.written + length (t.tail fields rest))
@@ -406,7 +435,7 @@ module _ (t : Texts) {R W : Type 0} (remaining : R → Option (List ℕ)) (conte
       → OnErr r (HasCause (outlets.counted_of o) (outlets.counted_of o'))
       → OnErr r (outlets.written_of o' < outlets.written_of o + length (t.tail fields rest))
       → IfErr r (λ e. e ≡ Write o'.written) → Runs t remaining contents c i0 i' o0 o' r
-  ended k i i' o o' p g sel lv n row fields rest looked fs rs within ls puts r whole calm says cause less fails =
+  ended k i i' o o' p g n row fields rest looked fs rs within ls puts r whole calm says cause less fails =
       by r whole calm says cause less fails
     where
       b : List ℕ
@@ -423,7 +452,7 @@ module _ (t : Texts) {R W : Type 0} (remaining : R → Option (List ℕ)) (conte
           ∙ sym (rest_is k i o p g b short)
 
       looks : i'.line.looked ≡ looks_of c (g.z ++ b)
-      looks = let got = row.got in got.looked ∙ looks_are k i o p g b short
+      looks = let kept = row.kept in kept.looked ∙ looks_are k i o p g b short
 
       few : length (g.z ++ b) ≤ allowed_bytes c
       few = let got =
@@ -479,16 +508,16 @@ module _ (t : Texts) {R W : Type 0} (remaining : R → Option (List ℕ)) (conte
           (inr (inr (got.ended, subst P (begun_is k i o p g b short) inside)))
 
   -- the reader failed
-  pub read_fault : (k : ℕ) (i i' : Intake R) (o : Outlet W) (p : Progress) (g : Pulled k i o p) (sel : Bool)
-      (lv : LevelsView)
-      (row : TakesLine remaining lv sel i i' Failed) (fault : RunFault) → k ≤ c.max_fields * height_of c.system
+  pub read_fault : (k : ℕ) (i i' : Intake R) (o : Outlet W) (p : Progress) (g : Pulled k i o p) (came : RunFault)
+      (row : TakesLine remaining i i' (Err came)) (fault : RunFault) → k ≤ c.max_fields * height_of c.system
       → fault ≡ Read (p.fields + 1) (p.row * line_bytes c.system + length (intakes.held_of i'))
       → Runs t remaining contents c i0 i' o0 o (Err fault)
-  read_fault k i i' o p g sel lv row fault last is =
+  read_fault k i i' o p g came row fault last is =
       let b : List ℕ = row.bytes in
       let got = row.got in
       let short : length b < line_bytes c.system = rw (← g.system) got.short in
-      let held = ap length got.held in
+      let held = ap length row.held in
+      let kept = row.kept in
       let rows : k * line_bytes c.system ≤ allowed_bytes c = rows_fit c.system k c.max_fields last in
       let bytes = all k i o p g b short in
       record {
@@ -505,19 +534,18 @@ module _ (t : Texts) {R W : Type 0} (remaining : R → Option (List ℕ)) (conte
           offset_of = ap (λ n. p.row * line_bytes c.system + n) held ∙ sym (rest_is k i o p g b short);
           within = omega arith;
           begun = begun_is k i o p g b short;
-          looks = got.looked ∙ looks_are k i o p g b short;
+          looks = kept.looked ∙ looks_are k i o p g b short;
         });
       }
 
   -- some bytes were fetched past the last field that is allowed, a line's at most
-  pub too_many : (k : ℕ) (i i' : Intake R) (o : Outlet W) (p : Progress) (g : Pulled k i o p) (sel : Bool)
-      (lv : LevelsView) (came : NextLine)
-      (row : TakesLine remaining lv sel i i' came)
+  pub too_many : (k : ℕ) (i i' : Intake R) (o : Outlet W) (p : Progress) (g : Pulled k i o p) (came : Result Filled RunFault) (row : TakesLine remaining i i' came)
       → k ≡ c.max_fields * height_of c.system → 0 < length row.bytes → length row.bytes ≤ line_bytes i.line.system
-      → i'.line.looked ≡ i.line.looked → NoError (intakes.counted_of i) (intakes.counted_of i')
+      → NoError (intakes.counted_of i) (intakes.counted_of i')
       → Runs t remaining contents c i0 i' o0 o (Err TooManyFields)
-  too_many k i i' o p g sel lv came row last some few unread no_error =
+  too_many k i i' o p g came row last some few no_error =
       let b : List ℕ = row.bytes in
+      let kept = row.kept in
       let at = g.at in
       let place : p.fields * height_of c.system + p.row ≡ c.max_fields * height_of c.system = g.place ∙ last in
       let long : length g.z ≡ allowed_bytes c = at.whole ∙ ap (λ n. n * line_bytes c.system) place
@@ -538,16 +566,16 @@ module _ (t : Texts) {R W : Type 0} (remaining : R → Option (List ℕ)) (conte
           more = omega arith;
           within = omega arith;
           begun = ap (text_before_tail t c) (sym cut);
-          looks = unread ∙ g.looks
+          looks = kept.looked ∙ g.looks
               ∙ ap (λ n. width_of c.system * n) (ap (λ f. selected f p.row) all.0 ∙ ap (selected c.max_fields) all.1
               ∙ sym (selected_past c.system (length (g.z ++ b)) c.max_fields (length b) both few'));
         };
       }
 
   -- a fault that was passed on
-  pub runs_fault : (i : Intake R) (o : Outlet W) (written : ℕ) (r : Result Summary RunFault)
-      → IsErrAnd r (λ e. e ≡ Write written)
-      → ((fault : RunFault) → fault ≡ Write written → Runs t remaining contents c i0 i o0 o (Err fault))
+  pub runs_fault : (i : Intake R) (o : Outlet W) (named : RunFault) (r : Result Summary RunFault)
+      → IsErrAnd r (λ e. e ≡ named)
+      → ((fault : RunFault) → fault ≡ named → Runs t remaining contents c i0 i o0 o (Err fault))
       → Runs t remaining contents c i0 i o0 o r
-  runs_fault i o written (Ok s) is says = absurd is
-  runs_fault i o written (Err fault) is says = says fault is
+  runs_fault i o named (Ok s) is says = absurd is
+  runs_fault i o named (Err fault) is says = says fault is

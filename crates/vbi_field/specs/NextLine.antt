@@ -1,59 +1,62 @@
--- What the taking of a line from a reader does.
+-- What a run does with the next line of a reader.
 use Rattle.std.specs.Prelude.{◌≡◌, ℕ, ◌+◌, ◌*◌, ◌<◌, ◌≤◌, Bool, if◌then◌else◌, List, [], length, Option, Some, None}
+use Rattle.std.specs.Prelude.{Result, Ok, Err}
 use Rattle.std.specs.Io.KnownBytes.{Consumes, IsAtEnd}
 use Rattle.vbi_words.specs.Geometry.{width_of, line_bytes}
 use Rattle.vbi_words.specs.Levels.{LevelsView, row_levels}
 use Rattle.vbi_words.specs.declared.outcome.Reading.{Reading}
 use Rattle.vbi_line.specs.OneReading.{reading_of}
 use Rattle.vbi_line.specs.Counted.{device_of, failures_of, NoError, HasCause}
-use Rattle.vbi_line.specs.Intake.{counted_of, fetched_of, held_of, line_of}
+use Rattle.vbi_line.specs.Intake.{counted_of, fetched_of, held_of, line_of, KeepsReader}
+use Rattle.vbi_line.specs.Line.{Keeps}
+use Rattle.vbi_line.specs.declared.intake.Filled.{Filled}
+use Rattle.vbi_line.specs.declared.intake.Filled.TheVariants.{Full, Ended}
 use Rattle.vbi_line.specs.declared.intake.Intake.{Intake}
-use Rattle.vbi_field.specs.declared.run.NextLine.{NextLine}
-use Rattle.vbi_field.specs.declared.run.NextLine.TheVariants.{Whole, Ended, Failed}
+use Rattle.vbi_field.specs.declared.summary.RunFault.{RunFault}
 
-module _ {R : Type 0} (remaining : R → Option (List ℕ)) (levels : LevelsView) (selected : Bool) (old new : Intake R)
-    (bytes : List ℕ)
-  where
-    -- a whole line, of which each sample was looked at once if its reading was asked for, and else none was
-    pub record GotWhole (reading : Option Reading) : Type 0 where
-      pub whole : length bytes ≡ line_bytes (line_of old).system
-      pub held : held_of new ≡ []
-      pub cursors : (line_of new).cursors ≡ []
-      pub shows : reading
-          ≡ (if selected then Some (reading_of (line_of old).system (row_levels levels bytes)) else None)
-      pub looked : (line_of new).looked ≡ (line_of old).looked + (if selected then width_of (line_of old).system else 0)
-      pub no_error : NoError (counted_of old) (counted_of new)
+module _ {R : Type 0} (remaining : R → Option (List ℕ)) (old new : Intake R) where
+  -- the bytes of a whole line
+  pub record GotWhole (bytes : List ℕ) : Type 0 where
+    pub whole : length bytes ≡ line_bytes (line_of old).system
+    pub no_error : NoError (counted_of old) (counted_of new)
 
-    -- the rest of the stream, less than a line
-    pub record GotRest (count : ℕ) : Type 0 where
-      pub count_of : count ≡ length bytes
-      pub held : held_of new ≡ bytes
-      pub short : length bytes < line_bytes (line_of old).system
-      pub ended : IsAtEnd (remaining (device_of (counted_of new)))
-      pub looked : (line_of new).looked ≡ (line_of old).looked
-      pub no_error : NoError (counted_of old) (counted_of new)
+  -- the rest of the stream, less than a line
+  pub record GotRest (bytes : List ℕ) (count : ℕ) : Type 0 where
+    pub count_of : count ≡ length bytes
+    pub short : length bytes < line_bytes (line_of old).system
+    pub ended : IsAtEnd (remaining (device_of (counted_of new)))
+    pub no_error : NoError (counted_of old) (counted_of new)
 
-    -- the bytes before a fault of the reader, less than a line
-    pub record GotPart : Type 0 where
-      pub held : held_of new ≡ bytes
-      pub short : length bytes < line_bytes (line_of old).system
-      pub failed : HasCause (counted_of old) (counted_of new)
-      pub looked : (line_of new).looked ≡ (line_of old).looked
+  -- the bytes before a fault of the reader, less than a line
+  pub record GotPart (bytes : List ℕ) : Type 0 where
+    pub short : length bytes < line_bytes (line_of old).system
+    pub failed : HasCause (counted_of old) (counted_of new)
 
-    -- these bytes were got, by the answer
-    abbrev pub Got : NextLine → Type 0
-    Got (Whole reading) = GotWhole reading
-    Got (Ended count) = GotRest count
-    Got Failed = GotPart
+  -- these bytes were got, by the answer
+  abbrev pub Got : List ℕ → Result Filled RunFault → Type 0
+  Got bytes (Ok Full) = GotWhole bytes
+  Got bytes (Ok (Ended count)) = GotRest bytes count
+  Got bytes (Err fault) = GotPart bytes
 
-module _ {R : Type 0} (remaining : R → Option (List ℕ)) (levels : LevelsView) (selected : Bool) (old new : Intake R)
-  where
-    -- some bytes of the reader were got, and the counts rose by their number
-    pub record TakesLine (result : NextLine) : Type 0 where
-      pub bytes : List ℕ
-      pub consumed : Consumes (remaining (device_of (counted_of old))) (remaining (device_of (counted_of new))) bytes
-      pub fetched : fetched_of new ≡ fetched_of old + length bytes
-      pub least : (failures_of (counted_of old)).all ≤ (failures_of (counted_of new)).all
-      pub most : (failures_of (counted_of new)).all ≤ (failures_of (counted_of old)).all + 17 * (length bytes + 1)
-      pub system : (line_of new).system ≡ (line_of old).system
-      pub got : Got remaining levels selected old new bytes result
+  -- some bytes of the reader were got and are held, and the counts rose by their number
+  pub record TakesLine (result : Result Filled RunFault) : Type 0 where
+    pub bytes : List ℕ
+    pub held : held_of new ≡ bytes
+    pub consumed : Consumes (remaining (device_of (counted_of old))) (remaining (device_of (counted_of new))) bytes
+    pub fetched : fetched_of new ≡ fetched_of old + length bytes
+    pub least : (failures_of (counted_of old)).all ≤ (failures_of (counted_of new)).all
+    pub most : (failures_of (counted_of new)).all ≤ (failures_of (counted_of old)).all + 17 * (length bytes + 1)
+    pub kept : Keeps (line_of old) (line_of new)
+    pub got : Got bytes result
+
+-- the line that was held has this reading and each of its samples was looked at once, if it is selected; else there is
+-- no reading; it is held no longer, and the reader wasn't called
+pub record ReadsLine {R : Type 0} (levels : LevelsView) (selected : Bool) (old new : Intake R)
+    (reading : Option Reading) : Type 0 where
+  pub shows : reading
+      ≡ (if selected then Some (reading_of (line_of old).system (row_levels levels (held_of old))) else None)
+  pub looked : (line_of new).looked ≡ (line_of old).looked + (if selected then width_of (line_of old).system else 0)
+  pub system : (line_of new).system ≡ (line_of old).system
+  pub held : held_of new ≡ []
+  pub cursors : (line_of new).cursors ≡ []
+  pub reader : KeepsReader old new

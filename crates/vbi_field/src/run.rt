@@ -1,12 +1,13 @@
 //! The document and the report of a whole stream, pulled from a reader.
-ghost use Rattle.std.specs.Prelude.{◌≡◌, ◌+◌, ◌*◌, ◌^◌, ◌<◌, ◌≤◌, [], length};
+ghost use Rattle.std.specs.Prelude.{◌≡◌, ◌+◌, ◌*◌, ◌^◌, ◌<◌, ◌≤◌, [], length, IfErr};
 ghost use Rattle.vbi_words.specs.Geometry.{height_of, line_bytes};
 ghost use Rattle.vbi_line.specs.Counted.{failures_of, IsSameDevice};
 ghost use Rattle.vbi_line.specs.Intake as intakes;
 ghost use Rattle.vbi_line.specs.Intake.{fetched_of, held_of, line_of, IsFresh};
 ghost use Rattle.vbi_field.specs.Extracts.{Runs};
 ghost use Rattle.vbi_field.specs.Kinds.{document, report};
-ghost use Rattle.vbi_field.specs.NextLine.{TakesLine};
+ghost use Rattle.vbi_line.specs.Line.{IsFull};
+ghost use Rattle.vbi_field.specs.NextLine.{TakesLine, ReadsLine};
 ghost use Rattle.vbi_field.specs.Outlet as outlets;
 
 use crate::config::Config;
@@ -20,54 +21,46 @@ use std::io::{Read, Write};
 use vbi_line::{Filled, Intake};
 use vbi_words::{Levels, Reading};
 
-/// What the reader gives when a line is asked for.
-#[derive(Clone, Copy, Debug)]
-pub(crate) enum NextLine {
-    /// A whole line, with its reading if that was asked for.
-    Whole(Option<Reading>),
-    /// The end, behind this number of bytes of a line.
-    Ended(usize),
-    /// A fault.
-    Failed,
-}
-
-/// Takes the next line, and reads it if it is selected.
-fn take_line<R: Read>(intake: &mut Intake<R>, levels: Levels, is_selected: bool) -> NextLine
+/// Fills the line. A fault of the reader names the place to which the stream has come.
+fn fill_line<R: Read>(
+    config: &Config,
+    progress: &Progress,
+    intake: &mut Intake<R>,
+) -> Result<Filled, RunFault>
+    requires fields { progress.now.fields ≤ 1000000 }
+    requires inside { progress.now.row < height_of config.now.system }
+    requires system { (line_of intake.old).system ≡ config.now.system }
     requires empty { held_of intake.old ≡ [] }
-    requires fresh { (line_of intake.old).cursors ≡ [] }
-    requires looked { (line_of intake.old).looked ≤ 2 ^ 61 }
     requires fetched { fetched_of intake.old ≤ 2 ^ 62 }
     requires failures { (failures_of (intakes.counted_of intake.old)).all ≤ 2 ^ 62 }
     ensures same { IsSameDevice (intakes.counted_of intake.old) (intakes.counted_of intake.new) }
-    ensures takes { TakesLine R.remaining levels is_selected intake.old intake.new result }
+    ensures takes { TakesLine R.remaining intake.old intake.new result }
+    ensures fault { IfErr result (λ e. e ≡ RunFault.Read (progress.now.fields + 1)
+        (progress.now.row * line_bytes config.now.system + length (held_of intake.new))) }
 {
     match intake.fill_line() {
-        Ok(Filled::Full) => {
-            let reading = if is_selected {
-                Some(intake.reading(levels))
-            } else {
-                None
-            };
-            intake.clear_line();
-            NextLine::Whole(reading)
-        }
-        Ok(Filled::Ended(count)) => NextLine::Ended(count),
-        Err(_) => NextLine::Failed,
+        Ok(filled) => Ok(filled),
+        Err(_) => Err(RunFault::Read {
+            field: progress.fields + 1,
+            offset: progress.rest(config, intake.held()),
+        }),
     }
 }
 
-/// The fault of a reader that failed at this place.
-fn read_fault<R: Read>(config: &Config, progress: &Progress, intake: &Intake<R>) -> RunFault
-    requires fields { progress.now.fields ≤ 1000000 }
-    requires inside { progress.now.row < height_of config.now.system }
-    requires held { length (held_of intake.now) ≤ line_bytes config.now.system }
-    ensures { result ≡ RunFault.Read (progress.now.fields + 1)
-        (progress.now.row * line_bytes config.now.system + length (held_of intake.now)) }
+/// The reading of the line that is held whole, if it is selected; the line is held no longer.
+fn read_line<R: Read>(intake: &mut Intake<R>, levels: Levels, is_selected: bool) -> Option<Reading>
+    requires full { IsFull (line_of intake.old) }
+    requires passes { (line_of intake.old).cursors ≡ [] }
+    requires looked { (line_of intake.old).looked ≤ 2 ^ 61 }
+    ensures reads { ReadsLine levels is_selected intake.old intake.new result }
 {
-    RunFault::Read {
-        field: progress.fields + 1,
-        offset: progress.rest(config, intake.held()),
-    }
+    let reading = if is_selected {
+        Some(intake.reading(levels))
+    } else {
+        None
+    };
+    intake.clear_line();
+    reading
 }
 
 /// Writes the text of a stream.
@@ -85,20 +78,21 @@ fn run<F: Form, R: Read, W: Write>(
     put(outlet, F::head(config).as_str())?;
     let mut progress = Progress::new();
     for row in 0..config.row_limit() {
-        match take_line(intake, config.levels(), progress.is_selected()) {
-            NextLine::Whole(reading) => progress.settle::<F, W>(config, reading, outlet)?,
-            NextLine::Ended(bytes) => {
+        match fill_line(config, &progress, intake)? {
+            Filled::Full => {
+                let reading = read_line(intake, config.levels(), progress.is_selected());
+                progress.settle::<F, W>(config, reading, outlet)?;
+            }
+            Filled::Ended(bytes) => {
                 let rest = progress.rest(config, bytes);
                 return end::<F, W>(outlet, progress.fields, rest, intake.looked());
             }
-            NextLine::Failed => return Err(read_fault(config, &progress, intake)),
         }
     }
-    match take_line(intake, config.levels(), false) {
-        NextLine::Ended(0) => end::<F, W>(outlet, progress.fields, 0, intake.looked()),
-        NextLine::Ended(_) => Err(RunFault::TooManyFields),
-        NextLine::Whole(_) => Err(RunFault::TooManyFields),
-        NextLine::Failed => Err(read_fault(config, &progress, intake)),
+    match fill_line(config, &progress, intake)? {
+        Filled::Ended(0) => end::<F, W>(outlet, progress.fields, 0, intake.looked()),
+        Filled::Ended(_) => Err(RunFault::TooManyFields),
+        Filled::Full => Err(RunFault::TooManyFields),
     }
 }
 

@@ -25,34 +25,46 @@ returns-in_err-put-clause-run g c =
 pub loop-row-preserved : goal.loop-row-preserved
 loop-row-preserved g c =
     let v = c.loop-row.invariant in
-    let t = c.in-Whole.ensures.takes in
-    let came = row_came _ _ _ _ _ _ _ _ _ _ _ v _ (search rules) _ c.levels.result c.levels.ensures t in
+    let t = rw c.in-Full.is at c.in_ok-fill_line.ensures.takes in
+    let same = c.in_ok-fill_line.ensures.same in
+    let reads = c.read_line-reading.ensures.reads in
+    let came = row_came _ _ _ _ _ _ _ _ _ _ _ _ v _ (search rules) _ c.levels.result c.levels.ensures t reads same in
     let last : c.loop-row.row + 1 ≤ c.args.config.now.max_fields * height_of c.args.config.now.system =
     omega (arith, c.row_limit-row-end.ensures.value) in
-    step _ _ _ _ _ _ _ _ _ _ _ v _ (search rules) _ c.levels.result c.levels.ensures t
-    c.settle.new.outlet c.settle.new.self c.in-Whole.ensures.same c.in_ok-settle-in-Whole.ensures.next
-    c.in_ok-settle-in-Whole.ensures.rises
-    (c.in_ok-settle-in-Whole.ensures.settles v.z t.bytes v.at came) c.in_ok-settle-in-Whole.ensures.no_error
-    c.in_ok-settle-in-Whole.ensures.same last
+    let e = c.in_ok-settle-in-Full.ensures in
+    step _ _ _ _ _ _ _ _ _ _ _ _ v _ (search rules) _ c.levels.result c.levels.ensures t reads same
+    c.settle.new.outlet c.settle.new.self e.next e.rises (e.settles v.z t.bytes v.at came) e.no_error e.same last
 
-pub returns-in_err-settle-in-Whole-clause-run : goal.returns-in_err-settle-in-Whole-clause-run
-returns-in_err-settle-in-Whole-clause-run g c =
-    let v = c.loop-row.invariant in
-    let t = c.in-Whole.ensures.takes in
-    let came = row_came _ _ _ _ _ _ _ _ _ _ _ v _ (search rules) _ c.levels.result c.levels.ensures t in
-    let last : c.loop-row.row + 1 ≤ c.args.config.now.max_fields * height_of c.args.config.now.system =
+pub returns-in_err-fill_line-clause-run : goal.returns-in_err-fill_line-clause-run
+returns-in_err-fill_line-clause-run g c =
+    let last : c.loop-row.row ≤ c.args.config.now.max_fields * height_of c.args.config.now.system =
     omega (arith, c.row_limit-row-end.ensures.value) in
-    let e = c.in_err-settle-in-Whole.ensures in
     runs_fault g.F.Form.texts g.R.Read.remaining g.W.Write.contents c.args.config.now c.args.intake.now
     c.args.outlet.now
-    c.take_line.new.intake c.settle.new.outlet _ c.from_residual-in_err-settle-in-Whole.result (search rules)
+    c.fill_line.new.intake c.loop-row.outlet _ c.from_residual-in_err-fill_line.result (search rules)
     (λ fault fails.
-    entry_fault _ _ _ _ _ _ _ _ _ _ _ v _ (search rules) _ c.levels.result c.levels.ensures t
+    read_fault _ _ _ _ _ _ _ _ _ _ _ c.loop-row.invariant _ c.in_err-fill_line.ensures.takes fault last fails)
+
+pub returns-in_err-settle-in-Full-clause-run : goal.returns-in_err-settle-in-Full-clause-run
+returns-in_err-settle-in-Full-clause-run g c =
+    let v = c.loop-row.invariant in
+    let t = rw c.in-Full.is at c.in_ok-fill_line.ensures.takes in
+    let same = c.in_ok-fill_line.ensures.same in
+    let reads = c.read_line-reading.ensures.reads in
+    let came = row_came _ _ _ _ _ _ _ _ _ _ _ _ v _ (search rules) _ c.levels.result c.levels.ensures t reads same in
+    let last : c.loop-row.row + 1 ≤ c.args.config.now.max_fields * height_of c.args.config.now.system =
+    omega (arith, c.row_limit-row-end.ensures.value) in
+    let e = c.in_err-settle-in-Full.ensures in
+    runs_fault g.F.Form.texts g.R.Read.remaining g.W.Write.contents c.args.config.now c.args.intake.now
+    c.args.outlet.now
+    c.read_line-reading.new.intake c.settle.new.outlet _ c.from_residual-in_err-settle-in-Full.result (search rules)
+    (λ fault fails.
+    entry_fault _ _ _ _ _ _ _ _ _ _ _ _ v _ (search rules) _ c.levels.result c.levels.ensures t reads same
     c.settle.new.outlet c.settle.new.self fault e.next e.field (e.settles v.z t.bytes v.at came) e.failed fails last)
 
 pub returns-in-Ended-clause-run : goal.returns-in-Ended-clause-run
 returns-in-Ended-clause-run g c =
-    let t = c.in-Ended.ensures.takes in
+    let t = rw c.in-Ended.is at c.in_ok-fill_line.ensures.takes in
     let got = t.got in
     let v = c.loop-row.invariant in
     let before : c.loop-row.row < c.args.config.now.max_fields * height_of c.args.config.now.system =
@@ -61,16 +73,9 @@ returns-in-Ended-clause-run g c =
     let within = row_fits c.args.config.now.system c.loop-row.row c.args.config.now.max_fields c.in-Ended.bytes before
     (le_of_lt short) in
     let e = c.end.ensures in
-    ended _ _ _ _ _ _ _ _ _ _ _ _ v _ c.levels.result c.in-Ended.bytes t _ _ _ refl c.rest-rest.ensures within
+    ended _ _ _ _ _ _ _ _ _ _ _ _ v c.in-Ended.bytes t _ _ _ refl c.rest-rest.ensures within
     c.looked.ensures e.puts _
     e.written e.no_error e.ok e.failed e.short e.fault
-
-pub returns-in-Failed-clause-run : goal.returns-in-Failed-clause-run
-returns-in-Failed-clause-run g c =
-    let last : c.loop-row.row ≤ c.args.config.now.max_fields * height_of c.args.config.now.system =
-    omega (arith, c.row_limit-row-end.ensures.value) in
-    read_fault _ _ _ _ _ _ _ _ _ _ _ c.loop-row.invariant _ c.levels.result c.in-Failed.ensures.takes _ last
-    c.read_fault.ensures
 
 pub returns-in-Ended-eq0-clause-run : goal.returns-in-Ended-eq0-clause-run
 returns-in-Ended-eq0-clause-run g c =
@@ -87,33 +92,38 @@ returns-in-Ended-eq0-clause-run g c =
     ≤ c.args.config.now.max_fields * field_bytes c.args.config.now.system =
     omega (arith, c.in-Ended-eq0.field-0-test) in
     let e = c.end-in-Ended-eq0.ensures in
-    ended _ _ _ _ _ _ _ _ _ _ _ _ v _ c.levels-2.result c.in-Ended-eq0.field-0 c.in-Ended-eq0.ensures.takes _ _ _
+    ended _ _ _ _ _ _ _ _ _ _ _ _ v c.in-Ended-eq0.field-0
+    (rw c.in-Ended-eq0.is at c.in_ok-fill_line-2.ensures.takes) _ _ _
     refl (rw none (omega (arith, zero-mul (line_bytes c.args.config.now.system), c.in-Ended-eq0.field-0-test))) within
     c.looked-in-Ended-eq0.ensures e.puts _
     e.written e.no_error e.ok e.failed e.short e.fault
 
-pub returns-in-Failed-take_line-clause-run : goal.returns-in-Failed-take_line-clause-run
-returns-in-Failed-take_line-clause-run g c =
+pub returns-in_err-fill_line-2-clause-run : goal.returns-in_err-fill_line-2-clause-run
+returns-in_err-fill_line-2-clause-run g c =
     let last : c.loop-row.row ≡ c.args.config.now.max_fields * height_of c.args.config.now.system =
     omega (arith, c.row_limit-row-end.ensures.value) in
-    read_fault _ _ _ _ _ _ _ _ _ _ _ c.loop-row.invariant _ c.levels-2.result c.in-Failed-take_line.ensures.takes _
-    (le_of_eq last) c.read_fault-in-Failed-take_line.ensures
+    runs_fault g.F.Form.texts g.R.Read.remaining g.W.Write.contents c.args.config.now c.args.intake.now
+    c.args.outlet.now
+    c.fill_line-2.new.intake c.loop-row.outlet _ c.from_residual-in_err-fill_line-2.result (search rules)
+    (λ fault fails.
+    read_fault _ _ _ _ _ _ _ _ _ _ _ c.loop-row.invariant _ c.in_err-fill_line-2.ensures.takes fault (le_of_eq last)
+    fails)
 
-pub returns-in-Ended-take_line-clause-run : goal.returns-in-Ended-take_line-clause-run
-returns-in-Ended-take_line-clause-run g c =
-    let t = c.in-Ended-take_line.ensures.takes in
+pub returns-in-Ended-2-clause-run : goal.returns-in-Ended-2-clause-run
+returns-in-Ended-2-clause-run g c =
+    let t = rw c.in-Ended-2.is at c.in_ok-fill_line-2.ensures.takes in
     let got = t.got in
     let last : c.loop-row.row ≡ c.args.config.now.max_fields * height_of c.args.config.now.system =
     omega (arith, c.row_limit-row-end.ensures.value) in
-    too_many _ _ _ _ _ _ _ _ _ _ _ c.loop-row.invariant _ _ _ t last (omega (arith, got.count_of))
-    (omega (arith, got.short)) got.looked got.no_error
+    too_many _ _ _ _ _ _ _ _ _ _ _ c.loop-row.invariant _ t last (omega (arith, got.count_of))
+    (omega (arith, got.short)) got.no_error
 
-pub returns-in-Whole-take_line-clause-run : goal.returns-in-Whole-take_line-clause-run
-returns-in-Whole-take_line-clause-run g c =
-    let t = c.in-Whole-take_line.ensures.takes in
+pub returns-in-Full-2-clause-run : goal.returns-in-Full-2-clause-run
+returns-in-Full-2-clause-run g c =
+    let t = rw c.in-Full-2.is at c.in_ok-fill_line-2.ensures.takes in
     let got = t.got in
     let sizes = sizes_of c.loop-row.intake.line.system in
     let last : c.loop-row.row ≡ c.args.config.now.max_fields * height_of c.args.config.now.system =
     omega (arith, c.row_limit-row-end.ensures.value) in
-    too_many _ _ _ _ _ _ _ _ _ _ _ c.loop-row.invariant _ _ _ t last (omega (arith, got.whole)) (le_of_eq got.whole)
-    (omega (arith, got.looked)) got.no_error
+    too_many _ _ _ _ _ _ _ _ _ _ _ c.loop-row.invariant _ t last (omega (arith, got.whole)) (le_of_eq got.whole)
+    got.no_error
