@@ -20,14 +20,14 @@ never_failed t c input n (Ok s) z text says is = cc
 never_failed t c input n (Err (Read field offset)) z text says is = cc
 never_failed t c input n (Err (Write written)) z text says is = cc
 never_failed t c input n (Err TooManyFields) z text says is = cc
-never_failed t c input n (Err Failed) z text says is = absurd says
+never_failed t c input n (Err Failed) z text says is = absurd says.ended
 
 -- where a run of `extract` ended Ok, what a reader of JSON finds in its text are the words that the lines show
 read_back : (c : ConfigView) (input : Option (List ℕ)) (n : Counts) (result : Result Summary RunFault)
     (z text : List ℕ) → IsConfig c → Extracts document c input n result z text
     → IfOk result (λ summary. ReadsBack c z text)
 read_back c input n (Ok summary) z text numbers says =
-    extracted c z text (record { config = numbers; within = says.within }) says.document
+    let ended = says.ended in extracted c z text (record { config = numbers; within = ended.within }) ended.document
 read_back c input n (Err fault) z text numbers says = tt
 
 pub with_words : (c : ConfigView) (input0 input output0 output : Option (List ℕ)) (n : Counts)

@@ -149,7 +149,8 @@ within_field c p p' o kept fields row inside = record {
   over = λ z b at whole.
       let r = reads c z b p o p'.readings at whole kept in (
         record {
-          whole = long c z b p o p'.readings at whole kept ∙ ap (λ k. k * line_bytes c.system) (rw (fields, row) (omega arith));
+          whole = long c z b p o p'.readings at whole kept
+              ∙ ap (λ k. k * line_bytes c.system) (rw (fields, row) (omega arith));
           inside = inside;
           first = rw (fields, row) r.first;
           second = rw (fields, row) r.second;
@@ -177,7 +178,8 @@ past_field c p p' o now result kept le all fields row none = record {
       rw (all, r.first ∙ come 15 (lit≤ tt), r.second ∙ come 16 (lit≤ tt), r.third ∙ come 17 (lit≤ tt)) (
         record {
           whole = long c z b p o now at whole kept
-              ∙ ap (λ k. k * line_bytes c.system) (rw (fields, row) (omega (arith, times-next p.fields (height_of c.system))));
+              ∙ ap (λ k. k * line_bytes c.system)
+              (rw (fields, row) (omega (arith, times-next p.fields (height_of c.system))));
           inside = rw row (omega arith);
           first = ap (λ m. m.first) none ∙ rw row (among_none c (z ++ b) p'.fields 0 15 (lit≤ tt));
           second = ap (λ m. m.second) none ∙ rw row (among_none c (z ++ b) p'.fields 0 16 (lit≤ tt));

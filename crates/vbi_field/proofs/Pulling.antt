@@ -226,12 +226,9 @@ module _ (t : Texts) {R W : Type 0} (remaining : R → Option (List ℕ)) (conte
         fetched = fetched;
         written = count;
         says = rw is (record {
-          failed = has_failed o.device o'.device writes cause;
-          calm = reads;
-          count = count;
-          within = within;
-          inside = inside;
           looks = looks;
+          devices = (has_failed o.device o'.device writes cause, reads);
+          ended = record { count = count; within = within; inside = inside };
         });
       }
 
@@ -483,14 +480,17 @@ module _ (t : Texts) {R W : Type 0} (remaining : R → Option (List ℕ)) (conte
             fetched = omega (arith, row.fetched, g.fetched, length-append g.z b);
             written = omega (arith, g.written, length-append (text_before_tail t c g.z) (t.tail fields rest));
             says = record {
-              document = document_is;
-              ended = got.ended;
-              within = few;
-              fields = ap (λ s. s.fields) says ∙ is_fields;
-              cut = ap (λ s. s.cut) says ∙ ap cut_of is_rest;
-              looked = ap (λ s. s.looked) says ∙ ls;
               looks = looks;
-              calm = (got.no_error ∙ g.calm_reads, calm ∙ g.calm_writes);
+              devices = (got.no_error ∙ g.calm_reads, calm ∙ g.calm_writes);
+              ended =
+                  record {
+                    document = document_is;
+                    ended = got.ended;
+                    within = few;
+                    fields = ap (λ s. s.fields) says ∙ is_fields;
+                    cut = ap (λ s. s.cut) says ∙ ap cut_of is_rest;
+                    looked = ap (λ s. s.looked) says ∙ ls ∙ looks;
+                  };
             };
           }
       by (Err e) whole calm says cause less fails =
@@ -528,18 +528,21 @@ module _ (t : Texts) {R W : Type 0} (remaining : R → Option (List ℕ)) (conte
         fetched = omega (arith, row.fetched, g.fetched, length-append g.z b);
         written = g.written;
         says = rw is (record {
-          failed = has_failed i.device i'.device g.calm_reads got.failed;
-          calm = g.calm_writes;
-          field_of = ap (λ n. n + 1) (sym (fields_are k i o p g b short));
-          offset_of = ap (λ n. p.row * line_bytes c.system + n) held ∙ sym (rest_is k i o p g b short);
-          within = omega arith;
-          begun = begun_is k i o p g b short;
           looks = kept.looked ∙ looks_are k i o p g b short;
+          devices = (has_failed i.device i'.device g.calm_reads got.failed, g.calm_writes);
+          ended =
+              record {
+                field_of = ap (λ n. n + 1) (sym (fields_are k i o p g b short));
+                offset_of = ap (λ n. p.row * line_bytes c.system + n) held ∙ sym (rest_is k i o p g b short);
+                within = omega arith;
+                begun = begun_is k i o p g b short;
+              };
         });
       }
 
   -- some bytes were fetched past the last field that is allowed, a line's at most
-  pub too_many : (k : ℕ) (i i' : Intake R) (o : Outlet W) (p : Progress) (g : Pulled k i o p) (came : Result Filled RunFault) (row : TakesLine remaining i i' came)
+  pub too_many : (k : ℕ) (i i' : Intake R) (o : Outlet W) (p : Progress) (g : Pulled k i o p)
+      (came : Result Filled RunFault) (row : TakesLine remaining i i' came)
       → k ≡ c.max_fields * height_of c.system → 0 < length row.bytes → length row.bytes ≤ line_bytes i.line.system
       → NoError (intakes.counted_of i) (intakes.counted_of i')
       → Runs t remaining contents c i0 i' o0 o (Err TooManyFields)
@@ -562,10 +565,8 @@ module _ (t : Texts) {R W : Type 0} (remaining : R → Option (List ℕ)) (conte
         fetched = omega (arith, g.fetched, row.fetched, length-append g.z b);
         written = g.written;
         says = record {
-          calm = (no_error ∙ g.calm_reads, g.calm_writes);
-          more = omega arith;
-          within = omega arith;
-          begun = ap (text_before_tail t c) (sym cut);
+          devices = (no_error ∙ g.calm_reads, g.calm_writes);
+          ended = record { more = omega arith; within = omega arith; begun = ap (text_before_tail t c) (sym cut) };
           looks = kept.looked ∙ g.looks
               ∙ ap (λ n. width_of c.system * n) (ap (λ f. selected f p.row) all.0 ∙ ap (selected c.max_fields) all.1
               ∙ sym (selected_past c.system (length (g.z ++ b)) c.max_fields (length b) both few'));

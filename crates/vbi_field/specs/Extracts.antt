@@ -8,7 +8,7 @@ use Rattle.vbi_line.specs.Intake as intakes
 use Rattle.vbi_line.specs.declared.intake.Intake.{Intake}
 use Rattle.vbi_field.specs.ConfigView.{ConfigView, allowed_bytes}
 use Rattle.vbi_field.specs.Outlet as outlets
-use Rattle.vbi_field.specs.Ran.{Counts, HasFailed, IsCalm, Ran, EndsInside}
+use Rattle.vbi_field.specs.Ran.{Counts, HasFailed, Ran, EndsInside}
 use Rattle.vbi_field.specs.Stream.{fields_of, rest_of, cut_of, looks_of}
 use Rattle.vbi_field.specs.Texts.{Texts, text_before_tail, whole_text}
 use Rattle.vbi_field.specs.declared.outlet.Outlet.{Outlet}
@@ -26,7 +26,6 @@ module _ (t : Texts) (c : ConfigView) (input : Option (List ℕ)) (z text : List
       × (length last ≡ field_bytes c.system) × EndsInside (text_before_tail t c before) (text_before_tail t c z) text)
       ⊎ (IsAtEnd input × EndsInside (text_before_tail t c z) (whole_text t c z) text))
 
-module _ (t : Texts) (c : ConfigView) (input : Option (List ℕ)) (n : Counts) (z text : List ℕ) where
   -- Ok: the reader ended within the limit, the whole text was written, and the summary has the fields, the cut and the
   -- looks
   pub record ExtractsAll (s : Summary) : Type 0 where
@@ -35,47 +34,50 @@ module _ (t : Texts) (c : ConfigView) (input : Option (List ℕ)) (n : Counts) (
     pub within : length z ≤ allowed_bytes c
     pub fields : s.fields ≡ fields_of c z
     pub cut : s.cut ≡ cut_of (rest_of c z)
-    pub looked : s.looked ≡ n.looked
-    pub looks : n.looked ≡ looks_of c z
-    pub calm : IsCalm n
+    pub looked : s.looked ≡ looks_of c z
 
   -- `Read`: the reader failed where the next byte would have been this one of this field, less than a line past the
   -- limit at most, and the text of the whole fields was written, without the tail
   pub record StopsAtRead (field offset : ℕ) : Type 0 where
-    pub failed : HasFailed n.reader
-    pub calm : n.writer.errors ≡ 0
     pub field_of : field ≡ fields_of c z + 1
     pub offset_of : offset ≡ rest_of c z
     pub within : length z < allowed_bytes c + line_bytes c.system
     pub begun : text ≡ text_before_tail t c z
-    pub looks : n.looked ≡ looks_of c z
 
   -- `Write`: the writer failed after this many bytes, inside the head, inside the entry of the last field, or inside
   -- the tail
   pub record StopsAtWrite (written : ℕ) : Type 0 where
-    pub failed : HasFailed n.writer
-    pub calm : n.reader.errors ≡ 0
     pub count : written ≡ length text
     pub within : length z ≤ allowed_bytes c
-    pub inside : EndsWithin t c input z text
-    pub looks : n.looked ≡ looks_of c z
+    pub inside : EndsWithin
 
   -- `TooManyFields`: the reader gave more bytes than the fields that are allowed have, by a line at most, and the text
   -- of these fields was written, without the tail
   pub record StopsAtLimit : Type 0 where
-    pub calm : IsCalm n
     pub more : allowed_bytes c < length z
     pub within : length z ≤ allowed_bytes c + line_bytes c.system
     pub begun : text ≡ text_before_tail t c (take (allowed_bytes c) z)
-    pub looks : n.looked ≡ looks_of c z
 
--- what was done, by the answer; `Failed` isn't one
-abbrev pub Extracts : Texts → ConfigView → Option (List ℕ) → Counts → Result Summary RunFault → List ℕ → List ℕ → Type 0
-Extracts t c input n (Ok s) z text = ExtractsAll t c input n z text s
-Extracts t c input n (Err (Read field offset)) z text = StopsAtRead t c input n z text field offset
-Extracts t c input n (Err (Write written)) z text = StopsAtWrite t c input n z text written
-Extracts t c input n (Err TooManyFields) z text = StopsAtLimit t c input n z text
-Extracts t c input n (Err Failed) z text = ⊥
+  -- how far the run came, by the answer; `Failed` isn't one
+  abbrev pub EndsBy : Result Summary RunFault → Type 0
+  EndsBy (Ok s) = ExtractsAll s
+  EndsBy (Err (Read field offset)) = StopsAtRead field offset
+  EndsBy (Err (Write written)) = StopsAtWrite written
+  EndsBy (Err TooManyFields) = StopsAtLimit
+  EndsBy (Err Failed) = ⊥
+
+-- the device that a fault names failed for good, and no other gave an error; interruptions were tried again
+abbrev pub FailsBy : Result Summary RunFault → Counts → Type 0
+FailsBy (Err (Read field offset)) n = HasFailed n.reader × (n.writer.errors ≡ 0)
+FailsBy (Err (Write written)) n = HasFailed n.writer × (n.reader.errors ≡ 0)
+FailsBy _ n = (n.reader.errors ≡ 0) × (n.writer.errors ≡ 0)
+
+-- what was done, by the answer: the samples looked at, which device failed, and how far the run came
+pub record Extracts (t : Texts) (c : ConfigView) (input : Option (List ℕ)) (n : Counts)
+    (result : Result Summary RunFault) (z text : List ℕ) : Type 0 where
+  pub looks : n.looked ≡ looks_of c z
+  pub devices : FailsBy result n
+  pub ended : EndsBy t c input z text result
 
 -- what a fresh intake and a fresh outlet counted since
 abbrev pub counts_of : {R W : Type 0} → Intake R → Outlet W → Counts

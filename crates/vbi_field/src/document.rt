@@ -68,7 +68,8 @@ fn head_text(config: &Config) -> ArrayString<TEXT_SIZE>
 #[tactic(auto, unfolding(crate::specs::Document::lines_of))]
 fn data_text(readings: &FieldReadings) -> ArrayString<56>
     ensures { result.bytes
-        ≡ lines_of (codes ",\"vbi\":{\"vbiData\":[") (λ line. decimal (value_of line.outcome)) (codes "]}") readings.now }
+        ≡ lines_of (codes ",\"vbi\":{\"vbiData\":[") (λ line. decimal (value_of line.outcome))
+        (codes "]}") readings.now }
 {
     let mut text = ArrayString::new();
     text.push_str(",\"vbi\":{\"vbiData\":[");

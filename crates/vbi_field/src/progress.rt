@@ -1,6 +1,6 @@
 //! How far a stream has come in whole rows. A stream that is pulled and one that is pushed both advance by this.
-ghost use Rattle.std.specs.Prelude.{◌≡◌, ◌+◌, ◌*◌, ◌^◌, ◌↔◌, IsTrue, ◌<◌, ◌≤◌, List, ℕ, length, IfSome, Some, None, OnOk};
-ghost use Rattle.std.specs.Prelude.{OnErr, IfErr};
+ghost use Rattle.std.specs.Prelude.{◌≡◌, ◌+◌, ◌*◌, ◌^◌, ◌↔◌, IsTrue, ◌<◌, ◌≤◌, List, ℕ, length, IfSome};
+ghost use Rattle.std.specs.Prelude.{Some, None, OnOk, OnErr, IfErr};
 ghost use Rattle.vbi_words.specs.Geometry.{height_of, line_bytes};
 ghost use Rattle.vbi_line.specs.Counted.{failures_of, NoError, HasCause, IsSameDevice};
 ghost use Rattle.vbi_field.specs.Outlet.{counted_of, written_of, Rises};

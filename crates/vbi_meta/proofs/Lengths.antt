@@ -118,7 +118,8 @@ module _ (number : ℕ) (readings : FieldReadings) (few : number ≤ 1000000) (s
   words_short =
       let t0 : length (codes ",\"vbi\":{\"vbiData\":[") ≤ 19 = lit≤ tt in
       let t1 : length (codes "]}") ≤ 2 = lit≤ tt in
-      lines_short (codes ",\"vbi\":{\"vbiData\":[") (λ line. decimal (value_of line.outcome)) (codes "]}") readings 20 83
+      lines_short (codes ",\"vbi\":{\"vbiData\":[") (λ line. decimal (value_of line.outcome)) (codes "]}") readings 20
+      83
       (digits (value_of readings.first.outcome) shown.first.value)
       (digits (value_of readings.second.outcome) shown.second.value)
       (digits (value_of readings.third.outcome) shown.third.value) (omega (arith, t0, t1))

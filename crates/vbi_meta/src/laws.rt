@@ -8,7 +8,6 @@ ghost use Rattle.vbi_field.specs.Kinds.{document};
 ghost use Rattle.vbi_meta.specs.Plain.{IsSmall, IsPlainText};
 ghost use Rattle.json.specs.Token.{number};
 ghost use Rattle.std.specs.Prelude.{[], ◌∷◌, codes};
-ghost use Rattle.vbi_field.specs.Ran.{Counts};
 ghost use Rattle.vbi_field.specs.Texts.{whole_text};
 ghost use Rattle.vbi_field.specs.declared.summary.Summary.{Summary};
 ghost use Rattle.vbi_meta.specs.DocumentValue.{IsConfig, IsOfRun, document_value};
@@ -30,10 +29,10 @@ pub fn document_words()
 {}
 
 /// The bytes that `extract` wrote when it answered Ok are read as the document of the bytes that it fetched, and tell
-/// what the lines in them show. `ExtractsAll` is what its contract says then, and `settings` gives such configs.
+/// what the lines in them show. `ExtractsAll` is in what its contract says then, and `settings` gives such configs.
 pub fn extracted_words()
-    ensures { (c : ConfigView) (input : Option (List ℕ)) (n : Counts) (z text : List ℕ) (summary : Summary)
-        → IsConfig c → ExtractsAll document c input n z text summary → ReadsBack c z text }
+    ensures { (c : ConfigView) (input : Option (List ℕ)) (z text : List ℕ) (summary : Summary)
+        → IsConfig c → ExtractsAll document c input z text summary → ReadsBack c z text }
 {}
 
 /// Our own reader takes the document of every stream with the same value: it is never longer than metadata may be, and
@@ -52,8 +51,8 @@ pub fn document_is_metadata()
 /// or keeps numbers as floats of 32 bits or more, loses nothing.
 pub fn plain_document()
     ensures text { (c : ConfigView) (z : List ℕ) → IsOfRun c z → IsPlainText (whole_text document c z) }
-    ensures extracted { (c : ConfigView) (input : Option (List ℕ)) (n : Counts) (z text : List ℕ) (summary : Summary)
-        → IsConfig c → ExtractsAll document c input n z text summary → IsPlainText text }
+    ensures extracted { (c : ConfigView) (input : Option (List ℕ)) (z text : List ℕ) (summary : Summary)
+        → IsConfig c → ExtractsAll document c input z text summary → IsPlainText text }
 {}
 
 /// Numbers that are small, and such as aren't: one with a point, an exponent or a sign, and 2 ^ 24. A text that is

@@ -6,6 +6,6 @@ use Rattle.vbi_meta.proofs.laws.plain_document.Goals as goal
 pub returns : goal.returns
 returns _ = record {
   text = plain_document;
-  extracted = λ c input n z text summary numbers ran.
+  extracted = λ c input z text summary numbers ran.
       subst IsPlainText (sym ran.document) (plain_document c z (record { config = numbers; within = ran.within }));
 }
