@@ -275,7 +275,7 @@ fn has_parts(alloc: Global, system: System, width: usize, parts: &[Part]) -> Res
     drew(&config, Tape::new(b"- F12345 800000"), &mut paper);
     for &(row, from, to, expected) in parts {
         for column in from..to {
-            let found = sample(paper.taken.as_slice(), 2 * width, row, column);
+            let found = sample(paper.taken.as_slice(), width.wrapping_mul(2), row, column);
             same(found, Some(expected), (system, row, column))?;
         }
     }
