@@ -7,8 +7,8 @@ use crate::cases::Answer;
 use byteorder::{ByteOrder, LittleEndian};
 use std::test::Fail;
 use vbi_line::{
-    Filled, Intake, LineBuf, read_bytes_twice, read_line, read_packed, read_packed_twice, read_twice,
-    slice_bytes, slice_lanes,
+    Filled, Intake, LineBuf, read_bytes_twice, read_line, read_packed, read_packed_twice,
+    read_twice, slice_bytes, slice_lanes,
 };
 use vbi_test_devices::same;
 use vbi_words::{Levels, Outcome, Reading, System, Word24, drawn_sample};
