@@ -4,7 +4,7 @@
  * each field. The library reads the words of digitised lines, says what they mean, and draws such lines. Programs that
  * show its use are in examples/, which is installed as share/doc/ldvbi/examples.
  *
- * Link with -lldvbi, or with libldvbi.a. The library needs memcpy and memset of the C library, and nothing else. It
+ * Link with -lldvbi, or with libldvbi.a. The library needs memcpy and memset of the C library at most. It
  * runs under Linux on x86-64 processors of level v2 (with SSE4.2, from about 2009 on). It has no call frames for
  * unwinding: nothing is thrown out of a call, and no call calls back, but a debugger finds no way back out of one. What
  * is proved of each call stands in docs/PROMISES.md; that this header says the same as the library, and its functions
@@ -35,12 +35,12 @@
  *     line 17     picture number, chapter, CLV time, lead-in, lead-out; picture stop; CLV mark
  *     line 18     picture number, chapter, CLV time, lead-in, lead-out, which line 17 has as well
  *
- * So line 17 may have a stop or a mark where line 18 has the number, and a field may have no number at all: of the two
- * or three fields of a picture one often has it. To find a field's number, take of lines 17 and 18 the words of the
- * kind that is asked for, whatever their passes. One such word, or two that say the same, are the answer; two that say
- * different things are none, since one of them was misread. Compare what ldvbi_classify says, not the words: a picture
- * or a chapter has two words each. A stop counts on line 16 or 17, or on 18 if it is there; its picture is that of its
- * field, else the latest before it. A time of a CLV disc is in two places: hours and minutes on lines 17 and 18,
+ * So line 17 may have a stop or a mark where line 18 has the number, and a field may have no number at all: often only
+ * one of a picture's two or three fields has its number. To find a field's number, take of lines 17 and 18 the words of
+ * the kind that is asked for, whatever their passes. One such word, or two that say the same, are the answer; two that
+ * say different things are none, since one of them was misread. Compare what ldvbi_classify says, not the words: a
+ * picture or a chapter has two words each. A stop counts on line 16 or 17, or on 18 if it is there; its picture is that
+ * of its field, else the latest before it. A time of a CLV disc is in two places: hours and minutes on lines 17 and 18,
  * seconds and picture on line 16. Words are wrong at times, those of pass 2 more often. Whoever can look at the fields
  * around takes a number only where it fits theirs, as `python3 -m ldvbi` does.
  *
@@ -64,8 +64,8 @@
  * discs alike are read as LDVBI_NTSC from 11.5 to 17.7 MHz: at 13.5 MHz a PAL disc's lines too, whose half cells of 13
  * or 14 samples are too short for LDVBI_PAL. A word has 48 half cells, 850 samples at 17.7 MHz, and begins about 10.5
  * microseconds after the line does.
- *   1. Take at most 910 samples. Where a line has more (some do above 14.2 MHz), leave out its first 10 microseconds and
- *      take 910 of the rest.
+ *   1. Take at most 910 samples. Where a line has more (some do above 14.2 MHz), leave out its first 10 microseconds,
+ *      and take the rest, or the first 910 of it.
  *   2. Samples of 8 bits: multiply them by 257, and black and white too.
  *   3. Fill up to 910 samples with black, and read them as LDVBI_NTSC.
  * From 13 to 16 MHz, and at ld-decode's own rates, each change of level may besides come a sample early or late,
@@ -152,7 +152,7 @@ enum LdvbiCause {
 
 typedef struct LdvbiReading {
     uint8_t cause;   /* of enum LdvbiCause */
-    uint8_t pass;    /* 1: the line's own levels show it; 2: they do without glitches of 1 to 3 samples; 0: no word */
+    uint8_t pass;    /* 1: the line's levels show the word; 2: only smoothed ones do, less surely; 0: no word */
     uint16_t column; /* of LDVBI_CHANGE and LDVBI_HOLD the first hopeless column, counted from 0; else 0 */
     uint32_t word;   /* of LDVBI_WORD the word, from 0x800000 to 0xFFFFFF; else 0 */
 } LdvbiReading;
