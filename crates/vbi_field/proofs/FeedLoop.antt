@@ -89,7 +89,7 @@ pub record Taken {W : Type 0} (contents : W → Option (List ℕ)) (old : Feedin
     (piece : List ℕ)
     (at : ℕ) : Type 0 where
   pub config : now.config ≡ old.config
-  pub calm : now.has_failed ≡ false
+  pub unfailed : now.has_failed ≡ false
   pub started : old.has_failed ≡ false
   pub stand : IsFeederState now.config now.line now.progress
   pub within : at ≤ length piece
@@ -104,14 +104,14 @@ pub taken_none : {W : Type 0} (contents : W → Option (List ℕ)) (old : Feedin
     (piece : List ℕ)
     → feeding_of now ≡ old → now.has_failed ≡ false → IsFeederState now.config now.line now.progress
     → Taken contents old now o o piece 0
-taken_none contents old now o piece is calm stand =
+taken_none contents old now o piece is unfailed stand =
     let place : old.position ≡ position_in now.config now.line now.progress = ap (λ f. f.position) (sym is) in
     let same : old.position.fields ≡ now.progress.fields = ap (λ q. q.fields) place in
     let failed : old.has_failed ≡ now.has_failed = ap (λ f. f.has_failed) (sym is) in
     record {
       config = ap (λ f. f.config) is;
-      calm = calm;
-      started = failed ∙ calm;
+      unfailed = unfailed;
+      started = failed ∙ unfailed;
       stand = stand;
       within = omega arith;
       same = refl;
@@ -174,7 +174,7 @@ module _ {W : Type 0} (contents : W → Option (List ℕ)) (old : Feeding) (was 
       ap (λ x. take at piece ++ take n x) (is ∙ rest_of_piece piece at) ∙ sym (take-add at n piece) in
       record {
         config = t.config;
-        calm = t.calm;
+        unfailed = t.unfailed;
         started = t.started;
         stand = stand;
         within = omega arith;

@@ -18,7 +18,7 @@ use Rattle.vbi_field.specs.declared.progress.Progress.{Progress}
 use Rattle.vbi_words.specs.Rows.{line_at}
 use Rattle.vbi_field.specs.Stream.{reading_at, readings_at}
 use Rattle.vbi_field.specs.Position.{reading_among}
-use Rattle.vbi_field.specs.Progress.{IsProgress, IsLineOf, IsKept, Keeps, Advances, all_of}
+use Rattle.vbi_field.specs.Progress.{IsProgress, IsLineOf, IsKept, TakesReading, Advances, all_of}
 use Rattle.vbi_field.proofs.Counts.{sizes_of, times-next, bytes_before}
 
 -- a row that is whole stays as it is
@@ -120,7 +120,7 @@ record ReadsNext (c : ConfigView) (z : List ℕ) (i row : ℕ) (now : PartialRea
   pub third : now.third ≡ reading_among c z i row 17
 
 module _ (c : ConfigView) (z b : List ℕ) (p : Progress) (o : Option Reading) (now : PartialReadings)
-    (at : IsProgress c z p) (whole : IsLineOf c b p.row o) (kept : Keeps p.row o p.readings now) where
+    (at : IsProgress c z p) (whole : IsLineOf c b p.row o) (kept : TakesReading p.row o p.readings now) where
   reads : ReadsNext c (z ++ b) p.fields (p.row + 1) now
   reads = record {
     first =
@@ -143,7 +143,7 @@ module _ (c : ConfigView) (z b : List ℕ) (p : Progress) (o : Option Reading) (
       omega arith
 
 -- a row more inside a field
-pub within_field : (c : ConfigView) (p p' : Progress) (o : Option Reading) → Keeps p.row o p.readings p'.readings
+pub within_field : (c : ConfigView) (p p' : Progress) (o : Option Reading) → TakesReading p.row o p.readings p'.readings
     → p'.fields ≡ p.fields → p'.row ≡ p.row + 1 → p'.row < height_of c.system
     → Advances c p o None p'
 within_field c p p' o kept fields row inside = record {
@@ -163,7 +163,7 @@ within_field c p p' o kept fields row inside = record {
 
 -- a row more at the end of a field
 pub past_field : (c : ConfigView) (p p' : Progress) (o : Option Reading) (now : PartialReadings)
-    (result : Option FieldReadings) → Keeps p.row o p.readings now → height_of c.system ≤ p.row + 1
+    (result : Option FieldReadings) → TakesReading p.row o p.readings now → height_of c.system ≤ p.row + 1
     → result ≡ all_of now.first now.second now.third → p'.fields ≡ p.fields + 1 → p'.row ≡ 0
     → p'.readings ≡ record { first = None; second = None; third = None }
     → Advances c p o result p'

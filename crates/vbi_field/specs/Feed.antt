@@ -20,7 +20,7 @@ pub record IsAt (c : ConfigView) (z : List ℕ) (now : Position) : Type 0 where
 
 -- the feeder hasn't failed, and its state is the place to which z has come
 pub record StandsAt (f : Feeding) (z : List ℕ) : Type 0 where
-  pub calm : f.has_failed ≡ false
+  pub unfailed : f.has_failed ≡ false
   pub at : IsAt f.config z f.position
 
 module _ {W : Type 0} (contents : W → Option (List ℕ)) (c : ConfigView) (o o' : Outlet W) (z : List ℕ) where

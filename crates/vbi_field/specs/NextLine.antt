@@ -8,7 +8,7 @@ use Rattle.vbi_words.specs.declared.outcome.Reading.{Reading}
 use Rattle.vbi_line.specs.OneReading.{reading_of}
 use Rattle.vbi_line.specs.Counted.{tries, device_of, failures_of, NoError, HasCause}
 use Rattle.vbi_line.specs.Intake.{counted_of, fetched_of, held_of, line_of, KeepsReader}
-use Rattle.vbi_line.specs.Line.{Keeps}
+use Rattle.vbi_line.specs.Line.{KeepsPasses}
 use Rattle.vbi_line.specs.declared.intake.Filled.{Filled}
 use Rattle.vbi_line.specs.declared.intake.Filled.TheVariants.{Full, Ended}
 use Rattle.vbi_line.specs.declared.intake.Intake.{Intake}
@@ -46,7 +46,7 @@ module _ {R : Type 0} (remaining : R → Option (List ℕ)) (old new : Intake R)
     pub fetched : fetched_of new ≡ fetched_of old + length bytes
     pub least : (failures_of (counted_of old)).all ≤ (failures_of (counted_of new)).all
     pub most : (failures_of (counted_of new)).all ≤ (failures_of (counted_of old)).all + tries * (length bytes + 1)
-    pub kept : Keeps (line_of old) (line_of new)
+    pub kept : KeepsPasses (line_of old) (line_of new)
     pub got : Got bytes result
 
 -- the line that was held has this reading and each of its samples was looked at once, if it is selected; else there is

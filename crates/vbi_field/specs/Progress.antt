@@ -50,7 +50,7 @@ abbrev pub IsKept : ℕ → ℕ → Option Reading → Option Reading → Option
 IsKept r row reading was now = (row ≡ r → now ≡ reading) × (row ≢ r → now ≡ was)
 
 -- the reading of a row is put in its place, if it has one
-pub record Keeps (row : ℕ) (reading : Option Reading) (was now : PartialReadings) : Type 0 where
+pub record TakesReading (row : ℕ) (reading : Option Reading) (was now : PartialReadings) : Type 0 where
   pub first : IsKept 15 row reading was.first now.first
   pub second : IsKept 16 row reading was.second now.second
   pub third : IsKept 17 row reading was.third now.third

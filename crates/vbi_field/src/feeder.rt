@@ -3,7 +3,7 @@ ghost use Rattle.std.specs.Prelude.{◌≡◌, ◌≢◌, ℕ, List, ◌+◌, �
 ghost use Rattle.std.specs.Prelude.{if◌then◌else◌, IsTrue, IsErr, OnOk, OnErr, IfOk, IfErr, Err};
 ghost use Rattle.vbi_words.specs.Geometry.{width_of, line_bytes};
 ghost use Rattle.vbi_words.specs.Levels.{row_levels};
-ghost use Rattle.vbi_line.specs.Line.{IsFull, Keeps};
+ghost use Rattle.vbi_line.specs.Line.{IsFull, KeepsPasses};
 ghost use Rattle.vbi_line.specs.OneReading.{reading_of};
 ghost use Rattle.vbi_field.specs.Document.{head_of};
 ghost use Rattle.vbi_field.specs.Feed.{IsAt, IsFeedFault};
@@ -37,7 +37,7 @@ fn copy_in(line: &mut LineBuf, bytes: &[u8]) -> usize
     ensures held { line.new.held ≡ line.old.held ++ take result bytes.now }
     ensures fits { length line.new.held ≤ line_bytes line.old.system }
     ensures some { 0 < length bytes.now → length line.old.held < line_bytes line.old.system → 0 < result }
-    ensures rest { Keeps line.old line.new }
+    ensures rest { KeepsPasses line.old line.new }
 {
     let room = line.room();
     let count = room.len().min(bytes.len());
@@ -87,7 +87,7 @@ fn take_bytes<W: Write>(
     ensures rises { Rises outlet.old outlet.new progress.old.fields progress.new.fields }
     ensures no_error { OnOk result (NoError (counted_of outlet.old) (counted_of outlet.new)) }
     ensures fault { IfErr result (IsFeedFault outlet.old outlet.new) }
-    ensures calm { result ≢ Err RunFault.Failed }
+    ensures never_failed { result ≢ Err RunFault.Failed }
     ensures step { (z : List ℕ) → IsAt config.now z (position_in config.now line.old progress.old)
         → IsStep W.contents config.now outlet.old outlet.new z bytes.now
         (position_in config.now line.new progress.new) result }

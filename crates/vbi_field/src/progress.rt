@@ -22,7 +22,7 @@ pub(crate) struct PartialReadings {
 }
 
 impl PartialReadings {
-    ghost use Rattle.vbi_field.specs.Progress.{Keeps, all_of};
+    ghost use Rattle.vbi_field.specs.Progress.{TakesReading, all_of};
 
     /// Those of a field of which none of these rows is whole.
     fn none() -> Self
@@ -37,7 +37,7 @@ impl PartialReadings {
 
     /// Puts the reading of a row in its place, if it has one.
     fn keep(&mut self, row: usize, reading: Option<Reading>)
-        ensures { Keeps row reading self.old self.new }
+        ensures { TakesReading row reading self.old self.new }
     {
         match row {
             15 => self.first = reading,

@@ -3,7 +3,7 @@ use Rattle.std.proofs.Common.{◌≡◌, ℕ, ◌+◌, ◌*◌, ◌<◌, ◌≤�
 use Rattle.std.specs.Prelude.{Option}
 use Rattle.std.specs.Io.KnownBytes.{Consumes}
 use Rattle.vbi_words.specs.Geometry.{line_bytes}
-use Rattle.vbi_line.specs.Line.{Keeps}
+use Rattle.vbi_line.specs.Line.{KeepsPasses}
 use Rattle.vbi_line.specs.Counted.{device_of, failures_of, NoError, IsSameDevice}
 use Rattle.vbi_line.specs.Intake.{counted_of, held_of}
 use Rattle.vbi_line.specs.declared.intake.Intake.{Intake}
@@ -18,6 +18,6 @@ pub record Since {R : Type 0} (remaining : R → Option (List ℕ)) (old now : I
   pub most : (failures_of (counted_of now)).all ≤ (failures_of (counted_of old)).all + 16 * length bytes
   pub no_error : NoError (counted_of old) (counted_of now)
   pub longest : (failures_of (counted_of now)).streak ≤ (failures_of (counted_of old)).streak
-  pub kept : Keeps old.line now.line
+  pub kept : KeepsPasses old.line now.line
   pub same : IsSameDevice (counted_of old) (counted_of now)
   pub short : length (held_of now) < line_bytes now.line.system

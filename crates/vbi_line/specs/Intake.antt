@@ -3,7 +3,7 @@ use Rattle.std.specs.Prelude.{◌≡◌, ℕ, ◌+◌, ◌*◌, ◌<◌, ◌≤�
 use Rattle.std.specs.Io.KnownBytes.{Consumes, IsAtEnd}
 use Rattle.vbi_words.specs.Geometry.{line_bytes}
 use Rattle.vbi_words.specs.declared.system.System.{System}
-use Rattle.vbi_line.specs.Line.{Line, Keeps}
+use Rattle.vbi_line.specs.Line.{Line, KeepsPasses}
 use Rattle.vbi_line.specs.Counted.{device_of, failures_of, tries}
 use Rattle.vbi_line.specs.declared.counted.Counted.{Counted}
 use Rattle.vbi_line.specs.declared.intake.Intake.{Intake}
@@ -43,7 +43,7 @@ module _ {R : Type 0} where
     pub fetched : fetched_of new ≡ fetched_of old + length bytes
     pub least : (failures_of (counted_of old)).all ≤ (failures_of (counted_of new)).all
     pub most : (failures_of (counted_of new)).all ≤ (failures_of (counted_of old)).all + tries * (length bytes + 1)
-    pub kept : Keeps old.line new.line
+    pub kept : KeepsPasses old.line new.line
 
   -- some next bytes of the reader, which may be none, are now held
   abbrev pub Fetches : (R → Option (List ℕ)) → Intake R → Intake R → Type 0

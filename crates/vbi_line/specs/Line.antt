@@ -18,7 +18,7 @@ abbrev pub IsFull : Line → Type 0
 IsFull l = length l.held ≡ line_bytes l.system
 
 -- the same system, passes and count
-pub record Keeps (old new : Line) : Type 0 where
+pub record KeepsPasses (old new : Line) : Type 0 where
   pub system : new.system ≡ old.system
   pub cursors : new.cursors ≡ old.cursors
   pub looked : new.looked ≡ old.looked

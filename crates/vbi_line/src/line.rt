@@ -37,7 +37,7 @@ impl Model for LineBuf {
 
 impl LineBuf {
     ghost use Rattle.vbi_line.specs.LineLends.{LendsRoom};
-    ghost use Rattle.vbi_line.specs.Line.{IsCleared, IsFull, IsNextBlock, IsNextSample, Keeps, KeepsBytes};
+    ghost use Rattle.vbi_line.specs.Line.{IsCleared, IsFull, IsNextBlock, IsNextSample, KeepsPasses, KeepsBytes};
 
     /// The buffer for a line of this system. It holds no byte, and its count is 0.
     pub fn new(system: System) -> Self
@@ -76,7 +76,7 @@ impl LineBuf {
         requires { n ≤ length self.old.room }
         ensures held { self.new.held ≡ self.old.held ++ take n self.old.room }
         ensures room { self.new.room ≡ drop n self.old.room }
-        ensures rest { Keeps self.old self.new }
+        ensures rest { KeepsPasses self.old self.new }
     {
         self.held += n;
     }

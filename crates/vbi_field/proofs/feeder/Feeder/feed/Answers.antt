@@ -19,7 +19,7 @@ pub returns-in-Err-clause-refused : goal.returns-in-Err-clause-refused
 returns-in-Err-clause-refused g c =
     let t = c.loop-at.invariant.started in (
       λ failed. absurd (cc),
-      λ e. let is : c.in-Err.fault ≡ Failed = cc in absurd (c.in-Err.ensures.calm (ap Err is)),
+      λ e. let is : c.in-Err.fault ≡ Failed = cc in absurd (c.in-Err.ensures.never_failed (ap Err is)),
     )
 
 pub returns-in-Err-clause-fault : goal.returns-in-Err-clause-fault
