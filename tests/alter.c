@@ -1,5 +1,5 @@
-/* Alters what a program lets out, for tests/self_test.sh. As a library (loaded before the program by LD_PRELOAD) it does
-   what the environment says:
+/* Alters what a program lets out, for tests/self_test.sh. As a library (loaded before the program by LD_PRELOAD) it
+   does what the environment says:
 
      ALTER=out, err       standard output, or standard error, has ALTER_TO wherever ALTER_FROM stands in one write; both
                           are as long as each other

@@ -1,9 +1,9 @@
 #!/usr/bin/env python3
 """Lists what one has to believe for the headline: each definition of specs/ on which the contract of `extract` rests.
 
-Read in this order, each rests only on those above it. Two lists: of the contract alone, in which the function that gives
-a line's reading (`reading_of`) is taken by its name; and with its meaning, in which the relation `IsReading` stands for
-it, which the law `one_reading` says is the same.
+Read in this order, each rests only on those above it. Two lists: of the contract alone, in which the function that
+gives a line's reading (`reading_of`) is taken by its name; and with its meaning, in which the relation `IsReading`
+stands for it, which the law `one_reading` says is the same.
 
 With a DOCUMENT, compares the table that stands there behind the line `<!-- definitions -->` with the source: each
 definition once, in this order, with its file and its comment.
@@ -18,7 +18,6 @@ import sys
 CONTRACT = ("crates/vbi_field/src/run.rt", "extract")
 FUNCTION = ("vbi_line", "OneReading", "reading_of")
 MEANING = ("vbi_words", "Readings", "IsReading")
-ITEM = re.compile(r"(?:abbrev |unfoldable )?(?:pub )?(?:(?:record|data) )?([^\s:]+) .*?:|(?:abbrev |unfoldable )?pub (\S+) :")
 HEAD = re.compile(r"(abbrev pub|unfoldable pub|pub record|pub data|record|data|abbrev|unfoldable|pub) (\S+)(?= )")
 
 

@@ -132,6 +132,19 @@ finish() {
     exit
 }
 
+# with_jsonschema: says which Python has the module jsonschema: the one on the PATH, or the system's own
+with_jsonschema() {
+    for python in python3 /usr/bin/python3; do
+        "$python" -c 'import jsonschema' 2> /dev/null && break
+    done
+    echo "$python"
+}
+
+# validates SCHEMA DOCUMENT..: says `valid` or `refused` of each document
+validates() {
+    bounded "$(with_jsonschema)" "$tests/validate.py" "$@" < empty
+}
+
 # signal SYSTEM FIELDS < DESCRIPTIONS: lines (FIELDS is 0) or fields (1) as text, see signal.awk
 signal() {
     awk -v discs="$1" -v fields="$2" -f "$tests/signal.awk"

@@ -1,15 +1,15 @@
 #!/bin/sh
-# Tries the scripts themselves. Each has to fail, by one of its checks, where a text of the program is altered on its way
-# out (by alter.c), or one of a file that the script looks at. Where scripts are altered so that they check less, or what
-# they share is, scripts.sh has to fail; or an altered program gets through, by which the rows above it would find that.
+# Tries the scripts themselves. Each has to fail, by one of its checks, where a text of the program is altered on its
+# way out (by alter.c), or one of a file that the script looks at. Where scripts are altered so that they check less, or
+# what they share is, scripts.sh has to fail; or an altered program gets through, by which the rows above it would find that.
 # usage: sh tests/self_test.sh PROGRAM
 # shellcheck disable=SC2317
 
 # shellcheck source=tests/helpers.sh
 . "$(dirname "$0")/helpers.sh"
 
-# Each row: a script, and what is altered. That is its program (see alter.c: what, from, to), or a file of the repository
-# (by this program for sed).
+# Each row: a script, and what is altered. That is its program (see alter.c: what, from, to), or a file of the
+# repository (by this program for sed).
 cat > alterations << 'END'
 large|out|field 8981|field 8980
 library|out|"vbiPass"|"vbiPaSS"
@@ -123,8 +123,8 @@ plots|docs/pictures/word.svg|s/82CFFF/82CFFE/
 END
 
 # Each row: what scripts.sh has to say where it runs one script, this script, what is altered of its program (as above;
-# three columns), and the file that is altered, by this program for sed. That all passed beside an altered program is what
-# the rows above would find.
+# three columns), and the file that is altered, by this program for sed. That all passed beside an altered program is
+# what the rows above would find.
 cat > frames << 'END'
 all 1 passed|lines|nothing
 lines failed: status 1|lines|eats
@@ -192,8 +192,8 @@ alteration() {
     [ "$(cat "$1/status")" = 1 ] && tail -n 1 "$1/said" | grep -qx "$2: stopped at $why"
 }
 
-# frame TRIAL WANTED SCRIPT WHAT FROM TO FILE PROGRAM: whether scripts.sh says what is wanted of this script, where this is
-# altered of the program and of the repository; its status is 0 where it says that all passed
+# frame TRIAL WANTED SCRIPT WHAT FROM TO FILE PROGRAM: whether scripts.sh says what is wanted of this script, where this
+# is altered of the program and of the repository; its status is 0 where it says that all passed
 frame() {
     folder=$tests
     ended_with=1

@@ -12,7 +12,7 @@ that the prover has to refuse, and else it is any of the crate.
 
 Kept work is that of `rt lib`, `rt run` or `rt check` in each crate, which must have passed on the same files.
 
-usage: python3 tests/wrong_bodies.py [--lanes N] [--only WORD] [--plan] [CRATE..]     (at the top, with `rt` on the PATH)
+usage: python3 tests/wrong_bodies.py [--lanes N] [--only WORD] [--plan] [CRATE..]    (at the top, `rt` on the PATH)
 """
 import argparse
 import collections

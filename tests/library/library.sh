@@ -354,8 +354,8 @@ check 'where a package of Debian has files' cmp -s found wanted
 check 'the line in README with them' says_with "$work/debian/usr/lib/x86_64-linux-gnu"
 check "Debian's make uninstall" makes uninstall DESTDIR="$work/debian" $debian
 check 'nothing of it is left' [ -z "$(find debian -type f -o -type l)" ]
-check 'a library outside the prefix' makes install-lib DESTDIR="$work/outside" PREFIX=/usr LIBDIR=/opt/lib
-check 'is described by its own place' [ "$(sed -n 's/^libdir=//p' outside/opt/lib/pkgconfig/ldvbi.pc)" = /opt/lib ]
+check 'a library outside the prefix' makes install-lib DESTDIR="$work/outside" PREFIX=/usr LIBDIR=/elsewhere/lib
+check 'is described by its own place' [ "$(sed -n 's/^libdir=//p' outside/elsewhere/lib/pkgconfig/ldvbi.pc)" = /elsewhere/lib ]
 
 # The archive of what is built, unpacked anywhere
 mkdir tree unpacked

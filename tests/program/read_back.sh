@@ -37,7 +37,8 @@ END
 # is wanted in what it wrote
 # shellcheck disable=SC2317
 found() {
-    [ "$status" = "$wanted_status" ] && [ ! -s err ] && bounded "$@" out < empty > found.txt 2> err && cmp -s found.txt found_wanted
+    [ "$status" = "$wanted_status" ] && [ ! -s err ] && bounded "$@" out < empty > found.txt 2> err &&
+        cmp -s found.txt found_wanted
 }
 
 # judge_found NAME STATUS: checks the last run's status, and what each reader finds, against the file `found_wanted`

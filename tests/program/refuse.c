@@ -1,5 +1,6 @@
-/* Refuses one allocation of a program that it is loaded before (LD_PRELOAD): the one whose number, from 1, the environment's
-   REFUSE_AT has. The file that REFUSE_MARK names is made then, so that its absence says that there were fewer. */
+/* Refuses one allocation of a program that it is loaded before (LD_PRELOAD): the one whose number, from 1, the
+   environment's REFUSE_AT has. The file that REFUSE_MARK names is made then, so that its absence says that there were
+   fewer. */
 #define _GNU_SOURCE
 #include <dlfcn.h>
 #include <fcntl.h>

@@ -7,27 +7,6 @@
 # shellcheck source=tests/helpers.sh
 . "$(dirname "$0")/../helpers.sh"
 
-for python in python3 /usr/bin/python3; do
-    "$python" -c 'import jsonschema' 2> /dev/null && break
-done
-
-# Says `valid` or `refused` of each document that is named.
-cat > validate.py << 'END'
-import json
-import sys
-
-import jsonschema
-
-with open(sys.argv[1], encoding="ascii") as file:
-    schema = json.load(file)
-jsonschema.Draft202012Validator.check_schema(schema)
-validator = jsonschema.Draft202012Validator(schema)
-for path in sys.argv[2:]:
-    with open(path, encoding="ascii") as file:
-        document = json.load(file)
-    print("valid" if validator.is_valid(document) else "refused")
-END
-
 # validated NAME ANSWER: keeps the document in `out`, of which this is to be said when all are looked at
 mkdir documents
 : > answers
@@ -203,17 +182,16 @@ END
 # What is said of all of them
 status=0
 # shellcheck disable=SC2046
-bounded "$python" validate.py "$top/share/schema/ldvbi.schema.json" $(seq -f 'documents/%g.json' $kept) \
-    < empty > said 2> err || status=$?
+validates "$top/share/schema/ldvbi.schema.json" $(seq -f 'documents/%g.json' $kept) > said 2> err || status=$?
 check 'all documents are looked at' [ "$status $(wc -l < said)" = "0 $kept" ]
-paste -d '|' said answers > rows
+cut -d ' ' -f 1 said | paste -d '|' - answers > rows
 while IFS='|' read -r said answer name; do
     check "$name" [ "$said" = "$answer" ]
 done < rows
 
 # Each column that a line has, and no other; as many fields as a document can have
 status=0
-bounded "$python" bounds.py "$top/share/schema/ldvbi.schema.json" < empty > said 2> err || status=$?
+bounded "$(with_jsonschema)" bounds.py "$top/share/schema/ldvbi.schema.json" < empty > said 2> err || status=$?
 cat said >> err
 check 'columns and counts of fields at and beyond each bound' [ "$status $(wc -l < said)" = '0 0' ]
 finish

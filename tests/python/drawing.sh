@@ -329,7 +329,8 @@ done > both_words
 side_of "$ntsc" < both_words
 drawn side.vbi.json
 check 'pictures on all their fields: one run' [ "$(grep -c '^run ' found)" = 1 ]
-awk 'BEGIN { for (n = 1; n < 40; n++) { printf "- F%05d F%05d\n- - -\n", n, n; if (n % 2) print "- - -" } }' > film_words
+awk 'BEGIN { for (n = 1; n < 40; n++) { printf "- F%05d F%05d\n- - -\n", n, n; if (n % 2) print "- - -" } }' \
+    > film_words
 side_of "$ntsc" < film_words
 drawn side.vbi.json
 shows 'film' << 'END'

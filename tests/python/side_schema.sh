@@ -8,34 +8,14 @@
 # shellcheck source=tests/python/python_helpers.sh
 . "$here/python_helpers.sh"
 
-for python in python3 /usr/bin/python3; do
-    "$python" -c 'import jsonschema' 2> /dev/null && break
-done
-
-# Prints `valid` or `refused` for each file that is named.
-cat > validate.py << 'PYTHON'
-import json
-import sys
-
-import jsonschema
-
-with open(sys.argv[1], encoding="ascii") as file:
-    schema = json.load(file)
-jsonschema.Draft202012Validator.check_schema(schema)
-validator = jsonschema.Draft202012Validator(schema)
-for path in sys.argv[2:]:
-    with open(path, encoding="ascii") as file:
-        answer = json.load(file)
-    print(path, "valid" if validator.is_valid(answer) else "refused")
-PYTHON
 schema=$top/share/schema/ldvbi-side.schema.json
 
 mkdir answers broken bounds
 status=0
 bounded python3 "$here/answers.py" answers < empty 2> err || status=$?
 check 'there are 22 answers' [ "$status $(find answers -name '*.json' | wc -l)" = '0 22' ]
-bounded "$python" validate.py "$schema" answers/*.json < empty > said 2> err || status=$?
-check 'all of them are valid' [ "$status $(grep -c ' valid$' said)" = '0 22' ]
+validates "$schema" answers/*.json > said 2> err || status=$?
+check 'all of them are valid' [ "$status $(grep -c '^valid ' said)" = '0 22' ]
 # each list of the schema has an item in one of them, so that its form was looked at
 bounded jq -s -r '[.[] | to_entries[] | select(.value | type == "array" and length > 0) | .key] | unique[]' \
     answers/*.json < empty > full
@@ -91,9 +71,9 @@ left-out|.leftOut[0].why = "lost"
 undecided|.missing[0].why = "clock"
 END
 status=0
-bounded "$python" validate.py "$schema" broken/*.json < empty > said 2> err || status=$?
-check "all $number broken ones are refused" [ "$status $(grep -c ' refused$' said) $number" = "0 $number 38" ]
-[ "$status" = 0 ] && grep ' valid$' said >&2
+validates "$schema" broken/*.json > said 2> err || status=$?
+check "all $number broken ones are refused" [ "$status $(grep -c '^refused ' said) $number" = "0 $number 38" ]
+[ "$status" = 0 ] && grep '^valid ' said >&2
 
 # Sound answers at the bounds, made in the same way
 number=0
@@ -122,7 +102,7 @@ conflict|.chapterConflicts[0] += {"line17":0,"line18":79,"taken":79}
 stop|.stops[0].lines = [16, 17, 18]
 END
 status=0
-bounded "$python" validate.py "$schema" bounds/*.json < empty > said 2> err || status=$?
-check "all $number sound ones are valid" [ "$status $(grep -c ' valid$' said) $number" = "0 $number 19" ]
-[ "$status" = 0 ] && grep ' refused$' said >&2
+validates "$schema" bounds/*.json > said 2> err || status=$?
+check "all $number sound ones are valid" [ "$status $(grep -c '^valid ' said) $number" = "0 $number 19" ]
+[ "$status" = 0 ] && grep '^refused ' said >&2
 finish
