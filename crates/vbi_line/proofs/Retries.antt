@@ -1,6 +1,6 @@
 -- What holds while a device is asked again since it was interrupted.
 use Rattle.std.proofs.Common.{◌≡◌, ℕ, ◌+◌}
-use Rattle.std.specs.Io.KnownBytes.{KeepsPasses}
+use Rattle.std.specs.Io.KnownBytes.{Keeps}
 use Rattle.std.specs.Prelude.{List, Option}
 use Rattle.vbi_line.specs.Counted.{device_of, failures_of, IsSameDevice}
 use Rattle.vbi_line.specs.declared.counted.Counted.{Counted}
@@ -11,4 +11,4 @@ pub record Interrupted {D : Type 0} (known : D → Option (List ℕ)) (old now :
   pub errors : (failures_of now).errors ≡ (failures_of old).errors
   pub streak : (failures_of now).streak ≡ (failures_of old).streak + calls
   pub same : IsSameDevice old now
-  pub kept : KeepsPasses (known (device_of old)) (known (device_of now))
+  pub kept : Keeps (known (device_of old)) (known (device_of now))
