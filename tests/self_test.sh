@@ -63,7 +63,7 @@ docs|docs/PROMISES.md|s/`unwritten`, `failed`, `fault`/`unwritten`, `refailed`, 
 docs|docs/PROMISES.md|s/`Ran.consumed`/`Ran.eaten`/
 docs|docs/PROMISES.md|s/`StopsAtRow`/`StopsAtRows`/
 docs|docs/PROMISES.md|s/`show` \(.\) The same with the report/`settings` \1 The same with the report/
-docs|docs/DECISIONS.md|s/`Progress::settle`/`Progress::settled`/
+docs|docs/DECISIONS.md|s/`Progress::add_row`/`Progress::added_row`/
 docs|CONTRIBUTING.md|s/Geometry.antt/Geometries.antt/
 docs|CONTRIBUTING.md|s,docs/SIGNAL.md,docs/SIGNALS.md,
 docs|docs/FORMATS.md|s/`field width differs`/`field width differ`/

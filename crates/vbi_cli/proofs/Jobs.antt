@@ -16,7 +16,7 @@ read_back : (c : ConfigView) (input : Option (List ℕ)) (n : Counts) (result : 
     (z text : List ℕ) → IsConfig c → Extracts document c input n result z text
     → IfOk result (λ summary. ReadsBack c z text)
 read_back c input n (Ok summary) z text numbers says =
-    let ended = says.ended in extracted c z text (record { config = numbers; within = ended.within }) ended.document
+    let all = says.came in extracted c z text (record { config = numbers; within = all.within }) all.document
 read_back c input n (Err fault) z text numbers says = tt
 
 pub with_words : (c : ConfigView) (input0 input output0 output : Option (List ℕ)) (n : Counts)

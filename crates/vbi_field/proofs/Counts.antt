@@ -21,10 +21,10 @@ pub record Sizes (s : System) : Type 0 where
   pub line : line_bytes s ≡ 2 * width_of s
   pub field : field_bytes s ≡ height_of s * line_bytes s
   pub some : 0 < line_bytes s
-  pub narrow : line_bytes s ≤ 2270
+  pub narrow : line_bytes s ≤ line_bytes Pal
   pub tall : 18 < height_of s
-  pub low : height_of s ≤ 313
-  pub small : field_bytes s ≤ 710510
+  pub low : height_of s ≤ height_of Pal
+  pub small : field_bytes s ≤ field_bytes Pal
 
 pub sizes_of : (s : System) → Sizes s
 sizes_of Ntsc = record {
@@ -85,7 +85,7 @@ pub rows_fit : (s : System) (k m : ℕ) → k ≤ m * height_of s → k * line_b
 rows_fit Ntsc k m le = omega arith
 rows_fit Pal k m le = omega arith
 
--- nor have fewer rows with h bytes of the next
+-- fewer than all rows of m fields, with h bytes of the next, have no more bytes than these fields either
 pub row_fits : (s : System) (k m h : ℕ) → k < m * height_of s → h ≤ line_bytes s
     → k * line_bytes s + h ≤ m * field_bytes s
 row_fits Ntsc k m h lt short = omega arith
@@ -126,7 +126,7 @@ pub whole_fields : (s : System) (n f r h : ℕ) → r < height_of s → h < line
 whole_fields Ntsc n f r h inside short e = omega arith
 whole_fields Pal n f r h inside short e = omega arith
 
--- and the bytes past them
+-- the bytes past its whole fields, where it is f fields, r rows and h bytes
 pub past_fields : (s : System) (n f r h : ℕ) → r < height_of s → h < line_bytes s
     → n ≡ (f * height_of s + r) * line_bytes s + h → n % field_bytes s ≡ r * line_bytes s + h
 past_fields Ntsc n f r h inside short e = omega arith
@@ -140,7 +140,7 @@ looks_read : (s : System) (f r old new : ℕ) → 15 ≤ r → r ≤ 17 → old 
 looks_read Ntsc f r old new low high before read = omega arith
 looks_read Pal f r old new low high before read = omega arith
 
--- and after one that isn't
+-- after a row that isn't read
 looks_unread : (s : System) (f r old new : ℕ) → (r < 15) ⊎ (17 < r) → old ≡ width_of s * selected f r → new ≡ old + 0
     → new ≡ width_of s * selected f (r + 1)
 looks_unread Ntsc f r old new (inl low) before same = omega arith
@@ -150,18 +150,19 @@ looks_unread Pal f r old new (inr high) before same = omega arith
 
 -- a row that isn't one of the three
 unselected : (r : ℕ) → (IsTrue false ↔ ((15 ≤ r) × (r ≤ 17))) → (r < 15) ⊎ (17 < r)
-unselected r sels =
+unselected r selects =
     elim (eq-zero-or-pos (15 - r)) [
-      | inl past ↦ inr (lt_of_not-le (λ b. let e : false ≡ true = sels.1 (omega arith, b) in cc))
+      | inl past ↦ inr (lt_of_not-le (λ b. let e : false ≡ true = selects.1 (omega arith, b) in cc))
       | inr low ↦ inl (omega arith)
     ]
 
 -- after any row
-pub looks_next : (s : System) (f r old new : ℕ) (sel : Bool) → (IsTrue sel ↔ ((15 ≤ r) × (r ≤ 17)))
-    → old ≡ width_of s * selected f r → new ≡ old + cond sel (width_of s) 0 → new ≡ width_of s * selected f (r + 1)
-looks_next s f r old new true sels before read =
-    let at = sels.0 refl in looks_read s f r old new at.0 at.1 before read
-looks_next s f r old new false sels before same = looks_unread s f r old new (unselected r sels) before same
+pub looks_next : (s : System) (f r old new : ℕ) (is_selected : Bool) → (IsTrue is_selected ↔ ((15 ≤ r) × (r ≤ 17)))
+    → old ≡ width_of s * selected f r → new ≡ old + cond is_selected (width_of s) 0
+    → new ≡ width_of s * selected f (r + 1)
+looks_next s f r old new true selects before read =
+    let at = selects.0 refl in looks_read s f r old new at.0 at.1 before read
+looks_next s f r old new false selects before same = looks_unread s f r old new (unselected r selects) before same
 
 -- after the last row of a field
 pub looks_field : (s : System) (f r new : ℕ) → r + 1 ≡ height_of s → new ≡ width_of s * selected f (r + 1)

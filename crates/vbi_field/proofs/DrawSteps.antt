@@ -24,9 +24,8 @@ use Rattle.vbi_field.specs.declared.drawing.DrawFault.{DrawFault}
 use Rattle.vbi_field.specs.declared.drawing.DrawFault.TheVariants as faults
 use Rattle.vbi_field.proofs.Counts.{sizes_of}
 use Rattle.vbi_field.proofs.DrawnLemmas.{length-drawn_field_of}
-use Rattle.vbi_field.proofs.Pulling.{has_failed, inside_of}
 use Rattle.vbi_field.proofs.RowSteps.{Fetches-none, Fetches-more}
-use Rattle.vbi_field.proofs.Settling.{wrote_none, wrote_twice}
+use Rattle.vbi_field.proofs.Devices.{has_failed, inside_of, wrote_none, wrote_twice}
 use Rattle.vbi_field.proofs.WordRowLemmas.{rows_of-append, rows_of-line, rows_of-part, row_words-line, row_words-part}
 use Rattle.vbi_field.proofs.WordRowLemmas.{AreRows-more}
 

@@ -8,7 +8,7 @@ use Rattle.std.proofs.Math.Dec.{eqb-suc-zero}
 use Rattle.vbi_words.specs.Geometry.{height_of, line_bytes}
 use Rattle.vbi_field.specs.ConfigView.{ConfigView}
 use Rattle.vbi_field.specs.Stream.{fields_of, readings_at}
-use Rattle.vbi_field.specs.Texts.{Texts, entry_of, text_before_tail, joined_entry_of}
+use Rattle.vbi_field.specs.Texts.{Texts, text_before_tail, joined_entry_of}
 use Rattle.vbi_field.proofs.Growing.{readings_at-more}
 
 -- one number more
@@ -49,7 +49,7 @@ pieces-same f g joint a (suc n) same =
     ap (λ l. (joint ++ l) ++ flat_map (λ y. joint ++ f y) (range_with_len (a + 1) n)) here
     ∙ ap (λ l. (joint ++ g a) ++ l) rest
 
--- and so joined
+-- pieces that are the same are the same joined
 pub joined-same : (f g : ℕ → List ℕ) (joint : List ℕ) (n : ℕ) → ((i : ℕ) → i < n → f i ≡ g i)
     → join_by f joint (range_with_len 0 n) ≡ join_by g joint (range_with_len 0 n)
 joined-same f g joint zero same = refl
@@ -57,6 +57,10 @@ joined-same f g joint (suc n) same =
     let rest = pieces-same f g joint (0 + 1) n (λ i lt. same i (omega arith)) in
     ap (λ l. l ++ flat_map (λ y. joint ++ f y) (range_with_len (0 + 1) n)) (same 0 (omega arith))
     ∙ ap (λ l. g 0 ++ l) rest
+
+-- the entry of field i of a stream, i from 0
+abbrev pub entry_of : Texts → ConfigView → List ℕ → ℕ → List ℕ
+entry_of t c z i = t.entry (i + 1) (readings_at c z i)
 
 -- the head and the entries of the first n fields
 unfoldable pub stood : Texts → ConfigView → List ℕ → ℕ → List ℕ

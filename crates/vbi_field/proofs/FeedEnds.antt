@@ -16,7 +16,7 @@ use Rattle.vbi_field.specs.declared.summary.RunFault.{RunFault}
 use Rattle.vbi_field.specs.declared.summary.RunFault.TheVariants.{Write}
 use Rattle.vbi_field.specs.declared.summary.Summary.{Summary}
 use Rattle.vbi_field.proofs.Positions.{Split, split_of, split_fields, split_rest, split_rows}
-use Rattle.vbi_field.proofs.Settling.{wrote_whole, put_in_part}
+use Rattle.vbi_field.proofs.Devices.{wrote_whole, put_in_part}
 
 -- what was put is the first of it
 pub in_part : {W : Type 0} (contents : W → Option (List ℕ)) (o o' : Outlet W) (bytes whole : List ℕ) → bytes ≡ whole

@@ -23,7 +23,7 @@ use Rattle.vbi_field.specs.declared.outlet.Outlet.{Outlet}
 use Rattle.vbi_field.specs.declared.summary.RunFault.{RunFault}
 use Rattle.vbi_field.specs.declared.summary.RunFault.TheVariants.{Read, Write, TooManyFields, Failed}
 use Rattle.vbi_field.proofs.FeedTexts.{completes_twice}
-use Rattle.vbi_field.proofs.Settling.{wrote_none, wrote_twice, later_part}
+use Rattle.vbi_field.proofs.Devices.{wrote_none, wrote_twice, later_part}
 
 module _ {W : Type 0} (contents : W → Option (List ℕ)) (c : ConfigView) where
   -- no byte was pushed
@@ -33,12 +33,12 @@ module _ {W : Type 0} (contents : W → Option (List ℕ)) (c : ConfigView) wher
       let P : List ℕ → Type 0 = λ l. IsFed contents c o o z [] now (Ok tt) in
       let Q : List ℕ → Type 0 = λ l. IsAt c l now in (
         subst Q (sym (append-nil z)) at,
-        (
-          [],
-          append-nil (text_before_tail document c z)
-              ∙ ap (text_before_tail document c) (sym (append-nil z)),
-          wrote_none contents o,
-        ),
+        record {
+          text = [];
+          due = append-nil (text_before_tail document c z)
+              ∙ ap (text_before_tail document c) (sym (append-nil z));
+          wrote = wrote_none contents o;
+        },
       )
 
   module _ (o0 o o' : Outlet W) (z first bytes : List ℕ) (was now : Position)
@@ -50,15 +50,17 @@ module _ {W : Type 0} (contents : W → Option (List ℕ)) (c : ConfigView) wher
         let all = append_assoc z first bytes in
         let P : List ℕ → Type 0 = λ l. IsAt c l now in (
           subst P all after.0,
-          (
-            before.1.0 ++ after.1.0,
-            completes_twice document c z (z ++ first) ((z ++ first) ++ bytes) before.1.0 after.1.0 before.1.1 after.1.1
-                ∙ ap (text_before_tail document c) all,
-            wrote_twice contents o0 o o' before.1.0 after.1.0 before.1.2 after.1.2,
-          ),
+          record {
+            text = before.1.text ++ after.1.text;
+            due =
+                completes_twice document c z (z ++ first) ((z ++ first) ++ bytes) before.1.text after.1.text
+                before.1.due after.1.due
+                ∙ ap (text_before_tail document c) all;
+            wrote = wrote_twice contents o0 o o' before.1.text after.1.text before.1.wrote after.1.wrote;
+          },
         )
 
-    -- or with a fault
+    -- the rest of a piece was fed up to a fault
     pub fed_fault : (fault : RunFault) → IsFed contents c o o' (z ++ first) bytes now (Err fault)
         → IsFed contents c o0 o' z (first ++ bytes) now (Err fault)
     fed_fault (Read field offset) after = after
@@ -67,22 +69,25 @@ module _ {W : Type 0} (contents : W → Option (List ℕ)) (c : ConfigView) wher
         let all = append_assoc z first bytes in
         let long = ap length all in (
           omega (arith, after.0),
-          (
-            before.1.0 ++ after.1.0,
-            completes_twice document c z (z ++ first) (take (allowed_bytes c) ((z ++ first) ++ bytes)) before.1.0
-                after.1.0 before.1.1 after.1.1
-                ∙ ap (λ l. text_before_tail document c (take (allowed_bytes c) l)) all,
-            wrote_twice contents o0 o o' before.1.0 after.1.0 before.1.2 after.1.2,
-          ),
+          record {
+            text = before.1.text ++ after.1.text;
+            due =
+                completes_twice document c z (z ++ first) (take (allowed_bytes c) ((z ++ first) ++ bytes))
+                before.1.text after.1.text before.1.due after.1.due
+                ∙ ap (λ l. text_before_tail document c (take (allowed_bytes c) l)) all;
+            wrote = wrote_twice contents o0 o o' before.1.text after.1.text before.1.wrote after.1.wrote;
+          },
         )
     fed_fault (Write written) after =
-        let all = append_assoc z first bytes in (
-          before.1.0 ++ after.0,
-          completes_twice document c z (z ++ first) (take (allowed_bytes c) ((z ++ first) ++ bytes)) before.1.0 after.0
-              before.1.1 after.1
-              ∙ ap (λ l. text_before_tail document c (take (allowed_bytes c) l)) all,
-          later_part contents o0 o o' before.1.0 after.0 before.1.2 after.2,
-        )
+        let all = append_assoc z first bytes in
+        record {
+          text = before.1.text ++ after.text;
+          due =
+              completes_twice document c z (z ++ first) (take (allowed_bytes c) ((z ++ first) ++ bytes)) before.1.text
+              after.text before.1.due after.due
+              ∙ ap (λ l. text_before_tail document c (take (allowed_bytes c) l)) all;
+          wrote = later_part contents o0 o o' before.1.text after.text before.1.wrote after.wrote;
+        }
 
 -- so much of a piece was taken
 pub record Taken {W : Type 0} (contents : W → Option (List ℕ)) (old : Feeding) (now : Inside) (o0 o : Outlet W)
@@ -105,8 +110,8 @@ pub taken_none : {W : Type 0} (contents : W → Option (List ℕ)) (old : Feedin
     → feeding_of now ≡ old → now.has_failed ≡ false → IsFeederState now.config now.line now.progress
     → Taken contents old now o o piece 0
 taken_none contents old now o piece is unfailed stand =
-    let place : old.position ≡ position_in now.config now.line now.progress = ap (λ f. f.position) (sym is) in
-    let same : old.position.fields ≡ now.progress.fields = ap (λ q. q.fields) place in
+    let position : old.position ≡ position_in now.config now.line now.progress = ap (λ f. f.position) (sym is) in
+    let same : old.position.fields ≡ now.progress.fields = ap (λ q. q.fields) position in
     let failed : old.has_failed ≡ now.has_failed = ap (λ f. f.has_failed) (sym is) in
     record {
       config = ap (λ f. f.config) is;
@@ -126,7 +131,7 @@ taken_none contents old now o piece is unfailed stand =
       fed = λ z s.
           let at = s.at in
           let P : Position → Type 0 = λ q. IsAt old.config z q in
-          fed_none contents old.config o z piece _ (subst P place at);
+          fed_none contents old.config o z piece _ (subst P position at);
     }
 
 -- a fault in the next row has the same cause
@@ -140,7 +145,7 @@ fault_since contents old was o0 o o' piece at t TooManyFields f = f ∙ t.errors
 fault_since contents old was o0 o o' piece at t Failed f = tt
 fault_since contents old was o0 o o' piece at t (Read field offset) f = f
 
--- what a slice from a place on is
+-- what a slice from a byte on is
 rest_of_piece : (piece : List ℕ) (at : ℕ) → take (length piece - at) (drop at piece) ≡ drop at piece
 rest_of_piece piece at = let l = length-drop at piece in take_all (length piece - at) (drop at piece) (omega arith)
 

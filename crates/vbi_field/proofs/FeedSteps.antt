@@ -13,11 +13,12 @@ use Rattle.vbi_line.specs.OneReading.{reading_of}
 use Rattle.vbi_field.specs.Kinds.{document}
 use Rattle.vbi_field.specs.Feed.{IsAt, IsFed}
 use Rattle.vbi_field.specs.Position.{Position}
-use Rattle.vbi_field.specs.Progress.{IsProgress, IsLineOf, MovesOneRow, SettlesWhole, SettlesInPart}
+use Rattle.vbi_field.specs.Progress.{IsProgress, IsLineOf, MovesOneRow, AddsRow}
 use Rattle.vbi_field.specs.ConfigView.{ConfigView, allowed_bytes}
 use Rattle.vbi_field.specs.FeederState.{IsFeederState, IsStep, position_in}
+use Rattle.vbi_field.specs.Limits.{most_fields}
 use Rattle.vbi_field.specs.Stream.{fields_of}
-use Rattle.vbi_field.specs.Texts.{IsTextBetween, text_before_tail}
+use Rattle.vbi_field.specs.Texts.{IsTextBetween, ExtendsInPart, text_before_tail}
 use Rattle.vbi_field.specs.declared.outlet.Outlet.{Outlet}
 use Rattle.vbi_field.specs.declared.progress.Progress.{Progress}
 use Rattle.vbi_field.specs.declared.summary.RunFault.{RunFault}
@@ -25,33 +26,35 @@ use Rattle.vbi_field.specs.declared.summary.RunFault.TheVariants.{Write, TooMany
 use Rattle.vbi_field.proofs.Counts.{sizes_of, row_before, row_fits, exactly_fields, looks_next}
 use Rattle.vbi_field.proofs.Positions.{Split, split_of, split_fields, split_long, at_of}
 use Rattle.vbi_field.proofs.FeedTexts.{begun_same, begun_grows, completes_twice, cut_longer}
-use Rattle.vbi_field.proofs.Settling.{fields_at, further, wrote_none, longer_part}
+use Rattle.vbi_field.proofs.AddedRows.{fields_at, further}
+use Rattle.vbi_field.proofs.Devices.{wrote_none, longer_part}
 
 pub not_full : (b : Bool) (P : Type 0) → (IsTrue b ↔ P) → b ≡ false → P → ⊥
 not_full b P iff e p = let t = iff.1 p in cc
 
 -- the line that is held is a row
-pub row_held : (c : ConfigView) (s : System) (sel : Bool) (b : List ℕ) (row : ℕ) (o : Option Reading)
-    → (IsTrue sel ↔ ((15 ≤ row) × (row ≤ 17))) → s ≡ c.system → length b ≡ line_bytes s
-    → o ≡ cond sel (Some (reading_of c.system (row_levels c.levels b))) None → IsLineOf c b row o
-row_held c s sel b row o sels ss whole shows =
+pub row_held : (c : ConfigView) (s : System) (is_selected : Bool) (b : List ℕ) (row : ℕ) (o : Option Reading)
+    → (IsTrue is_selected ↔ ((15 ≤ row) × (row ≤ 17))) → s ≡ c.system → length b ≡ line_bytes s
+    → o ≡ cond is_selected (Some (reading_of c.system (row_levels c.levels b))) None → IsLineOf c b row o
+row_held c s is_selected b row o selects ss whole shows =
     record {
       whole = whole ∙ ap line_bytes ss;
       shows = λ x y. shows
-          ∙ cond-true sel (Some (reading_of c.system (row_levels c.levels b))) None (sels.1 (x, y));
+          ∙ cond-true is_selected (Some (reading_of c.system (row_levels c.levels b))) None (selects.1 (x, y));
     }
 
--- where the line is held no longer, and its row is settled
-pub stand_next : (c : ConfigView) (l l' : Line) (p p' : Progress) (sel : Bool)
-    → (IsTrue sel ↔ ((15 ≤ p.row) × (p.row ≤ 17)))
+-- where the line is held no longer, and its row was added
+pub stand_next : (c : ConfigView) (l l' : Line) (p p' : Progress) (is_selected : Bool)
+    → (IsTrue is_selected ↔ ((15 ≤ p.row) × (p.row ≤ 17)))
     → IsFeederState c l p → l'.system ≡ c.system → l'.cursors ≡ [] → l'.held ≡ [] → p'.row < height_of c.system
     → MovesOneRow c p p'
-    → p.fields < c.max_fields → c.max_fields ≤ 1000000 → l'.looked ≡ l.looked + cond sel (width_of c.system) 0
+    → p.fields < c.max_fields → c.max_fields ≤ most_fields
+    → l'.looked ≡ l.looked + cond is_selected (width_of c.system) 0
     → IsFeederState c l' p'
-stand_next c l l' p p' sel sels st system cursors held inside next left most looked =
+stand_next c l l' p p' is_selected selects st system cursors held inside next left most looked =
     let on =
-    further c p p' l'.looked (looks_next c.system p.fields p.row l.looked l'.looked sel sels st.looked looked)
-    next in
+    further c p p' l'.looked
+    (looks_next c.system p.fields p.row l.looked l'.looked is_selected selects st.looked looked) next in
     let few = more p p' next in
     record {
       system = system;
@@ -85,12 +88,12 @@ module _ {W : Type 0} (contents : W → Option (List ℕ)) (c : ConfigView) (l :
       ∙ ap (λ n. n * field_bytes c.system) last in
       let long = length-append z bytes in (
         omega arith,
-        (
-          [],
-          append-nil (text_before_tail document c z)
-              ∙ ap (text_before_tail document c) (sym (take_at z bytes m exact)),
-          wrote_none contents o,
-        ),
+        record {
+          text = [];
+          due = append-nil (text_before_tail document c z)
+              ∙ ap (text_before_tail document c) (sym (take_at z bytes m exact));
+          wrote = wrote_none contents o;
+        },
       )
 
   module _ (more b : List ℕ) (bs : b ≡ l.held ++ more) (le : length b ≤ line_bytes c.system)
@@ -111,13 +114,13 @@ module _ {W : Type 0} (contents : W → Option (List ℕ)) (c : ConfigView) (l :
         → IsFed contents c o o z more (position_in c l' p') (Ok tt)
     still l' p' after same o = (
       at_of c (z ++ more) l'.held p' after l' refl fits,
-      (
-        [],
-        append-nil (text_before_tail document c z)
+      record {
+        text = [];
+        due = append-nil (text_before_tail document c z)
             ∙ begun_same document c z more
-            (split_fields c (z ++ more) l'.held p' after ∙ same ∙ sym (split_fields c z l.held p before)),
-        wrote_none contents o,
-      ),
+            (split_fields c (z ++ more) l'.held p' after ∙ same ∙ sym (split_fields c z l.held p before));
+        wrote = wrote_none contents o;
+      },
     )
 
     -- the line isn't whole yet
@@ -156,23 +159,22 @@ module _ {W : Type 0} (contents : W → Option (List ℕ)) (c : ConfigView) (l :
         ap (text_before_tail document c) before.split ∙ sym (begun_same document c before.rows l.held same) in
         ap (λ x. x ++ text) begun ∙ due ∙ ap (text_before_tail document c) (sym cut)
 
-    -- and was written
+    -- the text that is due with the row was written
     pub fed_row : (l' : Line) (p' : Progress) (o o' : Outlet W) → l'.held ≡ []
-        → SettlesWhole document contents c o o' before.rows b p'
+        → AddsRow document contents c o o' before.rows b p' (Ok tt)
         → IsFed contents c o o' z more (position_in c l' p') (Ok tt)
-    fed_row l' p' o o' e settled = (
-      at_of c (z ++ more) l'.held p' (after_row l' p' e settled.position) l' refl fits,
-      (settled.text, due_more settled.text settled.due, settled.wrote),
+    fed_row l' p' o o' e (position, added) = (
+      at_of c (z ++ more) l'.held p' (after_row l' p' e position) l' refl fits,
+      record { text = added.text; due = due_more added.text added.due; wrote = added.wrote },
     )
 
-    -- or in part
-    pub fed_in_part : (p' now : Progress) (l' : Line) (o o' : Outlet W)
-        → SettlesInPart document contents c o o' before.rows b p'
+    -- the text that is due with the row was written in part
+    pub fed_in_part : (now : Progress) (l' : Line) (o o' : Outlet W)
+        → ExtendsInPart document contents c o o' before.rows (before.rows ++ b)
         → (bytes : List ℕ) (n : ℕ) (fault : RunFault) (written : ℕ) → more ≡ take n bytes
         → fault ≡ Write written → IsFed contents c o o' z bytes (position_in c l' now) (Err fault)
-    fed_in_part p' now l' o o' settled bytes n fault written front fails =
-        let text : List ℕ = settled.text in
-        let w = settled.wrote in
+    fed_in_part now l' o o' added bytes n fault written front fails =
+        let text : List ℕ = added.text in
         let all : (z ++ more) ++ drop n bytes ≡ z ++ bytes =
         append_assoc z more (drop n bytes) ∙ ap (λ x. z ++ (x ++ drop n bytes)) front
         ∙ ap (λ x. z ++ x) (take-append-drop n bytes) in
@@ -181,12 +183,13 @@ module _ {W : Type 0} (contents : W → Option (List ℕ)) (c : ConfigView) (l :
         let longer : text_before_tail document c ((z ++ more) ++ further.0) ≡ text_before_tail document c
         (take (allowed_bytes c) (z ++ bytes)) =
         ap (text_before_tail document c) (further.1 ∙ ap (take (allowed_bytes c)) all) in
-        rw fails (
-          text ++ grown.0,
-          completes_twice document c z (z ++ more) ((z ++ more) ++ further.0) text grown.0 (due_more text settled.due)
-              grown.1 ∙ longer,
-          longer_part contents o o' text grown.0 w,
-        )
+        rw fails (record {
+          text = text ++ grown.0;
+          due = completes_twice document c z (z ++ more) ((z ++ more) ++ further.0) text grown.0
+              (due_more text added.due) grown.1
+              ∙ longer;
+          wrote = longer_part contents o o' text grown.0 added.wrote;
+        })
 
 -- a fault that was passed on
 pub step_fault : {W : Type 0} (contents : W → Option (List ℕ)) (c : ConfigView) (o o' : Outlet W) (z bytes : List ℕ)

@@ -1,4 +1,6 @@
+pub mod AddedRows
 pub mod Counts
+pub mod Devices
 pub mod DrawSteps
 pub mod DrawnDocument
 pub mod DrawnLemmas
@@ -11,11 +13,13 @@ pub mod FeedTexts
 pub mod Growing
 pub mod OneDocument
 pub mod Positions
-pub mod Pulling
+pub mod PullEnds
+pub mod PullFaults
+pub mod PullRows
+pub mod Pulled
 pub mod PutFieldSteps
 pub mod PutSteps
 pub mod RowSteps
 pub mod RunLaws
-pub mod Settling
 pub mod WordRowLaw
 pub mod WordRowLemmas

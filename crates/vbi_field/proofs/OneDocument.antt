@@ -7,9 +7,9 @@ use Rattle.vbi_field.specs.ByLines.{FieldReads, IsWholeText}
 use Rattle.vbi_field.specs.ConfigView.{ConfigView}
 use Rattle.vbi_words.specs.Rows.{line_at}
 use Rattle.vbi_field.specs.Stream.{fields_of, rest_of, readings_at}
-use Rattle.vbi_field.specs.Texts.{Texts, entry_of, text_before_tail, whole_text}
+use Rattle.vbi_field.specs.Texts.{Texts, text_before_tail, whole_text}
 use Rattle.vbi_field.specs.declared.readings.FieldReadings.{FieldReadings}
-use Rattle.vbi_field.proofs.Entries.{joined-same}
+use Rattle.vbi_field.proofs.Entries.{entry_of, joined-same}
 
 -- a field has no other readings
 only_field : (c : ConfigView) (z : List ℕ) (i : ℕ) (r : FieldReadings) → FieldReads c z i r → r ≡ readings_at c z i

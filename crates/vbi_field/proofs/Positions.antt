@@ -1,4 +1,4 @@
--- The place to which a stream has come, and its whole rows.
+-- The position to which a stream has come, and its whole rows.
 use Rattle.std.proofs.Common.{◌≡◌, ℕ, ◌+◌, ◌-◌, ◌*◌, ◌/◌, ◌%◌, ◌≤◌, ◌<◌}
 use Rattle.std.proofs.Common.{List, ◌++◌, length, take, drop, refl, sym, ap, ◌∙◌, arith}
 use Rattle.std.proofs.lemmas.List.{length-append, take-append-drop}
@@ -71,7 +71,7 @@ module _ (c : ConfigView) (z held : List ℕ) (p : Progress) (s : Split c z held
       ∙ ap (λ n. reading_among c z p.fields n r) (sym split_rows)
       ∙ ap (λ n. reading_among c z n (rest_of c z / line_bytes c.system) r) (sym split_fields)
 
-  -- so it has come to that place
+  -- so its position is that of the line and the progress
   pub at_of : (l : Line) → l.held ≡ held → length z ≤ allowed_bytes c → IsAt c z (position_in c l p)
   at_of l e le =
       let at = s.position in
@@ -87,7 +87,7 @@ module _ (c : ConfigView) (z held : List ℕ) (p : Progress) (s : Split c z held
         };
       }
 
--- what has come to a place is whole rows and the bytes that are held
+-- what has come to a position is whole rows and the bytes that are held
 pub split_of : (c : ConfigView) (z : List ℕ) (l : Line) (p : Progress) → length l.held < line_bytes c.system
     → p.row < height_of c.system
     → IsAt c z (position_in c l p) → Split c z l.held p

@@ -15,7 +15,7 @@ use Rattle.vbi_field.specs.declared.word_row.WordRow.{WordRow}
 use Rattle.vbi_field.proofs.Counts.{sizes_of}
 use Rattle.vbi_words.proofs.DrawnLines.{length-drawn_line_of}
 use Rattle.vbi_field.proofs.DrawnLemmas.{lines_of, lines_of-more}
-use Rattle.vbi_field.proofs.Settling.{wrote_whole, put_in_part, longer_part, later_part}
+use Rattle.vbi_field.proofs.Devices.{wrote_whole, put_in_part, longer_part, later_part}
 use Rattle.vbi_field.proofs.DrawnLemmas.{lines_of-none, lines_of-all, lines_of-split, last_word}
 
 module _ {W : Type 0} (contents : W → Option (List ℕ)) (c : ConfigView) (words : WordRow) (old : Outlet W) where

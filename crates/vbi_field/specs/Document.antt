@@ -5,7 +5,7 @@ use Rattle.std.specs.Prelude.{ℕ, ◌+◌, List, ◌++◌, ◌==◌, if◌then�
 use Rattle.vbi_words.specs.Geometry.{width_of, height_of, name_of}
 use Rattle.vbi_words.specs.declared.outcome.Outcome.{Outcome}
 use Rattle.vbi_words.specs.declared.outcome.Reading.{Reading}
-use Rattle.vbi_words.specs.declared.outcome.Outcome.TheVariants.{Word, Blank, Unfinished, Change, Hold}
+use Rattle.vbi_words.specs.declared.outcome.Outcome.TheVariants.{Word}
 use Rattle.vbi_field.specs.CauseTexts.{cause_text_of}
 use Rattle.vbi_field.specs.ConfigView.{ConfigView}
 use Rattle.vbi_field.specs.declared.readings.FieldReadings.{FieldReadings}
@@ -13,31 +13,24 @@ use Rattle.vbi_field.specs.declared.readings.FieldReadings.{FieldReadings}
 -- the number of the word, or 0 where there is none
 abbrev pub value_of : Outcome → ℕ
 value_of (Word w) = w
-value_of Blank = 0
-value_of Unfinished = 0
-value_of (Change column) = 0
-value_of (Hold column) = 0
+value_of _ = 0
 
 -- one line: the version, the system, and the levels
 unfoldable pub head_of : ConfigView → List ℕ
-head_of c =
-    codes "{\"version\":2,\"videoParameters\":{\"system\":\"" ++ name_of c.system
+head_of c = codes "{\"version\":2,\"videoParameters\":{\"system\":\"" ++ name_of c.system
     ++ codes "\",\"fieldWidth\":" ++ decimal (width_of c.system)
     ++ codes ",\"fieldHeight\":" ++ decimal (height_of c.system)
     ++ codes ",\"black16bIre\":" ++ decimal c.levels.black
-    ++ codes ",\"white16bIre\":" ++ decimal c.levels.white
-    ++ codes "},\"fields\":[\n"
+    ++ codes ",\"white16bIre\":" ++ decimal c.levels.white ++ codes "},\"fields\":[\n"
 
 -- a text for each of a field's three lines, with commas between, behind what opens them and before what closes them
 unfoldable pub lines_of : List ℕ → (Reading → List ℕ) → List ℕ → FieldReadings → List ℕ
-lines_of opening text_of closing readings =
-    opening ++ text_of readings.first ++ codes "," ++ text_of readings.second ++ codes "," ++ text_of readings.third
-    ++ closing
+lines_of opening text_of closing readings = opening ++ text_of readings.first
+    ++ codes "," ++ text_of readings.second ++ codes "," ++ text_of readings.third ++ closing
 
 -- the record of a field: its number, and of each of its three lines the word or 0, the cause and the pass
 unfoldable pub record_of : ℕ → FieldReadings → List ℕ
-record_of number readings =
-    codes "{\"seqNo\":" ++ decimal number
+record_of number readings = codes "{\"seqNo\":" ++ decimal number
     ++ lines_of (codes ",\"vbi\":{\"vbiData\":[") (λ line. decimal (value_of line.outcome)) (codes "]}") readings
     ++ lines_of (codes ",\"vbiCause\":[") (λ line. codes "\"" ++ cause_text_of line.outcome ++ codes "\"") (codes "]")
     readings
@@ -45,7 +38,6 @@ record_of number readings =
 
 -- the end: a cut last field's number and bytes, or null where none was cut
 unfoldable pub tail_of : ℕ → ℕ → List ℕ
-tail_of fields rest =
-    if rest == 0 then codes "\n],\"cutField\":null}\n"
-    else codes "\n],\"cutField\":{\"seqNo\":" ++ decimal (fields + 1) ++ codes ",\"bytes\":" ++ decimal rest
-    ++ codes "}}\n"
+tail_of fields rest = if rest == 0 then codes "\n],\"cutField\":null}\n"
+    else codes "\n],\"cutField\":{\"seqNo\":" ++ decimal (fields + 1)
+    ++ codes ",\"bytes\":" ++ decimal rest ++ codes "}}\n"

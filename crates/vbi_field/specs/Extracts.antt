@@ -20,8 +20,7 @@ module _ (t : Texts) (c : ConfigView) (input : Option (List ℕ)) (z text : List
   -- the text ends inside one of three parts: the head, which is due before the first read; the entry of a field, which
   -- is due as soon as the field's last byte was fetched; or the tail, which is due as soon as the reader has ended
   abbrev pub EndsWithin : Type 0
-  EndsWithin =
-      ((z ≡ []) × EndsInside [] (text_before_tail t c []) text)
+  EndsWithin = ((z ≡ []) × EndsInside [] (text_before_tail t c []) text)
       ⊎ (((before : List ℕ) × (last : List ℕ) × (before ++ last ≡ z) × (rest_of c before ≡ 0)
       × (length last ≡ field_bytes c.system) × EndsInside (text_before_tail t c before) (text_before_tail t c z) text)
       ⊎ (IsAtEnd input × EndsInside (text_before_tail t c z) (whole_text t c z) text))
@@ -30,11 +29,9 @@ module _ (t : Texts) (c : ConfigView) (input : Option (List ℕ)) (z text : List
   -- looks
   pub record ExtractsAll (s : Summary) : Type 0 where
     pub document : text ≡ whole_text t c z
-    pub ended : IsAtEnd input
+    pub at_end : IsAtEnd input
     pub within : length z ≤ allowed_bytes c
-    pub fields : s.fields ≡ fields_of c z
-    pub cut : s.cut ≡ cut_of (rest_of c z)
-    pub looked : s.looked ≡ looks_of c z
+    pub summary : s ≡ record { fields = fields_of c z; cut = cut_of (rest_of c z); looked = looks_of c z }
 
   -- `Read`: the reader failed where the next byte would have been this one of this field, less than a line past the
   -- limit at most, and the text of the whole fields was written, without the tail
@@ -77,7 +74,7 @@ pub record Extracts (t : Texts) (c : ConfigView) (input : Option (List ℕ)) (n 
     (result : Result Summary RunFault) (z text : List ℕ) : Type 0 where
   pub looks : n.looked ≡ looks_of c z
   pub devices : FailsBy result n
-  pub ended : EndsBy t c input z text result
+  pub came : EndsBy t c input z text result
 
 -- what a fresh intake and a fresh outlet counted since
 abbrev pub counts_of : {R W : Type 0} → Intake R → Outlet W → Counts
@@ -94,6 +91,5 @@ abbrev pub Runs : {R W : Type 0} → Texts → (R → Option (List ℕ)) → (W 
     → Intake R → Intake R → Outlet W → Outlet W → Result Summary RunFault → Type 0
 Runs t remaining contents c i0 i o0 o result =
     Ran (remaining (device_of (intakes.counted_of i0))) (remaining (device_of (intakes.counted_of i)))
-    (contents (device_of (outlets.counted_of o0)))
-    (contents (device_of (outlets.counted_of o)))
+    (contents (device_of (outlets.counted_of o0))) (contents (device_of (outlets.counted_of o)))
     (counts_of i o) (Extracts t c (remaining (device_of (intakes.counted_of i))) (counts_of i o) result)

@@ -6,38 +6,31 @@ use Rattle.vbi_field.specs.Outlet.{counted_of, written_of, Wrote, WrotePart}
 use Rattle.vbi_field.specs.Position.{Position, position_of}
 use Rattle.vbi_field.specs.ConfigView.{ConfigView, allowed_bytes}
 use Rattle.vbi_field.specs.Stream.{fields_of, rest_of, cut_of, looks_of}
-use Rattle.vbi_field.specs.Texts.{IsTextBetween}
+use Rattle.vbi_field.specs.Texts.{Extends, ExtendsInPart}
 use Rattle.vbi_field.specs.Feeding.{Feeding}
 use Rattle.vbi_field.specs.declared.outlet.Outlet.{Outlet}
 use Rattle.vbi_field.specs.declared.summary.Summary.{Summary}
 use Rattle.vbi_field.specs.declared.summary.RunFault.{RunFault}
 use Rattle.vbi_field.specs.declared.summary.RunFault.TheVariants.{Read, Write, TooManyFields, Failed}
 
--- z is no longer than allowed, and this is the place to which it has come
+-- z is no longer than allowed, and this is its position
 pub record IsAt (c : ConfigView) (z : List ℕ) (now : Position) : Type 0 where
   pub allowed : length z ≤ allowed_bytes c
   pub position : now ≡ position_of c z
 
--- the feeder hasn't failed, and its state is the place to which z has come
+-- the feeder hasn't failed, and its position is that of z
 pub record StandsAt (f : Feeding) (z : List ℕ) : Type 0 where
   pub unfailed : f.has_failed ≡ false
   pub at : IsAt f.config z f.position
 
 module _ {W : Type 0} (contents : W → Option (List ℕ)) (c : ConfigView) (o o' : Outlet W) (z : List ℕ) where
-  -- the bytes by which the text of the longer stream is longer were written
-  abbrev pub Extends : List ℕ → Type 0
-  Extends longer = (text : List ℕ) × IsTextBetween document c z longer text × Wrote contents o o' text
-
-  -- the first of these bytes were written, and not all of them
-  abbrev pub ExtendsInPart : List ℕ → Type 0
-  ExtendsInPart longer = (text : List ℕ) × IsTextBetween document c z longer text × WrotePart contents o o' text
-
   -- what a piece did, where the feeder was at z before, and its position now
   abbrev pub IsFed : List ℕ → Position → Result (Unit {0}) RunFault → Type 0
-  IsFed piece now (Ok u) = IsAt c (z ++ piece) now × Extends (z ++ piece)
-  IsFed piece now (Err (Write written)) = ExtendsInPart (take (allowed_bytes c) (z ++ piece))
+  IsFed piece now (Ok u) = IsAt c (z ++ piece) now × Extends document contents c o o' z (z ++ piece)
+  IsFed piece now (Err (Write written)) =
+      ExtendsInPart document contents c o o' z (take (allowed_bytes c) (z ++ piece))
   IsFed piece now (Err TooManyFields) = (allowed_bytes c < length (z ++ piece))
-      × Extends (take (allowed_bytes c) (z ++ piece))
+      × Extends document contents c o o' z (take (allowed_bytes c) (z ++ piece))
   IsFed piece now (Err (Read field offset)) = ⊥
   IsFed piece now (Err Failed) = ⊥
 

@@ -3,7 +3,7 @@ use Rattle.vbi_field.specs.Feeding.{Feeding}
 use Rattle.vbi_field.specs.FeederState.{IsFeederState, position_in}
 use Rattle.vbi_field.specs.declared.feeder.Feeder.TheInside.{Inside}
 
--- the place is made of the progress and of the bytes that the line holds
+-- the position is made of the progress and of the bytes that the line holds
 abbrev pub feeding_of : Inside → Feeding
 feeding_of f = record {
   config = f.config;

@@ -11,7 +11,7 @@ use Rattle.vbi_field.specs.declared.outlet.Outlet.{Outlet}
 use Rattle.vbi_field.specs.declared.progress.Progress.{Progress}
 use Rattle.vbi_field.specs.declared.summary.RunFault.{RunFault}
 
--- the place that the whole rows and the bytes of the unfinished one make
+-- the position that the whole rows and the bytes of the unfinished one make
 abbrev pub position_in : ConfigView → Line → Progress → Position
 position_in c l p = record {
   fields = p.fields;

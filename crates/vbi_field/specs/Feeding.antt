@@ -3,7 +3,7 @@ use Rattle.std.specs.Prelude.{ℕ, Bool}
 use Rattle.vbi_field.specs.Position.{Position}
 use Rattle.vbi_field.specs.ConfigView.{ConfigView}
 
--- its config, the place to which its stream has come, whether it has failed, and how many samples were looked at
+-- its config, the position to which its stream has come, whether it has failed, and how many samples were looked at
 pub record Feeding : Type 0 where
   pub config : ConfigView
   pub position : Position

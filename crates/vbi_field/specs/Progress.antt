@@ -9,10 +9,9 @@ use Rattle.vbi_field.specs.declared.readings.FieldReadings.{FieldReadings}
 use Rattle.vbi_field.specs.declared.progress.PartialReadings.{PartialReadings}
 use Rattle.vbi_field.specs.declared.progress.Progress.{Progress}
 use Rattle.vbi_field.specs.ConfigView.{ConfigView}
-use Rattle.vbi_field.specs.Outlet.{Wrote, WrotePart}
 use Rattle.vbi_field.specs.Position.{reading_among}
 use Rattle.vbi_field.specs.Stream.{readings_at}
-use Rattle.vbi_field.specs.Texts.{Texts, IsTextBetween}
+use Rattle.vbi_field.specs.Texts.{Texts, Extends, ExtendsInPart}
 use Rattle.vbi_field.specs.declared.outlet.Outlet.{Outlet}
 use Rattle.vbi_field.specs.declared.summary.RunFault.{RunFault}
 
@@ -61,25 +60,9 @@ MovesOneRow c old new =
     ((new.fields ≡ old.fields) × (new.row ≡ old.row + 1))
     ⊎ ((new.fields ≡ old.fields + 1) × (new.row ≡ 0) × (old.row + 1 ≡ height_of c.system))
 
--- ---- a whole row b behind z, for a kind t of text
-
-module _ (t : Texts) {W : Type 0} (contents : W → Option (List ℕ)) (c : ConfigView) (o o' : Outlet W) (z b : List ℕ)
-    (now : Progress) where
-  -- the text that is due with the row was written
-  pub record SettlesWhole : Type 0 where
-    pub position : IsProgress c (z ++ b) now
-    pub text : List ℕ
-    pub due : IsTextBetween t c z (z ++ b) text
-    pub wrote : Wrote contents o o' text
-
-  -- only the first of it was
-  pub record SettlesInPart : Type 0 where
-    pub position : IsProgress c (z ++ b) now
-    pub text : List ℕ
-    pub due : IsTextBetween t c z (z ++ b) text
-    pub wrote : WrotePart contents o o' text
-
-  -- what the row leads to, by the answer
-  abbrev pub Settles : Result (Unit {0}) RunFault → Type 0
-  Settles (Ok u) = SettlesWhole
-  Settles (Err fault) = SettlesInPart
+-- what a whole row b behind z leads to, for a kind t of text and by the answer: the text that is due with the row was
+-- written, or only the first of it
+abbrev pub AddsRow : Texts → {W : Type 0} → (W → Option (List ℕ)) → ConfigView → Outlet W → Outlet W → List ℕ → List ℕ
+    → Progress → Result (Unit {0}) RunFault → Type 0
+AddsRow t contents c o o' z b now (Ok u) = IsProgress c (z ++ b) now × Extends t contents c o o' z (z ++ b)
+AddsRow t contents c o o' z b now (Err fault) = IsProgress c (z ++ b) now × ExtendsInPart t contents c o o' z (z ++ b)

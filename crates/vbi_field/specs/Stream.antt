@@ -29,8 +29,7 @@ reading_at c z i r = reading_of c.system (row_levels c.levels (line_at c.system 
 
 -- the readings of field i: those of its rows 15, 16 and 17, which are lines 16, 17 and 18
 abbrev pub readings_at : ConfigView → List ℕ → ℕ → FieldReadings
-readings_at c z i =
-    record { first = reading_at c z i 15; second = reading_at c z i 16; third = reading_at c z i 17 }
+readings_at c z i = record { first = reading_at c z i 15; second = reading_at c z i 16; third = reading_at c z i 17 }
 
 -- how many samples are looked at: those of the rows 15, 16 and 17 that the stream has whole, once each
 abbrev pub looks_of : ConfigView → List ℕ → ℕ

@@ -1,9 +1,11 @@
 -- The text that is written for a TBC stream, for any kind of text: its head, an entry for each whole field, and its
 -- tail.
-use Rattle.std.specs.Prelude.{◌≡◌, ℕ, ◌+◌, ◌==◌, if◌then◌else◌, List, [], ◌++◌}
+use Rattle.std.specs.Prelude.{◌≡◌, ℕ, ◌+◌, ◌==◌, if◌then◌else◌, List, [], ◌++◌, Option}
 use Rattle.std.specs.List.{join_by, range_with_len}
 use Rattle.vbi_field.specs.ConfigView.{ConfigView}
+use Rattle.vbi_field.specs.Outlet.{Wrote, WrotePart}
 use Rattle.vbi_field.specs.Stream.{fields_of, rest_of, readings_at}
+use Rattle.vbi_field.specs.declared.outlet.Outlet.{Outlet}
 use Rattle.vbi_field.specs.declared.readings.FieldReadings.{FieldReadings}
 
 -- A kind of text: its head; what joins two entries; the entry of a field, by its number from 1 and its readings; its
@@ -14,13 +16,10 @@ pub record Texts : Type 0 where
   pub entry : ℕ → FieldReadings → List ℕ
   pub tail : ℕ → ℕ → List ℕ
 
--- the entry of field i of a stream, i from 0
-abbrev pub entry_of : Texts → ConfigView → List ℕ → ℕ → List ℕ
-entry_of t c z i = t.entry (i + 1) (readings_at c z i)
-
 -- the head, and the entries of the whole fields in order, joined
 unfoldable pub text_before_tail : Texts → ConfigView → List ℕ → List ℕ
-text_before_tail t c z = t.head c ++ join_by (entry_of t c z) t.joint (range_with_len 0 (fields_of c z))
+text_before_tail t c z =
+    t.head c ++ join_by (λ i. t.entry (i + 1) (readings_at c z i)) t.joint (range_with_len 0 (fields_of c z))
 
 -- the whole text of a stream that ended
 abbrev pub whole_text : Texts → ConfigView → List ℕ → List ℕ
@@ -34,3 +33,16 @@ IsTextBetween t c z longer text = text_before_tail t c z ++ text ≡ text_before
 -- before, and the entry
 abbrev pub joined_entry_of : Texts → ℕ → FieldReadings → List ℕ
 joined_entry_of t before readings = (if before == 0 then [] else t.joint) ++ t.entry (before + 1) readings
+
+module _ (t : Texts) {W : Type 0} (contents : W → Option (List ℕ)) (c : ConfigView) (o o' : Outlet W) where
+  -- the bytes by which the text of the longer stream is longer were written
+  pub record Extends (z longer : List ℕ) : Type 0 where
+    pub text : List ℕ
+    pub due : IsTextBetween t c z longer text
+    pub wrote : Wrote contents o o' text
+
+  -- the first of these bytes were written, and not all of them
+  pub record ExtendsInPart (z longer : List ℕ) : Type 0 where
+    pub text : List ℕ
+    pub due : IsTextBetween t c z longer text
+    pub wrote : WrotePart contents o o' text

@@ -98,7 +98,7 @@ fn take_bytes<W: Write>(
     let count = copy_in(line, bytes);
     if line.is_full() {
         let reading = read_held(line, config, progress.is_selected());
-        progress.settle::<Document, W>(config, reading, outlet)?;
+        progress.add_row::<Document, W>(config, reading, outlet)?;
     }
     Ok(count)
 }
@@ -155,8 +155,8 @@ impl Feeder {
     /// whose records are written first. After a fault the feeder answers `Failed` to every call and writes nothing
     /// more.
     ///
-    /// One stream goes to one outlet. The clauses speak of any list z of bytes that has come to the feeder's place, as
-    /// the pieces before have; what is written depends on it and the piece alone.
+    /// One stream goes to one outlet. The clauses speak of any list z of bytes that has come to the feeder's position,
+    /// as the pieces before have; what is written depends on it and the piece alone.
     pub fn feed<W: Write>(&mut self, piece: &[u8], outlet: &mut Outlet<W>) -> Result<(), RunFault>
         requires written { written_of outlet.old ≤ 2 ^ 61 }
         requires failures { (failures_of (counted_of outlet.old)).all ≤ 2 ^ 61 }

@@ -3,6 +3,7 @@ ghost use Rattle.std.specs.Prelude.{◌≡◌, ◌+◌, ◌*◌, ◌^◌, ◌↔
 ghost use Rattle.std.specs.Prelude.{Some, None, OnOk, OnErr, IfErr};
 ghost use Rattle.vbi_words.specs.Geometry.{height_of, line_bytes};
 ghost use Rattle.vbi_line.specs.Counted.{failures_of, NoError, HasCause, IsSameDevice};
+ghost use Rattle.vbi_field.specs.Limits.{most_fields};
 ghost use Rattle.vbi_field.specs.Outlet.{counted_of, written_of, Rises};
 
 use crate::config::Config;
@@ -68,7 +69,7 @@ pub(crate) struct Progress {
 }
 
 impl Progress {
-    ghost use Rattle.vbi_field.specs.Progress.{IsProgress, IsLineOf, MovesOneRow, Advances, Settles};
+    ghost use Rattle.vbi_field.specs.Progress.{IsProgress, IsLineOf, MovesOneRow, Advances, AddsRow};
 
     /// Before the first row.
     pub(crate) fn new() -> Self
@@ -103,7 +104,7 @@ impl Progress {
     #[tactic(auto, using(crate::proofs::Growing::within_field, crate::proofs::Growing::past_field))]
     fn advance(&mut self, config: &Config, reading: Option<Reading>) -> Option<FieldReadings>
         requires inside { self.old.row < height_of config.now.system }
-        requires few { self.old.fields ≤ 1000000 }
+        requires few { self.old.fields ≤ most_fields }
         ensures inside { self.new.row < height_of config.now.system }
         ensures next { MovesOneRow config.now self.old self.new }
         ensures field { IfSome result (λ _. (self.new.fields ≡ self.old.fields + 1) × (self.new.row ≡ 0)) }
@@ -122,14 +123,14 @@ impl Progress {
     }
 
     /// Takes the reading of the next row, if it is selected, and writes the entry of a field that is whole now.
-    pub(crate) fn settle<F: Form, W: Write>(
+    pub(crate) fn add_row<F: Form, W: Write>(
         &mut self,
         config: &Config,
         reading: Option<Reading>,
         outlet: &mut Outlet<W>,
     ) -> Result<(), RunFault>
         requires inside { self.old.row < height_of config.now.system }
-        requires few { self.old.fields < 1000000 }
+        requires few { self.old.fields < most_fields }
         requires written { written_of outlet.old ≤ 2 ^ 62 }
         requires failures { (failures_of (counted_of outlet.old)).all ≤ 2 ^ 62 }
         ensures same { IsSameDevice (counted_of outlet.old) (counted_of outlet.new) }
@@ -140,9 +141,9 @@ impl Progress {
         ensures failed { OnErr result (HasCause (counted_of outlet.old) (counted_of outlet.new)) }
         ensures field { OnErr result (self.new.row ≡ 0) }
         ensures fault { IfErr result (λ e. e ≡ RunFault.Write (written_of outlet.new)) }
-        ensures settles { (z b : List ℕ) → IsProgress config.now z self.old
+        ensures adds { (z b : List ℕ) → IsProgress config.now z self.old
             → IsLineOf config.now b self.old.row reading
-            → Settles F.texts W.contents config.now outlet.old outlet.new z b self.new result }
+            → AddsRow F.texts W.contents config.now outlet.old outlet.new z b self.new result }
     {
         if let Some(readings) = self.advance(config, reading) {
             put(outlet, F::entry(self.fields - 1, &readings).as_str())?;

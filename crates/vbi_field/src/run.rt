@@ -6,6 +6,7 @@ ghost use Rattle.vbi_line.specs.Intake as intakes;
 ghost use Rattle.vbi_line.specs.Intake.{fetched_of, held_of, line_of, IsFresh};
 ghost use Rattle.vbi_field.specs.Extracts.{Runs};
 ghost use Rattle.vbi_field.specs.Kinds.{document, report};
+ghost use Rattle.vbi_field.specs.Limits.{most_fields};
 ghost use Rattle.vbi_line.specs.Line.{IsFull};
 ghost use Rattle.vbi_field.specs.NextLine.{TakesLine, ReadsLine};
 ghost use Rattle.vbi_field.specs.Outlet as outlets;
@@ -21,13 +22,13 @@ use std::io::{Read, Write};
 use vbi_line::{Filled, Intake};
 use vbi_words::{Levels, Reading};
 
-/// Fills the line. A fault of the reader names the place to which the stream has come.
+/// Fills the line. A fault of the reader names the field and the byte to which the stream has come.
 fn fill_line<R: Read>(
     config: &Config,
     progress: &Progress,
     intake: &mut Intake<R>,
 ) -> Result<Filled, RunFault>
-    requires fields { progress.now.fields ≤ 1000000 }
+    requires fields { progress.now.fields ≤ most_fields }
     requires inside { progress.now.row < height_of config.now.system }
     requires system { (line_of intake.old).system ≡ config.now.system }
     requires empty { held_of intake.old ≡ [] }
@@ -81,7 +82,7 @@ fn run<F: Form, R: Read, W: Write>(
         match fill_line(config, &progress, intake)? {
             Filled::Full => {
                 let reading = read_line(intake, config.levels(), progress.is_selected());
-                progress.settle::<F, W>(config, reading, outlet)?;
+                progress.add_row::<F, W>(config, reading, outlet)?;
             }
             Filled::Ended(bytes) => {
                 let rest = progress.rest(config, bytes);

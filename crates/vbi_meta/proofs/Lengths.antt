@@ -14,7 +14,7 @@ use Rattle.vbi_field.specs.CauseTexts.{cause_text_of}
 use Rattle.vbi_field.specs.Document.{value_of, head_of, lines_of, record_of, tail_of}
 use Rattle.vbi_field.specs.Kinds.{document}
 use Rattle.vbi_field.specs.Stream.{fields_of, rest_of, readings_at}
-use Rattle.vbi_field.specs.Texts.{text_before_tail, whole_text, entry_of}
+use Rattle.vbi_field.specs.Texts.{text_before_tail, whole_text}
 use Rattle.vbi_field.specs.declared.readings.FieldReadings.{FieldReadings}
 use Rattle.vbi_meta.specs.DocumentValue.{IsOfRun}
 use Rattle.vbi_meta.specs.Metadata.{most_bytes}
@@ -227,11 +227,11 @@ unfolding text_before_tail
 document_short c z run =
     let few : fields_of c z ≤ 1000000 = few_fields c z run in
     let two : length (codes ",\n") ≤ 2 = lit≤ tt in
-    let records = joined_short (entry_of document c z) (codes ",\n") 0 (fields_of c z) two
+    let records = joined_short (λ i. document.entry (i + 1) (readings_at c z i)) (codes ",\n") 0 (fields_of c z) two
     (λ i l. record_short (i + 1) (readings_at c z i) (omega arith) (field_shown c z i)) in
     let head = head_short c (omega (arith, run.config.black)) (omega (arith, run.config.white)) in
     let tail = tail_short (fields_of c z) (rest_of c z) (omega arith) (small_rest c.system (length z)) in
-    let entries : List ℕ = join_by (entry_of document c z) (codes ",\n") (range_with_len 0 (fields_of c z)) in
+    let entries : List ℕ = join_by (λ i. document.entry (i + 1) (readings_at c z i)) (codes ",\n") (range_with_len 0 (fields_of c z)) in
     let begun : length (head_of c ++ entries) ≤ 284 + 223 * fields_of c z = and (head_of c) entries head records in
     let all : length (whole_text document c z) ≤ 284 + 223 * fields_of c z + 140
     = and (head_of c ++ entries) (tail_of (fields_of c z) (rest_of c z)) begun tail in

@@ -31,8 +31,8 @@ returns-else-is_full-clause-step g c =
     (take c.copy_in-count.result c.args.bytes.now) b c.copy_in-count.ensures.held le left c.copy_in-count.new.line
     c.args.outlet.now refl short
 
-pub returns-in_ok-settle-clause-step : goal.returns-in_ok-settle-clause-step
-returns-in_ok-settle-clause-step g c =
+pub returns-in_ok-add_row-clause-step : goal.returns-in_ok-add_row-clause-step
+returns-in_ok-add_row-clause-step g c =
     let st = c.requires.stand in
     let b = c.copy_in-count.new.line.held in
     let le : length b ≤ line_bytes c.args.config.now.system =
@@ -49,12 +49,12 @@ returns-in_ok-settle-clause-step g c =
     let s = before g.W.Write.contents c.args.config.now c.args.line.now c.args.progress.now st z at in
     fed_row g.W.Write.contents c.args.config.now c.args.line.now c.args.progress.now st z at
     (take c.copy_in-count.result c.args.bytes.now) b c.copy_in-count.ensures.held le left c.read_held-reading.new.line
-    c.settle.new.self
-    c.args.outlet.now c.settle.new.outlet c.read_held-reading.ensures.held
-    (c.in_ok-settle.ensures.settles s.rows b s.position came)
+    c.add_row.new.self
+    c.args.outlet.now c.add_row.new.outlet c.read_held-reading.ensures.held
+    (c.in_ok-add_row.ensures.adds s.rows b s.position came)
 
-pub returns-in_err-settle-clause-step : goal.returns-in_err-settle-clause-step
-returns-in_err-settle-clause-step g c =
+pub returns-in_err-add_row-clause-step : goal.returns-in_err-add_row-clause-step
+returns-in_err-add_row-clause-step g c =
     let st = c.requires.stand in
     let b = c.copy_in-count.new.line.held in
     let le : length b ≤ line_bytes c.args.config.now.system =
@@ -69,28 +69,27 @@ returns-in_err-settle-clause-step g c =
     c.read_held-reading.ensures.shows in
     λ z at.
     let s = before g.W.Write.contents c.args.config.now c.args.line.now c.args.progress.now st z at in
-    step_fault g.W.Write.contents c.args.config.now c.args.outlet.now c.settle.new.outlet z c.args.bytes.now
-    (position_in c.args.config.now c.read_held-reading.new.line c.settle.new.self) (written_of c.settle.new.outlet)
+    step_fault g.W.Write.contents c.args.config.now c.args.outlet.now c.add_row.new.outlet z c.args.bytes.now
+    (position_in c.args.config.now c.read_held-reading.new.line c.add_row.new.self) (written_of c.add_row.new.outlet)
     c.from_residual.result
     (search rules) (λ fault fails.
     fed_in_part g.W.Write.contents c.args.config.now c.args.line.now c.args.progress.now st z at
-    (take c.copy_in-count.result c.args.bytes.now) b c.copy_in-count.ensures.held le left c.settle.new.self
-    c.settle.new.self
-    c.read_held-reading.new.line c.args.outlet.now c.settle.new.outlet
-    (c.in_err-settle.ensures.settles s.rows b s.position came)
-    c.args.bytes.now c.copy_in-count.result fault (written_of c.settle.new.outlet) refl fails)
+    (take c.copy_in-count.result c.args.bytes.now) b c.copy_in-count.ensures.held le left c.add_row.new.self
+    c.read_held-reading.new.line c.args.outlet.now c.add_row.new.outlet
+    (c.in_err-add_row.ensures.adds s.rows b s.position came).1
+    c.args.bytes.now c.copy_in-count.result fault (written_of c.add_row.new.outlet) refl fails)
 
-pub returns-in_ok-settle-clause-stand : goal.returns-in_ok-settle-clause-stand
-returns-in_ok-settle-clause-stand g c =
+pub returns-in_ok-add_row-clause-stand : goal.returns-in_ok-add_row-clause-stand
+returns-in_ok-add_row-clause-stand g c =
     let st = c.requires.stand in
     let read = c.read_held-reading.ensures in
     let system = read.system ∙ c.copy_in-count.ensures.rest.system ∙ st.system in
     let last = c.if-progress-max_fields.false in
     let few = st.few in
     let most = c.max_fields.ensures in
-    stand_next c.args.config.now c.args.line.now c.read_held-reading.new.line c.args.progress.now c.settle.new.self
+    stand_next c.args.config.now c.args.line.now c.read_held-reading.new.line c.args.progress.now c.add_row.new.self
     c.is_selected.result
-    c.is_selected.ensures st system read.cursors read.held c.in_ok-settle.ensures.inside c.in_ok-settle.ensures.next
+    c.is_selected.ensures st system read.cursors read.held c.in_ok-add_row.ensures.inside c.in_ok-add_row.ensures.next
     (omega (arith, most.value)) (omega (arith, most.value, most.few))
     (read.looked
     ∙ ap (λ n. n + cond c.is_selected.result (width_of c.args.config.now.system) 0)

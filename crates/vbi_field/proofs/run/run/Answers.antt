@@ -2,8 +2,10 @@ use Rattle.std.proofs.Common.{◌≡◌, ◌<◌, ◌≤◌, ◌+◌, ◌*◌, r
 use Rattle.std.proofs.Math.Nat.{zero-mul, le_of_eq, le_of_lt}
 use Rattle.vbi_words.specs.Geometry.{height_of, line_bytes, field_bytes}
 use Rattle.vbi_field.proofs.Counts.{sizes_of, all_fields, rows_fit, row_fits}
-use Rattle.vbi_field.proofs.Pulling.{start, head_fault, row_came, step, entry_fault, ended, read_fault, too_many}
-use Rattle.vbi_field.proofs.Pulling.{runs_fault}
+use Rattle.vbi_field.proofs.PullEnds.{ended, read_fault, too_many}
+use Rattle.vbi_field.proofs.PullFaults.{head_fault, runs_fault}
+use Rattle.vbi_field.proofs.PullRows.{row_came, step, entry_fault}
+use Rattle.vbi_field.proofs.Pulled.{start}
 use Rattle.vbi_field.proofs.run.run.Goals as goal
 
 pub loop-row-init : goal.loop-row-init
@@ -31,9 +33,9 @@ loop-row-preserved g c =
     let came = row_came _ _ _ _ _ _ _ _ _ _ _ _ v _ (search rules) _ c.levels.result c.levels.ensures t reads same in
     let last : c.loop-row.row + 1 ≤ c.args.config.now.max_fields * height_of c.args.config.now.system =
     omega (arith, c.row_limit-row-end.ensures.value) in
-    let e = c.in_ok-settle-in-Full.ensures in
+    let e = c.in_ok-add_row-in-Full.ensures in
     step _ _ _ _ _ _ _ _ _ _ _ _ v _ (search rules) _ c.levels.result c.levels.ensures t reads same
-    c.settle.new.outlet c.settle.new.self e.next e.rises (e.settles v.z t.bytes v.at came) e.no_error e.same last
+    c.add_row.new.outlet c.add_row.new.self e.next e.rises (e.adds v.z t.bytes v.at came) e.no_error e.same last
 
 pub returns-in_err-fill_line-clause-run : goal.returns-in_err-fill_line-clause-run
 returns-in_err-fill_line-clause-run g c =
@@ -45,8 +47,8 @@ returns-in_err-fill_line-clause-run g c =
     (λ fault fails.
     read_fault _ _ _ _ _ _ _ _ _ _ _ c.loop-row.invariant _ c.in_err-fill_line.ensures.takes fault last fails)
 
-pub returns-in_err-settle-in-Full-clause-run : goal.returns-in_err-settle-in-Full-clause-run
-returns-in_err-settle-in-Full-clause-run g c =
+pub returns-in_err-add_row-in-Full-clause-run : goal.returns-in_err-add_row-in-Full-clause-run
+returns-in_err-add_row-in-Full-clause-run g c =
     let v = c.loop-row.invariant in
     let t = rw c.in-Full.is at c.in_ok-fill_line.ensures.takes in
     let same = c.in_ok-fill_line.ensures.same in
@@ -54,13 +56,14 @@ returns-in_err-settle-in-Full-clause-run g c =
     let came = row_came _ _ _ _ _ _ _ _ _ _ _ _ v _ (search rules) _ c.levels.result c.levels.ensures t reads same in
     let last : c.loop-row.row + 1 ≤ c.args.config.now.max_fields * height_of c.args.config.now.system =
     omega (arith, c.row_limit-row-end.ensures.value) in
-    let e = c.in_err-settle-in-Full.ensures in
+    let e = c.in_err-add_row-in-Full.ensures in
+    let added = e.adds v.z t.bytes v.at came in
     runs_fault g.F.Form.texts g.R.Read.remaining g.W.Write.contents c.args.config.now c.args.intake.now
     c.args.outlet.now
-    c.read_line-reading.new.intake c.settle.new.outlet _ c.from_residual-in_err-settle-in-Full.result (search rules)
+    c.read_line-reading.new.intake c.add_row.new.outlet _ c.from_residual-in_err-add_row-in-Full.result (search rules)
     (λ fault fails.
     entry_fault _ _ _ _ _ _ _ _ _ _ _ _ v _ (search rules) _ c.levels.result c.levels.ensures t reads same
-    c.settle.new.outlet c.settle.new.self fault e.next e.field (e.settles v.z t.bytes v.at came) e.failed fails last)
+    c.add_row.new.outlet c.add_row.new.self fault e.next e.field added.0 added.1 e.failed fails last)
 
 pub returns-in-Ended-clause-run : goal.returns-in-Ended-clause-run
 returns-in-Ended-clause-run g c =
@@ -86,7 +89,7 @@ returns-in-Ended-eq0-clause-run g c =
     let none =
     (all_fields c.args.config.now.system c.loop-row.progress.fields c.loop-row.progress.row
     c.args.config.now.max_fields at.inside
-    (v.place ∙ last)).1 in
+    (v.rows ∙ last)).1 in
     let rows = rows_fit c.args.config.now.system c.loop-row.row c.args.config.now.max_fields (le_of_eq last) in
     let within : c.loop-row.row * line_bytes c.args.config.now.system + c.in-Ended-eq0.field-0
     ≤ c.args.config.now.max_fields * field_bytes c.args.config.now.system =

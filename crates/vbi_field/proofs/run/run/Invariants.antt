@@ -1,4 +1,4 @@
-use Rattle.vbi_field.proofs.Pulling.{Pulled}
+use Rattle.vbi_field.proofs.Pulled.{Pulled}
 use Rattle.vbi_field.proofs.run.run.Given as goal
 
 abbrev pub invariant-loop-row : goal.invariant-loop-row

@@ -1,0 +1,81 @@
+-- What is written with a whole row.
+use Rattle.std.proofs.Common.{◌≡◌, ℕ, ◌+◌, ◌*◌, ◌<◌, inl, inr, List, [], ◌++◌, length, sym, ap, ◌∙◌, arith}
+use Rattle.std.proofs.Common.{append-nil, add-zero, add_assoc}
+use Rattle.std.specs.Prelude.{Option, Result, Err, Ok, IsErr}
+use Rattle.vbi_words.specs.Geometry.{width_of, height_of}
+use Rattle.vbi_field.specs.ConfigView.{ConfigView}
+use Rattle.vbi_field.specs.Outlet.{written_of, Puts}
+use Rattle.vbi_field.specs.Progress.{IsProgress, MovesOneRow, AddsRow}
+use Rattle.vbi_field.specs.Stream.{fields_of, readings_at}
+use Rattle.vbi_field.specs.FeederState.{selected}
+use Rattle.vbi_field.specs.Texts.{Texts, IsTextBetween, text_before_tail, joined_entry_of}
+use Rattle.vbi_field.specs.declared.outlet.Outlet.{Outlet}
+use Rattle.vbi_field.specs.declared.progress.Progress.{Progress}
+use Rattle.vbi_field.specs.declared.summary.RunFault.{RunFault}
+use Rattle.vbi_field.specs.declared.readings.FieldReadings.{FieldReadings}
+use Rattle.vbi_field.proofs.Counts.{sizes_of, times-next, whole_fields, looks_field}
+use Rattle.vbi_field.proofs.Devices.{wrote_none, wrote_whole, put_in_part}
+use Rattle.vbi_field.proofs.FeedTexts.{begun_same, begun_next}
+
+-- the whole fields of whole rows
+pub fields_at : (c : ConfigView) (z : List ℕ) (p : Progress) → IsProgress c z p → fields_of c z ≡ p.fields
+fields_at c z p at =
+    whole_fields c.system (length z) p.fields p.row 0 at.inside (sizes_of c.system).some (at.whole ∙ sym (add-zero _))
+
+-- the number of rows, and the looks, one row further
+pub record Further (c : ConfigView) (p p' : Progress) (looked : ℕ) : Type 0 where
+  pub rows : p'.fields * height_of c.system + p'.row ≡ p.fields * height_of c.system + p.row + 1
+  pub looks : looked ≡ width_of c.system * selected p'.fields p'.row
+
+pub further : (c : ConfigView) (p p' : Progress) (looked : ℕ)
+    → looked ≡ width_of c.system * selected p.fields (p.row + 1)
+    → MovesOneRow c p p' → Further c p p' looked
+further c p p' looked before (inl (fields, row)) = record {
+  rows = rw (fields, row) (sym (add_assoc _ _ _));
+  looks = rw (fields, row) before;
+}
+further c p p' looked before (inr (fields, row, last)) = record {
+  rows = rw (fields, row) (omega (arith, times-next p.fields (height_of c.system)));
+  looks = rw (fields, row) (looks_field c.system p.fields p.row looked last before);
+}
+
+module _ (t : Texts) {W : Type 0} (contents : W → Option (List ℕ)) (c : ConfigView) (o o' : Outlet W) (z b : List ℕ)
+    (p p' : Progress)
+    (at : IsProgress c z p) (next : IsProgress c (z ++ b) p') where
+  -- no field is whole now, and nothing is due
+  pub added_inside : p'.fields ≡ p.fields → AddsRow t contents c o o z b p' (Ok tt)
+  added_inside same = (
+    next,
+    record {
+      text = [];
+      due = append-nil _ ∙ begun_same t c z b (fields_at c (z ++ b) p' next ∙ same ∙ sym (fields_at c z p at));
+      wrote = wrote_none contents o;
+    },
+  )
+
+  module _ (fields : p'.fields ≡ p.fields + 1) (readings : FieldReadings)
+      (reads : readings ≡ readings_at c (z ++ b) p.fields)
+      (before : ℕ) (counts : before ≡ p.fields) (text : List ℕ) (is : text ≡ joined_entry_of t before readings) where
+    -- the entry of a field is due
+    entry_due : IsTextBetween t c z (z ++ b) text
+    entry_due =
+        let first = fields_at c z p at in
+        let longer = fields_at c (z ++ b) p' next ∙ fields ∙ ap (λ n. n + 1) (sym first) in
+        let entry : text ≡ joined_entry_of t (fields_of c z) (readings_at c (z ++ b) (fields_of c z)) =
+        is ∙ ap (joined_entry_of t before) reads
+        ∙ ap (λ n. joined_entry_of t n (readings_at c (z ++ b) p.fields)) (counts ∙ sym first)
+        ∙ ap (λ n. joined_entry_of t (fields_of c z) (readings_at c (z ++ b) n)) (sym first) in
+        ap (λ x. text_before_tail t c z ++ x) entry ∙ begun_next t c z b longer
+
+    -- the entry was put whole
+    pub added_whole : Puts contents o o' text → written_of o' ≡ written_of o + length text
+        → AddsRow t contents c o o' z b p' (Ok tt)
+    added_whole puts whole =
+        (next, record { text = text; due = entry_due; wrote = wrote_whole contents o o' text puts whole })
+
+    -- the entry was put in part, so the answer is a fault
+    pub added_in_part : Puts contents o o' text → written_of o' < written_of o + length text
+        → (r : Result (Unit {0}) RunFault) → IsErr r → AddsRow t contents c o o' z b p' r
+    added_in_part puts short (Ok u) is = cc
+    added_in_part puts short (Err fault) is =
+        (next, record { text = text; due = entry_due; wrote = put_in_part contents o o' text puts short })

@@ -1,0 +1,223 @@
+-- How a run ends that fetched less than a row: its reader ended or failed, or too many bytes came.
+use Rattle.std.proofs.Common.{◌≡◌, ℕ, ◌+◌, ◌*◌, ◌≤◌, ◌<◌, inr, List, ◌++◌, length, take}
+use Rattle.std.proofs.Common.{sym, ap, ◌∙◌, arith, subst}
+use Rattle.std.specs.Prelude.{Option, Result, Ok, Err, OnOk, IfOk, OnErr, IfErr}
+use Rattle.std.proofs.KnownBytes.{Appends-trans, Consumes-trans}
+use Rattle.std.proofs.lemmas.List.{length-append, take_at}
+use Rattle.std.proofs.Math.Nat.{le_of_eq, le_trans}
+use Rattle.vbi_words.specs.Geometry.{width_of, height_of, line_bytes}
+use Rattle.vbi_line.specs.Counted.{NoError, HasCause}
+use Rattle.vbi_line.specs.Intake as intakes
+use Rattle.vbi_line.specs.declared.intake.Filled.{Filled}
+use Rattle.vbi_line.specs.declared.intake.Filled.TheVariants.{Ended}
+use Rattle.vbi_line.specs.declared.intake.Intake.{Intake}
+use Rattle.vbi_field.specs.ConfigView.{ConfigView, allowed_bytes}
+use Rattle.vbi_field.specs.Extracts.{Runs}
+use Rattle.vbi_field.specs.NextLine.{TakesLine}
+use Rattle.vbi_field.specs.Outlet as outlets
+use Rattle.vbi_field.specs.Ran.{EndsInside}
+use Rattle.vbi_field.specs.Stream.{fields_of, rest_of, cut_of, looks_of}
+use Rattle.vbi_field.specs.FeederState.{selected}
+use Rattle.vbi_field.specs.Texts.{Texts, text_before_tail, whole_text}
+use Rattle.vbi_field.specs.declared.outlet.Outlet.{Outlet}
+use Rattle.vbi_field.specs.declared.progress.Progress.{Progress}
+use Rattle.vbi_field.specs.declared.summary.RunFault.{RunFault}
+use Rattle.vbi_field.specs.declared.summary.Summary.{Summary}
+use Rattle.vbi_field.specs.declared.summary.RunFault.TheVariants.{Read, Write, TooManyFields}
+use Rattle.vbi_field.proofs.Counts.{all_fields, bytes_of_fields, rows_fit}
+use Rattle.vbi_field.proofs.Counts.{whole_fields, past_fields, selected_is, selected_past}
+use Rattle.vbi_field.proofs.FeedTexts.{begun_same}
+use Rattle.vbi_field.proofs.AddedRows.{fields_at}
+use Rattle.vbi_field.proofs.Devices.{has_failed, inside_of, wrote_whole, put_in_part}
+use Rattle.vbi_field.proofs.PullFaults.{write_fault}
+use Rattle.vbi_field.proofs.Pulled.{Pulled}
+
+module _ (t : Texts) {R W : Type 0} (remaining : R → Option (List ℕ)) (contents : W → Option (List ℕ)) (c : ConfigView)
+    (i0 : Intake R) (o0 : Outlet W) where
+  -- these bytes b were fetched behind z, less than a row
+  module _ (k : ℕ) (i : Intake R) (o : Outlet W) (p : Progress)
+      (g : Pulled t remaining contents c i0 o0 k i o p) (b : List ℕ) (short : length b < line_bytes c.system) where
+    long : length (g.z ++ b) ≡ (p.fields * height_of c.system + p.row) * line_bytes c.system + length b
+    long = let at = g.at in length-append g.z b ∙ ap (λ n. n + length b) at.whole
+
+    -- the whole fields
+    fields_are : fields_of c (g.z ++ b) ≡ p.fields
+    fields_are = let at =
+        g.at in whole_fields c.system (length (g.z ++ b)) p.fields p.row (length b) at.inside short long
+
+    -- the bytes past the whole fields
+    rest_is : rest_of c (g.z ++ b) ≡ p.row * line_bytes c.system + length b
+    rest_is = let at = g.at in past_fields c.system (length (g.z ++ b)) p.fields p.row (length b) at.inside short long
+
+    -- what was looked at
+    looks_are : i.line.looked ≡ looks_of c (g.z ++ b)
+    looks_are =
+        let at = g.at in
+        g.looks
+        ∙ ap (λ n. width_of c.system * n)
+        (sym (selected_is c.system (length (g.z ++ b)) p.fields p.row (length b) at.inside short long))
+
+    -- the text that is written by then
+    begun_is : text_before_tail t c g.z ≡ text_before_tail t c (g.z ++ b)
+    begun_is = begun_same t c g.z b (fields_are ∙ sym (fields_at c g.z p g.at))
+
+    -- how many bytes were fetched
+    all : length (g.z ++ b) ≡ k * line_bytes c.system + length b
+    all = long ∙ ap (λ m. m * line_bytes c.system + length b) g.rows
+
+  -- the reader ended, and the tail was put, or not
+  pub ended : (k : ℕ) (i i' : Intake R) (o o' : Outlet W) (p : Progress)
+      (g : Pulled t remaining contents c i0 o0 k i o p) (n : ℕ) (row : TakesLine remaining i i' (Ok (Ended n)))
+      (fields rest looked : ℕ) → fields ≡ p.fields
+      → rest ≡ p.row * line_bytes c.system + n → k * line_bytes c.system + n ≤ allowed_bytes c
+      → looked ≡ i'.line.looked → outlets.Puts contents o o' (t.tail fields rest)
+      → (r : Result Summary RunFault) → OnOk r (o'.written ≡ o.written + length (t.tail fields rest))
+      → OnOk r (NoError (outlets.counted_of o) (outlets.counted_of o'))
+      → IfOk r (λ s. s ≡ record { fields = fields; cut = cut_of rest; looked = looked })
+      → OnErr r (HasCause (outlets.counted_of o) (outlets.counted_of o'))
+      → OnErr r (outlets.written_of o' < outlets.written_of o + length (t.tail fields rest))
+      → IfErr r (λ e. e ≡ Write o'.written) → Runs t remaining contents c i0 i' o0 o' r
+  ended k i i' o o' p g n row fields rest looked fs rs within ls puts r whole calm says cause less fails =
+      by r whole calm says cause less fails
+    where
+      b : List ℕ
+      b = row.bytes
+
+      short : length b < line_bytes c.system
+      short = let got = row.got in rw (← g.system) got.short
+
+      is_fields : fields ≡ fields_of c (g.z ++ b)
+      is_fields = fs ∙ sym (fields_are k i o p g b short)
+
+      is_rest : rest ≡ rest_of c (g.z ++ b)
+      is_rest = let got = row.got in rs ∙ ap (λ m. p.row * line_bytes c.system + m) got.count_of
+          ∙ sym (rest_is k i o p g b short)
+
+      looks : i'.line.looked ≡ looks_of c (g.z ++ b)
+      looks = let kept = row.kept in kept.looked ∙ looks_are k i o p g b short
+
+      few : length (g.z ++ b) ≤ allowed_bytes c
+      few = let got =
+          row.got in le_trans
+          (le_of_eq (all k i o p g b short ∙ ap (λ m. k * line_bytes c.system + m) (sym got.count_of))) within
+
+      -- the text of the stream
+      document_is : text_before_tail t c g.z ++ t.tail fields rest ≡ whole_text t c (g.z ++ b)
+      document_is =
+          ap (λ l. l ++ t.tail fields rest) (begun_is k i o p g b short)
+          ∙ ap (λ n. text_before_tail t c (g.z ++ b) ++ t.tail n rest) is_fields
+          ∙ ap (λ n. text_before_tail t c (g.z ++ b) ++ t.tail (fields_of c (g.z ++ b)) n) is_rest
+
+      by : (r : Result Summary RunFault) → OnOk r (o'.written ≡ o.written + length (t.tail fields rest))
+          → OnOk r (NoError (outlets.counted_of o) (outlets.counted_of o'))
+          → IfOk r (λ s. s ≡ record { fields = fields; cut = cut_of rest; looked = looked })
+          → OnErr r (HasCause (outlets.counted_of o) (outlets.counted_of o'))
+          → OnErr r (outlets.written_of o' < outlets.written_of o + length (t.tail fields rest))
+          → IfErr r (λ e. e ≡ Write o'.written) → Runs t remaining contents c i0 i' o0 o' r
+      by (Ok s) whole calm says cause less fails =
+          let got = row.got in
+          let wrote = wrote_whole contents o o' (t.tail fields rest) puts whole in
+          record {
+            z = g.z ++ b;
+            text = text_before_tail t c g.z ++ t.tail fields rest;
+            consumed = Consumes-trans _ _ _ g.z b g.consumed row.consumed;
+            appended = Appends-trans _ _ _ (text_before_tail t c g.z) (t.tail fields rest) g.appended wrote.appended;
+            fetched = omega (arith, row.fetched, g.fetched, length-append g.z b);
+            written = omega (arith, g.written, length-append (text_before_tail t c g.z) (t.tail fields rest));
+            says = record {
+              looks = looks;
+              devices = (got.no_error ∙ g.calm_reads, calm ∙ g.calm_writes);
+              came =
+                  record {
+                    document = document_is;
+                    at_end = got.ended;
+                    within = few;
+                    summary = λ j. record {
+                      fields = (ap (λ s. s.fields) says ∙ is_fields) j;
+                      cut = (ap (λ s. s.cut) says ∙ ap cut_of is_rest) j;
+                      looked = (ap (λ s. s.looked) says ∙ ls ∙ looks) j;
+                    };
+                  };
+            };
+          }
+      by (Err e) whole calm says cause less fails =
+          let got = row.got in
+          let tail : List ℕ = t.tail fields rest in
+          let w = put_in_part contents o o' tail puts less in
+          let P : List ℕ
+          → Type 0 = λ x. EndsInside x (whole_text t c (g.z ++ b)) (text_before_tail t c g.z ++ w.part) in
+          let inside =
+          inside_of contents o o' (text_before_tail t c g.z) tail (whole_text t c (g.z ++ b)) w document_is in
+          write_fault t remaining contents c i0 o0 i' o o' (g.z ++ b) (text_before_tail t c g.z) w.part e
+          (Consumes-trans _ _ _ g.z b g.consumed row.consumed)
+          (omega (arith, row.fetched, g.fetched, length-append g.z b)) g.appended g.written
+          (got.no_error ∙ g.calm_reads) g.calm_writes w.wrote cause fails few looks
+          (inr (inr (got.ended, subst P (begun_is k i o p g b short) inside)))
+
+  -- the reader failed
+  pub read_fault : (k : ℕ) (i i' : Intake R) (o : Outlet W) (p : Progress)
+      (g : Pulled t remaining contents c i0 o0 k i o p) (came : RunFault)
+      (row : TakesLine remaining i i' (Err came)) (fault : RunFault) → k ≤ c.max_fields * height_of c.system
+      → fault ≡ Read (p.fields + 1) (p.row * line_bytes c.system + length (intakes.held_of i'))
+      → Runs t remaining contents c i0 i' o0 o (Err fault)
+  read_fault k i i' o p g came row fault last is =
+      let b : List ℕ = row.bytes in
+      let got = row.got in
+      let short : length b < line_bytes c.system = rw (← g.system) got.short in
+      let held = ap length row.held in
+      let kept = row.kept in
+      let rows : k * line_bytes c.system ≤ allowed_bytes c = rows_fit c.system k c.max_fields last in
+      let bytes = all k i o p g b short in
+      record {
+        z = g.z ++ b;
+        text = text_before_tail t c g.z;
+        consumed = Consumes-trans _ _ _ g.z b g.consumed row.consumed;
+        appended = g.appended;
+        fetched = omega (arith, row.fetched, g.fetched, length-append g.z b);
+        written = g.written;
+        says = rw is (record {
+          looks = kept.looked ∙ looks_are k i o p g b short;
+          devices = (has_failed i.device i'.device g.calm_reads got.failed, g.calm_writes);
+          came =
+              record {
+                field_of = ap (λ n. n + 1) (sym (fields_are k i o p g b short));
+                offset_of = ap (λ n. p.row * line_bytes c.system + n) held ∙ sym (rest_is k i o p g b short);
+                within = omega arith;
+                begun = begun_is k i o p g b short;
+              };
+        });
+      }
+
+  -- some bytes were fetched past the last field that is allowed, a line's at most
+  pub too_many : (k : ℕ) (i i' : Intake R) (o : Outlet W) (p : Progress)
+      (g : Pulled t remaining contents c i0 o0 k i o p) (came : Result Filled RunFault)
+      (row : TakesLine remaining i i' came)
+      → k ≡ c.max_fields * height_of c.system → 0 < length row.bytes → length row.bytes ≤ line_bytes i.line.system
+      → NoError (intakes.counted_of i) (intakes.counted_of i')
+      → Runs t remaining contents c i0 i' o0 o (Err TooManyFields)
+  too_many k i i' o p g came row last some few no_error =
+      let b : List ℕ = row.bytes in
+      let kept = row.kept in
+      let at = g.at in
+      let rows : p.fields * height_of c.system + p.row ≡ c.max_fields * height_of c.system = g.rows ∙ last in
+      let long : length g.z ≡ allowed_bytes c = at.whole ∙ ap (λ n. n * line_bytes c.system) rows
+      ∙ sym (bytes_of_fields c.system c.max_fields) in
+      let cut : take (allowed_bytes c) (g.z ++ b) ≡ g.z = take_at g.z b _ long in
+      let all = all_fields c.system p.fields p.row c.max_fields at.inside rows in
+      let few' : length b ≤ line_bytes c.system = rw (← g.system) few in
+      let both : length (g.z ++ b) ≡ allowed_bytes c + length b = length-append g.z b ∙ ap (λ n. n + length b) long in
+      record {
+        z = g.z ++ b;
+        text = text_before_tail t c g.z;
+        consumed = Consumes-trans _ _ _ g.z b g.consumed row.consumed;
+        appended = g.appended;
+        fetched = omega (arith, g.fetched, row.fetched, length-append g.z b);
+        written = g.written;
+        says = record {
+          devices = (no_error ∙ g.calm_reads, g.calm_writes);
+          came = record { more = omega arith; within = omega arith; begun = ap (text_before_tail t c) (sym cut) };
+          looks = kept.looked ∙ g.looks
+              ∙ ap (λ n. width_of c.system * n) (ap (λ f. selected f p.row) all.0 ∙ ap (selected c.max_fields) all.1
+              ∙ sym (selected_past c.system (length (g.z ++ b)) c.max_fields (length b) both few'));
+        };
+      }
