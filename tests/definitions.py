@@ -2,22 +2,25 @@
 """Lists what one has to believe for the headline: each definition of specs/ on which the contract of `extract` rests.
 
 Read in this order, each rests only on those above it. Two lists: of the contract alone, in which the function that
-gives a line's reading (`reading_of`) is taken by its name; and with its meaning, in which the relation `IsReading`
-stands for it, which the law `one_reading` says is the same.
+gives a line's reading (`reading_of`) is taken by its name; and with its meaning, in which a relation stands for each
+function of RELATIONS, of which a law says that it is the same.
 
 With a DOCUMENT, compares the table that stands there behind the line `<!-- definitions -->` with the source: each
 definition once, in this order, with its file and its comment.
 
 usage: python3 tests/definitions.py [--table] [DOCUMENT]     (at the top of the repository)
 """
+import glob
 import os
 import re
 import sys
 
-# Where the contract stands, and what stands for the function of a reading
+# Where the contract stands; and by function, the relation that stands for it and the law by which they are one
 CONTRACT = ("crates/vbi_field/src/run.rt", "extract")
-FUNCTION = ("vbi_line", "OneReading", "reading_of")
-MEANING = ("vbi_words", "Readings", "IsReading")
+RELATIONS = {
+    ("vbi_line", "OneReading", "reading_of"): (("vbi_words", "Readings", "IsReading"), "one_reading"),
+    ("vbi_words", "Smooth", "smooth_of"): (("vbi_words", "Smooth", "IsSmooth"), "one_smooth"),
+}
 HEAD = re.compile(r"(abbrev pub|unfoldable pub|pub record|pub data|record|data|abbrev|unfoldable|pub) (\S+)(?= )")
 
 
@@ -97,16 +100,26 @@ class Definitions:
                     found.append((*own, name))
         return found
 
+    def relation(self, function):
+        """Returns what stands for a function. The comments of both name the law, which has to be there."""
+        relation, law = RELATIONS[function]
+        for crate, name, word in (function, relation):
+            if f"laws::{law}`" not in self.module(crate, name).definitions[word][1]:
+                raise SystemExit(f"definitions: the comment of {word} does not name the law {law}")
+        if not any(f"pub fn {law}(" in read(path) for path in glob.glob("crates/*/src/laws.rt")):
+            raise SystemExit(f"definitions: there is no law {law}")
+        return relation
+
     def below(self, key, with_meaning, order, seen):
         """Adds a definition to the order, behind all on which it rests."""
-        if with_meaning and key == FUNCTION:
-            key = MEANING
+        if with_meaning and key in RELATIONS:
+            key = self.relation(key)
         if key in seen:
             return
         seen.add(key)
         module = self.module(*key[:2])
         lines, _ = module.definitions[key[2]]
-        if key != FUNCTION:
+        if key not in RELATIONS:
             own = "\n".join(lines)
             for other in self.cited(module, own):
                 if other != key:

@@ -7,7 +7,8 @@ use Rattle.vbi_words.specs.declared.outcome.Reading.{Reading}
 use Rattle.vbi_words.specs.Shows.{ShowsNone}
 use Rattle.vbi_words.specs.Outcomes.{AllLow, IsOutcome}
 use Rattle.vbi_words.specs.Smooth.{smooth_of}
-use Rattle.vbi_words.specs.Readings.{Reads, ReadsNone, IsReading, second_reading, reading_from}
+use Rattle.vbi_words.specs.Readings.{Reads, IsReading, second_reading, reading_from}
+use Rattle.vbi_words.proofs.Lows.{blank_reads}
 use Rattle.vbi_line.specs.OneOutcome.{outcome_of}
 use Rattle.vbi_line.specs.OneReading.{reading_of}
 use Rattle.vbi_line.proofs.OneOutcome.{is_outcome, same_outcome}
@@ -70,7 +71,8 @@ module _ (system : System) (levels : List Bool) where
 
   -- ---- there is at most one
 
-  only_plain : (o : Outcome) (pass : ℕ) → NoWord o → ReadsNone system levels o pass → with_pass o pass ≡ from_both
+  only_plain : (o : Outcome) (pass : ℕ) → NoWord o
+      → (pass ≡ 0) × IsOutcome system levels o × ShowsNone system (smooth_of levels) → with_pass o pass ≡ from_both
   only_plain o pass free (p, is, none) =
       let second : NoWord smooth
       = no_word system (smooth_of levels) smooth (is_outcome system (smooth_of levels)) none in
@@ -84,8 +86,7 @@ module _ (system : System) (levels : List Bool) where
   only (Word w) pass (inr (p, none, high, shows)) =
       ap (with_pass (Word w)) p ∙ sym (reads_second plain (is_outcome system levels) none high w)
       ∙ ap (reading_from plain) (same_outcome system (smooth_of levels) (Word w) shows)
-  only Blank pass (p, is) =
-      ap (with_pass Blank) p ∙ ap (λ (x : Outcome). reading_from x smooth) (same_outcome system levels Blank is)
+  only Blank pass r = only_plain Blank pass (λ w e. cc) r
   only Unfinished pass r = only_plain Unfinished pass (λ w e. cc) r
   only (Change c) pass r = only_plain (Change c) pass (λ w e. cc) r
   only (Hold c) pass r = only_plain (Hold c) pass (λ w e. cc) r
@@ -103,7 +104,7 @@ module _ (system : System) (levels : List Bool) where
   pub from_outcomes : (o p : Outcome) → IsOutcome system levels o → IsOutcome system (smooth_of levels) p
       → IsReading system levels (reading_from o p)
   from_outcomes (Word w) p is second = inl (refl, is)
-  from_outcomes Blank p is second = (refl, is)
+  from_outcomes Blank p is second = blank_reads system levels is
   from_outcomes Unfinished p is second = from_second Unfinished p is.0 is.1 second (λ none. (refl, is, none))
   from_outcomes (Change c) p is second = from_second (Change c) p is.0 is.1 second (λ none. (refl, is, none))
   from_outcomes (Hold c) p is second = from_second (Hold c) p is.0 is.1 second (λ none. (refl, is, none))

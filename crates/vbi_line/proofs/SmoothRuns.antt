@@ -9,7 +9,7 @@ use Rattle.vbi_words.specs.declared.system.System.{System}
 use Rattle.vbi_words.specs.Words.{IsWord, lowest_bits}
 use Rattle.vbi_words.specs.Shows.{Shows, ShowsNone}
 use Rattle.vbi_words.specs.Levels.{level_at}
-use Rattle.vbi_words.specs.Smooth.{settle, smooth_of}
+use Rattle.vbi_words.specs.Smooth.{level_of_four, smooth_of}
 use Rattle.vbi_words.proofs.Machine.{State, dead}
 use Rattle.vbi_words.proofs.Runs.{run_joined, equal_from}
 use Rattle.vbi_words.proofs.SystemMachine.{after_of, ending_of, IsFit, state_after, fit_after, after_append}
@@ -60,7 +60,7 @@ abbrev pub ShortRun : Bool → Bool → Bool → Bool → Bool → ℕ → List 
 ShortRun out a b c x k s =
     (a' : Bool) × (b' : Bool) × (window out a b c (replicate k x ++ s) ≡ replicate k out ++ window out a' b' x s)
 
-kept_first : (a b x out : Bool) → settle a b (not x) x out ≡ out
+kept_first : (a b x out : Bool) → level_of_four a b (not x) x out ≡ out
 kept_first true true true out = refl
 kept_first true true false out = refl
 kept_first true false true out = refl
@@ -70,17 +70,17 @@ kept_first false true false out = refl
 kept_first false false true out = refl
 kept_first false false false out = refl
 
-kept_second : (b x out : Bool) → settle b (not x) x x out ≡ out
+kept_second : (b x out : Bool) → level_of_four b (not x) x x out ≡ out
 kept_second true true out = refl
 kept_second true false out = refl
 kept_second false true out = refl
 kept_second false false out = refl
 
-kept_third : (x out : Bool) → settle (not x) x x x out ≡ out
+kept_third : (x out : Bool) → level_of_four (not x) x x x out ≡ out
 kept_third true out = refl
 kept_third false out = refl
 
-one_more : (out a b c x : Bool) (s : List Bool) → settle a b c x out ≡ out
+one_more : (out a b c x : Bool) (s : List Bool) → level_of_four a b c x out ≡ out
     → window out a b c (x ∷ s) ≡ out ∷ window out b c x s
 unfolding window
 one_more out a b c x s e = ap (λ (o : Bool). o ∷ window o b c x s) e

@@ -56,7 +56,7 @@ plain_reading system levels short (Word w) pass (inr (p, none, high, shows)) sho
   free = shown.free;
   cause = known (codes "word") refl;
 }
-plain_reading system levels short Blank pass (p, is) shown =
+plain_reading system levels short Blank pass (p, is, none) shown =
     record { value = lit< tt; pass = omega arith; free = shown.free; cause = known (codes "blank") refl }
 plain_reading system levels short Unfinished pass (p, is, none) shown =
     record { value = lit< tt; pass = omega arith; free = shown.free; cause = known (codes "unfinished") refl }

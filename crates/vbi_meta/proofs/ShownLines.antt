@@ -98,7 +98,7 @@ is_shown system levels short (Word w) pass (inr (p, none, high, shows)) =
       digit = omega arith;
       brief = lit≤ tt;
     }
-is_shown system levels short Blank pass (p, is) =
+is_shown system levels short Blank pass (p, is, none) =
     record { value = lit< tt; pass = omega arith; free = refl; utf8 = IsUtf8-are_ascii _ refl; digit = omega arith; brief = lit≤ tt }
 is_shown system levels short Unfinished pass (p, is, none) =
     record { value = lit< tt; pass = omega arith; free = refl; utf8 = IsUtf8-are_ascii _ refl; digit = omega arith; brief = lit≤ tt }

@@ -1,12 +1,8 @@
 -- A row whose samples beside each change of level lie on either side is read as its word.
-use Rattle.std.proofs.Common.{◌≡◌, ℕ, suc, zero, ◌≤◌, ◌<◌, ◌+◌, ◌-◌, Bool, true, false, List, [], ◌∷◌, ◌++◌, ◌⊎◌, inl}
+use Rattle.std.proofs.Common.{◌≡◌, ℕ, suc, zero, ◌≤◌, ◌<◌, ◌+◌, ◌-◌, Bool, true, false, List, [], ◌∷◌, ◌⊎◌, inl}
 use Rattle.std.proofs.Common.{inr}
 use Rattle.std.proofs.Common.{length, get_or, refl, sym, ap, subst, ◌∙◌, arith}
-use Rattle.std.proofs.Math.ListN.{replicate}
 use Rattle.std.proofs.lemmas.Bool.{cases_lt}
-use Rattle.std.proofs.lemmas.List.{append-nil}
-use Rattle.std.proofs.lemmas.List.Elements.{recursion_from_All}
-use Rattle.std.specs.List.{AllByRecursion}
 use Rattle.vbi_words.specs.declared.system.System.{System}
 use Rattle.vbi_words.specs.declared.system.System.TheVariants.{Ntsc, Pal}
 use Rattle.vbi_words.specs.declared.outcome.Outcome.{Outcome}
@@ -19,14 +15,10 @@ use Rattle.vbi_words.specs.Readings.{IsReading}
 use Rattle.vbi_words.specs.Shows.{Shows, ShowsNone}
 use Rattle.vbi_words.specs.Smooth.{smooth_of}
 use Rattle.vbi_words.proofs.Apart.{same_word}
-use Rattle.vbi_words.proofs.Cutting
 use Rattle.vbi_words.proofs.Found.{found}
+use Rattle.vbi_words.proofs.Lows.{low_smooth_none}
 use Rattle.vbi_words.proofs.Mended.{Mended, mend}
 use Rattle.vbi_words.proofs.NotAlone.{shown_not_alone}
-use Rattle.vbi_words.proofs.Shown.{word_bits, draws_from_shows}
-use Rattle.vbi_words.proofs.Sizes.{sizes_of, apart_of}
-use Rattle.vbi_words.proofs.Smoothing.{window, smooth_window}
-use Rattle.vbi_words.proofs.SmoothKeeps.{steady_same}
 use Rattle.vbi_words.proofs.SmoothShown.{smooth_shows, shown_alike, smooth_same, turned_none, turned_high}
 
 one_at_most : (a b : Bool) → differs a b ≤ 1
@@ -58,24 +50,6 @@ end_alike (a ∷ x) (b ∷ y) long same =
     go : (2 < length x) ⊎ (length x ≤ 2) → (2 < length x → differences x y ≤ 3) → differences (a ∷ x) (b ∷ y) ≤ 3
     go (inl more) rest = omega (arith, rest more, none_of_same a b (same 0 (omega arith)))
     go (inr less) rest = omega (arith, few_of_short (a ∷ x) (b ∷ y))
-
--- a list of lows alone shows no word
-low_none : (system : System) (n w : ℕ) → Shows system (replicate n false) w → ⊥
-low_none system n w s =
-    let a = word_bits w s.is_word in
-    Cutting.lead_not_alone (apart_of system) a.1.0 n
-    (subst (λ (bits : List Bool). Cutting.Draws (sizes_of system) bits (replicate n false)) a.1.1
-    (draws_from_shows system (replicate n false) w s))
-
-lows_of : (levels : List Bool) → AllByRecursion (λ l. l ≡ false) levels → levels ≡ replicate (length levels) false
-lows_of [] all = refl
-lows_of (x ∷ levels) (e, all) =
-    ap (λ (b : Bool). b ∷ levels) e ∙ ap (λ (t : List Bool). false ∷ t) (lows_of levels all)
-
-smooth_lows : (n : ℕ) → smooth_of (replicate n false) ≡ replicate n false
-unfolding window
-smooth_lows n = ap smooth_of (sym (append-nil (replicate n false))) ∙ smooth_window (replicate n false ++ [])
-    ∙ steady_same false n [] ∙ append-nil (replicate n false)
 
 least_four : (system : System) → 4 ≤ least_distance system
 least_four Ntsc = omega arith
@@ -128,10 +102,7 @@ blurred_reads system drawn levels word s blurred = go f.0 f.1
         }
 
     never_low : AllLow levels → ⊥
-    never_low low =
-        let e : levels ≡ replicate (length levels) false = lows_of levels (recursion_from_All _ levels low) in
-        low_none system (length levels) word (subst (λ (t : List Bool). Shows system t word)
-        (ap smooth_of e ∙ smooth_lows (length levels)) smooth)
+    never_low low = low_smooth_none system levels low word smooth
 
     go : (o : Outcome) → IsOutcome system levels o → ReadsWord system levels word
     go (Word u) t = first u t

@@ -14,6 +14,7 @@ use Rattle.vbi_words.specs.Readings.{IsReading}
 use Rattle.vbi_words.specs.Drawn.{drawn_sample_of, drawn_row_of, sample_bytes, drawn_line_of, drawn_reading}
 use Rattle.vbi_words.proofs.LineSizes.{line_bytes-twice}
 use Rattle.vbi_words.proofs.DrawnShows.{row_shows, row_low}
+use Rattle.vbi_words.proofs.Lows.{blank_reads}
 use Rattle.vbi_words.proofs.Outcomes.{blank_outcome}
 use Rattle.vbi_words.proofs.Shown.{low_lead}
 
@@ -93,5 +94,6 @@ drawn_reads system slicing word order is =
         → IsReading system (levels_of slicing (drawn_row_of system slicing word)) (drawn_reading word)
     row_reads None is =
         let levels = levels_of slicing (drawn_row_of system slicing None) in
-        (refl, blank_outcome system levels (low_lead system levels (row_low system slicing order)))
+        blank_reads system levels
+        (blank_outcome system levels (low_lead system levels (row_low system slicing order)))
     row_reads (Some word) is = inl (refl, row_shows system slicing word order is)

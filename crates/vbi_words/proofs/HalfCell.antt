@@ -15,8 +15,8 @@ module _ (d l : List Bool) (blurred : IsBlurred d l) where
   at_l c = get_or l c false
 
   -- a column whose neighbours are drawn at its level
-  pub calm : (h : Bool) (b c e : ℕ) → b ≡ c - 1 → e ≡ c + 1 → at_d b ≡ h → at_d c ≡ h → at_d e ≡ h → at_l c ≡ h
-  calm h b c e eb ee hb hc he =
+  pub away : (h : Bool) (b c e : ℕ) → b ≡ c - 1 → e ≡ c + 1 → at_d b ≡ h → at_d c ≡ h → at_d e ≡ h → at_l c ≡ h
+  away h b c e eb ee hb hc he =
       blurred.others c (ap at_d (sym eb) ∙ hb ∙ sym hc) (ap at_d (sym ee) ∙ he ∙ sym hc) ∙ hc
 
   -- a half cell drawn from p on begins at e, at most a column from there
@@ -47,7 +47,7 @@ module _ (d l : List Bool) (blurred : IsBlurred d l) where
   module _ (p n : ℕ) (h h' : Bool) (three : 3 ≤ n) (run : (c : ℕ) → p ≤ c → c < p + n → at_d c ≡ h)
       (here : at_d (p + n) ≡ h') (behind : at_d (p + n + 1) ≡ h') where
     core : (c : ℕ) → p + 1 ≤ c → c + 1 < p + n → at_l c ≡ h
-    core c low high = calm h (c - 1) c (c + 1) refl refl (run (c - 1) (omega arith) (omega arith))
+    core c low high = away h (c - 1) c (c + 1) refl refl (run (c - 1) (omega arith) (omega arith))
         (run c (omega arith) (omega arith)) (run (c + 1) (omega arith) (omega arith))
 
     -- the last column of the run, and the one behind it
@@ -122,9 +122,9 @@ module _ (d l : List Bool) (blurred : IsBlurred d l) where
         go : (h' ≡ h) ⊎ (h' ≡ not h) → (at_l last ≡ h) ⊎ (at_l last ≡ not h)
             → (at_l (p + n) ≡ h) ⊎ (at_l (p + n) ≡ not h) → Ends p (p + n) h h'
         go (inl same) x y =
-            ends_at (calm h (last - 1) last (p + n) (omega arith) (omega arith)
+            ends_at (away h (last - 1) last (p + n) (omega arith) (omega arith)
             (run (last - 1) (omega arith) (omega arith)) (run last (omega arith) (omega arith)) (here ∙ same))
-            (calm h' last (p + n) (p + n + 1) (omega arith) refl
+            (away h' last (p + n) (p + n + 1) (omega arith) refl
             (run last (omega arith) (omega arith) ∙ sym same) here behind)
         go (inr other) (inl e) (inl f) = ends_late e f
         go (inr other) (inl e) (inr f) = ends_at e (f ∙ sym other)

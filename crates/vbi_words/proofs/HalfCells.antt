@@ -197,7 +197,7 @@ module _ (d l : List Bool) (blurred : IsBlurred d l) where
         low c from (inl same) = begins.has c from (omega arith)
         low c from (inr (inl less)) = begins.has c from (omega arith)
         low c from (inr (inr more)) =
-            HalfCell.calm d l blurred false (c - 1) c (c + 1) refl refl (low_d (c - 1) (omega arith))
+            HalfCell.away d l blurred false (c - 1) c (c + 1) refl refl (low_d (c - 1) (omega arith))
             (low_d c (omega arith)) (low_d (c + 1) (omega arith))
 
         all : drop e l ≡ replicate (length l - e) false
@@ -307,7 +307,7 @@ module _ (d l : List Bool) (blurred : IsBlurred d l) where
             side (inr (inr more)) = inr (omega arith)
 
         low : (c : ℕ) → c ≤ before → at_l c ≡ false
-        low c to = HalfCell.calm d l blurred false (c - 1) c (c + 1) refl refl (near_d (c - 1) (omega arith))
+        low c to = HalfCell.away d l blurred false (c - 1) c (c + 1) refl refl (near_d (c - 1) (omega arith))
             (near_d c (omega arith)) (near_d (c + 1) (omega arith))
 
         front : l ≡ replicate before false ++ drop before l

@@ -4,7 +4,7 @@ use Rattle.std.proofs.Common.{◌∷◌, ◌++◌, refl, ap, sym, ◌∙◌, ari
 use Rattle.std.proofs.Math.ListN.{replicate}
 use Rattle.std.proofs.lemmas.List.{append-nil, replicate-append-replicate}
 use Rattle.std.specs.Prelude.{not}
-use Rattle.vbi_words.specs.Smooth.{settle, smooth_of}
+use Rattle.vbi_words.specs.Smooth.{level_of_four, smooth_of}
 use Rattle.vbi_words.specs.Shows.{Spells}
 use Rattle.vbi_words.proofs.Runs.{run_joined}
 use Rattle.vbi_words.proofs.Smoothing.{window, smooth_window}
@@ -68,16 +68,17 @@ Steadies o a b c v p =
 -- behind four equal levels nothing is left of what was before
 from_any : (o a b c v : Bool) → Steadies o a b c v []
 unfolding window
-from_any o a b c v = go (settle a b c v o) (settle b c v v one) (settle c v v v (settle b c v v one)) refl refl refl
+from_any o a b c v =
+    go one (level_of_four b c v v one) (level_of_four c v v v (level_of_four b c v v one)) refl refl refl
   where
     one : Bool
-    one = settle a b c v o
+    one = level_of_four a b c v o
 
-    last : (v o : Bool) → settle v v v v o ≡ v
+    last : (v o : Bool) → level_of_four v v v v o ≡ v
     last true o = refl
     last false o = refl
 
-    go : (x y z : Bool) → settle a b c v o ≡ x → settle b c v v x ≡ y → settle c v v v y ≡ z
+    go : (x y z : Bool) → level_of_four a b c v o ≡ x → level_of_four b c v v x ≡ y → level_of_four c v v v y ≡ z
         → (front : List Bool) × ((s : List Bool) → window o a b c (replicate 4 v ++ s) ≡ front ++ steady v s)
     go x y z e f g = (x ∷ y ∷ z ∷ v ∷ [], λ s. rw (e, f, g, last))
 
@@ -85,8 +86,8 @@ after_any : (o a b c v : Bool) (p : List Bool) → Steadies o a b c v p
 unfolding window
 after_any o a b c v [] = from_any o a b c v
 after_any o a b c v (x ∷ p) =
-    let r = after_any (settle a b c x o) b c x v p in
-    (settle a b c x o ∷ r.0, λ s. ap (λ t. settle a b c x o ∷ t) (r.1 s))
+    let r = after_any (level_of_four a b c x o) b c x v p in
+    (level_of_four a b c x o ∷ r.0, λ s. ap (λ t. level_of_four a b c x o ∷ t) (r.1 s))
 
 -- some levels between four and four equal ones
 abbrev pub between : Bool → List Bool → List Bool → List Bool

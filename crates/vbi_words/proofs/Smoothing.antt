@@ -6,17 +6,17 @@ use Rattle.std.proofs.lemmas.List.{ext_get_or, drop_all}
 use Rattle.std.proofs.lemmas.List.FromFn.{length-map-range_with_len, get_or-map-range_with_len}
 use Rattle.std.proofs.lemmas.Bool.{cases_lt}
 use Rattle.vbi_words.specs.Levels.{level_at}
-use Rattle.vbi_words.specs.Smooth.{FourEqual, SmoothAt, IsSmooth, settle, settle_at, latest, smooth_of}
+use Rattle.vbi_words.specs.Smooth.{FourEqual, SmoothAt, IsSmooth, level_of_four, level_from, latest, smooth_of}
 
 -- each level with the three before it, and the level before
 unfoldable pub window : Bool → Bool → Bool → Bool → List Bool → List Bool
 window out a b c [] = []
-window out a b c (x ∷ rest) = settle a b c x out ∷ window (settle a b c x out) b c x rest
+window out a b c (x ∷ rest) = level_of_four a b c x out ∷ window (level_of_four a b c x out) b c x rest
 
 pub length-window : (out a b c : Bool) (s : List Bool) → length (window out a b c s) ≡ length s
 unfolding window
 length-window out a b c [] = refl
-length-window out a b c (x ∷ s) = ap suc (length-window (settle a b c x out) b c x s)
+length-window out a b c (x ∷ s) = ap suc (length-window (level_of_four a b c x out) b c x s)
 
 -- ---- the latest four equal levels, column by column
 
@@ -25,28 +25,29 @@ abbrev pub padded : List Bool → List Bool
 padded s = false ∷ false ∷ false ∷ s
 
 -- the level that the padded columns from n on give
-abbrev settle_padded : List Bool → ℕ → Bool → Bool
-settle_padded s n = settle (level_at (padded s) n) (level_at (padded s) (suc n)) (level_at (padded s) (suc (suc n)))
+abbrev level_from_padded : List Bool → ℕ → Bool → Bool
+level_from_padded s n =
+    level_of_four (level_at (padded s) n) (level_at (padded s) (suc n)) (level_at (padded s) (suc (suc n)))
     (level_at s n)
 
 -- the level of the latest four equal levels at one more column
-pub latest_next : (s : List Bool) (n : ℕ) → latest s (suc n - 3) ≡ settle_padded s n (latest s (n - 3))
+pub latest_next : (s : List Bool) (n : ℕ) → latest s (suc n - 3) ≡ level_from_padded s n (latest s (n - 3))
 unfolding latest
 latest_next s zero = go (level_at s 0)
   where
-    go : (x : Bool) → false ≡ settle false false false x false
+    go : (x : Bool) → false ≡ level_of_four false false false x false
     go true = refl
     go false = refl
 latest_next s (suc zero) = go (level_at s 0) (level_at s 1)
   where
-    go : (w x : Bool) → false ≡ settle false false w x false
+    go : (w x : Bool) → false ≡ level_of_four false false w x false
     go true true = refl
     go true false = refl
     go false true = refl
     go false false = refl
 latest_next s (suc (suc zero)) = go (level_at s 0) (level_at s 1) (level_at s 2)
   where
-    go : (u w x : Bool) → false ≡ settle false u w x false
+    go : (u w x : Bool) → false ≡ level_of_four false u w x false
     go true true true = refl
     go true true false = refl
     go true false true = refl
@@ -61,8 +62,8 @@ latest_next s (suc (suc (suc j))) =
     let one : j + 1 ≡ suc j = omega arith in
     let two : j + 2 ≡ suc (suc j) = omega arith in
     let three : j + 3 ≡ suc (suc (suc j)) = omega arith in
-    let four : ℕ → ℕ → ℕ → ℕ → Bool = λ u v w k. settle (level_at s j) (level_at s u) (level_at s v) (level_at s w)
-    (latest s k) in
+    let four : ℕ → ℕ → ℕ → ℕ → Bool
+    = λ u v w k. level_of_four (level_at s j) (level_at s u) (level_at s v) (level_at s w) (latest s k) in
     ap (latest s) here ∙ ap (λ (k : ℕ). four k (j + 2) (j + 3) j) one ∙ ap (λ (k : ℕ). four (suc j) k (j + 3) j) two
     ∙ ap (λ (k : ℕ). four (suc j) (suc (suc j)) k j) three ∙ ap (four (suc j) (suc (suc j)) (suc (suc (suc j)))) below
 
@@ -140,7 +141,7 @@ four_next s d v four =
     go (level_at s d) (level_at s (d + 1)) (level_at s (d + 2)) (level_at s (d + 3)) (latest s d) v one
     (four 1 (omega arith)) (four 2 (omega arith)) (four 3 (omega arith))
   where
-    go : (a b c x o v : Bool) → a ≡ v → b ≡ v → c ≡ v → x ≡ v → settle a b c x o ≡ v
+    go : (a b c x o v : Bool) → a ≡ v → b ≡ v → c ≡ v → x ≡ v → level_of_four a b c x o ≡ v
     go a b c x o true e f g h = rw (e, f, g, h)
     go a b c x o false e f g h = rw (e, f, g, h)
 
@@ -172,7 +173,7 @@ four_or_stay s d =
 
     go : (a b c x : Bool) → level_at s d ≡ a → level_at s (d + 1) ≡ b → level_at s (d + 2) ≡ c
         → level_at s (d + 3) ≡ x
-        → ((v : Bool) × FourEqual s d v) ⊎ ((settle_at s d (latest s d) ≡ latest s d) × NoneAt s d)
+        → ((v : Bool) × FourEqual s d v) ⊎ ((level_from s d (latest s d) ≡ latest s d) × NoneAt s d)
     go true true true true e f g h = inl (true, all_four true e f g h)
     go false false false false e f g h = inl (false, all_four false e f g h)
     go true false c x e f g h =

@@ -21,9 +21,9 @@ samples_of [] = []
 samples_of (low ∷ []) = []
 samples_of (low ∷ high ∷ bytes) = (low + 256 * high) ∷ samples_of bytes
 
--- the levels of a row's bytes
+-- the levels of a row's bytes: whether each sample is high
 abbrev pub row_levels : LevelsView → List ℕ → List Bool
-row_levels slicing bytes = levels_of slicing (samples_of bytes)
+row_levels slicing bytes = map (is_high_of slicing) (samples_of bytes)
 
 -- the level at a column, counted from 0; low past the end
 abbrev pub level_at : List Bool → ℕ → Bool

@@ -2,26 +2,18 @@
 use Rattle.std.specs.Prelude.{◌≡◌, ℕ, ◌⊎◌, Bool, List}
 use Rattle.vbi_words.specs.declared.system.System.{System}
 use Rattle.vbi_words.specs.declared.outcome.Outcome.{Outcome}
-use Rattle.vbi_words.specs.declared.outcome.Outcome.TheVariants.{Word, Blank, Unfinished, Change, Hold}
+use Rattle.vbi_words.specs.declared.outcome.Outcome.TheVariants.{Word, Blank}
 use Rattle.vbi_words.specs.declared.outcome.Reading.{Reading}
 use Rattle.vbi_words.specs.Shows.{Shows, ShowsNone}
 use Rattle.vbi_words.specs.Outcomes.{AllLow, IsOutcome}
 use Rattle.vbi_words.specs.Smooth.{smooth_of}
 
--- the levels have this outcome, and the smoothed levels show no word either
-abbrev pub ReadsNone : System → List Bool → Outcome → ℕ → Type 0
-ReadsNone system levels outcome pass =
-    (pass ≡ 0) × IsOutcome system levels outcome × ShowsNone system (smooth_of levels)
-
--- the outcome and the pass of a reading, case by case
+-- the outcome and the pass of a reading: where it has no word, the smoothed levels show none either
 abbrev pub Reads : System → List Bool → Outcome → ℕ → Type 0
 Reads system levels (Word w) pass =
     ((pass ≡ 1) × Shows system levels w)
     ⊎ ((pass ≡ 2) × ShowsNone system levels × (AllLow levels → ⊥) × Shows system (smooth_of levels) w)
-Reads system levels Blank pass = (pass ≡ 0) × IsOutcome system levels Blank
-Reads system levels Unfinished pass = ReadsNone system levels Unfinished pass
-Reads system levels (Change c) pass = ReadsNone system levels (Change c) pass
-Reads system levels (Hold c) pass = ReadsNone system levels (Hold c) pass
+Reads system levels outcome pass = (pass ≡ 0) × IsOutcome system levels outcome × ShowsNone system (smooth_of levels)
 
 -- the reading of the levels; each list has exactly one, as `laws::one_reading` of the crate `vbi_line` says
 abbrev pub IsReading : System → List Bool → Reading → Type 0

@@ -15,29 +15,30 @@ SmoothAt levels c v =
     × ((e : ℕ) (u : Bool) → d < e → e + 3 ≤ c → FourEqual levels e u → ⊥))
     ⊎ ((v ≡ false) × ((e : ℕ) (u : Bool) → e + 3 ≤ c → FourEqual levels e u → ⊥))
 
--- each column of smoothed has the smoothed level of that column of levels
+-- each column of smoothed has the smoothed level of that column of levels; each list has exactly one such, which
+-- `smooth_of` gives, as `laws::one_smooth` says
 abbrev pub IsSmooth : List Bool → List Bool → Type 0
 IsSmooth levels smoothed =
-    (length smoothed ≡ length levels)
-    × ((c : ℕ) → c < length levels → SmoothAt levels c (level_at smoothed c))
+    (length smoothed ≡ length levels) × ((c : ℕ) → c < length levels → SmoothAt levels c (level_at smoothed c))
 
 -- ---- as a function
 
 -- four equal levels give their level, any other four leave the earlier one
-abbrev pub settle : Bool → Bool → Bool → Bool → Bool → Bool
-settle true true true true earlier = true
-settle false false false false earlier = false
-settle _ _ _ _ earlier = earlier
+abbrev pub level_of_four : Bool → Bool → Bool → Bool → Bool → Bool
+level_of_four true true true true earlier = true
+level_of_four false false false false earlier = false
+level_of_four _ _ _ _ earlier = earlier
 
 -- the level that the four columns from d on give
-abbrev pub settle_at : List Bool → ℕ → Bool → Bool
-settle_at levels d earlier =
-    settle (level_at levels d) (level_at levels (d + 1)) (level_at levels (d + 2)) (level_at levels (d + 3)) earlier
+abbrev pub level_from : List Bool → ℕ → Bool → Bool
+level_from levels d earlier =
+    level_of_four (level_at levels d) (level_at levels (d + 1)) (level_at levels (d + 2)) (level_at levels (d + 3))
+    earlier
 
 -- the level of the latest four equal columns that begin before column n, low if there are none
 unfoldable pub latest : List Bool → ℕ → Bool
 latest levels zero = false
-latest levels (suc d) = settle_at levels d (latest levels d)
+latest levels (suc d) = level_from levels d (latest levels d)
 
 -- the smoothed levels, which `laws::one_smooth` shows to be the only ones
 unfoldable pub smooth_of : List Bool → List Bool

@@ -1,6 +1,6 @@
 -- The 24-bit code words of a LaserDisc (IEC 60857 for NTSC, IEC 60856 for PAL), and the half cells in which they are
 -- written.
-use Rattle.std.specs.Prelude.{ℕ, suc, zero, ◌≤◌, ◌<◌, ◌^◌, Bool, true, false, List, [], ◌∷◌, nat_eq}
+use Rattle.std.specs.Prelude.{ℕ, suc, zero, ◌≤◌, ◌<◌, ◌^◌, Bool, not, List, [], ◌∷◌, nat_eq}
 use Rattle.std.specs.Prelude.{Option, Some, None}
 use Rattle.std.specs.List.{flat_map}
 use Rattle.std.specs.Int.{bit_at}
@@ -21,8 +21,7 @@ lowest_bits (suc n) w = nat_eq (bit_at w n) 1 ∷ lowest_bits n w
 
 -- the two half cells of a bit: a one is low and then high, a zero is high and then low
 abbrev pub cell_of : Bool → List Bool
-cell_of true = false ∷ true ∷ []
-cell_of false = true ∷ false ∷ []
+cell_of one = not one ∷ one ∷ []
 
 -- the 48 half cells of a word
 abbrev pub halves_of : ℕ → List Bool
