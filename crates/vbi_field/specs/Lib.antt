@@ -2,7 +2,6 @@ pub mod ByLines
 pub mod CauseTexts
 pub mod CodeTexts
 pub mod ConfigView
-pub mod Limits
 pub mod Document
 pub mod Drawing
 pub mod DrawnReadings
@@ -13,6 +12,7 @@ pub mod FeedView
 pub mod FeederState
 pub mod Feeding
 pub mod Kinds
+pub mod Limits
 pub mod NextLine
 pub mod Outlet
 pub mod Position

@@ -19,6 +19,7 @@ use Rattle.vbi_words.specs.declared.system.System.TheVariants.{Ntsc, Pal}
 use Rattle.vbi_words.specs.Geometry.{field_bytes}
 use Rattle.vbi_field.specs.ConfigView.{ConfigView}
 use Rattle.vbi_field.specs.Kinds.{document}
+use Rattle.vbi_field.specs.Limits.{most_fields}
 use Rattle.vbi_field.specs.Stream.{fields_of, rest_of, readings_at}
 use Rattle.vbi_field.specs.Texts.{text_before_tail, whole_text}
 use Rattle.vbi_meta.specs.DocumentValue.{IsOfRun, document_value}
@@ -77,7 +78,7 @@ fields_within : (system : System) (fields bytes : ℕ) → bytes ≤ fields * fi
 fields_within Ntsc fields bytes h = omega arith
 fields_within Pal fields bytes h = omega arith
 
-pub few_fields : (c : ConfigView) (z : List ℕ) → IsOfRun c z → fields_of c z ≤ 1000000
+pub few_fields : (c : ConfigView) (z : List ℕ) → IsOfRun c z → fields_of c z ≤ most_fields
 few_fields c z run = omega (arith, fields_within c.system c.max_fields (length z) run.within, run.config.max_fields)
 
 pub small_rest : (system : System) (bytes : ℕ) → bytes % field_bytes system < 2 ^ 64

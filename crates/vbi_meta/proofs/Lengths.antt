@@ -8,18 +8,18 @@ use Rattle.std.specs.Prelude.{codes}
 use Rattle.vbi_words.specs.declared.system.System.{System}
 use Rattle.vbi_words.specs.declared.system.System.TheVariants.{Ntsc, Pal}
 use Rattle.vbi_words.specs.Geometry.{width_of, height_of, name_of}
-use Rattle.vbi_words.specs.declared.outcome.Reading.{Reading}
 use Rattle.vbi_field.specs.ConfigView.{ConfigView}
 use Rattle.vbi_field.specs.CauseTexts.{cause_text_of}
 use Rattle.vbi_field.specs.Document.{value_of, head_of, lines_of, record_of, tail_of}
 use Rattle.vbi_field.specs.Kinds.{document}
+use Rattle.vbi_field.specs.Limits.{most_fields}
 use Rattle.vbi_field.specs.Stream.{fields_of, rest_of, readings_at}
 use Rattle.vbi_field.specs.Texts.{text_before_tail, whole_text}
 use Rattle.vbi_field.specs.declared.readings.FieldReadings.{FieldReadings}
 use Rattle.vbi_meta.specs.DocumentValue.{IsOfRun}
 use Rattle.vbi_meta.specs.Metadata.{most_bytes}
 use Rattle.vbi_meta.proofs.DocumentReads.{few_fields, small_rest}
-use Rattle.vbi_meta.proofs.RecordTexts.{words_of, causes_of, passes_of}
+use Rattle.vbi_meta.proofs.RecordTexts.{LineList, list_of, words, causes, passes}
 use Rattle.vbi_meta.proofs.ShownLines.{AreShown, field_shown}
 
 -- ---- texts
@@ -96,16 +96,16 @@ either false s t x y = y
 
 -- ---- a record
 
--- the texts of three lines, each of at most so many bytes
-lines_short : (opening : List ℕ) (text_of : Reading → List ℕ) (closing : List ℕ) (readings : FieldReadings)
-    (each most : ℕ) → length (text_of readings.first) ≤ each → length (text_of readings.second) ≤ each
-    → length (text_of readings.third) ≤ each → length opening + 3 * each + 2 + length closing ≤ most
-    → length (lines_of opening text_of closing readings) ≤ most
+-- a list of a field's lines, whose texts are each of at most so many bytes
+list_short : (list : LineList) (readings : FieldReadings) (each most : ℕ)
+    → length (list.text_of readings.first) ≤ each → length (list.text_of readings.second) ≤ each
+    → length (list.text_of readings.third) ≤ each → length list.opening + 3 * each + 2 + length list.closing ≤ most
+    → length (list_of list readings) ≤ most
 unfolding lines_of
-lines_short opening text_of closing readings each most a b c sum =
+list_short list readings each most a b c sum =
     let comma : length (codes ",") ≤ 1 = lit≤ tt in
-    seven_parts opening (text_of readings.first) (codes ",") (text_of readings.second) (codes ",")
-    (text_of readings.third) closing most (omega (arith, a, b, c, comma, sum))
+    seven_parts list.opening (list.text_of readings.first) (codes ",") (list.text_of readings.second) (codes ",")
+    (list.text_of readings.third) list.closing most (omega (arith, a, b, c, comma, sum))
 
 -- a text between quotes
 quoted_short : (s : List ℕ) {n : ℕ} → length s ≤ n → length (codes "\"" ++ s ++ codes "\"") ≤ n + 2
@@ -113,33 +113,30 @@ quoted_short s le =
     let quote : length (codes "\"") ≤ 1 = lit≤ tt in
     omega (arith, le, quote, length-append (codes "\"" ++ s) (codes "\""), length-append (codes "\"") s)
 
-module _ (number : ℕ) (readings : FieldReadings) (few : number ≤ 1000000) (shown : AreShown readings) where
-  words_short : length (words_of readings) ≤ 83
+module _ (number : ℕ) (readings : FieldReadings) (few : number ≤ most_fields) (shown : AreShown readings) where
+  words_short : length (list_of words readings) ≤ 83
   words_short =
-      let t0 : length (codes ",\"vbi\":{\"vbiData\":[") ≤ 19 = lit≤ tt in
-      let t1 : length (codes "]}") ≤ 2 = lit≤ tt in
-      lines_short (codes ",\"vbi\":{\"vbiData\":[") (λ line. decimal (value_of line.outcome)) (codes "]}") readings 20
-      83
-      (digits (value_of readings.first.outcome) shown.first.value)
+      let t0 : length words.opening ≤ 19 = lit≤ tt in
+      let t1 : length words.closing ≤ 2 = lit≤ tt in
+      list_short words readings 20 83 (digits (value_of readings.first.outcome) shown.first.value)
       (digits (value_of readings.second.outcome) shown.second.value)
       (digits (value_of readings.third.outcome) shown.third.value) (omega (arith, t0, t1))
 
-  causes_short : length (causes_of readings) ≤ 103
+  causes_short : length (list_of causes readings) ≤ 103
   causes_short =
-      let t0 : length (codes ",\"vbiCause\":[") ≤ 13 = lit≤ tt in
-      let t1 : length (codes "]") ≤ 1 = lit≤ tt in
-      lines_short (codes ",\"vbiCause\":[") (λ line. codes "\"" ++ cause_text_of line.outcome ++ codes "\"") (codes "]")
-      readings 29 103 (quoted_short (cause_text_of readings.first.outcome) shown.first.brief)
+      let t0 : length causes.opening ≤ 13 = lit≤ tt in
+      let t1 : length causes.closing ≤ 1 = lit≤ tt in
+      list_short causes readings 29 103 (quoted_short (cause_text_of readings.first.outcome) shown.first.brief)
       (quoted_short (cause_text_of readings.second.outcome) shown.second.brief)
       (quoted_short (cause_text_of readings.third.outcome) shown.third.brief) (omega (arith, t0, t1))
 
-  passes_short : length (passes_of readings) ≤ 18
+  passes_short : length (list_of passes readings) ≤ 18
   passes_short =
-      let t0 : length (codes ",\"vbiPass\":[") ≤ 12 = lit≤ tt in
-      let t1 : length (codes "]") ≤ 1 = lit≤ tt in
-      lines_short (codes ",\"vbiPass\":[") (λ line. decimal line.pass) (codes "]") readings 1 18
-      (one_digit readings.first.pass shown.first.digit) (one_digit readings.second.pass shown.second.digit)
-      (one_digit readings.third.pass shown.third.digit) (omega (arith, t0, t1))
+      let t0 : length passes.opening ≤ 12 = lit≤ tt in
+      let t1 : length passes.closing ≤ 1 = lit≤ tt in
+      list_short passes readings 1 18 (one_digit readings.first.pass shown.first.digit)
+      (one_digit readings.second.pass shown.second.digit) (one_digit readings.third.pass shown.third.digit)
+      (omega (arith, t0, t1))
 
   record_short : length (record_of number readings) ≤ 221
   unfolding record_of
@@ -147,8 +144,8 @@ module _ (number : ℕ) (readings : FieldReadings) (few : number ≤ 1000000) (s
       let t0 : length (codes "{\"seqNo\":") ≤ 9 = lit≤ tt in
       let t1 : length (codes "}") ≤ 1 = lit≤ tt in
       let n : length (decimal number) ≤ 7 = length-decimal-le 7 number (lit< tt) (omega arith) (omega arith) in
-      six_parts (codes "{\"seqNo\":") (decimal number) (words_of readings) (causes_of readings) (passes_of readings)
-      (codes "}") 221 (omega (arith, t0, t1, n, words_short, causes_short, passes_short))
+      six_parts (codes "{\"seqNo\":") (decimal number) (list_of words readings) (list_of causes readings)
+      (list_of passes readings) (codes "}") 221 (omega (arith, t0, t1, n, words_short, causes_short, passes_short))
 
 -- ---- head and _ _ tail
 
@@ -225,7 +222,7 @@ joined_short f joint a (suc n) two each =
 pub document_short : (c : ConfigView) (z : List ℕ) → IsOfRun c z → length (whole_text document c z) ≤ most_bytes
 unfolding text_before_tail
 document_short c z run =
-    let few : fields_of c z ≤ 1000000 = few_fields c z run in
+    let few : fields_of c z ≤ most_fields = few_fields c z run in
     let two : length (codes ",\n") ≤ 2 = lit≤ tt in
     let records = joined_short (λ i. document.entry (i + 1) (readings_at c z i)) (codes ",\n") 0 (fields_of c z) two
     (λ i l. record_short (i + 1) (readings_at c z i) (omega arith) (field_shown c z i)) in

@@ -1,5 +1,5 @@
-pub mod DocumentReads
 pub mod DocumentReadings
+pub mod DocumentReads
 pub mod DocumentTexts
 pub mod Lengths
 pub mod LineFeeds

@@ -63,19 +63,61 @@ seven t0 v0 t1 v1 t2 v2 t3 r = simp append_assoc
 six : (a b c d e f r : List ℕ) → (a ++ b ++ c ++ d ++ e ++ f) ++ r ≡ a ++ (b ++ (c ++ (d ++ (e ++ (f ++ r)))))
 six a b c d e f r = simp append_assoc
 
--- the texts of three lines as they are printed, and the rest
-module _ (opening : List ℕ) (text_of : Reading → List ℕ) (closing : List ℕ) (readings : FieldReadings) (r : List ℕ)
-  where
-    abbrev lines_then : List ℕ
-    lines_then =
-        opening ++ (text_of readings.first ++ (codes "," ++ (text_of readings.second ++ (codes ","
-        ++ (text_of readings.third ++ (closing ++ r))))))
+-- one of the three lists of a record: what opens it, a line's text in it, and what closes it
+pub record LineList : Type 0 where
+  pub opening : List ℕ
+  pub text_of : Reading → List ℕ
+  pub closing : List ℕ
 
-    lines_text : lines_then ≡ lines_of opening text_of closing readings ++ r
-    unfolding lines_of
-    lines_text =
-        sym (seven opening (text_of readings.first) (codes ",") (text_of readings.second) (codes ",")
-        (text_of readings.third) closing r)
+-- the list of a field's lines
+abbrev pub list_of : LineList → FieldReadings → List ℕ
+list_of list readings = lines_of list.opening list.text_of list.closing readings
+
+abbrev pub words : LineList
+words = record {
+  opening = codes ",\"vbi\":{\"vbiData\":[";
+  text_of = λ line. decimal (value_of line.outcome);
+  closing = codes "]}";
+}
+
+abbrev pub causes : LineList
+causes = record {
+  opening = codes ",\"vbiCause\":[";
+  text_of = λ line. codes "\"" ++ cause_text_of line.outcome ++ codes "\"";
+  closing = codes "]";
+}
+
+-- the causes as they are printed
+abbrev quoted_causes : LineList
+quoted_causes = record {
+  opening = causes.opening;
+  text_of = λ line. quoted (cause_text_of line.outcome);
+  closing = causes.closing;
+}
+
+abbrev pub passes : LineList
+passes = record {
+  opening = codes ",\"vbiPass\":[";
+  text_of = λ line. decimal line.pass;
+  closing = codes "]";
+}
+
+-- a list as it is printed, and the rest
+abbrev list_then : LineList → FieldReadings → List ℕ → List ℕ
+list_then list readings r =
+    list.opening ++ (list.text_of readings.first ++ (codes "," ++ (list.text_of readings.second ++ (codes ","
+    ++ (list.text_of readings.third ++ (list.closing ++ r))))))
+
+list_text : (list : LineList) (readings : FieldReadings) (r : List ℕ)
+    → list_then list readings r ≡ list_of list readings ++ r
+unfolding lines_of
+list_text list readings r =
+    sym (seven list.opening (list.text_of readings.first) (codes ",") (list.text_of readings.second) (codes ",")
+    (list.text_of readings.third) list.closing r)
+
+-- a text that needs no escape, as a string
+quoted_as : (s : List ℕ) → escape s ≡ s → quoted s ≡ codes "\"" ++ s ++ codes "\""
+quoted_as s e = ap (λ l. 34 ∷ (l ++ 34 ∷ [])) e
 
 -- other texts of three lines that are the same for these
 lines_same : (opening closing : List ℕ) (f g : Reading → List ℕ) (readings : FieldReadings)
@@ -84,66 +126,32 @@ lines_same : (opening closing : List ℕ) (f g : Reading → List ℕ) (readings
 unfolding lines_of
 lines_same opening closing f g readings first second third = rw (first, second, third)
 
--- a text that needs no escape, as a string
-quoted_as : (s : List ℕ) → escape s ≡ s → quoted s ≡ codes "\"" ++ s ++ codes "\""
-quoted_as s e = ap (λ l. 34 ∷ (l ++ 34 ∷ [])) e
-
-module _ (readings : FieldReadings) (r : List ℕ) where
-  abbrev words_then : List ℕ
-  words_then =
-      lines_then (codes ",\"vbi\":{\"vbiData\":[") (λ line. decimal (value_of line.outcome)) (codes "]}") readings r
-
-  abbrev causes_then : List ℕ
-  causes_then =
-      lines_then (codes ",\"vbiCause\":[") (λ line. quoted (cause_text_of line.outcome)) (codes "]") readings r
-
-  abbrev passes_then : List ℕ
-  passes_then = lines_then (codes ",\"vbiPass\":[") (λ line. decimal line.pass) (codes "]") readings r
-
--- the three lists of a record
-abbrev pub words_of : FieldReadings → List ℕ
-words_of readings =
-    lines_of (codes ",\"vbi\":{\"vbiData\":[") (λ line. decimal (value_of line.outcome)) (codes "]}") readings
-
-abbrev pub causes_of : FieldReadings → List ℕ
-causes_of readings =
-    lines_of (codes ",\"vbiCause\":[") (λ line. codes "\"" ++ cause_text_of line.outcome ++ codes "\"") (codes "]")
-    readings
-
-abbrev pub passes_of : FieldReadings → List ℕ
-passes_of readings = lines_of (codes ",\"vbiPass\":[") (λ line. decimal line.pass) (codes "]") readings
-
-causes_text : (readings : FieldReadings) (r : List ℕ) → AreShown readings
-    → causes_then readings r ≡ causes_of readings ++ r
-causes_text readings r shown =
-    lines_text (codes ",\"vbiCause\":[") (λ line. quoted (cause_text_of line.outcome)) (codes "]") readings r
-    ∙ ap (λ l. l ++ r)
-    (lines_same (codes ",\"vbiCause\":[") (codes "]") (λ line. quoted (cause_text_of line.outcome))
-    (λ line. codes "\"" ++ cause_text_of line.outcome ++ codes "\"") readings
+causes_same : (readings : FieldReadings) → AreShown readings → list_of quoted_causes readings ≡ list_of causes readings
+causes_same readings shown =
+    lines_same causes.opening causes.closing quoted_causes.text_of causes.text_of readings
     (quoted_as (cause_text_of readings.first.outcome) shown.first.free)
     (quoted_as (cause_text_of readings.second.outcome) shown.second.free)
-    (quoted_as (cause_text_of readings.third.outcome) shown.third.free))
+    (quoted_as (cause_text_of readings.third.outcome) shown.third.free)
 
 -- the record as it is printed, and the rest
 abbrev record_then : ℕ → FieldReadings → List ℕ → List ℕ
 record_then n readings r =
     codes "{\"seqNo\":" ++ (decimal n
-    ++ words_then readings (causes_then readings (passes_then readings (codes "}" ++ r))))
+    ++ list_then words readings (list_then quoted_causes readings (list_then passes readings (codes "}" ++ r))))
 
 record_text : (n : ℕ) (readings : FieldReadings) (r : List ℕ) → AreShown readings
     → record_then n readings r ≡ record_of n readings ++ r
 unfolding record_of
 record_text n readings r shown =
     let last = codes "}" ++ r in
+    let then_passes = list_then passes readings last in
     ap (λ l. codes "{\"seqNo\":" ++ (decimal n ++ l))
-    (lines_text (codes ",\"vbi\":{\"vbiData\":[") (λ line. decimal (value_of line.outcome)) (codes "]}") readings
-    (causes_then readings (passes_then readings last))
-    ∙ ap (λ l. words_of readings ++ l)
-    (causes_text readings (passes_then readings last) shown
-    ∙ ap (λ l. causes_of readings ++ l)
-    (lines_text (codes ",\"vbiPass\":[") (λ line. decimal line.pass) (codes "]") readings last)))
-    ∙ sym (six (codes "{\"seqNo\":") (decimal n) (words_of readings) (causes_of readings) (passes_of readings)
-    (codes "}") r)
+    (list_text words readings (list_then quoted_causes readings then_passes)
+    ∙ ap (λ l. list_of words readings ++ l)
+    (list_text quoted_causes readings then_passes ∙ ap (λ l. l ++ then_passes) (causes_same readings shown)
+    ∙ ap (λ l. list_of causes readings ++ l) (list_text passes readings last)))
+    ∙ sym (six (codes "{\"seqNo\":") (decimal n) (list_of words readings) (list_of causes readings)
+    (list_of passes readings) (codes "}") r)
 
 -- behind a line feed, and a comma where another record is before it
 pub record_prints : (before : Bool) (n : ℕ) (readings : FieldReadings) (qs : Pieces) → AreShown readings

@@ -99,9 +99,23 @@ is_shown system levels short (Word w) pass (inr (p, none, high, shows)) =
       brief = lit≤ tt;
     }
 is_shown system levels short Blank pass (p, is, none) =
-    record { value = lit< tt; pass = omega arith; free = refl; utf8 = IsUtf8-are_ascii _ refl; digit = omega arith; brief = lit≤ tt }
+    record {
+      value = lit< tt;
+      pass = omega arith;
+      free = refl;
+      utf8 = IsUtf8-are_ascii _ refl;
+      digit = omega arith;
+      brief = lit≤ tt;
+    }
 is_shown system levels short Unfinished pass (p, is, none) =
-    record { value = lit< tt; pass = omega arith; free = refl; utf8 = IsUtf8-are_ascii _ refl; digit = omega arith; brief = lit≤ tt }
+    record {
+      value = lit< tt;
+      pass = omega arith;
+      free = refl;
+      utf8 = IsUtf8-are_ascii _ refl;
+      digit = omega arith;
+      brief = lit≤ tt;
+    }
 is_shown system levels short (Change c) pass (p, is, none) =
     let small = small_column system levels c short is.2 in
     record {

@@ -32,7 +32,7 @@ use Rattle.vbi_field.specs.CauseTexts.{cause_text_of}
 use Rattle.vbi_field.specs.ConfigView.{ConfigView}
 use Rattle.vbi_field.specs.Document.{value_of}
 use Rattle.vbi_field.specs.declared.readings.FieldReadings.{FieldReadings}
-use Rattle.vbi_meta.specs.DocumentValue.{object_of, array_of, whole_of, lines_of, words_value, field_value}
+use Rattle.vbi_meta.specs.DocumentValue.{object_of, array_of, whole_of, lines_value, words_value, field_value}
 use Rattle.vbi_meta.specs.DocumentValue.{parameters_value, cut_field_value, cut_value}
 use Rattle.vbi_meta.proofs.DocumentTexts.{tokens_of, parameters_json, cut_json, entries_json, document_json}
 use Rattle.vbi_meta.proofs.RecordTexts.{Pieces, count_json, lines_json, words_json, record_json}
@@ -170,7 +170,7 @@ array_reads {js} {ds} all = record {
 
 lines_read : (tree : Reading → json.Json) (said : Reading → Data) (readings : FieldReadings)
     → Reads (tree readings.first) (said readings.first) → Reads (tree readings.second) (said readings.second)
-    → Reads (tree readings.third) (said readings.third) → Reads (lines_json tree readings) (lines_of said readings)
+    → Reads (tree readings.third) (said readings.third) → Reads (lines_json tree readings) (lines_value said readings)
 lines_read tree said readings a b c = array_reads (with_item a (with_item b (with_item c no_item)))
 
 words_read : (readings : FieldReadings) → AreShown readings → Reads (words_json readings) (words_value readings)
@@ -182,13 +182,13 @@ words_read readings shown =
 
 causes_read : (readings : FieldReadings) → AreShown readings
     → Reads (lines_json (λ x. json.string (cause_text_of x.outcome)) readings)
-    (lines_of (λ x. string (cause_text_of x.outcome)) readings)
+    (lines_value (λ x. string (cause_text_of x.outcome)) readings)
 causes_read readings shown =
     lines_read (λ x. json.string (cause_text_of x.outcome)) (λ x. string (cause_text_of x.outcome)) readings
     (string_reads _ shown.first.utf8) (string_reads _ shown.second.utf8) (string_reads _ shown.third.utf8)
 
 passes_read : (readings : FieldReadings) → AreShown readings
-    → Reads (lines_json (λ x. count_json x.pass) readings) (lines_of (λ x. whole_of x.pass) readings)
+    → Reads (lines_json (λ x. count_json x.pass) readings) (lines_value (λ x. whole_of x.pass) readings)
 passes_read readings shown =
     lines_read (λ x. count_json x.pass) (λ x. whole_of x.pass) readings
     (count_reads _ shown.first.pass) (count_reads _ shown.second.pass) (count_reads _ shown.third.pass)

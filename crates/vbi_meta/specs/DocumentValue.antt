@@ -44,21 +44,21 @@ whole_of n = number (unsigned n)
 -- ---- the document
 
 -- of each of a field's three lines, what it is said to have
-abbrev pub lines_of : (Reading → Data) → FieldReadings → Data
-lines_of said readings = array_of (said readings.first ∷ said readings.second ∷ said readings.third ∷ [])
+abbrev pub lines_value : (Reading → Data) → FieldReadings → Data
+lines_value said readings = array_of (said readings.first ∷ said readings.second ∷ said readings.third ∷ [])
 
 -- the words of a field's lines, 0 where there is none
 abbrev pub words_value : FieldReadings → Data
 words_value readings =
-    object_of ((codes "vbiData", lines_of (λ reading. whole_of (value_of reading.outcome)) readings) ∷ [])
+    object_of ((codes "vbiData", lines_value (λ reading. whole_of (value_of reading.outcome)) readings) ∷ [])
 
 -- a field, by its number from 1 and its readings
 abbrev pub field_value : ℕ → FieldReadings → Data
 field_value n readings = object_of (
     (codes "seqNo", whole_of n)
     ∷ (codes "vbi", words_value readings)
-    ∷ (codes "vbiCause", lines_of (λ reading. string (cause_text_of reading.outcome)) readings)
-    ∷ (codes "vbiPass", lines_of (λ reading. whole_of reading.pass) readings)
+    ∷ (codes "vbiCause", lines_value (λ reading. string (cause_text_of reading.outcome)) readings)
+    ∷ (codes "vbiPass", lines_value (λ reading. whole_of reading.pass) readings)
     ∷ [])
 
 -- the system and the levels

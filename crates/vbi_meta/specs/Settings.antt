@@ -158,12 +158,12 @@ abbrev pub IsRefused : Option Data → Overrides → MetaFault → Type 0
 IsRefused document given fault = first_refusal (refusals_of document given) ≡ Some fault
 
 -- they are not refused, and this is what they settle
-pub record IsSettled (document : Option Data) (given : Overrides) (setup : ConfigView) : Type 0 where
+pub record IsSettled (document : Option Data) (given : Overrides) (config : ConfigView) : Type 0 where
   pub unrefused : first_refusal (refusals_of document given) ≡ None
   pub system : (let member = member_of (option_and_then parameters_of document) in
-      chosen_system given.system (member (codes "system")) (member (codes "isSourcePal"))) ≡ Some setup.system
+      chosen_system given.system (member (codes "system")) (member (codes "isSourcePal"))) ≡ Some config.system
   pub black : chosen_level given.black (member_of (option_and_then parameters_of document) (codes "black16bIre"))
-      ≡ Some setup.levels.black
+      ≡ Some config.levels.black
   pub white : chosen_level given.white (member_of (option_and_then parameters_of document) (codes "white16bIre"))
-      ≡ Some setup.levels.white
-  pub max_fields : setup.max_fields ≡ chosen_limit given.max_fields
+      ≡ Some config.levels.white
+  pub max_fields : config.max_fields ≡ chosen_limit given.max_fields

@@ -95,10 +95,7 @@ fn member<'v>(parameters: Option<&'v Value>, name: &str) -> Option<&'v Value>
     ensures { option_map (λ v. view v.now) result
         ≡ member_of (option_map (λ v. view v.now) parameters.entry) name.now }
 {
-    match parameters {
-        None => None,
-        Some(parameters) => parameters.get(name),
-    }
+    parameters?.get(name)
 }
 
 /// The system of the option, else of the members `system` and `isSourcePal`.
@@ -122,17 +119,11 @@ fn system(
     }
     let named = match name {
         None => None,
-        Some(text) => match named(text) {
-            None => return Err(MetaFault::UnknownSystem),
-            found => found,
-        },
+        Some(text) => Some(named(text).ok_or(MetaFault::UnknownSystem)?),
     };
     let flagged = match flag {
         None => None,
-        Some(value) => match flagged(value) {
-            None => return Err(MetaFault::UnknownSystem),
-            found => found,
-        },
+        Some(value) => Some(flagged(value).ok_or(MetaFault::UnknownSystem)?),
     };
     match (named, flagged) {
         (None, None) => Err(MetaFault::NoSystem),
@@ -153,11 +144,8 @@ fn named(text: &Value) -> Option<System>
 fn flagged(flag: &Value) -> Option<System>
     ensures { result ≡ flagged_system (view flag.now) }
 {
-    match flag.as_bool() {
-        Some(true) => Some(System::Pal),
-        Some(false) => Some(System::Ntsc),
-        None => None,
-    }
+    let is_pal = flag.as_bool()?;
+    Some(if is_pal { System::Pal } else { System::Ntsc })
 }
 
 /// A level: that of the option, else the member, whose two faults these are.
@@ -176,13 +164,8 @@ fn level(
     if let Some(level) = given {
         return Ok(level);
     }
-    let Some(member) = member else {
-        return Err(missing);
-    };
-    match member.as_u64() {
-        Some(n) if n < 65536 => Ok(n as u16),
-        _ => Err(bad),
-    }
+    let level = member.ok_or(missing)?.as_u64().ok_or(bad)?;
+    u16::try_from(level).map_err(|_| bad)
 }
 
 /// The levels, where black is below white.
@@ -193,10 +176,7 @@ fn ordered(black: u16, white: u16) -> Result<Levels, MetaFault>
     ensures range { IfOk result (λ l. (l.black < 2 ^ 16) × (l.white < 2 ^ 16)) }
     ensures err { IfErr result (λ e. first_refusal (order_refusals black white) ≡ Some e) }
 {
-    match Levels::new(black, white) {
-        Ok(levels) => Ok(levels),
-        Err(_) => Err(MetaFault::LevelsOrder),
-    }
+    Levels::new(black, white).map_err(|_| MetaFault::LevelsOrder)
 }
 
 /// Refuses a member that is there and isn't this size.
@@ -224,8 +204,7 @@ fn config(system: System, levels: Levels, limit: Option<u32>) -> Result<Config, 
     ensures few { IfOk result (λ c. c.max_fields ≤ most_fields) }
     ensures err { IfErr result (λ e. first_refusal (limit_refusals limit) ≡ Some e) }
 {
-    match Config::new(system, levels, limit.unwrap_or(MAX_FIELDS_LIMIT)) {
-        Ok(config) => Ok(config),
-        Err(_) => Err(MetaFault::BadMaxFields),
-    }
+    Config::new(system, levels, limit.unwrap_or(MAX_FIELDS_LIMIT)).map_err(
+        |_| MetaFault::BadMaxFields,
+    )
 }

@@ -17,9 +17,8 @@ levels_of slicing samples = map (is_high_of slicing) samples
 
 -- the samples in a row's bytes: two bytes each, the low one first
 abbrev pub samples_of : List ℕ → List ℕ
-samples_of [] = []
-samples_of (low ∷ []) = []
 samples_of (low ∷ high ∷ bytes) = (low + 256 * high) ∷ samples_of bytes
+samples_of _ = []
 
 -- the levels of a row's bytes: whether each sample is high
 abbrev pub row_levels : LevelsView → List ℕ → List Bool

@@ -11,8 +11,7 @@ FourEqual levels d v = (i : ℕ) → i < 4 → level_at levels (d + i) ≡ v
 -- v is the smoothed level at column c: that of the latest four equal columns up to c, or low if there are none
 abbrev pub SmoothAt : List Bool → ℕ → Bool → Type 0
 SmoothAt levels c v =
-    ((d : ℕ) × (d + 3 ≤ c) × FourEqual levels d v
-    × ((e : ℕ) (u : Bool) → d < e → e + 3 ≤ c → FourEqual levels e u → ⊥))
+    ((d : ℕ) × (d + 3 ≤ c) × FourEqual levels d v × ((e : ℕ) (u : Bool) → d < e → e + 3 ≤ c → FourEqual levels e u → ⊥))
     ⊎ ((v ≡ false) × ((e : ℕ) (u : Bool) → e + 3 ≤ c → FourEqual levels e u → ⊥))
 
 -- each column of smoothed has the smoothed level of that column of levels; each list has exactly one such, which

@@ -2,4 +2,4 @@ use Rattle.vbi_field.proofs.DrawnDocument
 use Rattle.vbi_field.proofs.laws.drawn_document.Goals as goal
 
 pub returns : goal.returns
-returns c = λ texts setup text rows order are. DrawnDocument.drawn_document texts setup text rows order are
+returns c = λ texts config text rows order are. DrawnDocument.drawn_document texts config text rows order are

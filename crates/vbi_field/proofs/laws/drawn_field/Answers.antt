@@ -2,4 +2,4 @@ use Rattle.vbi_field.proofs.DrawnReads
 use Rattle.vbi_field.proofs.laws.drawn_field.Goals as goal
 
 pub returns : goal.returns
-returns c = λ setup rows i words order e are. DrawnReads.drawn_field setup rows i words order e are
+returns c = λ config rows i words order e are. DrawnReads.drawn_field config rows i words order e are
