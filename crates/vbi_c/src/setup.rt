@@ -29,9 +29,7 @@ fn setup_of(number: u32, black: u32, white: u32) -> Result<Setup, Refusal>
     ensures setup { result ≡ setup_of number black white }
     ensures order { IfOk result (λ setup. setup.levels.black < setup.levels.white) }
 {
-    let Some(system) = system_of(number) else {
-        return Err(Refusal::System);
-    };
+    let system = system_of(number).ok_or(Refusal::System)?;
     // Samples have 16 bits.
     if black > 65535 || white > 65535 {
         return Err(Refusal::Levels);

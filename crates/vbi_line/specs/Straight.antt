@@ -8,10 +8,6 @@ use Rattle.vbi_words.proofs.Machine.{second}
 use Rattle.vbi_words.proofs.SystemMachine.{next_of, state_at}
 use Rattle.vbi_line.specs.Packing.{level_of_bit}
 
--- the level changes behind a bit
-abbrev pub ChangesBehind : ℕ → ℕ → Type 0
-ChangesBehind word i = level_of_bit word (i + 1) ≢ level_of_bit word i
-
 -- from a place on there are exactly count bits with one level
 pub record IsBitRun (word place count : ℕ) : Type 0 where
   pub some : 0 < count

@@ -37,7 +37,7 @@ fn block_bits_at(bytes: &[u8], column: usize, low: u16) -> u64
 
 /// The bits of the last samples before a whole block's end, fewer than sixteen, the lowest for the first: set where the
 /// sample is above `low`.
-// They are the last of a block that ends with them; it has the samples before them too.
+// The samples asked for are the last of the block of sixteen that ends where they end.
 fn last_bits_at(bytes: &[u8], column: usize, count: usize, low: u16) -> u64
     requires inside { 2 * (column + count) ≤ length bytes.now }
     requires block { 16 ≤ column + count }

@@ -26,6 +26,9 @@ impl Model for Packed {
     ghost invariant = { IsPacked };
 }
 
+/// The last column from which there are 64 in the words of a packed line.
+pub(crate) const LAST_WINDOW: usize = 1088;
+
 /// How many bits of the word have this level, from a place on up to the first that has the other.
 pub(crate) fn equal_bits(word: u64, place: usize, level: bool) -> usize
     requires { place < 64 }
@@ -81,7 +84,7 @@ impl Packed {
 
     /// The levels of 64 columns from this one on, the lowest bit for the first; those past the line's end are low.
     pub(crate) fn window(&self, column: usize) -> u64
-        requires { column ≤ 1088 }
+        requires { column ≤ LAST_WINDOW }
         ensures { (i : ℕ) → i < 64 → level_of_bit result i ≡ level_at self.now (column + i) }
     {
         let place = column % 64;

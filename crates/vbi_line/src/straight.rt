@@ -11,11 +11,8 @@ ghost use Rattle.vbi_line.specs.Packing.{level_of_bit, EqualBits};
 ghost use Rattle.vbi_line.specs.Straight.{IsMiddle, ReachesMiddle};
 
 use crate::decoder::{with_bit, word_of};
-use crate::packed::{Packed, equal_bits};
+use crate::packed::{LAST_WINDOW, Packed, equal_bits};
 use vbi_words::{System, Word24};
-
-/// The last column from which there are 64 in the words of a packed line.
-const LAST_WINDOW: usize = 1088;
 
 /// The cells of a word before its last one.
 const CELLS_BEFORE: u32 = 23;
@@ -86,9 +83,7 @@ fn last_middle(packed: &Packed, system: System, first: usize) -> Option<(usize, 
             return None;
         }
         let window = packed.window(column);
-        let Some(columns) = next_middle(window, system) else {
-            return None;
-        };
+        let columns = next_middle(window, system)?;
         bits = with_bit(cells, bits, first_level(window));
         cells += 1;
         column += columns;

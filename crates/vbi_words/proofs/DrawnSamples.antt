@@ -1,27 +1,23 @@
 -- The samples of a drawn row, by the half cell in which each column lies.
-use Rattle.std.proofs.Common.{◌≡◌, ℕ, ◌+◌, ◌≤◌, ◌<◌, Bool, true, false, cond, length, get_or, refl, sym, subst, ◌∙◌}
+use Rattle.std.proofs.Common.{◌≡◌, ℕ, ◌+◌, ◌<◌, Bool, true, false, cond, length, get_or, refl, sym, subst, ◌∙◌}
 use Rattle.std.proofs.Common.{arith, List, zero-add}
 use Rattle.std.specs.Prelude.{Option, Some, None, ◌&&◌, nat_lt, nat_le}
 use Rattle.std.specs.List.{list_any, range_with_len}
 use Rattle.std.proofs.lemmas.List.Folds.{Any-from_list_any, list_any_at}
 use Rattle.std.proofs.lemmas.List.FromFn.{length-range_with_len, get_or-range_with_len, length-map-range_with_len}
 use Rattle.std.proofs.lemmas.List.FromFn.{get_or-map-range_with_len}
+use Rattle.std.proofs.lemmas.List.{ext_get_or}
 use Rattle.std.proofs.lemmas.Bool.{and_parts, leb-true, ltb-true, le-leb, lt-ltb}
 use Rattle.vbi_words.specs.declared.system.System.{System}
 use Rattle.vbi_words.specs.Geometry.{width_of}
 use Rattle.vbi_words.specs.Levels.{LevelsView}
 use Rattle.vbi_words.specs.Words.{halves_of}
 use Rattle.vbi_words.specs.Drawn.{boundary, is_drawn_in, is_drawn_high, drawn_sample_of, drawn_row_of}
-
--- the column lies in a half cell of the word that is high
-abbrev pub DrawnHigh : System → ℕ → ℕ → Type 0
-DrawnHigh system word column =
-    (j : ℕ) × (j < 48) × (boundary system j ≤ column) × (column < boundary system (j + 1))
-    × (get_or (halves_of word) j false ≡ true)
+use Rattle.vbi_words.specs.Drawn.{IsDrawnHigh, IsDrawnSample, IsDrawnRow}
 
 high_there : (system : System) (word column : ℕ)
     → list_any (is_drawn_in system word column) (range_with_len 0 48) ≡ true
-    → DrawnHigh system word column
+    → IsDrawnHigh system word column
 high_there system word column h =
     let a = Any-from_list_any (is_drawn_in system word column) (range_with_len 0 48) h in
     let inside : a.0 < 48 = omega (arith, a.2, length-range_with_len 0 48) in
@@ -40,7 +36,7 @@ high_there system word column h =
 
 low_there : (system : System) (word column : ℕ)
     → list_any (is_drawn_in system word column) (range_with_len 0 48) ≡ false
-    → DrawnHigh system word column → ⊥
+    → IsDrawnHigh system word column → ⊥
 low_there system word column h d =
     let low : nat_le (boundary system d.0) column ≡ true = le-leb (boundary system d.0) column d.2 in
     let high : nat_lt column (boundary system (d.0 + 1)) ≡ true = lt-ltb column (boundary system (d.0 + 1)) d.3 in
@@ -55,45 +51,33 @@ low_there system word column h d =
 
 -- ---- samples
 
--- a sample that is white in a high half cell, and black elsewhere
-abbrev pub IsDrawn : System → LevelsView → Option ℕ → ℕ → ℕ → Type 0
-IsDrawn system slicing None column sample = sample ≡ slicing.black
-IsDrawn system slicing (Some word) column sample =
-    (DrawnHigh system word column → sample ≡ slicing.white)
-    × ((DrawnHigh system word column → ⊥) → sample ≡ slicing.black)
-
 sample_by : (system : System) (slicing : LevelsView) (word column s : ℕ) (b : Bool)
     → list_any (is_drawn_in system word column) (range_with_len 0 48) ≡ b
-    → IsDrawn system slicing (Some word) column s → s ≡ cond b slicing.white slicing.black
+    → IsDrawnSample system slicing (Some word) column s → s ≡ cond b slicing.white slicing.black
 sample_by system slicing word column s true e h = h.0 (high_there system word column e)
 sample_by system slicing word column s false e h = h.1 (low_there system word column e)
 
 -- such a sample is the drawn one
 pub drawn_sample_is : (system : System) (slicing : LevelsView) (word : Option ℕ) (column s : ℕ)
-    → IsDrawn system slicing word column s → s ≡ drawn_sample_of system slicing word column
+    → IsDrawnSample system slicing word column s → s ≡ drawn_sample_of system slicing word column
 unfolding drawn_sample_of is_drawn_high
 drawn_sample_is system slicing None column s h = h
 drawn_sample_is system slicing (Some word) column s h = sample_by system slicing word column s _ refl h
 
 sample_from : (system : System) (slicing : LevelsView) (word column : ℕ) (b : Bool)
     → list_any (is_drawn_in system word column) (range_with_len 0 48) ≡ b
-    → IsDrawn system slicing (Some word) column (cond b slicing.white slicing.black)
+    → IsDrawnSample system slicing (Some word) column (cond b slicing.white slicing.black)
 sample_from system slicing word column true e = (λ d. refl, λ d. absurd (d (high_there system word column e)))
 sample_from system slicing word column false e = (λ d. absurd (low_there system word column e d), λ d. refl)
 
 -- the drawn sample is such a one
-pub IsDrawn-drawn_sample_of : (system : System) (slicing : LevelsView) (word : Option ℕ) (column : ℕ)
-    → IsDrawn system slicing word column (drawn_sample_of system slicing word column)
+pub IsDrawnSample-drawn_sample_of : (system : System) (slicing : LevelsView) (word : Option ℕ) (column : ℕ)
+    → IsDrawnSample system slicing word column (drawn_sample_of system slicing word column)
 unfolding drawn_sample_of is_drawn_high
-IsDrawn-drawn_sample_of system slicing None column = refl
-IsDrawn-drawn_sample_of system slicing (Some word) column = sample_from system slicing word column _ refl
+IsDrawnSample-drawn_sample_of system slicing None column = refl
+IsDrawnSample-drawn_sample_of system slicing (Some word) column = sample_from system slicing word column _ refl
 
 -- ---- rows
-
--- each sample of the row is such a one
-pub record IsDrawnRow (system : System) (slicing : LevelsView) (word : Option ℕ) (samples : List ℕ) : Type 0 where
-  pub whole : length samples ≡ width_of system
-  pub each : (column : ℕ) → column < width_of system → IsDrawn system slicing word column (get_or samples column 0)
 
 pub is_drawn_row : (system : System) (slicing : LevelsView) (word : Option ℕ)
     → IsDrawnRow system slicing word (drawn_row_of system slicing word)
@@ -101,10 +85,22 @@ unfolding drawn_row_of
 is_drawn_row system slicing word = record {
   whole = length-map-range_with_len (drawn_sample_of system slicing word) 0 (width_of system);
   each = λ column inside.
-      let P : ℕ → Type 0 = λ s. IsDrawn system slicing word column s in
+      let P : ℕ → Type 0 = λ s. IsDrawnSample system slicing word column s in
       subst P
       (sym
       (get_or-map-range_with_len (drawn_sample_of system slicing word) 0 (width_of system) column column 0 inside
       (omega arith)))
-      (IsDrawn-drawn_sample_of system slicing word column);
+      (IsDrawnSample-drawn_sample_of system slicing word column);
 }
+
+-- there is no other such row
+pub only_drawn_row : (system : System) (slicing : LevelsView) (word : Option ℕ) (samples : List ℕ)
+    → IsDrawnRow system slicing word samples → samples ≡ drawn_row_of system slicing word
+unfolding drawn_row_of
+only_drawn_row system slicing word samples row =
+    let drawn = is_drawn_row system slicing word in
+    ext_get_or 0 samples (drawn_row_of system slicing word) (row.whole ∙ sym drawn.whole) (λ column inside.
+    let within : column < width_of system = omega (arith, row.whole) in
+    drawn_sample_is system slicing word column (get_or samples column 0) (row.each column within)
+    ∙ sym (drawn_sample_is system slicing word column (get_or (drawn_row_of system slicing word) column 0)
+    (drawn.each column within)))

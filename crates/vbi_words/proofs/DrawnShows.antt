@@ -16,9 +16,9 @@ use Rattle.vbi_words.specs.Words.{IsWord, halves_of, lowest_bits, cell_of}
 use Rattle.vbi_words.specs.Shows.{Shows, Spells}
 use Rattle.vbi_words.specs.Jitter.{ShowsAmply}
 use Rattle.vbi_words.specs.Outcomes.{AllLow}
-use Rattle.vbi_words.specs.Drawn.{boundary, drawn_row_of}
+use Rattle.vbi_words.specs.Drawn.{boundary, drawn_row_of, IsDrawnHigh, IsDrawnRow}
 use Rattle.vbi_words.proofs.Bits.{length-lowest_bits}
-use Rattle.vbi_words.proofs.DrawnSamples.{DrawnHigh, IsDrawnRow, is_drawn_row}
+use Rattle.vbi_words.proofs.DrawnSamples.{is_drawn_row}
 use Rattle.vbi_words.proofs.Runs.{equal_from}
 
 -- ---- the boundaries
@@ -127,11 +127,11 @@ module _ (system : System) (slicing : LevelsView) (word : ℕ) (order : slicing.
   level_is : (c : ℕ) → c < width_of system → get_or levels c false ≡ is_high_of slicing (get_or samples c 0)
   level_is c l = get_or-map (is_high_of slicing) samples c 0 false (omega (arith, row.whole))
 
-  high_there : (c : ℕ) → c < width_of system → DrawnHigh system word c → get_or levels c false ≡ true
+  high_there : (c : ℕ) → c < width_of system → IsDrawnHigh system word c → get_or levels c false ≡ true
   high_there c l d = level_is c l ∙ ap (is_high_of slicing) ((row.each c l).0 d)
       ∙ lt-ltb (slicing.black + slicing.white) (2 * slicing.white) (omega arith)
 
-  low_there : (c : ℕ) → c < width_of system → (DrawnHigh system word c → ⊥) → get_or levels c false ≡ false
+  low_there : (c : ℕ) → c < width_of system → (IsDrawnHigh system word c → ⊥) → get_or levels c false ≡ false
   low_there c l d = level_is c l ∙ ap (is_high_of slicing) ((row.each c l).1 d)
       ∙ le-ltb (slicing.black + slicing.white) (2 * slicing.black) (omega arith)
 

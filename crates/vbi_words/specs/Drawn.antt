@@ -1,7 +1,7 @@
 -- How a word is drawn on a row: 48 half cells of one microsecond each (IEC 60857 and IEC 60856), from the start column
 -- on; and what the row is read as.
-use Rattle.std.specs.Prelude.{ℕ, ◌+◌, ◌*◌, ◌/◌, ◌%◌, ◌&&◌, nat_le, nat_lt, if◌then◌else◌, Bool, false}
-use Rattle.std.specs.Prelude.{List, [], ◌∷◌, map, slice_index_or, Option, Some, None}
+use Rattle.std.specs.Prelude.{◌≡◌, ◌≤◌, ◌<◌, ℕ, ◌+◌, ◌*◌, ◌/◌, ◌%◌, ◌&&◌, nat_le, nat_lt, if◌then◌else◌}
+use Rattle.std.specs.Prelude.{Bool, true, false, List, [], ◌∷◌, length, map, slice_index_or, Option, Some, None}
 use Rattle.std.specs.List.{flat_map, list_any, range_with_len}
 use Rattle.vbi_words.specs.declared.system.System.{System}
 use Rattle.vbi_words.specs.declared.system.System.TheVariants.{Ntsc, Pal}
@@ -43,6 +43,29 @@ sample_bytes sample = sample % 256 ∷ sample / 256 ∷ []
 -- the bytes of the drawn row
 unfoldable pub drawn_line_of : System → LevelsView → Option ℕ → List ℕ
 drawn_line_of system slicing word = flat_map sample_bytes (drawn_row_of system slicing word)
+
+-- ---- as a relation, which `laws::one_drawn_row` shows to hold of the drawn row and of no other
+
+-- the column lies in a half cell of the word that is high
+abbrev pub IsDrawnHigh : System → ℕ → ℕ → Type 0
+IsDrawnHigh system word column =
+    (j : ℕ) × (j < 48) × (boundary system j ≤ column) × (column < boundary system (j + 1))
+    × (slice_index_or (halves_of word) j false ≡ true)
+
+-- the sample of a column: white in a high half cell of the word, black elsewhere and where there is no word
+abbrev pub IsDrawnSample : System → LevelsView → Option ℕ → ℕ → ℕ → Type 0
+IsDrawnSample system slicing None column sample = sample ≡ slicing.black
+IsDrawnSample system slicing (Some word) column sample =
+    (IsDrawnHigh system word column → sample ≡ slicing.white)
+    × ((IsDrawnHigh system word column → ⊥) → sample ≡ slicing.black)
+
+-- the samples are a row, each of them that of its column
+pub record IsDrawnRow (system : System) (slicing : LevelsView) (word : Option ℕ) (samples : List ℕ) : Type 0 where
+  pub whole : length samples ≡ width_of system
+  pub each : (column : ℕ) → column < width_of system
+      → IsDrawnSample system slicing word column (slice_index_or samples column 0)
+
+-- ---- readings
 
 -- what the drawn row is read as: the word in the first pass, or blank where there is none
 abbrev pub drawn_reading : Option ℕ → Reading

@@ -6,17 +6,17 @@ ghost use Rattle.std.specs.Prelude.{[], ◌∷◌, ◌++◌, replicate, length, 
 ghost use Rattle.vbi_words.specs.declared.system.System.{System};
 ghost use Rattle.vbi_words.specs.declared.system.System.TheVariants.{Ntsc, Pal};
 ghost use Rattle.vbi_words.specs.declared.outcome.Outcome.TheVariants.{Word, Unfinished, Change, Hold};
-ghost use Rattle.vbi_words.specs.Levels.{LevelsView, levels_of, level_at, row_levels};
+ghost use Rattle.vbi_words.specs.Levels.{LevelsView, levels_of, level_at, samples_of, row_levels};
 ghost use Rattle.vbi_words.specs.Words.{IsWord, IsWordOrNone};
 ghost use Rattle.vbi_words.specs.Shows.{Shows, ShowsNone, Viable};
 ghost use Rattle.vbi_words.specs.Outcomes.{AllLow, IsOutcome};
 ghost use Rattle.vbi_words.specs.RunLimits.{EndsOtherwise, HasRunLimit};
 ghost use Rattle.vbi_words.specs.Smooth.{IsSmooth, smooth_of, Glitch};
 ghost use Rattle.vbi_words.specs.Readings.{IsReading};
-ghost use Rattle.vbi_words.specs.Drawn.{drawn_row_of, drawn_line_of, drawn_reading};
+ghost use Rattle.vbi_words.specs.Drawn.{IsDrawnRow, drawn_row_of, drawn_line_of, drawn_reading};
 ghost use Rattle.vbi_words.specs.Distance.{differences, least_distance, near_first, near_second};
 ghost use Rattle.vbi_words.specs.Distance.{turned_once, turned_twice, turned_there};
-ghost use Rattle.vbi_words.specs.Geometry.{width_of};
+ghost use Rattle.vbi_words.specs.Geometry.{width_of, line_bytes};
 ghost use Rattle.vbi_words.specs.Jitter.{ShowsAmply, IsBlurred, IsJittered, NoneAlone, ReadsWord, HasGlitches};
 ghost use Rattle.vbi_words.specs.declared.code.Code.{Code};
 ghost use Rattle.vbi_words.specs.declared.format.Format.{Format};
@@ -38,6 +38,18 @@ pub fn one_word()
 pub fn run_limit()
     ensures { (system : System) (levels : List Bool) (v : Bool)
         → EndsOtherwise levels v → Viable system (levels ++ v ∷ []) → HasRunLimit system levels v }
+{}
+
+/// A word, or none, has exactly one drawn row: white in the columns of its high half cells, black in all others. The
+/// bytes drawn are the samples of that row.
+pub fn one_drawn_row()
+    ensures is { (system : System) (slicing : LevelsView) (word : Option ℕ)
+        → IsDrawnRow system slicing word (drawn_row_of system slicing word) }
+    ensures only { (system : System) (slicing : LevelsView) (word : Option ℕ) (samples : List ℕ)
+        → IsDrawnRow system slicing word samples → samples ≡ drawn_row_of system slicing word }
+    ensures bytes { (system : System) (slicing : LevelsView) (word : Option ℕ)
+        → (length (drawn_line_of system slicing word) ≡ line_bytes system)
+        × (samples_of (drawn_line_of system slicing word) ≡ drawn_row_of system slicing word) }
 {}
 
 /// The row drawn for a word shows the word; the row drawn for none has no high level. So the bytes drawn are read as

@@ -23,7 +23,7 @@ pub loop-cells-preserved : goal.loop-cells-preserved
 loop-cells-preserved c =
     let old = c.loop-cells in
     let levels = c.args.packed.now in
-    let columns = c.in-Some.columns in
+    let columns = c.in_ok-columns.columns in
     let here : level_at levels old.column ≡ c.first_level.result
     = ap (level_at levels) (omega arith) ∙ sym (c.window-window.ensures 0 (omega arith)) ∙ sym c.first_level.ensures in
     let bits : lowest_bits old.cells old.bits ++ level_at levels old.column ∷ []
@@ -38,7 +38,7 @@ loop-cells-preserved c =
     ) in
     let inside : old.column + columns < length levels = omega (arith, c.if-column-width.false, c.width.ensures) in
     let next = reached c.args.system levels old.column c.window-window.result c.window-window.ensures columns
-    old.invariant.middle few c.in-Some.ensures inside in
+    old.invariant.middle few c.in_ok-columns.ensures inside in
     record {
       few = omega (arith, c.loop-cells-test.true);
       bits = c.with_bit-bits.ensures.range;
