@@ -37,16 +37,15 @@ fn run(rt: &HostRuntime) -> u8 {
 /// The words of the command line, the program's name first.
 fn arguments(rt: &(impl Env + AllocGlobal)) -> Result<Vec<String>, MainFault> {
     let words = match env::args(rt) {
-        Ok(words) => words.collect::<Vec<String>>(rt.alloc()),
+        Ok(words) => words,
         Err(error) if error.kind() == io::ErrorKind::OutOfMemory => {
             return Err(MainFault::OutOfMemory);
         }
         Err(_) => return Err(MainFault::NotUtf8),
     };
-    match words {
-        Ok(words) => Ok(words),
-        Err(_) => Err(MainFault::OutOfMemory),
-    }
+    words
+        .collect::<Vec<String>>(rt.alloc())
+        .map_err(|_| MainFault::OutOfMemory)
 }
 
 /// Prints why there is no job, and answers the status.
@@ -68,16 +67,17 @@ fn complain(rt: &impl Eprint, fault: MainFault) -> u8 {
 
 /// Opens what the job names, does the job, and answers the status.
 fn run_with_files(rt: &HostRuntime, job: &Job) -> Result<u8, MainFault> {
-    let meta = match &job.meta {
-        None => None,
-        Some(path) => Some(metadata(rt, path.as_str())?),
-    };
+    let meta = job
+        .meta
+        .as_ref()
+        .map(|path| metadata(rt, path.as_str()))
+        .transpose()?;
     let mut input = match &job.input {
         None => Input::Standard(rt.stdin()),
-        Some(path) => match File::open(rt, path.as_str()) {
-            Ok(file) => Input::File(file),
-            Err(_) => return Err(MainFault::CannotOpenInput),
-        },
+        Some(path) => {
+            let file = File::open(rt, path.as_str()).map_err(|_| MainFault::CannotOpenInput)?;
+            Input::File(file)
+        }
     };
     let mut output = rt.stdout();
     let bytes = meta.as_ref().map(Vec::as_slice);
@@ -100,9 +100,7 @@ fn run_with_files(rt: &HostRuntime, job: &Job) -> Result<u8, MainFault> {
 
 /// The bytes of the metadata file, up to one past those that are allowed.
 fn metadata(rt: &(impl Files + AllocGlobal), path: &str) -> Result<Vec<u8>, MainFault> {
-    let Ok(file) = File::open(rt, path) else {
-        return Err(MainFault::CannotReadMetadata);
-    };
+    let file = File::open(rt, path).map_err(|_| MainFault::CannotReadMetadata)?;
     let mut bytes = Vec::new(rt.alloc());
     match file.take(META_LIMIT as u64 + 1).read_to_end(&mut bytes) {
         Ok(_) => Ok(bytes),

@@ -36,9 +36,9 @@ use Rattle.vbi_cli.specs.declared.command_line.Verb.TheVariants.{Line, Extract, 
 
 -- metadata, where it is given, is a JSON document, and it and the options settle this config
 abbrev pub Settles : Option (List ℕ) → Overrides → ConfigView → Type 0
-Settles None given setup = IsSettled None given setup
-Settles (Some bytes) given setup =
-    (value : Data) × IsMetadata bytes value × IsSettled (Some value) given setup
+Settles None given config = IsSettled None given config
+Settles (Some bytes) given config =
+    (value : Data) × IsMetadata bytes value × IsSettled (Some value) given config
 
 -- metadata, where it is given, isn't read for this reason; or it is a JSON document, and it and the options are refused
 -- for this reason

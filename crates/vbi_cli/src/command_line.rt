@@ -102,10 +102,10 @@ fn refusal(alloc: Global, error: &clap::Error) -> Result<WordsFault, AllocError>
 
 /// The job of a command and its options.
 fn job_of(alloc: Global, name: &str, options: &ArgMatches<'_>) -> Result<Job, WordsFault> {
-    let system = match options.get_str("system") {
-        None => None,
-        Some(name) => Some(system_named(alloc, name)?),
-    };
+    let system = options
+        .get_str("system")
+        .map(|name| system_named(alloc, name))
+        .transpose()?;
     let overrides = Overrides {
         system,
         black: options.get_one::<u16>("black"),
@@ -146,8 +146,5 @@ fn system_named(alloc: Global, name: &str) -> Result<System, WordsFault>
 }
 
 fn owned(alloc: Global, text: Option<&str>) -> Result<Option<String>, AllocError> {
-    match text {
-        None => Ok(None),
-        Some(text) => Ok(Some(String::from_str(alloc, text)?)),
-    }
+    text.map(|text| String::from_str(alloc, text)).transpose()
 }

@@ -28,7 +28,7 @@ const EXAMPLES: &str = "Examples:\n\
         \x20 3  extract or show is done, and the last field was cut";
 
 /// The texts of one command's help.
-struct Texts {
+struct HelpTexts {
     name: &'static str,
     about: &'static str,
     details: &'static str,
@@ -36,7 +36,7 @@ struct Texts {
     example: &'static str,
 }
 
-const LINE: Texts = Texts {
+const LINE: HelpTexts = HelpTexts {
     name: "line",
     about: "Prints the word of one line, or why there is none",
     details: "Reads the bytes of one line (1820 for NTSC, 2270 for PAL; samples of 16 bits, low byte first), and\n\
@@ -52,7 +52,7 @@ const LINE: Texts = Texts {
         \x20 2  the command line was refused",
 };
 
-const EXTRACT: Texts = Texts {
+const EXTRACT: HelpTexts = HelpTexts {
     name: "extract",
     about: "Writes the words of every field as a JSON document",
     details: "Writes one JSON document for a TBC stream: for each field its number, the words of its lines 16, 17\n\
@@ -68,7 +68,7 @@ const EXTRACT: Texts = Texts {
         \x20 3  done, and the last field was cut (cutField has its bytes)",
 };
 
-const SHOW: Texts = Texts {
+const SHOW: HelpTexts = HelpTexts {
     name: "show",
     about: "Prints the words of every field and what they mean",
     details: "Prints a report of a TBC stream: for each field its number, whether its codes are those of a CAV or\n\
@@ -84,7 +84,7 @@ const SHOW: Texts = Texts {
         \x20 3  done, and the last field was cut",
 };
 
-const DRAW: Texts = Texts {
+const DRAW: HelpTexts = HelpTexts {
     name: "draw",
     about: "Turns rows of words into a TBC stream",
     details: "Writes a TBC stream with one field for each row of text. A row has three items with one space\n\
@@ -126,7 +126,7 @@ fn titled<'a>(alloc: Global) -> Command<'a>
 fn with_command<'a>(
     alloc: Global,
     program: Command<'a>,
-    texts: &Texts,
+    texts: &HelpTexts,
 ) -> Result<Command<'a>, AllocError>
     requires program { (fields_of program).has_globals ≡ false }
     ensures { IfOk result (λ c. (fields_of c).has_globals ≡ false) }
@@ -137,7 +137,7 @@ fn with_command<'a>(
 static SYSTEMS: [&str; 2] = ["NTSC", "PAL"];
 
 /// One command with its options, which are the same in all of them.
-fn command<'a>(alloc: Global, texts: &Texts) -> Result<Command<'a>, AllocError>
+fn command<'a>(alloc: Global, texts: &HelpTexts) -> Result<Command<'a>, AllocError>
     ensures { IfOk result (λ c. (fields_of c).has_globals ≡ false) }
 {
     let command = Command::new(alloc, texts.name)

@@ -1,6 +1,6 @@
 //! A job: settings from metadata and options, and then the command.
 
-ghost use Rattle.std.specs.Prelude.{◌≡◌, ◌≢◌, IfOk, IfErr, Err, option_map};
+ghost use Rattle.std.specs.Prelude.{◌≡◌, ◌≢◌, ◌⊎◌, IfOk, IfErr, Err, option_map};
 ghost use Rattle.vbi_line.specs.Counted.{IsSameDevice};
 ghost use Rattle.vbi_line.specs.Intake as lines;
 ghost use Rattle.vbi_field.specs.Outlet as outlets;
@@ -104,8 +104,7 @@ pub fn do_command<R: Read, W: Write>(
     match source {
         Source::Lines(intake) => match verb {
             Verb::Line => line_job(config, intake, outlet),
-            Verb::Extract => extract_job(config, intake, outlet),
-            Verb::Show => show_job(config, intake, outlet),
+            Verb::Extract | Verb::Show => stream_job(config, verb, intake, outlet),
             Verb::Draw => unreachable!("drawing reads rows"),
         },
         Source::Rows(rows) => match verb {
@@ -147,22 +146,29 @@ fn line_end(system: System, outcome: Result<Outcome, LineFault>) -> Result<Ended
     }
 }
 
-/// The command `extract`.
-fn extract_job<R: Read, W: Write>(
+/// The commands `extract` and `show`, which write the two kinds of text of a stream.
+fn stream_job<R: Read, W: Write>(
     config: &Config,
+    verb: Verb,
     intake: &mut Intake<R>,
     outlet: &mut Outlet<W>,
 ) -> Result<Ended, AppFault>
+    requires verb { (verb ≡ Verb.Extract) ⊎ (verb ≡ Verb.Show) }
     requires intake { lines.IsFresh intake.old config.now.system }
     requires outlet { outlets.IsFresh outlet.old }
     ensures same_reader { IsSameDevice (lines.counted_of intake.old) (lines.counted_of intake.new) }
     ensures same_writer { IsSameDevice (outlets.counted_of outlet.old) (outlets.counted_of outlet.new) }
-    ensures did { Does R.remaining W.contents config.now Verb.Extract (Lines intake.old) (Lines intake.new)
+    ensures did { Does R.remaining W.contents config.now verb (Lines intake.old) (Lines intake.new)
         outlet.old outlet.new result }
 {
-    numbers(config);
-    let summary = extract(config, intake, outlet);
-    end_of(summary)
+    match verb {
+        Verb::Extract => {
+            numbers(config);
+            end_of(extract(config, intake, outlet))
+        }
+        Verb::Show => end_of(show(config, intake, outlet)),
+        _ => unreachable!("the others aren't run over a stream"),
+    }
 }
 
 /// What is known of a config's numbers.
@@ -171,23 +177,6 @@ fn numbers(config: &Config)
 {
     let _levels = config.levels();
     let _max_fields = config.max_fields();
-}
-
-/// The command `show`.
-fn show_job<R: Read, W: Write>(
-    config: &Config,
-    intake: &mut Intake<R>,
-    outlet: &mut Outlet<W>,
-) -> Result<Ended, AppFault>
-    requires intake { lines.IsFresh intake.old config.now.system }
-    requires outlet { outlets.IsFresh outlet.old }
-    ensures same_reader { IsSameDevice (lines.counted_of intake.old) (lines.counted_of intake.new) }
-    ensures same_writer { IsSameDevice (outlets.counted_of outlet.old) (outlets.counted_of outlet.new) }
-    ensures did { Does R.remaining W.contents config.now Verb.Show (Lines intake.old) (Lines intake.new)
-        outlet.old outlet.new result }
-{
-    let summary = show(config, intake, outlet);
-    end_of(summary)
 }
 
 /// The job's answer to a run over a stream.
