@@ -5,12 +5,13 @@ Read in this order, each rests only on those above it. Two lists: of the contrac
 gives a line's reading (`reading_of`) is taken by its name; and with its meaning, in which a relation stands for each
 function of RELATIONS, of which a law says that it is the same.
 
-With a DOCUMENT, compares the table that stands there behind the line `<!-- definitions -->` with the source: each
-definition once, in this order, with its file and its comment.
+Each DOCUMENT has to say both counts, as `N in M lines` and `N in M`. A table that stands in one behind the line
+`<!-- definitions -->` is compared with the source: each definition once, in this order, with its file and its comment.
 
-usage: python3 tests/definitions.py [--table] [DOCUMENT]     (at the top of the repository)
+usage: python3 tests/definitions.py [--table] [DOCUMENT..]     (at the top of the repository)
 """
 import glob
+import itertools
 import os
 import re
 import sys
@@ -150,24 +151,32 @@ def rows(definitions, order):
         yield f"| `{word}` | `{crate}/specs/{name}.antt` | {comment} |"
 
 
+def fault_of(document, counts, wanted):
+    """Says what this document has otherwise than the source, or nothing."""
+    text = read(document)
+    for count in counts:
+        if not re.search(rf"\b{count}\b", text.replace("\n", " ")):
+            return f"doesn't say {count}"
+    _, mark, behind = text.partition("<!-- definitions -->\n")
+    found = [line for line in behind.split("\n\n")[0].split("\n")[2:] if line]
+    for one, other in itertools.zip_longest(found, wanted, fillvalue="no more"):
+        if mark and one != other:
+            return f"has\n{one}\nand the source\n{other}"
+    return None
+
+
 def main():
     words = [word for word in sys.argv[1:] if word != "--table"]
     definitions = Definitions()
     alone, whole = definitions.order(False), definitions.order(True)
+    counts = (f"{len(alone)} in {definitions.lines(alone)} lines", f"{len(whole)} in {definitions.lines(whole)}")
     wanted = list(rows(definitions, whole))
-    print(f"definitions: {len(alone)} in {definitions.lines(alone)} lines for the contract alone, "
-          f"{len(whole)} in {definitions.lines(whole)} with the meaning of a reading")
+    print(f"definitions: {counts[0]} for the contract alone, {counts[1]} with the meaning of a reading")
     if "--table" in sys.argv[1:]:
         print("\n".join(wanted))
-    if words:
-        behind = read(words[0]).partition("<!-- definitions -->\n")[2]
-        found = [line for line in behind.split("\n\n")[0].split("\n")[2:] if line]
-        if found != wanted:
-            wrong = next((pair for pair in zip(found + [""] * len(wanted), wanted + [""] * len(found))
-                          if pair[0] != pair[1]), None)
-            print(f"definitions: {words[0]} has\n{wrong[0]}\nand the source\n{wrong[1]}", file=sys.stderr)
-            return 1
-    return 0
+    faults = [f"definitions: {word} {fault}" for word in words if (fault := fault_of(word, counts, wanted))]
+    print("\n".join(faults), file=sys.stderr, end="\n" * bool(faults))
+    return 1 if faults else 0
 
 
 if __name__ == "__main__":
