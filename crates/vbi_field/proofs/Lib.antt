@@ -1,4 +1,5 @@
 pub mod Counts
+pub mod DrawEnds
 pub mod DrawSteps
 pub mod DrawnDocument
 pub mod DrawnLemmas
