@@ -1,24 +1,26 @@
--- What a run of drawing keeps from row to row, and how it ends.
-use Rattle.std.proofs.Common.{◌≡◌, ℕ, ◌+◌, ◌*◌, ◌≤◌, ◌<◌, ◌⊎◌, inl, inr, List, [], ◌∷◌, ◌++◌}
-use Rattle.std.proofs.Common.{length, refl, sym, ap, subst, ◌∙◌, arith, append_assoc}
+-- What a run of drawing keeps from row to row.
+use Rattle.std.proofs.Common.{◌≡◌, ℕ, ◌+◌, ◌*◌, ◌≤◌, ◌<◌, inl, inr, List, [], ◌∷◌, ◌++◌}
+use Rattle.std.proofs.Common.{length, refl, sym, ap, ◌∙◌, arith, append_assoc}
 use Rattle.std.specs.Prelude.{Option, Some, None, Result, Ok, Err, IsErrAnd}
 use Rattle.std.specs.List.{flat_map}
 use Rattle.std.specs.Io.KnownBytes.{IsAtEnd}
 use Rattle.std.proofs.lemmas.List.{append-nil, length-append}
 use Rattle.std.proofs.lemmas.Grind.{flat_map-append}
+use Rattle.vbi_words.specs.Drawn.{drawn_line_of}
+use Rattle.vbi_words.specs.Geometry.{field_bytes}
+use Rattle.vbi_words.specs.declared.system.System.TheVariants.{Pal}
+use Rattle.vbi_line.specs.Counted.{tries, device_of, failures_of, NoError, HasCause, IsSameDevice}
 use Rattle.vbi_field.specs.ConfigView.{ConfigView}
-use Rattle.vbi_line.specs.Counted.{device_of, failures_of, NoError, HasCause, IsSameDevice}
+use Rattle.vbi_field.specs.Limits.{most_rows, longest_row}
 use Rattle.vbi_field.specs.Outlet as outlets
 use Rattle.vbi_field.specs.RowIntake as intakes
-use Rattle.vbi_field.specs.RowIntake.{IsFresh, HasNoNewline, Fetches, TakesRow, TakesByte}
-use Rattle.vbi_field.specs.WordRows.{AreRows, rows_of, row_words, word_row_of}
-use Rattle.vbi_words.specs.Drawn.{drawn_line_of}
+use Rattle.vbi_field.specs.RowIntake.{IsFresh, HasNoNewline, Fetches, TakesRow}
+use Rattle.vbi_field.specs.WordRows.{newline, AreRows, rows_of, row_words, word_row_of}
 use Rattle.vbi_field.specs.Drawing.{draw_out, drawn_field_of}
-use Rattle.vbi_field.specs.Draws.{EndsRow, Draws, RunsDrawing, counts_of}
+use Rattle.vbi_field.specs.Draws.{EndsRow, RunsDrawing}
 use Rattle.vbi_field.specs.declared.outlet.Outlet.{Outlet}
 use Rattle.vbi_field.specs.declared.row_intake.RowIntake.{RowIntake}
-use Rattle.vbi_field.specs.declared.row_intake.NextRow.TheVariants.{Row, LastRow, Malformed, Ended, Failed}
-use Rattle.vbi_field.specs.declared.row_intake.NextByte.TheVariants as bytes
+use Rattle.vbi_field.specs.declared.row_intake.NextRow.TheVariants.{Row, LastRow}
 use Rattle.vbi_field.specs.declared.word_row.WordRow.{WordRow}
 use Rattle.vbi_field.specs.declared.drawing.DrawFault.{DrawFault}
 use Rattle.vbi_field.specs.declared.drawing.DrawFault.TheVariants as faults
@@ -26,7 +28,7 @@ use Rattle.vbi_field.proofs.Counts.{sizes_of}
 use Rattle.vbi_field.proofs.DrawnLemmas.{length-drawn_field_of}
 use Rattle.vbi_field.proofs.RowSteps.{Fetches-none, Fetches-more}
 use Rattle.vbi_field.proofs.Devices.{has_failed, inside_of, wrote_none, wrote_twice}
-use Rattle.vbi_field.proofs.WordRowLemmas.{rows_of-append, rows_of-line, rows_of-part, row_words-line, row_words-part}
+use Rattle.vbi_field.proofs.WordRowLemmas.{rows_of-line, rows_of-part, row_words-line, row_words-part}
 use Rattle.vbi_field.proofs.WordRowLemmas.{AreRows-more}
 
 -- a field more
@@ -52,12 +54,12 @@ module _ {R W : Type 0} (remaining : R → Option (List ℕ)) (contents : W → 
     pub ends : EndsRow z
     pub well_formed : AreRows z rows
     pub count : length rows ≡ done
-    pub long : length z ≤ 21 * done
-    pub reads : (failures_of (intakes.counted_of i)).all ≤ 357 * done
+    pub long : length z ≤ longest_row * done
+    pub reads : (failures_of (intakes.counted_of i)).all ≤ tries * longest_row * done
     pub wrote : outlets.Wrote contents o0 o (draw_out c rows)
     pub written : o.written ≡ length (draw_out c rows)
-    pub small : o.written ≤ 710510 * done
-    pub writes : (failures_of (outlets.counted_of o)).all ≤ 17 * (o.written + 313 * done)
+    pub small : o.written ≤ field_bytes Pal * done
+    pub writes : (failures_of (outlets.counted_of o)).all ≤ tries * (o.written + most_rows * done)
     pub calm_reads : (failures_of (intakes.counted_of i)).errors ≡ 0
     pub calm_writes : (failures_of (outlets.counted_of o)).errors ≡ 0
     pub same_writer : IsSameDevice (outlets.counted_of o0) (outlets.counted_of o)
@@ -94,125 +96,15 @@ module _ {R W : Type 0} (remaining : R → Option (List ℕ)) (contents : W → 
 
   module _ (done : ℕ) (i : RowIntake R) (o : Outlet W) (line : List ℕ) (g : Drawn done i o line) where
     module _ (j : RowIntake R) (b : List ℕ) (f : Fetches remaining i j b) where
-      fetches_more : Fetches remaining i0 j (g.z ++ b)
+      pub fetches_more : Fetches remaining i0 j (g.z ++ b)
       fetches_more = Fetches-more remaining i0 i j g.z b g.fetches f
 
-      fetched_more : j.fetched ≡ length (g.z ++ b)
+      pub fetched_more : j.fetched ≡ length (g.z ++ b)
       fetched_more = omega (arith, f.fetched, g.fetched, length-append g.z b)
-
-      -- the run ends with these bytes, and nothing more is written
-      ends_here : (result : Result ℕ DrawFault)
-          → Draws c (remaining (device_of (intakes.counted_of j))) (counts_of j o) result (g.z ++ b) (draw_out c g.rows)
-          → RunsDrawing remaining contents c i0 j o0 o result
-      ends_here result says =
-          let all = fetches_more in
-          let wrote = g.wrote in
-          record {
-            z = g.z ++ b;
-            text = draw_out c g.rows;
-            consumed = all.consumed;
-            appended = wrote.appended;
-            fetched = fetched_more;
-            written = g.written;
-            says = says;
-          }
 
     -- the rows with one more
     rows_count : (words : WordRow) → length (g.rows ++ words ∷ []) ≡ done + 1
     rows_count words = omega (arith, length-append g.rows (words ∷ []), g.count)
-
-    -- the reader ended after whole rows
-    ended : (j : RowIntake R) → Fetches remaining i j [] → NoError (intakes.counted_of i) (intakes.counted_of j)
-        → IsAtEnd (remaining (device_of (intakes.counted_of j))) → done ≤ c.max_fields
-        → RunsDrawing remaining contents c i0 j o0 o (Ok done)
-    ended j f calm end few = ends_here j [] f (Ok done) (record {
-      rows = g.rows;
-      well_formed = rw append-nil g.well_formed;
-      number = sym g.count;
-      few = few;
-      ended = end;
-      drawn = refl;
-      calm = (calm ∙ g.calm_reads, g.calm_writes);
-    })
-
-    -- the reader failed
-    read_failed : (j : RowIntake R) (b : List ℕ) → Fetches remaining i j b → HasNoNewline b
-        → HasCause (intakes.counted_of i) (intakes.counted_of j)
-        → (done + 1 ≤ c.max_fields) ⊎ ((done + 1 ≡ c.max_fields + 1) × (b ≡ []))
-        → RunsDrawing remaining contents c i0 j o0 o (Err (faults.Read (done + 1)))
-    read_failed j b f plain cause few = ends_here j b f (Err (faults.Read (done + 1))) (record {
-      before = g.z;
-      part = b;
-      rows = g.rows;
-      both = refl;
-      whole = g.ends;
-      unfinished = plain;
-      well_formed = g.well_formed;
-      number_of = omega (arith, g.count);
-      few = few;
-      drawn = refl;
-      failed = has_failed i.device j.device g.calm_reads cause;
-      calm = g.calm_writes;
-    })
-
-    -- a byte followed the last row that is allowed
-    pub too_many : (j : RowIntake R) (byte : ℕ) → TakesByte remaining i j (bytes.Byte byte) → done ≡ c.max_fields
-        → RunsDrawing remaining contents c i0 j o0 o (Err faults.TooManyFields)
-    too_many j byte t last = ends_here j (byte ∷ []) t.fetches (Err faults.TooManyFields) (record {
-      before = g.z;
-      byte = byte;
-      rows = g.rows;
-      both = refl;
-      whole = g.ends;
-      well_formed = g.well_formed;
-      number_of = g.count ∙ last;
-      drawn = refl;
-      calm = (t.caused ∙ g.calm_reads, g.calm_writes);
-    })
-
-    -- ---- a malformed row
-
-    module _ (j : RowIntake R) (b : List ℕ) (f : Fetches remaining i j b)
-        (calm : NoError (intakes.counted_of i) (intakes.counted_of j))
-        (few : done < c.max_fields) where
-      bad : rows_of b ≡ b ∷ [] → row_words b ≡ None
-          → ((front : List ℕ) × (b ≡ front ++ 10 ∷ [])) ⊎
-          (IsAtEnd (remaining (device_of (intakes.counted_of j))) ⊎ (length b ≡ 21))
-          → RunsDrawing remaining contents c i0 j o0 o (Err (faults.Row (done + 1)))
-      bad one malformed read_to = ends_here j b f (Err (faults.Row (done + 1))) (record {
-        before = g.z;
-        row = b;
-        rows = g.rows;
-        both = refl;
-        cut = rows_of-append g.z b g.ends ∙ ap (λ (l : List (List ℕ)). rows_of g.z ++ l) one;
-        well_formed = g.well_formed;
-        number_of = omega (arith, g.count);
-        few = omega arith;
-        malformed = malformed;
-        read_to = read_to;
-        drawn = refl;
-        calm = (calm ∙ g.calm_reads, g.calm_writes);
-      })
-
-      bad_as : (row : List ℕ) → HasNoNewline row → word_row_of row ≡ None
-          → (b ≡ row ++ 10 ∷ [])
-          ⊎
-          (((b ≡ row) × (0 < length row) × IsAtEnd (remaining (device_of (intakes.counted_of j))))
-          ⊎ ((b ≡ row) × (length row ≡ 21)))
-          → RunsDrawing remaining contents c i0 j o0 o (Err (faults.Row (done + 1)))
-      bad_as row plain none (inl e) =
-          bad (rw e (rows_of-line row plain)) (rw e (row_words-line row plain ∙ none)) (inl (row, e))
-      bad_as row plain none (inr (inl e)) =
-          bad (let e0 = e.0 in rw e0 (rows_of-part row plain e.1))
-          (ap row_words e.0 ∙ row_words-part row plain ∙ none) (inr (inl e.2))
-      bad_as row plain none (inr (inr e)) =
-          bad (let e0 = e.0 in rw e0 (rows_of-part row plain (omega (arith, e.1))))
-          (ap row_words e.0 ∙ row_words-part row plain ∙ none)
-          (inr (inr (ap length e.0 ∙ e.1)))
-
-    pub bad_row : (j : RowIntake R) (t : TakesRow remaining i j Malformed) → done < c.max_fields
-        → RunsDrawing remaining contents c i0 j o0 o (Err (faults.Row (done + 1)))
-    bad_row j t few = bad_as j t.bytes t.fetches t.caused few t.got.row t.got.plain t.got.malformed t.got.read_to
 
     -- ---- a good row was fetched, and its field is written, whole or in part
 
@@ -245,15 +137,16 @@ module _ {R W : Type 0} (remaining : R → Option (List ℕ)) (contents : W → 
             fetched = fetched_more j b f;
             written = count;
             says = rw e (record {
-              rows = g.rows;
-              last = words;
-              well_formed = well_formed_more;
-              few = omega (arith, g.count);
-              count = count;
-              inside = inside_of contents o p base (drawn_field_of c words) (draw_out c (g.rows ++ words ∷ [])) part
-                  (sym (draw_out-more c g.rows words));
-              failed = has_failed o.device p.device g.calm_writes cause;
-              calm = calm ∙ g.calm_reads;
+              devices = (has_failed o.device p.device g.calm_writes cause, calm ∙ g.calm_reads);
+              ended = record {
+                rows = g.rows;
+                last = words;
+                well_formed = well_formed_more;
+                few = omega (arith, g.count);
+                count = count;
+                inside = inside_of contents o p base (drawn_field_of c words) (draw_out c (g.rows ++ words ∷ [])) part
+                    (sym (draw_out-more c g.rows words));
+              };
             });
           }
 
@@ -281,23 +174,25 @@ module _ {R W : Type 0} (remaining : R → Option (List ℕ)) (contents : W → 
               fetched = fetched_more j b f;
               written = written_more;
               says = record {
-                rows = g.rows ++ words ∷ [];
-                well_formed = well_formed_more;
-                number = sym (rows_count words);
-                few = omega arith;
-                ended = end;
-                drawn = refl;
-                calm = (calm ∙ g.calm_reads, no_error ∙ g.calm_writes);
+                devices = (calm ∙ g.calm_reads, no_error ∙ g.calm_writes);
+                ended = record {
+                  rows = g.rows ++ words ∷ [];
+                  well_formed = well_formed_more;
+                  number = sym (rows_count words);
+                  few = omega arith;
+                  ended = end;
+                  drawn = refl;
+                };
               };
             }
 
         -- the field is written, and rows may follow
         next_row : (line : List ℕ) → IsSameDevice (outlets.counted_of o) (outlets.counted_of p)
             → line ≡ drawn_line_of c.system c.levels None → EndsRow (g.z ++ b)
-            → length b ≤ 21
-            → (failures_of (intakes.counted_of j)).all ≤ (failures_of (intakes.counted_of i)).all + 357
+            → length b ≤ longest_row
+            → (failures_of (intakes.counted_of j)).all ≤ (failures_of (intakes.counted_of i)).all + tries * longest_row
             → (failures_of (outlets.counted_of p)).all
-            ≤ (failures_of (outlets.counted_of o)).all + 17 * (length (drawn_field_of c words) + 313)
+            ≤ (failures_of (outlets.counted_of o)).all + tries * (length (drawn_field_of c words) + most_rows)
             → Drawn (done + 1) j p line
         next_row line same black ends short reads writes =
             let size = length-drawn_field_of c words in
@@ -328,15 +223,15 @@ module _ {R W : Type 0} (remaining : R → Option (List ℕ)) (contents : W → 
 
     -- ---- the same of a row with its newline, and of a last one without
 
-    line_one : (b row : List ℕ) → HasNoNewline row → b ≡ row ++ 10 ∷ [] → rows_of b ≡ b ∷ []
+    line_one : (b row : List ℕ) → HasNoNewline row → b ≡ row ++ newline ∷ [] → rows_of b ≡ b ∷ []
     line_one b row plain e = rw e (rows_of-line row plain)
 
-    line_is : (b row : List ℕ) (words : WordRow) → HasNoNewline row → b ≡ row ++ 10 ∷ [] → word_row_of row ≡ Some words
-        → row_words b ≡ Some words
+    line_is : (b row : List ℕ) (words : WordRow) → HasNoNewline row → b ≡ row ++ newline ∷ []
+        → word_row_of row ≡ Some words → row_words b ≡ Some words
     line_is b row words plain e w = rw e (row_words-line row plain ∙ w)
 
-    line_ends : (b row : List ℕ) → b ≡ row ++ 10 ∷ [] → EndsRow (g.z ++ b)
-    line_ends b row e = inr (g.z ++ row, ap (λ (l : List ℕ). g.z ++ l) e ∙ sym (append_assoc g.z row (10 ∷ [])))
+    line_ends : (b row : List ℕ) → b ≡ row ++ newline ∷ [] → EndsRow (g.z ++ b)
+    line_ends b row e = inr (g.z ++ row, ap (λ (l : List ℕ). g.z ++ l) e ∙ sym (append_assoc g.z row (newline ∷ [])))
 
     module _ (j : RowIntake R) (words : WordRow) (t : TakesRow remaining i j (Row words)) (few : done < c.max_fields)
         (p : Outlet W) where
@@ -351,7 +246,7 @@ module _ {R W : Type 0} (remaining : R → Option (List ℕ)) (contents : W → 
           → NoError (outlets.counted_of o) (outlets.counted_of p)
           → IsSameDevice (outlets.counted_of o) (outlets.counted_of p)
           → (failures_of (outlets.counted_of p)).all
-          ≤ (failures_of (outlets.counted_of o)).all + 17 * (length (drawn_field_of c words) + 313)
+          ≤ (failures_of (outlets.counted_of o)).all + tries * (length (drawn_field_of c words) + most_rows)
           → line ≡ drawn_line_of c.system c.levels None → Drawn (done + 1) j p line
       row_drawn line wrote no_error same writes black =
           next_row j t.bytes words t.fetches t.caused (line_one t.bytes t.got.0 t.got.1 t.got.2)
@@ -374,30 +269,3 @@ module _ {R W : Type 0} (remaining : R → Option (List ℕ)) (contents : W → 
           last_row j t.bytes words t.fetches t.caused (rows_of-part t.bytes t.got.0 t.got.1)
           (row_words-part t.bytes t.got.0 ∙ t.got.2)
           few p wrote no_error t.got.3
-
-    -- the reader ended after whole rows, or failed in the next
-    pub row_ended : (j : RowIntake R) (t : TakesRow remaining i j Ended) → done ≤ c.max_fields
-        → RunsDrawing remaining contents c i0 j o0 o (Ok done)
-    row_ended j t few =
-        let P : List ℕ → Type 0 = Fetches remaining i j in
-        ended j (subst P t.got.0 t.fetches) t.caused t.got.1 few
-
-    pub row_read_failed : (j : RowIntake R) (t : TakesRow remaining i j Failed) → done < c.max_fields
-        → RunsDrawing remaining contents c i0 j o0 o (Err (faults.Read (done + 1)))
-    row_read_failed j t few = read_failed j t.bytes t.fetches t.got t.caused (inl (omega arith))
-
-    pub byte_ended : (j : RowIntake R) → TakesByte remaining i j bytes.Ended → (n : ℕ) → n ≡ c.max_fields → done ≡ n
-        → RunsDrawing remaining contents c i0 j o0 o (Ok n)
-    byte_ended j t n max last =
-        let P : ℕ → Type 0 = λ k. RunsDrawing remaining contents c i0 j o0 o (Ok k) in
-        subst P last (ended j t.fetches t.caused t.got (omega arith))
-
-    pub byte_read_failed : (j : RowIntake R) → TakesByte remaining i j bytes.Failed → (n : ℕ) → n ≡ c.max_fields
-        → done ≡ n
-        → RunsDrawing remaining contents c i0 j o0 o (Err (faults.Read (n + 1)))
-    byte_read_failed j t n max last =
-        let P : ℕ → Type 0 = λ k. RunsDrawing remaining contents c i0 j o0 o (Err (faults.Read (k + 1))) in
-        subst P last (read_failed j [] t.fetches no_newline t.caused (inr (omega arith, refl)))
-      where
-        no_newline : HasNoNewline []
-        no_newline = λ k d inside. absurd (omega arith)

@@ -63,33 +63,35 @@ same_word words r (inr l) =
 -- ---- fields
 
 -- the first rows of a drawn field
-unfoldable pub lines_of : ConfigView → WordRow → ℕ → List ℕ
-lines_of c words n = flat_map (λ r. drawn_line_of c.system c.levels (word_at words r)) (range_with_len 0 n)
+unfoldable pub drawn_rows_of : ConfigView → WordRow → ℕ → List ℕ
+drawn_rows_of c words n = flat_map (λ r. drawn_line_of c.system c.levels (word_at words r)) (range_with_len 0 n)
 
-pub length-lines_of : (c : ConfigView) (words : WordRow) (n : ℕ) → length (lines_of c words n) ≡ n * line_bytes c.system
-unfolding lines_of
-length-lines_of c words n =
+pub length-drawn_rows_of : (c : ConfigView) (words : WordRow) (n : ℕ)
+    → length (drawn_rows_of c words n) ≡ n * line_bytes c.system
+unfolding drawn_rows_of
+length-drawn_rows_of c words n =
     length-flat_range (λ r. drawn_line_of c.system c.levels (word_at words r)) 0 n (line_bytes c.system)
     (λ k. length-drawn_line_of c.system c.levels (word_at words k))
 
-pub lines_of-more : (c : ConfigView) (words : WordRow) (n : ℕ)
-    → lines_of c words (n + 1) ≡ lines_of c words n ++ drawn_line_of c.system c.levels (word_at words n)
-unfolding lines_of
-lines_of-more c words n = flat_range_more (λ r. drawn_line_of c.system c.levels (word_at words r)) n
+pub drawn_rows_of-more : (c : ConfigView) (words : WordRow) (n : ℕ)
+    → drawn_rows_of c words (n + 1) ≡ drawn_rows_of c words n ++ drawn_line_of c.system c.levels (word_at words n)
+unfolding drawn_rows_of
+drawn_rows_of-more c words n = flat_range_more (λ r. drawn_line_of c.system c.levels (word_at words r)) n
 
-pub lines_of-none : (c : ConfigView) (words : WordRow) → lines_of c words 0 ≡ []
-unfolding lines_of
-lines_of-none c words = refl
+pub drawn_rows_of-none : (c : ConfigView) (words : WordRow) → drawn_rows_of c words 0 ≡ []
+unfolding drawn_rows_of
+drawn_rows_of-none c words = refl
 
-pub lines_of-all : (c : ConfigView) (words : WordRow) → lines_of c words (height_of c.system) ≡ drawn_field_of c words
-unfolding lines_of drawn_field_of
-lines_of-all c words = refl
+pub drawn_rows_of-all : (c : ConfigView) (words : WordRow)
+    → drawn_rows_of c words (height_of c.system) ≡ drawn_field_of c words
+unfolding drawn_rows_of drawn_field_of
+drawn_rows_of-all c words = refl
 
 -- the first rows, and the others
-pub lines_of-split : (c : ConfigView) (words : WordRow) (n : ℕ) → n ≤ height_of c.system
-    → (rest : List ℕ) × (drawn_field_of c words ≡ lines_of c words n ++ rest)
-unfolding lines_of drawn_field_of
-lines_of-split c words n l =
+pub drawn_rows_of-split : (c : ConfigView) (words : WordRow) (n : ℕ) → n ≤ height_of c.system
+    → (rest : List ℕ) × (drawn_field_of c words ≡ drawn_rows_of c words n ++ rest)
+unfolding drawn_rows_of drawn_field_of
+drawn_rows_of-split c words n l =
     let f : ℕ → List ℕ = λ r. drawn_line_of c.system c.levels (word_at words r) in
     let e : height_of c.system ≡ n + (height_of c.system - n) = omega arith in (
       flat_map f (range_with_len (0 + n) (height_of c.system - n)),
@@ -97,7 +99,9 @@ lines_of-split c words n l =
     )
 
 pub length-drawn_field_of : (c : ConfigView) (words : WordRow) → length (drawn_field_of c words) ≡ field_bytes c.system
-length-drawn_field_of c words = ap length (sym (lines_of-all c words)) ∙ length-lines_of c words (height_of c.system)
+length-drawn_field_of c words =
+    ap length (sym (drawn_rows_of-all c words))
+    ∙ length-drawn_rows_of c words (height_of c.system)
     ∙ sym (sizes_of c.system).field
 
 -- the last row of a field has no word

@@ -17,8 +17,8 @@ use Rattle.vbi_field.specs.Drawing.{word_at, drawn_field_of, draw_out}
 use Rattle.vbi_field.specs.DrawnReadings.{AreDrawable, drawn_readings}
 use Rattle.vbi_field.specs.ByLines.{RowReads, FieldReads}
 use Rattle.vbi_field.proofs.Counts.{sizes_of}
-use Rattle.vbi_field.proofs.DrawnLemmas.{length-drawn_field_of, lines_of, length-lines_of, lines_of-more}
-use Rattle.vbi_field.proofs.DrawnLemmas.{lines_of-split}
+use Rattle.vbi_field.proofs.DrawnLemmas.{length-drawn_field_of, drawn_rows_of, length-drawn_rows_of, drawn_rows_of-more}
+use Rattle.vbi_field.proofs.DrawnLemmas.{drawn_rows_of-split}
 
 -- ---- one row of a stream
 
@@ -52,11 +52,12 @@ line_at-draw_out : (c : ConfigView) (rows : List WordRow) (i r : ℕ) (words : W
 line_at-draw_out c rows i r words e inside =
     let field = field_at c rows i words e in
     let line = drawn_line_of c.system c.levels (word_at words r) in
-    let split = lines_of-split c words (r + 1) (omega arith) in
-    let before = lines_of c words r in
-    let long : length before ≡ line_bytes c.system * r = length-lines_of c words r ∙ mul_comm r (line_bytes c.system) in
+    let split = drawn_rows_of-split c words (r + 1) (omega arith) in
+    let before = drawn_rows_of c words r in
+    let long : length before ≡ line_bytes c.system * r =
+    length-drawn_rows_of c words r ∙ mul_comm r (line_bytes c.system) in
     let whole : drawn_field_of c words ++ field.0 ≡ before ++ (line ++ (split.0 ++ field.0)) =
-    ap (λ (l : List ℕ). l ++ field.0) (split.1 ∙ ap (λ (l : List ℕ). l ++ split.0) (lines_of-more c words r))
+    ap (λ (l : List ℕ). l ++ field.0) (split.1 ∙ ap (λ (l : List ℕ). l ++ split.0) (drawn_rows_of-more c words r))
     ∙ append_assoc (before ++ line) split.0 field.0 ∙ append_assoc before line (split.0 ++ field.0) in
     ap (take (line_bytes c.system)) (
     sym (drop-drop (line_bytes c.system * r) (i * field_bytes c.system) (draw_out c rows))

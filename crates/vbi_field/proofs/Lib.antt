@@ -1,6 +1,7 @@
 pub mod AddedRows
 pub mod Counts
 pub mod Devices
+pub mod DrawEnds
 pub mod DrawSteps
 pub mod DrawnDocument
 pub mod DrawnLemmas

@@ -5,8 +5,10 @@ use Rattle.std.specs.Io.KnownBytes.{Appends}
 use Rattle.std.proofs.KnownBytes.{Appends-trans, Appends-nil}
 use Rattle.std.proofs.lemmas.List.{length-append}
 use Rattle.vbi_words.specs.Geometry.{height_of, line_bytes}
+use Rattle.vbi_words.specs.declared.system.System.TheVariants.{Pal}
 use Rattle.vbi_field.specs.ConfigView.{ConfigView}
-use Rattle.vbi_line.specs.Counted.{device_of, failures_of, NoError, IsSameDevice}
+use Rattle.vbi_field.specs.Limits.{most_rows}
+use Rattle.vbi_line.specs.Counted.{tries, device_of, failures_of, NoError, IsSameDevice}
 use Rattle.vbi_field.specs.Outlet.{counted_of, Puts, Wrote, WrotePart}
 use Rattle.vbi_words.specs.Drawn.{drawn_line_of}
 use Rattle.vbi_field.specs.Drawing.{drawn_field_of, word_at}
@@ -14,28 +16,28 @@ use Rattle.vbi_field.specs.declared.outlet.Outlet.{Outlet}
 use Rattle.vbi_field.specs.declared.word_row.WordRow.{WordRow}
 use Rattle.vbi_field.proofs.Counts.{sizes_of}
 use Rattle.vbi_words.proofs.DrawnLines.{length-drawn_line_of}
-use Rattle.vbi_field.proofs.DrawnLemmas.{lines_of, lines_of-more}
+use Rattle.vbi_field.proofs.DrawnLemmas.{drawn_rows_of, drawn_rows_of-more}
 use Rattle.vbi_field.proofs.Devices.{wrote_whole, put_in_part, longer_part, later_part}
-use Rattle.vbi_field.proofs.DrawnLemmas.{lines_of-none, lines_of-all, lines_of-split, last_word}
+use Rattle.vbi_field.proofs.DrawnLemmas.{drawn_rows_of-none, drawn_rows_of-all, drawn_rows_of-split, last_word}
 
 module _ {W : Type 0} (contents : W → Option (List ℕ)) (c : ConfigView) (words : WordRow) (old : Outlet W) where
   -- this number of rows is written, and the line has the last of them
   pub record Putting (now : Outlet W) (line : List ℕ) (row : ℕ) : Type 0 where
     pub appended : Appends (contents (device_of (counted_of old))) (contents (device_of (counted_of now)))
-        (lines_of c words row)
-    pub written : now.written ≡ old.written + length (lines_of c words row)
-    pub small : now.written ≤ old.written + 2270 * row
+        (drawn_rows_of c words row)
+    pub written : now.written ≡ old.written + length (drawn_rows_of c words row)
+    pub small : now.written ≤ old.written + line_bytes Pal * row
     pub least : (failures_of (counted_of old)).all ≤ (failures_of (counted_of now)).all
     pub most : (failures_of (counted_of now)).all
-        ≤ (failures_of (counted_of old)).all + 17 * (length (lines_of c words row) + row)
+        ≤ (failures_of (counted_of old)).all + tries * (length (drawn_rows_of c words row) + row)
     pub errors : NoError (counted_of old) (counted_of now)
     pub same : IsSameDevice (counted_of old) (counted_of now)
     pub drawn : line ≡ drawn_line_of c.system c.levels (word_at words (row - 1))
 
   pub Putting-none : (line : List ℕ) → line ≡ drawn_line_of c.system c.levels None → Putting old line 0
   Putting-none line e = record {
-    appended = rw (lines_of-none c words) (Appends-nil _);
-    written = rw (lines_of-none c words) (omega arith);
+    appended = rw (drawn_rows_of-none c words) (Appends-nil _);
+    written = rw (drawn_rows_of-none c words) (omega arith);
     small = omega arith;
     least = omega arith;
     most = omega arith;
@@ -57,9 +59,9 @@ module _ {W : Type 0} (contents : W → Option (List ℕ)) (c : ConfigView) (wor
   Putting-more now new before line row p e puts ok no_error same =
       let sizes = sizes_of c.system in
       let long = long_line line (word_at words row) e in
-      let joined : lines_of c words (row + 1) ≡ lines_of c words row ++ line
-      = lines_of-more c words row ∙ ap (λ (l : List ℕ). lines_of c words row ++ l) (sym e) in
-      let longer = ap length joined ∙ length-append (lines_of c words row) line in
+      let joined : drawn_rows_of c words (row + 1) ≡ drawn_rows_of c words row ++ line
+      = drawn_rows_of-more c words row ∙ ap (λ (l : List ℕ). drawn_rows_of c words row ++ l) (sym e) in
+      let longer = ap length joined ∙ length-append (drawn_rows_of c words row) line in
       let w = p.written in
       let small = p.small in
       let least = p.least in
@@ -71,7 +73,7 @@ module _ {W : Type 0} (contents : W → Option (List ℕ)) (c : ConfigView) (wor
       record {
         appended =
             rw joined
-            (Appends-trans _ _ _ (lines_of c words row) line p.appended
+            (Appends-trans _ _ _ (drawn_rows_of c words row) line p.appended
             (let wrote = wrote_whole contents now new line puts ok in wrote.appended));
         written = omega arith;
         small = omega arith;
@@ -86,9 +88,10 @@ module _ {W : Type 0} (contents : W → Option (List ℕ)) (c : ConfigView) (wor
   pub put_whole : (now : Outlet W) (line : List ℕ) (row : ℕ) → Putting now line row → row ≡ height_of c.system
       → Wrote contents old now (drawn_field_of c words) × (line ≡ drawn_line_of c.system c.levels None)
       × ((failures_of (counted_of now)).all ≤ (failures_of (counted_of old)).all
-      + 17 * (length (drawn_field_of c words) + 313))
+      + tries * (length (drawn_field_of c words) + most_rows))
   put_whole now line row p e =
-      let whole : lines_of c words row ≡ drawn_field_of c words = ap (lines_of c words) e ∙ lines_of-all c words in
+      let whole : drawn_rows_of c words row ≡ drawn_field_of c words =
+      ap (drawn_rows_of c words) e ∙ drawn_rows_of-all c words in
       let long = ap length whole in
       let w = p.written in
       let most = p.most in
@@ -106,11 +109,11 @@ module _ {W : Type 0} (contents : W → Option (List ℕ)) (c : ConfigView) (wor
       → new.written < now.written + length line
       → WrotePart contents old new (drawn_field_of c words)
       × ((failures_of (counted_of new)).all ≤ (failures_of (counted_of old)).all
-      + 17 * (length (drawn_field_of c words) + 313))
+      + tries * (length (drawn_field_of c words) + most_rows))
   put_part now new before line row p inside e puts less =
-      let base = lines_of c words row in
-      let split = lines_of-split c words (row + 1) (omega arith) in
-      let joined : lines_of c words (row + 1) ≡ base ++ line = lines_of-more c words row
+      let base = drawn_rows_of c words row in
+      let split = drawn_rows_of-split c words (row + 1) (omega arith) in
+      let joined : drawn_rows_of c words (row + 1) ≡ base ++ line = drawn_rows_of-more c words row
       ∙ ap (λ (l : List ℕ). base ++ l) (sym e) in
       let field : (base ++ line) ++ split.0 ≡ drawn_field_of c words =
       sym (split.1 ∙ ap (λ (l : List ℕ). l ++ split.0) joined) in

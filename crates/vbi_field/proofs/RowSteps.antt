@@ -1,11 +1,12 @@
 -- What the calls of an intake of rows keep from read to read.
-use Rattle.std.proofs.Common.{◌≡◌, ◌≢◌, ℕ, zero, suc, ◌+◌, ◌*◌, ◌<◌, ◌≤◌, List, [], ◌∷◌, ◌++◌}
+use Rattle.std.proofs.Common.{◌≡◌, ℕ, ◌+◌, ◌*◌, ◌<◌, ◌≤◌, List, [], ◌∷◌, ◌++◌}
 use Rattle.std.proofs.Common.{length, take, inl, inr, refl, sym, subst, ◌∙◌, arith}
 use Rattle.std.specs.Prelude.{Option, Some, None}
 use Rattle.std.proofs.KnownBytes.{Consumes-trans, Consumes-nil}
-use Rattle.std.proofs.lemmas.List.{append-nil, length-append, length-take-le}
-use Rattle.vbi_field.specs.WordRows.{word_row_of}
-use Rattle.vbi_line.specs.Counted.{failures_of, NoError}
+use Rattle.std.proofs.lemmas.List.{length-append, length-take-le}
+use Rattle.vbi_field.specs.WordRows.{newline, word_row_of}
+use Rattle.vbi_line.specs.Counted.{tries, failures_of, NoError}
+use Rattle.vbi_field.specs.Limits.{longest_row}
 use Rattle.vbi_field.specs.RowIntake.{counted_of, HasNoNewline, Fetches, TakesByte, TakesRow}
 use Rattle.vbi_field.specs.declared.word_row.WordRow.{WordRow}
 use Rattle.vbi_field.specs.declared.row_intake.RowIntake.{RowIntake}
@@ -13,18 +14,14 @@ use Rattle.vbi_field.specs.declared.row_intake.NextByte.TheVariants as bytes
 use Rattle.vbi_field.specs.declared.row_intake.NextRow.TheVariants.{Row, Malformed}
 use Rattle.vbi_field.proofs.WordRowLemmas.{long_row}
 
-all_one : (byte : ℕ) → byte ≢ 10 → HasNoNewline (byte ∷ [])
-all_one byte other zero d inside = other
-all_one byte other (suc k) d inside = absurd (omega arith)
-
 module _ {R : Type 0} (remaining : R → Option (List ℕ)) where
   -- this number of bytes of a row is held, none of them a newline
   pub record Held (old now : RowIntake R) (row : List ℕ) (held : ℕ) : Type 0 where
     pub fetches : Fetches remaining old now (take held row)
-    pub most : (failures_of (counted_of now)).all ≤ (failures_of (counted_of old)).all + 17 * held
+    pub most : (failures_of (counted_of now)).all ≤ (failures_of (counted_of old)).all + tries * held
     pub errors : NoError (counted_of old) (counted_of now)
     pub plain : HasNoNewline (take held row)
-    pub long : length row ≡ 21
+    pub long : length row ≡ longest_row
 
   pub Fetches-none : (i : RowIntake R) → Fetches remaining i i []
   Fetches-none i = record { consumed = Consumes-nil _; fetched = omega arith; least = omega arith; same = refl }
@@ -45,23 +42,24 @@ module _ {R : Type 0} (remaining : R → Option (List ℕ)) where
         same = g.same ∙ f.same;
       }
 
-  module _ (old now new : RowIntake R) (row : List ℕ) (held : ℕ) (h : Held old now row held) (inside : held < 21) where
+  module _ (old now new : RowIntake R) (row : List ℕ) (held : ℕ) (h : Held old now row held)
+      (inside : held < longest_row) where
     short : length (take held row) ≡ held
     short = length-take-le held row (omega (arith, h.long))
 
-    module _ (byte : ℕ) (t : TakesByte remaining now new (bytes.Byte byte)) (newline : byte ≡ 10) where
-      with_newline : Fetches remaining old new (take held row ++ 10 ∷ [])
+    module _ (byte : ℕ) (t : TakesByte remaining now new (bytes.Byte byte)) (is_newline : byte ≡ newline) where
+      with_newline : Fetches remaining old new (take held row ++ newline ∷ [])
       with_newline =
           let P : ℕ → Type 0 = λ b. Fetches remaining old new (take held row ++ b ∷ []) in
-          subst P newline (Fetches-more old now new (take held row) (byte ∷ []) h.fetches t.fetches)
+          subst P is_newline (Fetches-more old now new (take held row) (byte ∷ []) h.fetches t.fetches)
 
-      few : length (take held row ++ 10 ∷ []) ≤ 21
-      few = omega (arith, length-append (take held row) (10 ∷ []), short)
+      few : length (take held row ++ newline ∷ []) ≤ longest_row
+      few = omega (arith, length-append (take held row) (newline ∷ []), short)
 
       pub newline_came : (words : WordRow) → Some words ≡ word_row_of (take held row)
           → TakesRow remaining old new (Row words)
       newline_came words w = record {
-        bytes = take held row ++ 10 ∷ [];
+        bytes = take held row ++ newline ∷ [];
         fetches = with_newline;
         short = few;
         most = omega (arith, h.most, t.most);
@@ -71,7 +69,7 @@ module _ {R : Type 0} (remaining : R → Option (List ℕ)) where
 
       pub bad_newline_came : None ≡ word_row_of (take held row) → TakesRow remaining old new Malformed
       bad_newline_came w = record {
-        bytes = take held row ++ 10 ∷ [];
+        bytes = take held row ++ newline ∷ [];
         fetches = with_newline;
         short = few;
         most = omega (arith, h.most, t.most);
@@ -79,23 +77,20 @@ module _ {R : Type 0} (remaining : R → Option (List ℕ)) where
         caused = t.caused ∙ h.errors;
       }
 
-    -- no byte was fetched
-    as_held : Fetches remaining now new [] → Fetches remaining old new (take held row)
-    as_held f = rw append-nil at (Fetches-more old now new (take held row) [] h.fetches f)
-
-  -- a row of 21 bytes
-  pub too_long : (old now : RowIntake R) (row : List ℕ) → Held old now row 21 → TakesRow remaining old now Malformed
+  -- a row as long as a malformed one may get
+  pub too_long : (old now : RowIntake R) (row : List ℕ) → Held old now row longest_row
+      → TakesRow remaining old now Malformed
   too_long old now row h =
-      let long = length-take-le 21 row (omega (arith, h.long)) in
+      let long = length-take-le longest_row row (omega (arith, h.long)) in
       record {
-        bytes = take 21 row;
+        bytes = take longest_row row;
         fetches = h.fetches;
         short = omega arith;
         most = omega (arith, h.most);
         got = record {
-          row = take 21 row;
+          row = take longest_row row;
           plain = h.plain;
-          malformed = long_row (take 21 row) (omega arith);
+          malformed = long_row (take longest_row row) (omega arith);
           read_to = inr (inr (refl, long));
         };
         caused = h.errors;

@@ -57,7 +57,7 @@ item_is : (text : List ℕ) (item : Option ℕ) → item_of text ≡ Some item �
 unfolding item_of
 item_is text item e = item_from text item _ _ refl refl e
 
--- and each item is found
+-- each item is found
 is_item : (text : List ℕ) (item : Option ℕ) → IsItem text item → item_of text ≡ Some item
 unfolding item_of
 is_item text None e = rw e refl

@@ -13,39 +13,41 @@ use Rattle.std.proofs.lemmas.List.Splits.{join_with_byte-slice_split}
 use Rattle.std.proofs.lemmas.Bool.Decides.{nat_tests}
 use Rattle.vbi_field.specs.declared.word_row.WordRow.{WordRow}
 use Rattle.vbi_field.specs.WordRows.{parts_of, item_of, row_of_items, row_of_parts, word_row_of, rows_of, row_words}
-use Rattle.vbi_field.specs.WordRows.{AreRows}
+use Rattle.vbi_field.specs.WordRows.{newline, space, AreRows}
 use Rattle.vbi_field.specs.RowIntake.{HasNoNewline}
 use Rattle.vbi_field.specs.Draws.{EndsRow}
 
 -- ---- the parts of a row
 
-cut_from : (text : List ℕ) (at n : ℕ) (b : Bool) → position_or_len (λ c. c == 32) text ≡ n → nat_lt n (length text) ≡ b
+cut_from : (text : List ℕ) (at n : ℕ) (b : Bool)
+    → position_or_len (λ c. c == space) text ≡ n → nat_lt n (length text) ≡ b
     → cond b (Some n) None ≡ Some at
     → parts_of text ≡ take at text ∷ parts_of (take (length text - (at + 1)) (drop (at + 1) text))
 cut_from text at n true p t e =
     let same : n ≡ at = cc in
-    let here : position_or_len (λ c. c == 32) text ≡ at = p ∙ same in
-    let first = slice_split_first (λ c. c == 32) text 0 (omega (arith, ltb-true n (length text) t, p)) in
+    let here : position_or_len (λ c. c == space) text ≡ at = p ∙ same in
+    let first = slice_split_first (λ c. c == space) text 0 (omega (arith, ltb-true n (length text) t, p)) in
     first
     ∙ ap (λ (k : ℕ). take k text ∷ parts_of (drop (k + 1) text)) here
     ∙ ap (λ (l : List ℕ). take at text ∷ parts_of l) (sym (take_rest text (at + 1)))
 cut_from text at n false p t e = cc
 
 -- the part before the first space
-pub cut_at : (text : List ℕ) (at : ℕ) → position (λ c. c == 32) text ≡ Some at
+pub cut_at : (text : List ℕ) (at : ℕ) → position (λ c. c == space) text ≡ Some at
     → parts_of text ≡ take at text ∷ parts_of (take (length text - (at + 1)) (drop (at + 1) text))
 cut_at text at e = cut_from text at _ _ refl refl e
 
-uncut_from : (text : List ℕ) (n : ℕ) (b : Bool) → position_or_len (λ c. c == 32) text ≡ n → nat_lt n (length text) ≡ b
+uncut_from : (text : List ℕ) (n : ℕ) (b : Bool)
+    → position_or_len (λ c. c == space) text ≡ n → nat_lt n (length text) ≡ b
     → cond b (Some n) None ≡ None → parts_of text ≡ text ∷ []
 uncut_from text n true p t e = cc
 uncut_from text n false p t e =
-    slice_split_none (λ c. c == 32) text
-    (All-from_get_or (λ c. (c == 32) ≡ false) text 0
-    (λ k l. fails_before_first (λ c. c == 32) text k 0 (omega (arith, ltb-false n (length text) t, p, l))))
+    slice_split_none (λ c. c == space) text
+    (All-from_get_or (λ c. (c == space) ≡ false) text 0
+    (λ k l. fails_before_first (λ c. c == space) text k 0 (omega (arith, ltb-false n (length text) t, p, l))))
 
 -- without a space there is one part
-pub uncut : (text : List ℕ) → position (λ c. c == 32) text ≡ None → parts_of text ≡ text ∷ []
+pub uncut : (text : List ℕ) → position (λ c. c == space) text ≡ None → parts_of text ≡ text ∷ []
 uncut text e = uncut_from text _ _ refl refl e
 
 -- ---- the words of a row
@@ -76,8 +78,8 @@ pub four_parts : (row first rest second last third more : List ℕ) → parts_of
     → parts_of last ≡ third ∷ parts_of more → None ≡ word_row_of row
 unfolding word_row_of
 four_parts row first rest second last third more e f g =
-    too_many_parts first second third (parts_of more) (count_by (λ c. c == 32) more)
-    (length-slice_split (λ c. c == 32) more)
+    too_many_parts first second third (parts_of more) (count_by (λ c. c == space) more)
+    (length-slice_split (λ c. c == space) more)
     ∙ ap row_of_parts (sym (e ∙ ap (λ (l : List (List ℕ)). first ∷ l) (f ∙ ap (λ (l : List (List ℕ)). second ∷ l) g)))
 
 -- an item has at most six bytes
@@ -143,9 +145,9 @@ some_cond : (b : Bool) (c : ℕ) (rows : List (List ℕ)) → IsSome_rows (cond 
 some_cond true c rows = record { first = c ∷ []; others = rows; whole = refl }
 some_cond false c rows = some_onto c rows
 
-some_after : (front : List ℕ) → IsSome_rows (rows_of (front ++ 10 ∷ []))
-some_after [] = record { first = 10 ∷ []; others = []; whole = refl }
-some_after (c ∷ cs) = some_cond (c == 10) c (rows_of (cs ++ 10 ∷ []))
+some_after : (front : List ℕ) → IsSome_rows (rows_of (front ++ newline ∷ []))
+some_after [] = record { first = newline ∷ []; others = []; whole = refl }
+some_after (c ∷ cs) = some_cond (c == newline) c (rows_of (cs ++ newline ∷ []))
 
 onto_append : (c : ℕ) (rows more : List (List ℕ)) → IsSome_rows rows
     → onto_first c (rows ++ more) ≡ onto_first c rows ++ more
@@ -160,10 +162,11 @@ cut_cond : (b : Bool) (c : ℕ) (both rows more : List (List ℕ)) → both ≡ 
 cut_cond true c both rows more e some = ap (λ (l : List (List ℕ)). (c ∷ []) ∷ l) e
 cut_cond false c both rows more e some = ap (onto_first c) e ∙ onto_append c rows more some
 
-cut_after : (front more : List ℕ) → rows_of (front ++ 10 ∷ more) ≡ rows_of (front ++ 10 ∷ []) ++ rows_of more
+cut_after : (front more : List ℕ) → rows_of (front ++ newline ∷ more) ≡ rows_of (front ++ newline ∷ []) ++ rows_of more
 cut_after [] more = refl
 cut_after (c ∷ cs) more =
-    cut_cond (c == 10) c (rows_of (cs ++ 10 ∷ more)) (rows_of (cs ++ 10 ∷ [])) (rows_of more) (cut_after cs more)
+    cut_cond (c == newline) c (rows_of (cs ++ newline ∷ more)) (rows_of (cs ++ newline ∷ [])) (rows_of more)
+    (cut_after cs more)
     (some_after cs)
 
 -- more text adds rows to whole rows
@@ -171,10 +174,10 @@ pub rows_of-append : (text more : List ℕ) → EndsRow text → rows_of (text +
 rows_of-append text more (inl e) = rw e refl
 rows_of-append text more (inr (front, e)) = rw (e, append_assoc) (cut_after front more)
 
-not_newline : (c : ℕ) → c ≢ 10 → (c == 10) ≡ false
+not_newline : (c : ℕ) → c ≢ newline → (c == newline) ≡ false
 not_newline c other = grind (arith, nat_tests)
 
-plain_first : (c : ℕ) (cs : List ℕ) → HasNoNewline (c ∷ cs) → (c == 10) ≡ false
+plain_first : (c : ℕ) (cs : List ℕ) → HasNoNewline (c ∷ cs) → (c == newline) ≡ false
 plain_first c cs plain = not_newline c (plain 0 0 (omega arith))
 
 plain_rest : (c : ℕ) (cs : List ℕ) → HasNoNewline (c ∷ cs) → HasNoNewline cs
@@ -186,10 +189,10 @@ onto_cond true c first rows e f = cc
 onto_cond false c first rows e f = ap (onto_first c) f
 
 -- a row with its newline
-pub rows_of-line : (row : List ℕ) → HasNoNewline row → rows_of (row ++ 10 ∷ []) ≡ (row ++ 10 ∷ []) ∷ []
+pub rows_of-line : (row : List ℕ) → HasNoNewline row → rows_of (row ++ newline ∷ []) ≡ (row ++ newline ∷ []) ∷ []
 rows_of-line [] plain = refl
 rows_of-line (c ∷ cs) plain =
-    onto_cond (c == 10) c (cs ++ 10 ∷ []) (rows_of (cs ++ 10 ∷ [])) (plain_first c cs plain)
+    onto_cond (c == newline) c (cs ++ newline ∷ []) (rows_of (cs ++ newline ∷ [])) (plain_first c cs plain)
     (rows_of-line cs (plain_rest c cs plain))
 
 one_cond : (b : Bool) (c : ℕ) → cond b ((c ∷ []) ∷ []) (onto_first c []) ≡ (c ∷ []) ∷ []
@@ -199,25 +202,27 @@ one_cond false c = refl
 -- a last row without newline
 pub rows_of-part : (row : List ℕ) → HasNoNewline row → 0 < length row → rows_of row ≡ row ∷ []
 rows_of-part [] plain some = absurd (omega arith)
-rows_of-part (c ∷ []) plain some = one_cond (c == 10) c
+rows_of-part (c ∷ []) plain some = one_cond (c == newline) c
 rows_of-part (c ∷ d ∷ cs) plain some =
-    onto_cond (c == 10) c (d ∷ cs) (rows_of (d ∷ cs)) (plain_first c (d ∷ cs) plain)
+    onto_cond (c == newline) c (d ∷ cs) (rows_of (d ∷ cs)) (plain_first c (d ∷ cs) plain)
     (rows_of-part (d ∷ cs) (plain_rest c (d ∷ cs) plain) (omega arith))
 
 -- the words of a row with its newline, and without
-pub row_words-line : (row : List ℕ) → HasNoNewline row → row_words (row ++ 10 ∷ []) ≡ word_row_of row
+pub row_words-line : (row : List ℕ) → HasNoNewline row → row_words (row ++ newline ∷ []) ≡ word_row_of row
 row_words-line row plain =
-    let at : position_or_len (λ c. c == 10) (row ++ 10 ∷ []) ≡ length row
-    = position_or_len_is (λ c. c == 10) (row ++ 10 ∷ []) (length row) 0 (omega (arith, length-append row (10 ∷ [])))
-    (λ k l. ap (λ (c : ℕ). c == 10) (get_or_append_left row (10 ∷ []) 0 k l)
+    let at : position_or_len (λ c. c == newline) (row ++ newline ∷ []) ≡ length row
+    = position_or_len_is (λ c. c == newline) (row ++ newline ∷ []) (length row) 0
+    (omega (arith, length-append row (newline ∷ [])))
+    (λ k l. ap (λ (c : ℕ). c == newline) (get_or_append_left row (newline ∷ []) 0 k l)
     ∙ not_newline (get_or row k 0) (plain k 0 l))
-    (λ l. ap (λ (c : ℕ). c == 10) (get_or_push row 10 0 (length row) refl)) in
-    ap (λ (n : ℕ). word_row_of (take n (row ++ 10 ∷ []))) at ∙ ap word_row_of (take_at row (10 ∷ []) (length row) refl)
+    (λ l. ap (λ (c : ℕ). c == newline) (get_or_push row newline 0 (length row) refl)) in
+    ap (λ (n : ℕ). word_row_of (take n (row ++ newline ∷ []))) at
+    ∙ ap word_row_of (take_at row (newline ∷ []) (length row) refl)
 
 pub row_words-part : (row : List ℕ) → HasNoNewline row → row_words row ≡ word_row_of row
 row_words-part row plain =
-    let at : position_or_len (λ c. c == 10) row ≡ length row
-    = position_or_len_is (λ c. c == 10) row (length row) 0 (omega arith)
+    let at : position_or_len (λ c. c == newline) row ≡ length row
+    = position_or_len_is (λ c. c == newline) row (length row) 0 (omega arith)
     (λ k l. not_newline (get_or row k 0) (plain k 0 l)) (λ l. absurd (omega arith)) in
     ap (λ (n : ℕ). word_row_of (take n row)) at ∙ ap word_row_of (take_all (length row) row (omega arith))
 

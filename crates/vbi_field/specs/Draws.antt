@@ -21,7 +21,7 @@ use Rattle.vbi_field.specs.declared.word_row.WordRow.{WordRow}
 abbrev pub EndsRow : List ℕ → Type 0
 EndsRow text = (text ≡ []) ⊎ ((front : List ℕ) × (text ≡ front ++ newline ∷ []))
 
-module _ (c : ConfigView) (input : Option (List ℕ)) (n : Counts) (z text : List ℕ) where
+module _ (c : ConfigView) (input : Option (List ℕ)) (z text : List ℕ) where
   -- Ok: the reader ended behind this many rows, each of them well formed, and their fields were written
   pub record DrawsAll (count : ℕ) : Type 0 where
     pub rows : List WordRow
@@ -30,7 +30,6 @@ module _ (c : ConfigView) (input : Option (List ℕ)) (n : Counts) (z text : Lis
     pub few : count ≤ c.max_fields
     pub ended : IsAtEnd input
     pub drawn : text ≡ draw_out c rows
-    pub calm : IsCalm n
 
   -- `Row`: the row of this number, which is allowed, is malformed, all before it are well formed, and their fields were
   -- written; the row was read up to its newline, the reader's end or its 21st byte
@@ -46,7 +45,6 @@ module _ (c : ConfigView) (input : Option (List ℕ)) (n : Counts) (z text : Lis
     pub malformed : row_words row ≡ None
     pub read_to : ((front : List ℕ) × (row ≡ front ++ newline ∷ [])) ⊎ (IsAtEnd input ⊎ (length row ≡ longest_row))
     pub drawn : text ≡ draw_out c rows
-    pub calm : IsCalm n
 
   -- `Read`: the reader failed before the row of this number was read whole, all before it are well formed, and their
   -- fields were written; the row is allowed, or it is the first that isn't and none of its bytes was fetched
@@ -61,8 +59,6 @@ module _ (c : ConfigView) (input : Option (List ℕ)) (n : Counts) (z text : Lis
     pub number_of : number ≡ length rows + 1
     pub few : (number ≤ c.max_fields) ⊎ ((number ≡ c.max_fields + 1) × (part ≡ []))
     pub drawn : text ≡ draw_out c rows
-    pub failed : HasFailed n.reader
-    pub calm : n.writer.errors ≡ 0
 
   -- `TooManyFields`: a byte followed the last row that is allowed, all these are well formed, and their fields were
   -- written
@@ -75,7 +71,6 @@ module _ (c : ConfigView) (input : Option (List ℕ)) (n : Counts) (z text : Lis
     pub well_formed : AreRows before rows
     pub number_of : length rows ≡ c.max_fields
     pub drawn : text ≡ draw_out c rows
-    pub calm : IsCalm n
 
   -- `Write`: the writer failed after this many bytes, inside the field of the last of the rows that were fetched
   pub record StopsAtWrite (written : ℕ) : Type 0 where
@@ -85,16 +80,26 @@ module _ (c : ConfigView) (input : Option (List ℕ)) (n : Counts) (z text : Lis
     pub few : length rows + 1 ≤ c.max_fields
     pub count : written ≡ length text
     pub inside : EndsInside (draw_out c rows) (draw_out c (rows ++ last ∷ [])) text
-    pub failed : HasFailed n.writer
-    pub calm : n.reader.errors ≡ 0
 
--- what was done, by the answer
-abbrev pub Draws : ConfigView → Option (List ℕ) → Counts → Result ℕ DrawFault → List ℕ → List ℕ → Type 0
-Draws c input n (Ok count) z text = DrawsAll c input n z text count
-Draws c input n (Err (Row number)) z text = StopsAtRow c input n z text number
-Draws c input n (Err (Read number)) z text = StopsAtRead c input n z text number
-Draws c input n (Err (Write written)) z text = StopsAtWrite c input n z text written
-Draws c input n (Err TooManyFields) z text = StopsAtLimit c input n z text
+  -- how far the drawing came, by the answer
+  abbrev pub EndsBy : Result ℕ DrawFault → Type 0
+  EndsBy (Ok count) = DrawsAll count
+  EndsBy (Err (Row number)) = StopsAtRow number
+  EndsBy (Err (Read number)) = StopsAtRead number
+  EndsBy (Err (Write written)) = StopsAtWrite written
+  EndsBy (Err TooManyFields) = StopsAtLimit
+
+-- the device that a fault names failed for good, and no other gave an error; interruptions were tried again
+abbrev pub FailsBy : Result ℕ DrawFault → Counts → Type 0
+FailsBy (Err (Read number)) n = HasFailed n.reader × (n.writer.errors ≡ 0)
+FailsBy (Err (Write written)) n = HasFailed n.writer × (n.reader.errors ≡ 0)
+FailsBy _ n = IsCalm n
+
+-- what was done, by the answer: which device failed, and how far the drawing came
+pub record Draws (c : ConfigView) (input : Option (List ℕ)) (n : Counts) (result : Result ℕ DrawFault) (z text : List ℕ)
+    : Type 0 where
+  pub devices : FailsBy result n
+  pub ended : EndsBy c input z text result
 
 -- what a fresh intake of rows and a fresh outlet counted since; no sample is looked at
 abbrev pub counts_of : {R W : Type 0} → RowIntake R → Outlet W → Counts

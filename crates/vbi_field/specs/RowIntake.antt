@@ -10,7 +10,7 @@ use Rattle.vbi_field.specs.declared.row_intake.RowIntake.{RowIntake}
 use Rattle.vbi_field.specs.declared.row_intake.NextByte.{NextByte}
 use Rattle.vbi_field.specs.declared.row_intake.NextByte.TheVariants as bytes
 use Rattle.vbi_field.specs.declared.row_intake.NextRow.{NextRow}
-use Rattle.vbi_field.specs.declared.row_intake.NextRow.TheVariants.{Row, LastRow, Malformed, Ended, Failed}
+use Rattle.vbi_field.specs.declared.row_intake.NextRow.TheVariants.{Row, LastRow, Malformed, AtEnd, Failed}
 
 -- no byte of the text is a newline
 abbrev pub HasNoNewline : List ℕ → Type 0
@@ -19,7 +19,7 @@ HasNoNewline text = All (λ c. c ≢ newline) text
 -- the bytes that were fetched
 abbrev pub byte_of : NextByte → List ℕ
 byte_of (bytes.Byte byte) = byte ∷ []
-byte_of bytes.Ended = []
+byte_of bytes.AtEnd = []
 byte_of bytes.Failed = []
 
 module _ {R : Type 0} where
@@ -46,13 +46,13 @@ module _ {R : Type 0} where
   -- the reader is at its end where that is the answer
   abbrev pub GotByte : (R → Option (List ℕ)) → RowIntake R → RowIntake R → NextByte → Type 0
   GotByte remaining old new (bytes.Byte byte) = ⊤
-  GotByte remaining old new bytes.Ended = IsAtEnd (remaining (device_of (counted_of new)))
+  GotByte remaining old new bytes.AtEnd = IsAtEnd (remaining (device_of (counted_of new)))
   GotByte remaining old new bytes.Failed = ⊤
 
   -- no error was given, or else the answer is a fault, which has its cause
   abbrev pub HasByteCause : RowIntake R → RowIntake R → NextByte → Type 0
   HasByteCause old new (bytes.Byte byte) = NoError (counted_of old) (counted_of new)
-  HasByteCause old new bytes.Ended = NoError (counted_of old) (counted_of new)
+  HasByteCause old new bytes.AtEnd = NoError (counted_of old) (counted_of new)
   HasByteCause old new bytes.Failed = HasCause (counted_of old) (counted_of new)
 
   pub record TakesByte (remaining : R → Option (List ℕ)) (old new : RowIntake R) (answer : NextByte) : Type 0 where
@@ -79,7 +79,7 @@ module _ {R : Type 0} where
       HasNoNewline bytes × (0 < length bytes) × (word_row_of bytes ≡ Some words)
       × IsAtEnd (remaining (device_of (counted_of new)))
   GotRow remaining old new bytes Malformed = IsMalformed remaining new bytes
-  GotRow remaining old new bytes Ended = (bytes ≡ []) × IsAtEnd (remaining (device_of (counted_of new)))
+  GotRow remaining old new bytes AtEnd = (bytes ≡ []) × IsAtEnd (remaining (device_of (counted_of new)))
   GotRow remaining old new bytes Failed = HasNoNewline bytes
 
   -- no error was given, or else the answer is a fault, which has its cause
@@ -87,7 +87,7 @@ module _ {R : Type 0} where
   HasRowCause old new (Row words) = NoError (counted_of old) (counted_of new)
   HasRowCause old new (LastRow words) = NoError (counted_of old) (counted_of new)
   HasRowCause old new Malformed = NoError (counted_of old) (counted_of new)
-  HasRowCause old new Ended = NoError (counted_of old) (counted_of new)
+  HasRowCause old new AtEnd = NoError (counted_of old) (counted_of new)
   HasRowCause old new Failed = HasCause (counted_of old) (counted_of new)
 
   pub record TakesRow (remaining : R → Option (List ℕ)) (old new : RowIntake R) (answer : NextRow) : Type 0 where

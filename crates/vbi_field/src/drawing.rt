@@ -129,8 +129,8 @@ pub fn draw<R: Read, W: Write>(
     ensures same_writer { IsSameDevice (outlets.counted_of outlet.old) (outlets.counted_of outlet.new) }
     ensures run { RunsDrawing R.remaining W.contents config.now rows.old rows.new outlet.old outlet.new result }
 {
-    let mut cells = [0u8; LONGEST_LINE];
-    let line = &mut cells[..config.line_bytes()];
+    let mut bytes = [0u8; LONGEST_LINE];
+    let line = &mut bytes[..config.line_bytes()];
     draw_line(config.system(), config.levels(), None, line);
     for done in 0..config.max_fields() {
         match rows.next_row() {
@@ -140,12 +140,12 @@ pub fn draw<R: Read, W: Write>(
                 return Ok(done + 1);
             }
             NextRow::Malformed => return Err(DrawFault::Row { number: done + 1 }),
-            NextRow::Ended => return Ok(done),
+            NextRow::AtEnd => return Ok(done),
             NextRow::Failed => return Err(DrawFault::Read { number: done + 1 }),
         }
     }
     match rows.next_byte() {
-        NextByte::Ended => Ok(config.max_fields()),
+        NextByte::AtEnd => Ok(config.max_fields()),
         NextByte::Byte(_) => Err(DrawFault::TooManyFields),
         NextByte::Failed => Err(DrawFault::Read {
             number: config.max_fields() + 1,

@@ -14,7 +14,7 @@ pub(crate) enum NextByte {
     /// A byte.
     Byte(u8),
     /// The reader's end.
-    Ended,
+    AtEnd,
     /// A fault of the reader.
     Failed,
 }
@@ -29,7 +29,7 @@ pub(crate) enum NextRow {
     /// A malformed row, read up to its newline, the reader's end or its 21st byte.
     Malformed,
     /// The reader's end, and no byte before it.
-    Ended,
+    AtEnd,
     /// A fault of the reader.
     Failed,
 }
@@ -95,7 +95,7 @@ impl<'a, R: Read> RowIntake<'a, R> {
     {
         let mut byte = [0u8; 1];
         match self.device.read_some(&mut byte) {
-            Ok(0) => NextByte::Ended,
+            Ok(0) => NextByte::AtEnd,
             Ok(_) => {
                 self.fetched += 1;
                 NextByte::Byte(byte[0])
@@ -122,9 +122,9 @@ impl<'a, R: Read> RowIntake<'a, R> {
                     }
                     row[held] = byte;
                 }
-                NextByte::Ended => {
+                NextByte::AtEnd => {
                     if held == 0 {
-                        return NextRow::Ended;
+                        return NextRow::AtEnd;
                     }
                     return match read_word_row(&row[..held]) {
                         Some(words) => NextRow::LastRow(words),

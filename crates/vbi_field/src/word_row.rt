@@ -45,13 +45,8 @@ fn read_item(text: &[u8]) -> Option<Option<Word24>>
     if text.len() != 6 {
         return None;
     }
-    match hex_value(text) {
-        Some(value) => match Word24::new(value) {
-            Ok(word) => Some(Some(word)),
-            Err(_) => None,
-        },
-        None => None,
-    }
+    let word = Word24::new(hex_value(text)?).ok()?;
+    Some(Some(word))
 }
 
 /// Where the first space is.
@@ -66,10 +61,8 @@ fn cut_at_space(text: &[u8]) -> Option<(&[u8], &[u8])>
     ensures { MatchOption result (parts_of text.now ≡ text.now ∷ [])
         (λ cut. parts_of text.now ≡ cut.0.now ∷ parts_of cut.1.now) }
 {
-    match space_in(text) {
-        Some(at) => Some((&text[..at], &text[at + 1..])),
-        None => None,
-    }
+    let at = space_in(text)?;
+    Some((&text[..at], &text[at + 1..]))
 }
 
 /// The items of a row, if each is one.

@@ -2,8 +2,8 @@ use Rattle.std.proofs.Common.{sym}
 use Rattle.vbi_field.proofs.WordRowLemmas.{cut_at, uncut}
 use Rattle.vbi_field.proofs.word_row.cut_at_space.Goals as goal
 
-pub returns-in-Some : goal.returns-in-Some
-returns-in-Some c = cut_at c.args.text.now c.in-Some.at (sym c.in-Some.ensures)
+pub returns : goal.returns
+returns c = cut_at c.args.text.now c.in_ok-at.at (sym c.in_ok-at.ensures)
 
-pub returns-in-None : goal.returns-in-None
-returns-in-None c = uncut c.args.text.now (sym c.in-None.ensures)
+pub returns-in_err-at : goal.returns-in_err-at
+returns-in_err-at c = rw c.from_residual.ensures (uncut c.args.text.now (sym c.in_err-at.ensures))

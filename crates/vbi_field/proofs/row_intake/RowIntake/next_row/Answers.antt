@@ -1,4 +1,5 @@
 use Rattle.std.proofs.Common.{◌≡◌, arith}
+use Rattle.vbi_field.specs.Limits.{longest_row}
 use Rattle.vbi_field.proofs.RowSteps.{newline_came, bad_newline_came, too_long}
 use Rattle.vbi_field.proofs.row_intake.RowIntake.next_row.Goals as goal
 
@@ -16,5 +17,5 @@ returns-in-None g c =
 
 pub returns : goal.returns
 returns g c =
-    let whole : c.loop-held.held ≡ 21 = omega arith in
+    let whole : c.loop-held.held ≡ longest_row = omega arith in
     too_long _ _ _ _ (rw whole at c.loop-held.invariant)
