@@ -1,9 +1,9 @@
 #!/usr/bin/env python3
 """Lists what one has to believe for the headline: each definition of specs/ on which the contract of `extract` rests.
 
-Read in this order, each rests only on those above it. Two lists: of the contract alone, in which the function that gives
-a line's reading (`reading_of`) is taken by its name; and with its meaning, in which a relation stands for each function
-of RELATIONS, of which a law says that it is the same.
+Read in this order, each rests only on those above it. Two lists: of the contract alone, in which the function that
+gives a line's reading (`reading_of`) is taken by its name; and with its meaning, in which a relation stands for each
+function of RELATIONS, of which a law says that it is the same.
 
 With a DOCUMENT, compares the table that stands there behind the line `<!-- definitions -->` with the source: each
 definition once, in this order, with its file and its comment.
@@ -21,7 +21,6 @@ RELATIONS = {
     ("vbi_line", "OneReading", "reading_of"): (("vbi_words", "Readings", "IsReading"), "one_reading"),
     ("vbi_words", "Smooth", "smooth_of"): (("vbi_words", "Smooth", "IsSmooth"), "one_smooth"),
 }
-ITEM = re.compile(r"(?:abbrev |unfoldable )?(?:pub )?(?:(?:record|data) )?([^\s:]+) .*?:|(?:abbrev |unfoldable )?pub (\S+) :")
 HEAD = re.compile(r"(abbrev pub|unfoldable pub|pub record|pub data|record|data|abbrev|unfoldable|pub) (\S+)(?= )")
 
 
