@@ -36,14 +36,12 @@ answer_of (Hold column) = cause_text_of (Hold column)
 abbrev pub line_text : Outcome → List ℕ
 line_text outcome = answer_of outcome ++ codes "\n"
 
-module _ (c : ConfigView) (input : Option (List ℕ)) (n : Counts) (z text : List ℕ) where
-  -- Ok: one line's bytes were fetched and no more, each sample was looked at once, and the line's answer was written
+module _ (c : ConfigView) (input : Option (List ℕ)) (z text : List ℕ) where
+  -- Ok: one line's bytes were fetched and no more, and the line's answer was written
   pub record AnswersLine (outcome : Outcome) : Type 0 where
     pub whole : length z ≡ line_bytes c.system
     pub outcome_of : outcome ≡ outcome_read c z
     pub answer : text ≡ line_text outcome
-    pub looks : n.looked ≡ width_of c.system
-    pub calm : IsCalm n
 
   -- `Short`: the reader ended behind this many bytes, fewer than a line's, and nothing was written
   pub record WasShort (bytes : ℕ) : Type 0 where
@@ -51,34 +49,45 @@ module _ (c : ConfigView) (input : Option (List ℕ)) (n : Counts) (z text : Lis
     pub short : bytes < line_bytes c.system
     pub ended : IsAtEnd input
     pub none : text ≡ []
-    pub looks : n.looked ≡ 0
-    pub calm : IsCalm n
 
   -- `Read`: the reader failed behind this many bytes, fewer than a line's, and nothing was written
   pub record StopsAtRead (offset : ℕ) : Type 0 where
-    pub failed : HasFailed n.reader
-    pub calm : n.writer.errors ≡ 0
     pub count : offset ≡ length z
     pub short : offset < line_bytes c.system
     pub none : text ≡ []
-    pub looks : n.looked ≡ 0
 
   -- `Write`: one line's bytes were fetched and no more, and the writer failed after this many bytes, which are the
   -- first of the answer and not all of it
   pub record StopsAtWrite (written : ℕ) : Type 0 where
-    pub failed : HasFailed n.writer
-    pub calm : n.reader.errors ≡ 0
     pub whole : length z ≡ line_bytes c.system
     pub count : written ≡ length text
     pub first : IsFirstOf text (line_text (outcome_read c z))
-    pub looks : n.looked ≡ width_of c.system
 
--- what was done, by the answer
-abbrev pub Answers : ConfigView → Option (List ℕ) → Counts → Result Outcome LineFault → List ℕ → List ℕ → Type 0
-Answers c input n (Ok outcome) z text = AnswersLine c input n z text outcome
-Answers c input n (Err (Short bytes)) z text = WasShort c input n z text bytes
-Answers c input n (Err (Read offset)) z text = StopsAtRead c input n z text offset
-Answers c input n (Err (Write written)) z text = StopsAtWrite c input n z text written
+  -- how far the command came, by the answer
+  abbrev pub EndsBy : Result Outcome LineFault → Type 0
+  EndsBy (Ok outcome) = AnswersLine outcome
+  EndsBy (Err (Short bytes)) = WasShort bytes
+  EndsBy (Err (Read offset)) = StopsAtRead offset
+  EndsBy (Err (Write written)) = StopsAtWrite written
+
+-- the device that a fault names failed for good, and no other gave an error; interruptions were tried again
+abbrev pub FailsBy : Result Outcome LineFault → Counts → Type 0
+FailsBy (Err (Read offset)) n = HasFailed n.reader × (n.writer.errors ≡ 0)
+FailsBy (Err (Write written)) n = HasFailed n.writer × (n.reader.errors ≡ 0)
+FailsBy _ n = IsCalm n
+
+-- the samples looked at, by the answer: each of a whole line once, and none of a part of one
+abbrev pub looks_by : ConfigView → Result Outcome LineFault → ℕ
+looks_by c (Err (Short bytes)) = 0
+looks_by c (Err (Read offset)) = 0
+looks_by c _ = width_of c.system
+
+-- what was done, by the answer: the samples looked at, which device failed, and how far the command came
+pub record Answers (c : ConfigView) (input : Option (List ℕ)) (n : Counts) (result : Result Outcome LineFault)
+    (z text : List ℕ) : Type 0 where
+  pub looks : n.looked ≡ looks_by c result
+  pub devices : FailsBy result n
+  pub ended : EndsBy c input z text result
 
 -- the run of a fresh intake and a fresh outlet that gave this answer
 abbrev pub RunsLine : {R W : Type 0} → (R → Option (List ℕ)) → (W → Option (List ℕ)) → ConfigView
