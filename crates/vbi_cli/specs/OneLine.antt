@@ -47,7 +47,7 @@ module _ (c : ConfigView) (input : Option (List ℕ)) (z text : List ℕ) where
   pub record WasShort (bytes : ℕ) : Type 0 where
     pub count : bytes ≡ length z
     pub short : bytes < line_bytes c.system
-    pub ended : IsAtEnd input
+    pub at_end : IsAtEnd input
     pub none : text ≡ []
 
   -- `Read`: the reader failed behind this many bytes, fewer than a line's, and nothing was written
@@ -87,7 +87,7 @@ pub record Answers (c : ConfigView) (input : Option (List ℕ)) (n : Counts) (re
     (z text : List ℕ) : Type 0 where
   pub looks : n.looked ≡ looks_by c result
   pub devices : FailsBy result n
-  pub ended : EndsBy c input z text result
+  pub came : EndsBy c input z text result
 
 -- the run of a fresh intake and a fresh outlet that gave this answer
 abbrev pub RunsLine : {R W : Type 0} → (R → Option (List ℕ)) → (W → Option (List ℕ)) → ConfigView

@@ -50,12 +50,12 @@ module _ {R W : Type 0} (remaining : R → Option (List ℕ)) (contents : W → 
         → RunsDrawing remaining contents c i0 j o0 o (Ok done)
     ended j f calm end few = ends_here j [] f (Ok done) (record {
       devices = (calm ∙ g.calm_reads, g.calm_writes);
-      ended = record {
+      came = record {
         rows = g.rows;
         well_formed = rw append-nil g.well_formed;
         number = sym g.count;
         few = few;
-        ended = end;
+        at_end = end;
         drawn = refl;
       };
     })
@@ -67,7 +67,7 @@ module _ {R W : Type 0} (remaining : R → Option (List ℕ)) (contents : W → 
         → RunsDrawing remaining contents c i0 j o0 o (Err (faults.Read (done + 1)))
     read_failed j b f plain cause few = ends_here j b f (Err (faults.Read (done + 1))) (record {
       devices = (has_failed i.device j.device g.calm_reads cause, g.calm_writes);
-      ended = record {
+      came = record {
         before = g.z;
         part = b;
         rows = g.rows;
@@ -86,7 +86,7 @@ module _ {R W : Type 0} (remaining : R → Option (List ℕ)) (contents : W → 
         → RunsDrawing remaining contents c i0 j o0 o (Err faults.TooManyFields)
     too_many j byte t last = ends_here j (byte ∷ []) t.fetches (Err faults.TooManyFields) (record {
       devices = (t.caused ∙ g.calm_reads, g.calm_writes);
-      ended = record {
+      came = record {
         before = g.z;
         byte = byte;
         rows = g.rows;
@@ -109,7 +109,7 @@ module _ {R W : Type 0} (remaining : R → Option (List ℕ)) (contents : W → 
           → RunsDrawing remaining contents c i0 j o0 o (Err (faults.Row (done + 1)))
       bad one malformed read_to = ends_here j b f (Err (faults.Row (done + 1))) (record {
         devices = (calm ∙ g.calm_reads, g.calm_writes);
-        ended = record {
+        came = record {
           before = g.z;
           row = b;
           rows = g.rows;

@@ -138,7 +138,7 @@ module _ {R W : Type 0} (remaining : R → Option (List ℕ)) (contents : W → 
             written = count;
             says = rw e (record {
               devices = (has_failed o.device p.device g.calm_writes cause, calm ∙ g.calm_reads);
-              ended = record {
+              came = record {
                 rows = g.rows;
                 last = words;
                 well_formed = well_formed_more;
@@ -175,12 +175,12 @@ module _ {R W : Type 0} (remaining : R → Option (List ℕ)) (contents : W → 
               written = written_more;
               says = record {
                 devices = (calm ∙ g.calm_reads, no_error ∙ g.calm_writes);
-                ended = record {
+                came = record {
                   rows = g.rows ++ words ∷ [];
                   well_formed = well_formed_more;
                   number = sym (rows_count words);
                   few = omega arith;
-                  ended = end;
+                  at_end = end;
                   drawn = refl;
                 };
               };

@@ -130,7 +130,7 @@ module _ (t : Texts) {R W : Type 0} (remaining : R → Option (List ℕ)) (conte
               came =
                   record {
                     document = document_is;
-                    at_end = got.ended;
+                    at_end = got.at_end;
                     within = few;
                     summary = λ j. record {
                       fields = (ap (λ s. s.fields) says ∙ is_fields) j;
@@ -152,7 +152,7 @@ module _ (t : Texts) {R W : Type 0} (remaining : R → Option (List ℕ)) (conte
           (Consumes-trans _ _ _ g.z b g.consumed row.consumed)
           (omega (arith, row.fetched, g.fetched, length-append g.z b)) g.appended g.written
           (got.no_error ∙ g.calm_reads) g.calm_writes w.wrote cause fails few looks
-          (inr (inr (got.ended, subst P (begun_is k i o p g b short) inside)))
+          (inr (inr (got.at_end, subst P (begun_is k i o p g b short) inside)))
 
   -- the reader failed
   pub read_fault : (k : ℕ) (i i' : Intake R) (o : Outlet W) (p : Progress)

@@ -28,7 +28,7 @@ module _ (c : ConfigView) (input : Option (List ℕ)) (z text : List ℕ) where
     pub well_formed : AreRows z rows
     pub number : count ≡ length rows
     pub few : count ≤ c.max_fields
-    pub ended : IsAtEnd input
+    pub at_end : IsAtEnd input
     pub drawn : text ≡ draw_out c rows
 
   -- `Row`: the row of this number, which is allowed, is malformed, all before it are well formed, and their fields were
@@ -99,7 +99,7 @@ FailsBy _ n = IsCalm n
 pub record Draws (c : ConfigView) (input : Option (List ℕ)) (n : Counts) (result : Result ℕ DrawFault) (z text : List ℕ)
     : Type 0 where
   pub devices : FailsBy result n
-  pub ended : EndsBy c input z text result
+  pub came : EndsBy c input z text result
 
 -- what a fresh intake of rows and a fresh outlet counted since; no sample is looked at
 abbrev pub counts_of : {R W : Type 0} → RowIntake R → Outlet W → Counts

@@ -24,7 +24,7 @@ module _ {R : Type 0} (remaining : R → Option (List ℕ)) (old new : Intake R)
   pub record GotRest (bytes : List ℕ) (count : ℕ) : Type 0 where
     pub count_of : count ≡ length bytes
     pub short : length bytes < line_bytes (line_of old).system
-    pub ended : IsAtEnd (remaining (device_of (counted_of new)))
+    pub at_end : IsAtEnd (remaining (device_of (counted_of new)))
     pub no_error : NoError (counted_of old) (counted_of new)
 
   -- the bytes before a fault of the reader, less than a line
