@@ -1,48 +1,27 @@
-//! Asserts that are calls: what the macros write is proved once, here, and not at each assertion.
+//! Asserts of how a run ended and what it wrote. Like those of `vbi_test_devices` they fail by their result.
 
 use crate::runs::Ran;
 use std::fmt::Debug;
-use std::process::Abort;
+use std::test::Fail;
 use vbi_cli::{AppFault, Ended, status};
+use vbi_test_devices::same;
 
-/// Asserts that what was found is what is expected; `row` names the case where it isn't.
-pub(crate) fn same<T: PartialEq + Debug + Drop>(
-    rt: &impl Abort,
-    found: T,
-    expected: T,
-    row: impl Debug + Drop,
-) {
-    assert_eq!(rt; found, expected, "{row:?}");
-}
-
-/// Asserts a fact; `row` names the case where it doesn't hold.
-pub(crate) fn holds(rt: &impl Abort, fact: bool, row: impl Debug + Drop) {
-    assert!(rt; fact, "{row:?}");
-}
-
-/// Asserts that a run ended so, and that the program's status is then this one.
+/// Fails where a run ended otherwise, or the program's status isn't then this one; `row` names the case.
 pub(crate) fn ends(
-    rt: &impl Abort,
     ran: &Ran,
     ended: Result<Ended, AppFault>,
     code: u8,
     row: impl Debug + Drop,
-) {
-    same(rt, (ran.ended, status(&ran.ended)), (ended, code), row);
+) -> Result<(), Fail> {
+    same((ran.ended, status(&ran.ended)), (ended, code), row)
 }
 
-/// Asserts that a run ended so, and wrote just these bytes.
+/// Fails where a run ended otherwise, or wrote other bytes than these; `row` names the case.
 pub(crate) fn writes(
-    rt: &impl Abort,
     ran: &Ran,
     ended: Result<Ended, AppFault>,
     written: &[u8],
     row: impl Debug + Drop,
-) {
-    same(
-        rt,
-        (ran.ended, ran.written.as_slice()),
-        (ended, written),
-        row,
-    );
+) -> Result<(), Fail> {
+    same((ran.ended, ran.written.as_slice()), (ended, written), row)
 }

@@ -1,13 +1,13 @@
 //! `draw` as a job over texts of words: how it ends, what it wrote by then, and how often it asked its devices.
 
-use crate::asserts::{ends, holds, same};
+use crate::asserts::ends;
 use crate::known::{drawn_fields, front};
 use crate::runs::{Asked, NTSC, Ran, job, run_between};
 use std::alloc::Global;
 use std::test::Fail;
 use vbi_cli::{AppFault, Ended, Verb};
 use vbi_meta::Overrides;
-use vbi_test_devices::{Paper, Tape};
+use vbi_test_devices::{Paper, Tape, holds, same};
 
 /// Does `draw` for NTSC with the levels 16384 and 51200.
 fn run_draw(alloc: Global, limit: Option<u32>, tape: Tape, paper: Paper) -> Ran {
@@ -129,11 +129,11 @@ fn each_text_has_its_end_and_its_fields(rt: HostRuntime) -> Result<(), Fail> {
             Ok(_) => 0,
             Err(_) => 1,
         };
-        ends(&rt, &ran, ended, code, text);
+        ends(&ran, ended, code, text)?;
         let asked = (ran.asked.reads, ran.asked.flushes);
-        same(&rt, asked, (reads, 0), text);
+        same(asked, (reads, 0), text)?;
         let stream = drawn_fields(alloc, fields)?;
-        holds(&rt, ran.written.as_slice() == stream.as_slice(), text);
+        holds(ran.written.as_slice() == stream.as_slice(), text)?;
     }
     Ok(())
 }
@@ -157,16 +157,16 @@ fn ends_at_a_write_fault_and_asks_no_more(rt: HostRuntime) -> Result<(), Fail> {
         };
         let ran = run_draw(alloc, None, Tape::new(text), paper);
         let written = u64::from(room);
-        ends(&rt, &ran, Err(AppFault::Write { written }), 1, (text, room));
+        ends(&ran, Err(AppFault::Write { written }), 1, (text, room))?;
         let asked = Asked {
             reads,
             writes: written + 1,
             flushes: 0,
         };
-        same(&rt, ran.asked, asked, (text, room));
+        same(ran.asked, asked, (text, room))?;
         let stream = drawn_fields(alloc, fields)?;
         let taken = front(stream.as_slice(), room as usize);
-        holds(&rt, ran.written.as_slice() == taken, (text, room));
+        holds(ran.written.as_slice() == taken, (text, room))?;
     }
     Ok(())
 }

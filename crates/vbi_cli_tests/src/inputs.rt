@@ -1,9 +1,9 @@
 //! The input of the program, with test readers in place of a file and of standard input.
 
-use crate::asserts::same;
 use std::io::{ErrorKind, Read};
+use std::test::Fail;
 use vbi_cli::Input;
-use vbi_test_devices::Tape;
+use vbi_test_devices::{Tape, same};
 
 /// What a reader of `abcdefgh` answers that gives two bytes in a read, is interrupted once before the first and fails
 /// once behind `f`: the bytes, or the error.
@@ -28,7 +28,7 @@ fn letters() -> Tape<'static> {
 }
 
 #[test]
-fn passes_on_each_answer_of_the_reader_that_is_meant(rt: HostRuntime) {
+fn passes_on_each_answer_of_the_reader_that_is_meant() -> Result<(), Fail> {
     for mut input in [Input::File(letters()), Input::Standard(letters())] {
         for answer in &ANSWERS {
             let mut buf = [0u8; 5];
@@ -36,12 +36,13 @@ fn passes_on_each_answer_of_the_reader_that_is_meant(rt: HostRuntime) {
                 Ok(count) => Ok(&buf[..count]),
                 Err(error) => Err(error.kind()),
             };
-            same(&rt, came, *answer, "an answer");
+            same(came, *answer, "an answer")?;
         }
         // One question for each answer.
         let asked = match input {
             Input::File(tape) | Input::Standard(tape) => tape.asked,
         };
-        same(&rt, asked, 8, "the questions");
+        same(asked, 8, "the questions")?;
     }
+    Ok(())
 }

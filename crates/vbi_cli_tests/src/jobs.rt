@@ -1,14 +1,14 @@
 //! Jobs over memory: what metadata and options settle, what is written, how the command `line` ends, and the texts of
 //! the faults.
 
-use crate::asserts::{ends, same, writes};
+use crate::asserts::{ends, writes};
 use crate::known::{black_stream, drawn_line, front, stored_line};
 use crate::runs::{NEVER, NONE, NTSC, PAL, STORED, job, run_between, run_over};
-use std::process::Abort;
+use std::alloc::Global;
 use std::test::Fail;
 use vbi_cli::{AppFault, Ended, Job, Verb};
 use vbi_meta::{MetaFault, Overrides};
-use vbi_test_devices::{Paper, Tape};
+use vbi_test_devices::{Paper, Tape, same};
 use vbi_words::System;
 
 const SAME_LEVELS: Overrides = Overrides {
@@ -64,21 +64,23 @@ const UNSETTLED: [(Overrides, Option<&[u8]>, MetaFault); 8] = [
 ];
 
 #[test]
-fn settles_before_it_reads(rt: HostRuntime) {
+fn settles_before_it_reads(rt: HostRuntime) -> Result<(), Fail> {
     for (overrides, meta, fault) in &UNSETTLED {
         for verb in [Verb::Line, Verb::Extract, Verb::Show, Verb::Draw] {
             let ran = run_over(rt.alloc(), &job(verb, *overrides), *meta, b"some bytes");
-            ends(&rt, &ran, Err(AppFault::Meta(*fault)), 1, verb);
-            same(&rt, ran.asked, NEVER, (verb, *fault));
+            ends(&ran, Err(AppFault::Meta(*fault)), 1, verb)?;
+            same(ran.asked, NEVER, (verb, *fault))?;
         }
     }
+    Ok(())
 }
 
-/// Asserts that a job with the metadata of the NTSC capture writes this of an input, all of which it reads.
-fn gives(rt: &(impl Abort + AllocGlobal), job: &Job, input: &[u8], text: &[u8]) {
-    let ran = run_over(rt.alloc(), job, Some(FULL), input);
-    writes(rt, &ran, Ok(Ended::Whole), text, job.verb);
-    same(rt, ran.left, 0, job.verb);
+/// Fails where a job with the metadata of the NTSC capture writes other bytes than these of an input, or doesn't read all
+/// of it.
+fn gives(alloc: Global, job: &Job, input: &[u8], text: &[u8]) -> Result<(), Fail> {
+    let ran = run_over(alloc, job, Some(FULL), input);
+    writes(&ran, Ok(Ended::Whole), text, job.verb)?;
+    same(ran.left, 0, job.verb)
 }
 
 #[test]
@@ -86,39 +88,38 @@ fn extracts_with_metadata(rt: HostRuntime) -> Result<(), Fail> {
     let alloc = rt.alloc();
     let extract = job(Verb::Extract, NONE);
     let field = black_stream(alloc, 478_660)?;
-    gives(&rt, &extract, field.as_slice(), BLACK_FIELD.as_bytes());
-    Ok(())
+    gives(alloc, &extract, field.as_slice(), BLACK_FIELD.as_bytes())
 }
 
 #[test]
 fn an_option_stands_before_metadata(rt: HostRuntime) -> Result<(), Fail> {
+    let alloc = rt.alloc();
     let brighter = Overrides {
         white: Some(60000),
         ..NONE
     };
     let wanted = b"system NTSC 910x263 black 16384 white 60000\nfields 0 cut none\n";
-    gives(&rt, &job(Verb::Show, brighter), b"", wanted);
+    gives(alloc, &job(Verb::Show, brighter), b"", wanted)?;
 
     // The metadata's levels aren't those of the line.
-    let line = stored_line(rt.alloc())?;
+    let line = stored_line(alloc)?;
     let line = line.as_slice();
-    gives(&rt, &job(Verb::Line, STORED), line, b"82CFFF\n");
-    gives(&rt, &job(Verb::Line, NONE), line, b"blank\n");
-    Ok(())
+    gives(alloc, &job(Verb::Line, STORED), line, b"82CFFF\n")?;
+    gives(alloc, &job(Verb::Line, NONE), line, b"blank\n")
 }
 
 #[test]
 fn shows_what_was_drawn(rt: HostRuntime) -> Result<(), Fail> {
+    let alloc = rt.alloc();
     let draw = job(Verb::Draw, NONE);
     let rows = b"82CFFF F12345 F12345\n";
-    let field = run_over(rt.alloc(), &draw, Some(FULL), rows);
+    let field = run_over(alloc, &draw, Some(FULL), rows);
     let found = (field.ended, field.written.len());
-    same(&rt, found, (Ok(Ended::Whole), 478_660), "a field");
+    same(found, (Ok(Ended::Whole), 478_660), "a field")?;
     let field = field.written.as_slice();
     let extract = job(Verb::Extract, NONE);
-    gives(&rt, &extract, field, DRAWN_FIELD.as_bytes());
-    gives(&rt, &job(Verb::Show, NONE), field, REPORT.as_bytes());
-    Ok(())
+    gives(alloc, &extract, field, DRAWN_FIELD.as_bytes())?;
+    gives(alloc, &job(Verb::Show, NONE), field, REPORT.as_bytes())
 }
 
 /// The system, the bytes that there are of its line, after how many of them the reader fails, the bytes that the writer
@@ -177,9 +178,9 @@ fn names_the_faults_of_a_line(rt: HostRuntime) -> Result<(), Fail> {
             ..Paper::new(rt.alloc())
         };
         let ran = run_between(rt.alloc(), &job(Verb::Line, overrides), None, tape, paper);
-        ends(&rt, &ran, Err(fault), 1, fault);
+        ends(&ran, Err(fault), 1, fault)?;
         let taken = front(b"82CFFF\n", room.unwrap_or(0));
-        same(&rt, ran.written.as_slice(), taken, fault);
+        same(ran.written.as_slice(), taken, fault)?;
     }
     Ok(())
 }
@@ -215,7 +216,7 @@ const TEXTS: [(AppFault, &str); 8] = [
 fn faults_have_their_texts(rt: HostRuntime) -> Result<(), Fail> {
     for &(fault, text) in &TEXTS {
         let found = fault.to_string(rt.alloc())?;
-        same(&rt, found.as_str(), text, fault);
+        same(found.as_str(), text, fault)?;
     }
     Ok(())
 }

@@ -1,15 +1,13 @@
 //! `run_line`: its answers and faults, what was written by then, what its devices were asked, and what was counted.
 
-use crate::asserts::same;
 use crate::known::{drawn_line, front, push_samples, stored_line};
 use crate::runs::Asked;
 use std::alloc::{AllocError, Global};
-use std::process::Abort;
 use std::test::Fail;
 use vbi_cli::{LineFault, run_line};
 use vbi_field::{Config, Outlet};
 use vbi_line::Intake;
-use vbi_test_devices::{Paper, Tape};
+use vbi_test_devices::{Paper, Tape, same};
 use vbi_words::{Levels, Outcome, System, Word24};
 
 /// What a run of `run_line` answers, what the intake and the outlet counted, and what the devices were asked.
@@ -116,7 +114,7 @@ fn ends_at_a_read_fault_and_asks_no_more(rt: HostRuntime) -> Result<(), Fail> {
             },
         };
         let mut paper = Paper::new(rt.alloc());
-        same(&rt, run_counted(&config, tape, &mut paper), done, fault);
+        same(run_counted(&config, tape, &mut paper), done, fault)?;
     }
     Ok(())
 }
@@ -159,9 +157,9 @@ fn ends_at_a_write_fault_and_asks_no_more(rt: HostRuntime) -> Result<(), Fail> {
             },
         };
         let tape = Tape::new(line.as_slice());
-        same(&rt, run_counted(&config, tape, &mut paper), done, room);
+        same(run_counted(&config, tape, &mut paper), done, room)?;
         let taken = front(b"82CFFF\n", room as usize);
-        same(&rt, paper.taken.as_slice(), taken, room);
+        same(paper.taken.as_slice(), taken, room)?;
     }
     Ok(())
 }
@@ -204,27 +202,27 @@ fn answers_the_word_of_the_stored_line_however_it_comes(rt: HostRuntime) -> Resu
                 flushes: 0,
             },
         };
-        same(&rt, run_counted(&config, tape, &mut paper), done, piece);
-        same(&rt, paper.taken.as_slice(), b"82CFFF\n", piece);
+        same(run_counted(&config, tape, &mut paper), done, piece)?;
+        same(paper.taken.as_slice(), b"82CFFF\n", piece)?;
     }
     Ok(())
 }
 
-/// Asserts that a line has this outcome and that this is written, also where other bytes follow, at which the reader
-/// fails: it is asked once.
+/// Fails where a line has another outcome or something else is written, also where other bytes follow, at which the
+/// reader fails: it is asked once.
 fn answers(
-    rt: &(impl Abort + AllocGlobal),
+    alloc: Global,
     system: System,
     line: &[u8],
     outcome: Outcome,
     text: &[u8],
 ) -> Result<(), Fail> {
     let config = Config::new(system, Levels::new(LOW, HIGH)?, 1)?;
-    let mut input = Vec::new(rt.alloc());
+    let mut input = Vec::new(alloc);
     input.extend_from_slice(line)?;
     input.extend_from_slice(b"rest")?;
     let tape = Tape::failing(input.as_slice(), line.len());
-    let mut paper = Paper::new(rt.alloc());
+    let mut paper = Paper::new(alloc);
     let done = Done {
         answer: Ok(outcome),
         fetched: line.len() as u64,
@@ -237,9 +235,8 @@ fn answers(
             flushes: 0,
         },
     };
-    same(rt, run_counted(&config, tape, &mut paper), done, text);
-    same(rt, paper.taken.as_slice(), text, text);
-    Ok(())
+    same(run_counted(&config, tape, &mut paper), done, text)?;
+    same(paper.taken.as_slice(), text, text)
 }
 
 /// The samples of black and white.
@@ -315,7 +312,7 @@ fn line_of(alloc: Global, system: System, runs: &[(u16, usize)]) -> Result<Vec<u
 fn writes_the_cause_of_a_line_without_a_word(rt: HostRuntime) -> Result<(), Fail> {
     for &(system, runs, outcome, text) in &RUNS {
         let line = line_of(rt.alloc(), system, runs)?;
-        answers(&rt, system, line.as_slice(), outcome, text)?;
+        answers(rt.alloc(), system, line.as_slice(), outcome, text)?;
     }
     Ok(())
 }
@@ -336,17 +333,17 @@ fn writes_the_word_of_a_line(rt: HostRuntime) -> Result<(), Fail> {
     let alloc = rt.alloc();
     let line = drawn_line(alloc, System::Pal, LOW, HIGH, 0x8A_E012)?;
     let word = Outcome::Word(Word24::new(0x8A_E012)?);
-    answers(&rt, System::Pal, line.as_slice(), word, b"8AE012\n")?;
+    answers(alloc, System::Pal, line.as_slice(), word, b"8AE012\n")?;
     let line = drawn_line(alloc, System::Ntsc, LOW, HIGH, 0x82_CFFF)?;
     let word = Outcome::Word(Word24::new(0x82_CFFF)?);
-    answers(&rt, System::Ntsc, line.as_slice(), word, b"82CFFF\n")?;
+    answers(alloc, System::Ntsc, line.as_slice(), word, b"82CFFF\n")?;
     // A glitch of three columns is smoothed away, one of four isn't.
     let damaged = blackened(alloc, line.as_slice(), 170, 173)?;
-    answers(&rt, System::Ntsc, damaged.as_slice(), word, b"82CFFF\n")?;
+    answers(alloc, System::Ntsc, damaged.as_slice(), word, b"82CFFF\n")?;
     let damaged = blackened(alloc, line.as_slice(), 170, 174)?;
     let damage = Outcome::Change(170);
     answers(
-        &rt,
+        alloc,
         System::Ntsc,
         damaged.as_slice(),
         damage,

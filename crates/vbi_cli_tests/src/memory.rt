@@ -1,12 +1,12 @@
 //! Jobs in want of memory. No device here takes any, so that each allocation of a run is the job's own.
 
-use crate::asserts::{holds, same};
 use crate::jobs::{BLACK_FIELD, FULL};
 use crate::runs::{NONE, STORED, job};
 use std::io::{self, Read, Write};
+use std::test::Fail;
 use vbi_cli::{AppFault, Ended, Verb, run_job};
 use vbi_meta::MetaFault;
-use vbi_test_devices::Zeros;
+use vbi_test_devices::{Zeros, holds, same};
 
 /// Takes what begins the rest of a text, and fails at all else.
 #[derive(Drop)]
@@ -33,7 +33,7 @@ impl Write for Stencil<'_> {
 /// To be run with each allocation failing in turn: the answer is that of ample memory, or want of memory with nothing
 /// read and nothing written.
 #[test]
-fn the_joined_run_answers_want_of_memory_as_such(rt: HostRuntime) {
+fn the_joined_run_answers_want_of_memory_as_such(rt: HostRuntime) -> Result<(), Fail> {
     let mut field = Zeros.take(478_660);
     let mut stencil = Stencil {
         rest: BLACK_FIELD.as_bytes(),
@@ -42,22 +42,22 @@ fn the_joined_run_answers_want_of_memory_as_such(rt: HostRuntime) {
     let joined = job(Verb::Extract, NONE);
     match run_job(rt.alloc(), &joined, Some(FULL), &mut field, &mut stencil) {
         Ok(ended) => {
-            same(&rt, ended, Ended::Whole, "the run");
+            same(ended, Ended::Whole, "the run")?;
             let left = (stencil.rest.len(), field.limit());
-            same(&rt, left, (0, 0), "what is left");
+            same(left, (0, 0), "what is left")
         }
         Err(fault) => {
             let wanted = AppFault::Meta(MetaFault::OutOfMemory);
-            same(&rt, fault, wanted, "the run");
+            same(fault, wanted, "the run")?;
             let left = (stencil.asked, field.limit());
-            same(&rt, left, (0, 478_660), "what is left");
+            same(left, (0, 478_660), "what is left")
         }
     }
 }
 
 /// To be run with each allocation failing in turn: bytes that are no JSON are called so, or memory is wanted.
 #[test]
-fn bytes_that_are_no_json_are_called_so_or_memory_is_wanted(rt: HostRuntime) {
+fn bytes_that_are_no_json_are_called_so_or_memory_is_wanted(rt: HostRuntime) -> Result<(), Fail> {
     let mut line = Zeros.take(1820);
     let mut stencil = Stencil {
         rest: b"",
@@ -70,7 +70,7 @@ fn bytes_that_are_no_json_are_called_so_or_memory_is_wanted(rt: HostRuntime) {
         ended,
         Err(AppFault::Meta(MetaFault::NotJson | MetaFault::OutOfMemory))
     );
-    holds(&rt, is_named, ended);
+    holds(is_named, ended)?;
     let left = (stencil.asked, line.limit());
-    same(&rt, left, (0, 1820), "what is left");
+    same(left, (0, 1820), "what is left")
 }

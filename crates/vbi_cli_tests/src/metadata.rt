@@ -1,7 +1,7 @@
 //! Large metadata: two million bytes of a list of fields are read, and where they are no JSON this is said and the
 //! devices aren't asked.
 
-use crate::asserts::{ends, same, writes};
+use crate::asserts::{ends, writes};
 use crate::jobs::BLACK_FIELD;
 use crate::known::{black_stream, repeated};
 use crate::runs::{NEVER, NONE, job, run_over};
@@ -9,6 +9,7 @@ use std::alloc::{AllocError, Global};
 use std::test::Fail;
 use vbi_cli::{AppFault, Ended, Verb};
 use vbi_meta::MetaFault;
+use vbi_test_devices::same;
 
 /// The members of the full metadata of an NTSC capture, and a list that goes on.
 const BEFORE: &str =
@@ -35,14 +36,8 @@ fn two_megabytes_that_are_no_json_are_called_so(rt: HostRuntime) -> Result<(), F
         let meta = two_megabytes(alloc, behind)?;
         let extract = job(Verb::Extract, NONE);
         let ran = run_over(alloc, &extract, Some(meta.as_slice()), b"some bytes");
-        ends(
-            &rt,
-            &ran,
-            Err(AppFault::Meta(MetaFault::NotJson)),
-            1,
-            behind,
-        );
-        same(&rt, ran.asked, NEVER, behind);
+        ends(&ran, Err(AppFault::Meta(MetaFault::NotJson)), 1, behind)?;
+        same(ran.asked, NEVER, behind)?;
     }
     Ok(())
 }
@@ -55,6 +50,5 @@ fn two_megabytes_of_metadata_are_read(rt: HostRuntime) -> Result<(), Fail> {
     let extract = job(Verb::Extract, NONE);
     let ran = run_over(alloc, &extract, Some(meta.as_slice()), field.as_slice());
     let document = BLACK_FIELD.as_bytes();
-    writes(&rt, &ran, Ok(Ended::Whole), document, "two megabytes");
-    Ok(())
+    writes(&ran, Ok(Ended::Whole), document, "two megabytes")
 }

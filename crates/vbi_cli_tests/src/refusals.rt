@@ -1,43 +1,41 @@
 //! Words of the command line that are refused, and the texts that say why.
 
-use crate::asserts::{holds, same};
 use crate::known::joined;
 use crate::words::{COMMANDS, read, read_behind};
-use std::alloc::{AllocError, Global};
-use std::process::Abort;
+use std::alloc::Global;
 use std::test::Fail;
 use vbi_cli::{Job, WordsFault};
+use vbi_test_devices::{holds, same};
 
-/// Asserts that words are refused, and returns the text that says why, which is empty where they aren't.
+/// The text that says why words are refused; fails where they aren't.
 fn refused(
-    rt: &(impl Abort + AllocGlobal),
+    alloc: Global,
     outcome: Result<Job, WordsFault>,
     words: &[&str],
-) -> Result<String, AllocError> {
+) -> Result<String, Fail> {
     match outcome {
         Err(fault) => {
-            same(rt, fault.status(), 2, words);
-            fault.to_string(rt.alloc())
+            same(fault.status(), 2, words)?;
+            Ok(fault.to_string(alloc)?)
         }
         Ok(job) => {
-            holds(rt, false, (words, job));
-            Ok(String::new(rt.alloc()))
+            holds(false, (words, job))?;
+            Ok(String::new(alloc))
         }
     }
 }
 
-/// Asserts that words are refused, and that these texts, one behind another, are all that is said.
+/// Fails where words aren't refused, or these texts, one behind another, aren't all that is said.
 fn is_said(
-    rt: &(impl Abort + AllocGlobal),
+    alloc: Global,
     outcome: Result<Job, WordsFault>,
     words: &[&str],
     texts: &[&str],
-) -> Result<(), AllocError> {
-    let text = refused(rt, outcome, words)?;
-    let wanted = joined(rt.alloc(), texts)?;
+) -> Result<(), Fail> {
+    let text = refused(alloc, outcome, words)?;
+    let wanted = joined(alloc, texts)?;
     let is_same = text.as_str().as_bytes() == wanted.as_slice();
-    holds(rt, is_same, (words, text));
-    Ok(())
+    holds(is_same, (words, text))
 }
 
 /// What stands behind each refusal.
@@ -167,9 +165,9 @@ fn each_command_says_why_it_refuses(rt: HostRuntime) -> Result<(), Fail> {
             let outcome = read_behind(rt.alloc(), command, words);
             if has_usage {
                 let texts = ["error: ", why, before, named, behind, MORE];
-                is_said(&rt, outcome, words, &texts)?;
+                is_said(rt.alloc(), outcome, words, &texts)?;
             } else {
-                is_said(&rt, outcome, words, &["error: ", why, MORE])?;
+                is_said(rt.alloc(), outcome, words, &["error: ", why, MORE])?;
             }
         }
     }
@@ -218,15 +216,15 @@ fn each_command_refuses_other_values(rt: HostRuntime) -> Result<(), Fail> {
     let alloc = rt.alloc();
     for (command, _) in COMMANDS {
         for words in &REFUSED {
-            refused(&rt, read_behind(alloc, command, words), words)?;
+            refused(rt.alloc(), read_behind(alloc, command, words), words)?;
         }
         for value in NO_LEVELS {
             for option in ["--black", "--white"] {
                 let words = [option, value];
-                refused(&rt, read_behind(alloc, command, &words), &words)?;
+                refused(rt.alloc(), read_behind(alloc, command, &words), &words)?;
                 let word = format!(in alloc; "{option}={value}")?;
                 let words = [word.as_str()];
-                refused(&rt, read_behind(alloc, command, &words), &words)?;
+                refused(rt.alloc(), read_behind(alloc, command, &words), &words)?;
             }
         }
     }
@@ -260,9 +258,9 @@ fn each_command_refuses_other_options(rt: HostRuntime) -> Result<(), Fail> {
     for (command, _) in COMMANDS {
         for word in NO_OPTIONS {
             let words = [word, "5"];
-            let text = refused(&rt, read_behind(alloc, command, &words), &words)?;
+            let text = refused(rt.alloc(), read_behind(alloc, command, &words), &words)?;
             let first = format!(in alloc; "error: unexpected argument '{word}' found\n")?;
-            holds(&rt, text.as_str().starts_with(first.as_str()), text);
+            holds(text.as_str().starts_with(first.as_str()), text)?;
         }
     }
     Ok(())
@@ -295,7 +293,7 @@ const NO_COMMAND: [(&[&str], &str); 5] = [
 fn the_program_says_why_it_refuses(rt: HostRuntime) -> Result<(), Fail> {
     for &(words, why) in &NO_COMMAND {
         let texts = ["error: ", why, "\n\nUsage: ldvbi <COMMAND>", MORE];
-        is_said(&rt, read(rt.alloc(), words), words, &texts)?;
+        is_said(rt.alloc(), read(rt.alloc(), words), words, &texts)?;
     }
     Ok(())
 }
@@ -314,7 +312,7 @@ const NO_NAMES: [&[&str]; 6] = [
 #[test]
 fn words_without_a_command_are_refused(rt: HostRuntime) -> Result<(), Fail> {
     for words in &NO_NAMES {
-        refused(&rt, read(rt.alloc(), words), words)?;
+        refused(rt.alloc(), read(rt.alloc(), words), words)?;
     }
     Ok(())
 }

@@ -1,7 +1,7 @@
 //! `extract` and `show` as jobs over black streams: how each ends, what it wrote by then, and how often it asked its
 //! devices.
 
-use crate::asserts::{ends, same};
+use crate::asserts::ends;
 use crate::known::{
     BLACK, HEAD, REPORT_BLACK, REPORT_HEAD, REPORT_TAIL, SECOND_BLACK, SECOND_REPORT_BLACK, TAIL,
     black_stream, front, joined,
@@ -11,7 +11,7 @@ use std::alloc::{AllocError, Global};
 use std::test::Fail;
 use vbi_cli::{AppFault, Ended, Verb};
 use vbi_meta::Overrides;
-use vbi_test_devices::{Paper, Tape};
+use vbi_test_devices::{Paper, Tape, same};
 
 /// Does `extract` or `show` for NTSC with the levels 16384 and 51200.
 fn run_stream(alloc: Global, verb: Verb, limit: Option<u32>, tape: Tape, paper: Paper) -> Ran {
@@ -176,12 +176,12 @@ fn each_stream_has_its_end_and_its_text(rt: HostRuntime) -> Result<(), Fail> {
                 ..Tape::new(front(stream.as_slice(), row.bytes))
             };
             let ran = run_stream(alloc, verb, row.limit, tape, Paper::new(alloc));
-            ends(&rt, &ran, row.ended, row.status, (verb, row.bytes));
+            ends(&ran, row.ended, row.status, (verb, row.bytes))?;
             let asked = (ran.asked.reads, ran.asked.flushes);
-            same(&rt, asked, (row.reads, 0), (verb, row.bytes));
+            same(asked, (row.reads, 0), (verb, row.bytes))?;
             let text = wanted(alloc, verb, row.fields, tail)?;
             let written = ran.written.as_slice();
-            same(&rt, written, text.as_slice(), (verb, row.bytes));
+            same(written, text.as_slice(), (verb, row.bytes))?;
         }
     }
     Ok(())
@@ -222,15 +222,15 @@ fn ends_at_a_write_fault_and_asks_no_more(rt: HostRuntime) -> Result<(), Fail> {
         let ran = run_stream(alloc, verb, None, Tape::new(stream.as_slice()), paper);
         let written = u64::from(room);
         let fault = AppFault::Write { written };
-        ends(&rt, &ran, Err(fault), 1, (verb, room));
+        ends(&ran, Err(fault), 1, (verb, room))?;
         let asked = Asked {
             reads,
             writes: written + 1,
             flushes: 0,
         };
-        same(&rt, ran.asked, asked, (verb, room));
+        same(ran.asked, asked, (verb, room))?;
         let taken = front(text.as_slice(), room as usize);
-        same(&rt, ran.written.as_slice(), taken, (verb, room));
+        same(ran.written.as_slice(), taken, (verb, room))?;
     }
     Ok(())
 }

@@ -1,12 +1,11 @@
 //! What the words of the command line put into a job.
 
-use crate::asserts::{holds, same};
 use crate::runs::NONE;
 use std::alloc::{AllocError, Global};
-use std::process::Abort;
 use std::test::Fail;
 use vbi_cli::{Job, Verb, WordsFault, read_words};
 use vbi_meta::Overrides;
+use vbi_test_devices::{holds, same};
 use vbi_words::System;
 
 /// What the program makes of these words.
@@ -126,7 +125,7 @@ fn each_command_takes_each_set_of_options(rt: HostRuntime) -> Result<(), Fail> {
                     let job = read_behind(rt.alloc(), command, words.as_slice())?;
                     let wanted = wanted(verb, given, input);
                     let row = (command, words.as_slice());
-                    same(&rt, contents_of(&job), wanted, row);
+                    same(contents_of(&job), wanted, row)?;
                 }
             }
         }
@@ -174,28 +173,23 @@ fn paths_are_kept_as_they_are(rt: HostRuntime) -> Result<(), Fail> {
                 meta,
                 input,
             };
-            same(&rt, contents_of(&job), wanted, (command, words));
+            same(contents_of(&job), wanted, (command, words))?;
         }
     }
     Ok(())
 }
 
-/// Asserts that an option with this value is taken and is all that the job holds.
-fn takes(
-    rt: &(impl Abort + AllocGlobal),
-    option: &str,
-    value: &str,
-    overrides: Overrides,
-) -> Result<(), WordsFault> {
+/// Fails where an option with this value isn't taken, or isn't all that the job holds.
+fn takes(alloc: Global, option: &str, value: &str, overrides: Overrides) -> Result<(), Fail> {
     for (command, verb) in COMMANDS {
-        let job = read_behind(rt.alloc(), command, &[option, value])?;
+        let job = read_behind(alloc, command, &[option, value])?;
         let wanted = Held {
             verb,
             overrides,
             meta: None,
             input: None,
         };
-        same(rt, contents_of(&job), wanted, (command, option, value));
+        same(contents_of(&job), wanted, (command, option, value))?;
     }
     Ok(())
 }
@@ -215,17 +209,22 @@ const LIMITS: [(&str, u32); 5] = [
 fn each_command_takes_values_up_to_their_bounds(rt: HostRuntime) -> Result<(), Fail> {
     for (value, system) in [("NTSC", System::Ntsc), ("PAL", System::Pal)] {
         let system = Some(system);
-        takes(&rt, "--system", value, Overrides { system, ..NONE })?;
+        takes(rt.alloc(), "--system", value, Overrides { system, ..NONE })?;
     }
     for (value, level) in LEVELS {
         let black = Some(level);
-        takes(&rt, "--black", value, Overrides { black, ..NONE })?;
+        takes(rt.alloc(), "--black", value, Overrides { black, ..NONE })?;
         let white = Some(level);
-        takes(&rt, "--white", value, Overrides { white, ..NONE })?;
+        takes(rt.alloc(), "--white", value, Overrides { white, ..NONE })?;
     }
     for (value, limit) in LIMITS {
         let max_fields = Some(limit);
-        takes(&rt, "--max-fields", value, Overrides { max_fields, ..NONE })?;
+        takes(
+            rt.alloc(),
+            "--max-fields",
+            value,
+            Overrides { max_fields, ..NONE },
+        )?;
     }
     Ok(())
 }
@@ -234,7 +233,7 @@ fn each_command_takes_values_up_to_their_bounds(rt: HostRuntime) -> Result<(), F
 fn the_program_may_be_called_by_any_name(rt: HostRuntime) -> Result<(), Fail> {
     for name in ["ldvbi", "/usr/local/bin/ldvbi", "./a b", "show", "--help"] {
         let job = read(rt.alloc(), &[name, "line"])?;
-        same(&rt, job.verb, Verb::Line, name);
+        same(job.verb, Verb::Line, name)?;
     }
     Ok(())
 }
@@ -244,15 +243,14 @@ fn want_of_memory_has_its_text_and_status(rt: HostRuntime) -> Result<(), Fail> {
     let fault = WordsFault::OutOfMemory;
     let text = fault.to_string(rt.alloc())?;
     let found = (text.as_str(), fault.status());
-    same(&rt, found, ("out of memory", 1), "want of memory");
-    Ok(())
+    same(found, ("out of memory", 1), "want of memory")
 }
 
 /// To be run with each allocation failing in turn: the answer is that of ample memory, or want of memory.
 #[test]
-fn answers_want_of_memory_as_such(rt: HostRuntime) {
+fn answers_want_of_memory_as_such(rt: HostRuntime) -> Result<(), Fail> {
     match read(rt.alloc(), &["ldvbi", "line", "--black", "8224"]) {
-        Ok(job) => same(&rt, job.verb, Verb::Line, "the job"),
-        Err(fault) => holds(&rt, matches!(fault, WordsFault::OutOfMemory), fault),
+        Ok(job) => same(job.verb, Verb::Line, "the job"),
+        Err(fault) => holds(matches!(fault, WordsFault::OutOfMemory), fault),
     }
 }

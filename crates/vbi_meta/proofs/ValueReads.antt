@@ -22,7 +22,7 @@ use Rattle.json.specs.Tree.{json_tokens, items_tokens, members_tokens, depth, it
 use Rattle.json.specs.Tree.{MembersHaveNumbers}
 use Rattle.serde_json.proofs.Numbers.{number_of-decimal}
 use Rattle.serde_json.specs.Data.{Data, null, number, string, array, object, item, Members, put}
-use Rattle.serde_json.specs.Read.{of_json, of_items, of_members}
+use Rattle.serde_json.specs.Read.{max_depth, of_json, of_items, of_members}
 use Rattle.serde_json.specs.View.{items_of}
 use Rattle.vbi_words.specs.declared.system.System.{System}
 use Rattle.vbi_words.specs.declared.system.System.TheVariants.{Ntsc, Pal}
@@ -276,5 +276,5 @@ module _ (c : ConfigView) (readings : ℕ → FieldReadings) (fields rest : ℕ)
       (with_member (codes "fields") refl (array_reads (entries_read readings shown 0 fields (omega arith)))
       (with_member (codes "cutField") refl (cut_reads (rest == 0) (fields + 1) rest few small) no_member))))
 
-  pub stream_depth : (is : List ℕ) → depth (document_json c readings fields rest is) ≤ 127
+  pub stream_depth : (is : List ℕ) → depth (document_json c readings fields rest is) ≤ max_depth
   stream_depth is = omega (arith, entries_depth readings is, cut_depth (rest == 0) (fields + 1) rest)
