@@ -80,6 +80,8 @@ docs|docs/RECIPES.md|s/478,660 bytes/478,650 bytes/
 docs|share/man/ldvbi.1|s/is not below white level/is not under white level/
 docs|share/man/ldvbi.1|s/^.Sq unfinished/.Sq unfinish/
 docs|share/man/ldvbi.1|s/1820 for NTSC/1810 for NTSC/
+docs|README.md|s/Of [0-9]* wrong bodies/Of 1 wrong bodies/
+docs|README.md|s/in [0-9]* lines, or/in 1 lines, or/
 lines|out|82CFFF|82CFFE
 lines|err|short line|shirt line
 lines|status|1|0
