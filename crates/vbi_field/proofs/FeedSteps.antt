@@ -35,12 +35,13 @@ not_full b P iff e p = let t = iff.1 p in cc
 -- the line that is held is a row
 pub row_held : (c : ConfigView) (s : System) (is_selected : Bool) (b : List ℕ) (row : ℕ) (o : Option Reading)
     → (IsTrue is_selected ↔ ((15 ≤ row) × (row ≤ 17))) → s ≡ c.system → length b ≡ line_bytes s
-    → o ≡ cond is_selected (Some (reading_of c.system (row_levels c.levels b))) None → IsLineOf c b row o
+    → o ≡ cond is_selected (Some (reading_of s (row_levels c.levels b))) None → IsLineOf c b row o
 row_held c s is_selected b row o selects ss whole shows =
     record {
       whole = whole ∙ ap line_bytes ss;
       shows = λ x y. shows
-          ∙ cond-true is_selected (Some (reading_of c.system (row_levels c.levels b))) None (selects.1 (x, y));
+          ∙ cond-true is_selected (Some (reading_of s (row_levels c.levels b))) None (selects.1 (x, y))
+          ∙ ap (λ s. Some (reading_of s (row_levels c.levels b))) ss;
     }
 
 -- where the line is held no longer, and its row was added

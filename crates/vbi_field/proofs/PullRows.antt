@@ -102,7 +102,7 @@ module _ (t : Texts) {R W : Type 0} (remaining : R → Option (List ℕ)) (conte
       (g : Pulled t remaining contents c i0 o0 k i o p) (is_selected : Bool)
       (selects : IsTrue is_selected ↔ ((15 ≤ p.row) × (p.row ≤ 17))) (reading : Option Reading)
       (levels : LevelsView) (same_levels : levels ≡ c.levels) (row : TakesLine remaining i filled (Ok Full))
-      (line : ReadsLine levels is_selected filled i' reading)
+      (line : ReadsLine levels is_selected filled.line i'.line reading) (reader : intakes.KeepsReader filled i')
       (named : IsSameDevice (intakes.counted_of i) (intakes.counted_of filled)) where
     system : filled.line.system ≡ c.system
     system = let kept = row.kept in kept.system ∙ g.system
@@ -110,7 +110,6 @@ module _ (t : Texts) {R W : Type 0} (remaining : R → Option (List ℕ)) (conte
     took : Took i i' row.bytes
     took =
         let got = row.got in
-        let reader = line.reader in
         let P : Counted R → Type 0 = λ d.
         Consumes (remaining (device_of (intakes.counted_of i))) (remaining (device_of d)) row.bytes
         × ((failures_of d).all ≤ (failures_of (intakes.counted_of i)).all + tries * (length row.bytes + 1))

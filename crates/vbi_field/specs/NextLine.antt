@@ -1,4 +1,4 @@
--- What a run does with the next line of a reader.
+-- What a run does with the next line of a reader, and what a line that is held whole is read as.
 use Rattle.std.specs.Prelude.{◌≡◌, ℕ, ◌+◌, ◌*◌, ◌<◌, ◌≤◌, Bool, if◌then◌else◌, List, [], length, Option, Some, None}
 use Rattle.std.specs.Prelude.{Result, Ok, Err}
 use Rattle.std.specs.Io.KnownBytes.{Consumes, IsAtEnd}
@@ -7,8 +7,8 @@ use Rattle.vbi_words.specs.Levels.{LevelsView, row_levels}
 use Rattle.vbi_words.specs.declared.outcome.Reading.{Reading}
 use Rattle.vbi_line.specs.OneReading.{reading_of}
 use Rattle.vbi_line.specs.Counted.{tries, device_of, failures_of, NoError, HasCause}
-use Rattle.vbi_line.specs.Intake.{counted_of, fetched_of, held_of, line_of, KeepsReader}
-use Rattle.vbi_line.specs.Line.{KeepsPasses}
+use Rattle.vbi_line.specs.Intake.{counted_of, fetched_of, held_of, line_of}
+use Rattle.vbi_line.specs.Line.{Line, KeepsPasses}
 use Rattle.vbi_line.specs.declared.intake.Filled.{Filled}
 use Rattle.vbi_line.specs.declared.intake.Filled.TheVariants.{Full, Ended}
 use Rattle.vbi_line.specs.declared.intake.Intake.{Intake}
@@ -50,13 +50,11 @@ module _ {R : Type 0} (remaining : R → Option (List ℕ)) (old new : Intake R)
     pub got : Got bytes result
 
 -- the line that was held has this reading and each of its samples was looked at once, if it is selected; else there is
--- no reading; it is held no longer, and the reader wasn't called
-pub record ReadsLine {R : Type 0} (levels : LevelsView) (selected : Bool) (old new : Intake R)
-    (reading : Option Reading) : Type 0 where
-  pub shows : reading
-      ≡ (if selected then Some (reading_of (line_of old).system (row_levels levels (held_of old))) else None)
-  pub looked : (line_of new).looked ≡ (line_of old).looked + (if selected then width_of (line_of old).system else 0)
-  pub system : (line_of new).system ≡ (line_of old).system
-  pub held : held_of new ≡ []
-  pub cursors : (line_of new).cursors ≡ []
-  pub reader : KeepsReader old new
+-- no reading; it is held no longer
+pub record ReadsLine (levels : LevelsView) (is_selected : Bool) (old new : Line) (reading : Option Reading) : Type 0
+  where
+    pub shows : reading ≡ (if is_selected then Some (reading_of old.system (row_levels levels old.held)) else None)
+    pub looked : new.looked ≡ old.looked + (if is_selected then width_of old.system else 0)
+    pub system : new.system ≡ old.system
+    pub held : new.held ≡ []
+    pub cursors : new.cursors ≡ []

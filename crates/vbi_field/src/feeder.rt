@@ -2,14 +2,13 @@
 ghost use Rattle.std.specs.Prelude.{◌≡◌, ◌≢◌, ℕ, List, ◌+◌, ◌*◌, ◌^◌, ◌<◌, ◌≤◌, ◌↔◌, [], ◌++◌, length, take};
 ghost use Rattle.std.specs.Prelude.{if◌then◌else◌, IsTrue, IsErr, OnOk, OnErr, IfOk, IfErr, Err};
 ghost use Rattle.vbi_words.specs.Geometry.{width_of, line_bytes};
-ghost use Rattle.vbi_words.specs.Levels.{row_levels};
 ghost use Rattle.vbi_line.specs.Line.{IsFull, KeepsPasses};
-ghost use Rattle.vbi_line.specs.OneReading.{reading_of};
 ghost use Rattle.vbi_field.specs.Document.{head_of};
 ghost use Rattle.vbi_field.specs.Feed.{IsAt, IsFeedFault};
 ghost use Rattle.vbi_line.specs.Counted.{failures_of, NoError, HasCause, IsSameDevice};
 ghost use Rattle.vbi_field.specs.Outlet.{counted_of, written_of, IsFresh, Rises, Wrote, WrotePart};
 ghost use Rattle.vbi_field.specs.FeederState.{IsFeederState, IsStep, position_in};
+ghost use Rattle.vbi_field.specs.NextLine.{ReadsLine};
 
 use crate::config::Config;
 use crate::document::Document;
@@ -46,18 +45,13 @@ fn copy_in(line: &mut LineBuf, bytes: &[u8]) -> usize
     count
 }
 
-/// The reading of the line that is held, if it is selected; the line is held no longer.
+/// The reading of the line that is held whole, if it is selected; the line is held no longer.
 fn read_held(line: &mut LineBuf, config: &Config, is_selected: bool) -> Option<Reading>
     requires full { IsFull line.old }
     requires system { line.old.system ≡ config.now.system }
     requires passes { line.old.cursors ≡ [] }
     requires looked { line.old.looked ≤ 2 ^ 61 }
-    ensures shows { result ≡ (if is_selected
-        then Some (reading_of config.now.system (row_levels config.now.levels line.old.held)) else None) }
-    ensures system { line.new.system ≡ line.old.system }
-    ensures held { line.new.held ≡ [] }
-    ensures cursors { line.new.cursors ≡ [] }
-    ensures looked { line.new.looked ≡ line.old.looked + (if is_selected then width_of config.now.system else 0) }
+    ensures reads { ReadsLine config.now.levels is_selected line.old line.new result }
 {
     let reading = if is_selected {
         Some(read_twice(line, config.system(), config.levels()))

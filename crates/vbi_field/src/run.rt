@@ -3,7 +3,7 @@ ghost use Rattle.std.specs.Prelude.{◌≡◌, ◌+◌, ◌*◌, ◌^◌, ◌<�
 ghost use Rattle.vbi_words.specs.Geometry.{height_of, line_bytes};
 ghost use Rattle.vbi_line.specs.Counted.{failures_of, IsSameDevice};
 ghost use Rattle.vbi_line.specs.Intake as intakes;
-ghost use Rattle.vbi_line.specs.Intake.{fetched_of, held_of, line_of, IsFresh};
+ghost use Rattle.vbi_line.specs.Intake.{fetched_of, held_of, line_of, IsFresh, KeepsReader};
 ghost use Rattle.vbi_field.specs.Extracts.{Runs};
 ghost use Rattle.vbi_field.specs.Kinds.{document, report};
 ghost use Rattle.vbi_field.specs.Limits.{most_fields};
@@ -53,7 +53,8 @@ fn read_line<R: Read>(intake: &mut Intake<R>, levels: Levels, is_selected: bool)
     requires full { IsFull (line_of intake.old) }
     requires passes { (line_of intake.old).cursors ≡ [] }
     requires looked { (line_of intake.old).looked ≤ 2 ^ 61 }
-    ensures reads { ReadsLine levels is_selected intake.old intake.new result }
+    ensures reads { ReadsLine levels is_selected (line_of intake.old) (line_of intake.new) result }
+    ensures reader { KeepsReader intake.old intake.new }
 {
     let reading = if is_selected {
         Some(intake.reading(levels))

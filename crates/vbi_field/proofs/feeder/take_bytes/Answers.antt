@@ -44,13 +44,13 @@ returns-in_ok-add_row-clause-step g c =
     row_held c.args.config.now c.copy_in-count.new.line.system c.is_selected.result b c.args.progress.now.row
     c.read_held-reading.result
     c.is_selected.ensures (c.copy_in-count.ensures.rest.system ∙ st.system) (c.is_full.ensures.0 c.if-is_full.true)
-    c.read_held-reading.ensures.shows in
+    c.read_held-reading.ensures.reads.shows in
     λ z at.
     let s = before g.W.Write.contents c.args.config.now c.args.line.now c.args.progress.now st z at in
     fed_row g.W.Write.contents c.args.config.now c.args.line.now c.args.progress.now st z at
     (take c.copy_in-count.result c.args.bytes.now) b c.copy_in-count.ensures.held le left c.read_held-reading.new.line
     c.add_row.new.self
-    c.args.outlet.now c.add_row.new.outlet c.read_held-reading.ensures.held
+    c.args.outlet.now c.add_row.new.outlet c.read_held-reading.ensures.reads.held
     (c.in_ok-add_row.ensures.adds s.rows b s.position came)
 
 pub returns-in_err-add_row-clause-step : goal.returns-in_err-add_row-clause-step
@@ -66,7 +66,7 @@ returns-in_err-add_row-clause-step g c =
     row_held c.args.config.now c.copy_in-count.new.line.system c.is_selected.result b c.args.progress.now.row
     c.read_held-reading.result
     c.is_selected.ensures (c.copy_in-count.ensures.rest.system ∙ st.system) (c.is_full.ensures.0 c.if-is_full.true)
-    c.read_held-reading.ensures.shows in
+    c.read_held-reading.ensures.reads.shows in
     λ z at.
     let s = before g.W.Write.contents c.args.config.now c.args.line.now c.args.progress.now st z at in
     step_fault g.W.Write.contents c.args.config.now c.args.outlet.now c.add_row.new.outlet z c.args.bytes.now
@@ -82,8 +82,9 @@ returns-in_err-add_row-clause-step g c =
 pub returns-in_ok-add_row-clause-stand : goal.returns-in_ok-add_row-clause-stand
 returns-in_ok-add_row-clause-stand g c =
     let st = c.requires.stand in
-    let read = c.read_held-reading.ensures in
-    let system = read.system ∙ c.copy_in-count.ensures.rest.system ∙ st.system in
+    let read = c.read_held-reading.ensures.reads in
+    let same = c.copy_in-count.ensures.rest.system ∙ st.system in
+    let system = read.system ∙ same in
     let last = c.if-progress-max_fields.false in
     let few = st.few in
     let most = c.max_fields.ensures in
@@ -92,5 +93,6 @@ returns-in_ok-add_row-clause-stand g c =
     c.is_selected.ensures st system read.cursors read.held c.in_ok-add_row.ensures.inside c.in_ok-add_row.ensures.next
     (omega (arith, most.value)) (omega (arith, most.value, most.few))
     (read.looked
-    ∙ ap (λ n. n + cond c.is_selected.result (width_of c.args.config.now.system) 0)
-    c.copy_in-count.ensures.rest.looked)
+    ∙ ap (λ n. n + cond c.is_selected.result (width_of c.copy_in-count.new.line.system) 0)
+    c.copy_in-count.ensures.rest.looked
+    ∙ ap (λ s. c.args.line.now.looked + cond c.is_selected.result (width_of s) 0) same)

@@ -30,11 +30,13 @@ loop-row-preserved g c =
     let t = rw c.in-Full.is at c.in_ok-fill_line.ensures.takes in
     let same = c.in_ok-fill_line.ensures.same in
     let reads = c.read_line-reading.ensures.reads in
-    let came = row_came _ _ _ _ _ _ _ _ _ _ _ _ v _ (search rules) _ c.levels.result c.levels.ensures t reads same in
+    let reader = c.read_line-reading.ensures.reader in
+    let came = row_came _ _ _ _ _ _ _ _ _ _ _ _ v _ (search rules) _ c.levels.result c.levels.ensures t reads reader
+    same in
     let last : c.loop-row.row + 1 ≤ c.args.config.now.max_fields * height_of c.args.config.now.system =
     omega (arith, c.row_limit-row-end.ensures.value) in
     let e = c.in_ok-add_row-in-Full.ensures in
-    step _ _ _ _ _ _ _ _ _ _ _ _ v _ (search rules) _ c.levels.result c.levels.ensures t reads same
+    step _ _ _ _ _ _ _ _ _ _ _ _ v _ (search rules) _ c.levels.result c.levels.ensures t reads reader same
     c.add_row.new.outlet c.add_row.new.self e.next e.rises (e.adds v.z t.bytes v.at came) e.no_error e.same last
 
 pub returns-in_err-fill_line-clause-run : goal.returns-in_err-fill_line-clause-run
@@ -53,7 +55,9 @@ returns-in_err-add_row-in-Full-clause-run g c =
     let t = rw c.in-Full.is at c.in_ok-fill_line.ensures.takes in
     let same = c.in_ok-fill_line.ensures.same in
     let reads = c.read_line-reading.ensures.reads in
-    let came = row_came _ _ _ _ _ _ _ _ _ _ _ _ v _ (search rules) _ c.levels.result c.levels.ensures t reads same in
+    let reader = c.read_line-reading.ensures.reader in
+    let came = row_came _ _ _ _ _ _ _ _ _ _ _ _ v _ (search rules) _ c.levels.result c.levels.ensures t reads reader
+    same in
     let last : c.loop-row.row + 1 ≤ c.args.config.now.max_fields * height_of c.args.config.now.system =
     omega (arith, c.row_limit-row-end.ensures.value) in
     let e = c.in_err-add_row-in-Full.ensures in
@@ -62,7 +66,7 @@ returns-in_err-add_row-in-Full-clause-run g c =
     c.args.outlet.now
     c.read_line-reading.new.intake c.add_row.new.outlet _ c.from_residual-in_err-add_row-in-Full.result (search rules)
     (λ fault fails.
-    entry_fault _ _ _ _ _ _ _ _ _ _ _ _ v _ (search rules) _ c.levels.result c.levels.ensures t reads same
+    entry_fault _ _ _ _ _ _ _ _ _ _ _ _ v _ (search rules) _ c.levels.result c.levels.ensures t reads reader same
     c.add_row.new.outlet c.add_row.new.self fault e.next e.field added.0 added.1 e.failed fails last)
 
 pub returns-in-Ended-clause-run : goal.returns-in-Ended-clause-run
