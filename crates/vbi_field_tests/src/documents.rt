@@ -74,7 +74,8 @@ const FIELDS: [(System, Lines, &str, &str); 11] = [
     (
         Ntsc,
         [Run(0, 1), Word(0xF79999), Word(0xFFFFFF)],
-        r#"{"seqNo":1,"vbi":{"vbiData":[0,16226713,16777215]},"vbiCause":["change 0","word","word"],"vbiPass":[0,1,1]}"#,
+        "{\"seqNo\":1,\"vbi\":{\"vbiData\":[0,16226713,16777215]},\
+        \"vbiCause\":[\"change 0\",\"word\",\"word\"],\"vbiPass\":[0,1,1]}",
         "field 1 cav\n16 none change 0\n17 F79999 picture 79999\n18 FFFFFF other\n",
     ),
     (
@@ -86,7 +87,8 @@ const FIELDS: [(System, Lines, &str, &str); 11] = [
     (
         Pal,
         [Word(0x88FFFF), Run(1117, 14), Word(0x8DC0A1)],
-        r#"{"seqNo":1,"vbi":{"vbiData":[8978431,0,9289889]},"vbiCause":["word","unfinished","word"],"vbiPass":[1,0,1]}"#,
+        "{\"seqNo\":1,\"vbi\":{\"vbiData\":[8978431,0,9289889]},\
+        \"vbiCause\":[\"word\",\"unfinished\",\"word\"],\"vbiPass\":[1,0,1]}",
         "field 1 neither\n16 88FFFF lead-in\n17 none unfinished\n18 8DC0A1 cx on 0A1\n",
     ),
 ];
