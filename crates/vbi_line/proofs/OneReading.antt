@@ -118,3 +118,12 @@ pub is_reading : (system : System) (levels : List Bool) → IsReading system lev
 unfolding reading_of
 is_reading system levels = from_outcomes system levels (outcome_of system levels) (outcome_of system (smooth_of levels))
     (is_outcome system levels) (is_outcome system (smooth_of levels))
+
+-- a blank list is read as blank, whatever stands for its outcome
+pub blank_is_read : (system : System) (levels : List Bool) (outcome : Outcome) → outcome ≡ Blank
+    → IsOutcome system levels outcome → IsReading system levels (with_pass outcome 0)
+blank_is_read system levels (Word w) e is = cc
+blank_is_read system levels Blank e is = blank_reads system levels is
+blank_is_read system levels Unfinished e is = cc
+blank_is_read system levels (Change c) e is = cc
+blank_is_read system levels (Hold c) e is = cc

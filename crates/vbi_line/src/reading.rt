@@ -60,6 +60,7 @@ pub fn read_packed_twice(packed: &Packed, system: System) -> Reading
 }
 
 /// The reading, from the outcome of the levels and the word of the smoothed ones.
+#[tactic(auto, using(crate::proofs::OneReading::blank_is_read))]
 fn read_both(packed: &Packed, system: System) -> Reading
     requires { length packed.now ≡ width_of system }
     ensures { IsReading system packed.now result }
