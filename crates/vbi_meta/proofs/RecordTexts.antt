@@ -73,6 +73,7 @@ pub record LineList : Type 0 where
 abbrev pub list_of : LineList → FieldReadings → List ℕ
 list_of list readings = lines_of list.opening list.text_of list.closing readings
 
+-- the words, 0 where a line has none
 abbrev pub words : LineList
 words = record {
   opening = codes ",\"vbi\":{\"vbiData\":[";
@@ -80,6 +81,7 @@ words = record {
   closing = codes "]}";
 }
 
+-- the causes, each between quotes
 abbrev pub causes : LineList
 causes = record {
   opening = codes ",\"vbiCause\":[";
@@ -95,6 +97,7 @@ quoted_causes = record {
   closing = causes.closing;
 }
 
+-- the passes
 abbrev pub passes : LineList
 passes = record {
   opening = codes ",\"vbiPass\":[";
