@@ -4,8 +4,8 @@
 #
 # `rt ci` works on a copy without must-fail/, whose edits it would try one at a time, while program and library are
 # built here; what these keep, the wrong bodies are tried over. So the program is proved and built twice, and the two
-# are compared byte for byte. The last line counts crates and wrong bodies, 'N passed, 0 failed'; the status is 0 only where
-# all of it passed. Times of the parts stand before it. With `one-by-one` `rt ci` has the edits too, and tries them.
+# are compared byte for byte. The last line counts crates and wrong bodies, 'N passed, 0 failed'; the status is 0 only
+# where all of it passed. Times of the parts stand before it. With `one-by-one` `rt ci` has the edits too, and tries them.
 # usage: sh tests/gate.sh [one-by-one]
 set -eu
 

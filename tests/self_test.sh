@@ -1,7 +1,8 @@
 #!/bin/sh
 # Tries the scripts themselves. Each has to fail, by one of its checks, where a text of the program is altered on its
 # way out (by alter.c), or one of a file that the script looks at. Where scripts are altered so that they check less, or
-# what they share is, scripts.sh has to fail; or an altered program gets through, by which the rows above it would find that.
+# what they share is, scripts.sh has to fail; or an altered program gets through, by which the rows above it would find
+# that.
 # usage: sh tests/self_test.sh PROGRAM
 # shellcheck disable=SC2317
 

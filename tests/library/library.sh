@@ -355,7 +355,7 @@ check 'the line in README with them' says_with "$work/debian/usr/lib/x86_64-linu
 check "Debian's make uninstall" makes uninstall DESTDIR="$work/debian" $debian
 check 'nothing of it is left' [ -z "$(find debian -type f -o -type l)" ]
 check 'a library outside the prefix' makes install-lib DESTDIR="$work/outside" PREFIX=/usr LIBDIR=/elsewhere/lib
-check 'is described by its own place' [ "$(sed -n 's/^libdir=//p' outside/elsewhere/lib/pkgconfig/ldvbi.pc)" = /elsewhere/lib ]
+check 'is described by its own place' grep -qx 'libdir=/elsewhere/lib' outside/elsewhere/lib/pkgconfig/ldvbi.pc
 
 # The archive of what is built, unpacked anywhere
 mkdir tree unpacked

@@ -228,7 +228,8 @@ document_short c z run =
     (λ i l. record_short (i + 1) (readings_at c z i) (omega arith) (field_shown c z i)) in
     let head = head_short c (omega (arith, run.config.black)) (omega (arith, run.config.white)) in
     let tail = tail_short (fields_of c z) (rest_of c z) (omega arith) (small_rest c.system (length z)) in
-    let entries : List ℕ = join_by (λ i. document.entry (i + 1) (readings_at c z i)) (codes ",\n") (range_with_len 0 (fields_of c z)) in
+    let entry : ℕ → List ℕ = λ i. document.entry (i + 1) (readings_at c z i) in
+    let entries : List ℕ = join_by entry (codes ",\n") (range_with_len 0 (fields_of c z)) in
     let begun : length (head_of c ++ entries) ≤ 284 + 223 * fields_of c z = and (head_of c) entries head records in
     let all : length (whole_text document c z) ≤ 284 + 223 * fields_of c z + 140
     = and (head_of c ++ entries) (tail_of (fields_of c z) (rest_of c z)) begun tail in
