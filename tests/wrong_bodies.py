@@ -27,8 +27,9 @@ import tempfile
 FOLDER = "must-fail"
 HEAD = re.compile(r"(\s*)(?:pub(?:\([^)]*\))?\s+)?(?:const\s+)?(?:unsafe\s+)?(?:extern\s+\"C\"\s+)?fn\s+(\w+)")
 # A function refused by itself: by an error in its written proof, or by a goal that has no proof. One that is right and
-# only calls such a function reads 'no proof: it calls ..'.
-REFUSED = r"^fn {}: (not proved|no proof: (?!it calls|it passes|it rests|it uses)).*"
+# only calls such a function reads 'no proof: it calls ..', or that the borrow checker's part isn't made for that call.
+# Nor is a function refused that the borrow checker doesn't cover yet.
+REFUSED = r"^fn {}: (not proved|no proof: (?!it calls|it passes|it rests|it uses|the borrow checker)).*"
 # An error in a written proof which says no more than that a name went with the right body
 LOST = re.compile(r"has no field|is not in scope|has no `|was not admitted")
 # Memory of one check, in kB

@@ -14,6 +14,9 @@ import subprocess
 import sys
 import tempfile
 
+sys.dont_write_bytecode = True
+import wrong_bodies  # noqa: E402
+
 CRATE = "vbi_words"
 # Name, file, old text, new text, and what the script has to say of it
 EDITS = [
@@ -25,6 +28,15 @@ EDITS = [
     ("does_not_compile", "src/levels.rt", "2 * u32::from(sample) > u32::from(self.black) + u32::from(self.white)",
      "2 * u32::from(sample) > self.grey", "BAD EDIT"),
     ("text_is_gone", "src/word.rt", "no such text", "another", "BAD EDIT"),
+]
+# What a check says of a function, and whether that refuses its own body
+LINES = [
+    ("fn vbi_line::f: not proved", True),
+    ("fn vbi_line::f: no proof: expected answers in ./proofs/f/Answers.antt; `search` did not prove `returns`", True),
+    ("fn vbi_line::f: no proof: it calls vbi_line::g, which has no proof", False),
+    ("fn vbi_line::f: no proof: the borrow checker's part in its proof is not made yet: a call of vbi_line::g", False),
+    ("fn vbi_line::f: no proof: the borrow checker does not cover this function yet", False),
+    ("fn vbi_line::fg: not proved", False),
 ]
 
 
@@ -67,6 +79,8 @@ def main():
         if found != wanted:
             failures.append(f"{name}: {found}, not {wanted}")
 
+    check("what refuses", [bool(re.search(wrong_bodies.REFUSED.format("vbi_line::f"), line)) for line, _ in LINES],
+          [refuses for _, refuses in LINES])
     with tempfile.TemporaryDirectory(prefix="wrong-bodies-trials-", dir=top) as room:
         copy = copy_of_crate(top, room)
         for name, file, old, new, _ in EDITS:
@@ -85,7 +99,7 @@ def main():
         check("a crate that isn't proved", f"{CRATE}: not proved as it stands" in text, True)
     for failure in failures:
         print(f"wrong bodies, tried themselves: {failure}", file=sys.stderr)
-    print(f"wrong bodies, tried themselves: {5 - len(failures)} of 5 as wanted")
+    print(f"wrong bodies, tried themselves: {6 - len(failures)} of 6 as wanted")
     return 1 if failures else 0
 
 
