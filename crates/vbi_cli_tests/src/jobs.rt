@@ -75,8 +75,8 @@ fn settles_before_it_reads(rt: HostRuntime) -> Result<(), Fail> {
     Ok(())
 }
 
-/// Fails where a job with the metadata of the NTSC capture writes other bytes than these of an input, or doesn't read all
-/// of it.
+/// Fails where a job with the metadata of the NTSC capture writes other bytes than these of an input, or doesn't read
+/// all of it.
 fn gives(alloc: Global, job: &Job, input: &[u8], text: &[u8]) -> Result<(), Fail> {
     let ran = run_over(alloc, job, Some(FULL), input);
     writes(&ran, Ok(Ended::Whole), text, job.verb)?;
