@@ -29,7 +29,7 @@ python_side|python/ldvbi_side/summary.py|s/"missing: "/"mizzing: "/
 side_schema|share/schema/ldvbi-side.schema.json|s/"damaged", //
 side_schema|share/schema/ldvbi-side.schema.json|s/"enum": \[1820, 2270\]/"type": "integer"/
 side_schema|tests/python/answers.py|/yield "clock"/d
-side_schema|tests/validate.py|s/validator.is_valid(document)/True/
+side_schema|tests/validate_parts.py|s/self.validator.is_valid(document)/True/
 drawing|out|"blank"|"plank"
 drawing|hangs
 drawing|python/ldvbi_side/marks.py|s/"missing: %s, after/"mizzing: %s, after/
@@ -112,7 +112,7 @@ want_of_memory|err|out of memory|out of memori
 want_of_memory|status|1|3
 want_of_memory|hangs
 schema|out|"vbiPass"|"vbiPaSS"
-schema|tests/validate.py|s/validator.is_valid(document)/True/
+schema|tests/validate_parts.py|s/self.validator.is_valid(document)/True/
 schema|share/schema/ldvbi.schema.json|s/hold/held/
 schema|share/schema/ldvbi.schema.json|s/: 65534/: 65535/
 schema|share/schema/ldvbi.schema.json|s/"maxItems": 1000000/"maxItems": 100000/

@@ -9,6 +9,8 @@ import jsonschema
 
 with open(sys.argv[1], encoding="ascii") as file:
     schema = json.load(file)
+if schema["$schema"] != jsonschema.Draft202012Validator.META_SCHEMA["$id"]:
+    sys.exit("the schema isn't of 2020-12")
 jsonschema.Draft202012Validator.check_schema(schema)
 validator = jsonschema.Draft202012Validator(schema)
 for path in sys.argv[2:]:

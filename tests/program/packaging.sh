@@ -96,6 +96,9 @@ check 'what is installed is for all' are_for_all private/usr
 made install DESTDIR="$work/stage" PREFIX=/usr
 (cd stage && find usr -type f | sort) > found
 check 'what is installed below DESTDIR' cmp found files
+made install DESTDIR="$work/local"
+(cd local/usr/local && find . -type f | sed 's/^[.]/usr/' | sort) > found
+check 'what is installed where no place is named' cmp found files
 
 # Archives of source and program, the same ones each time
 made dist
@@ -161,6 +164,7 @@ judge 'make lib says one line of a crate' 0 wanted_text ''
 status=0
 (cd tree && bounded make -s lib) < empty > out 2> err || status=$?
 check 'make of the shared library' ended 0 empty empty
+check 'its short name' [ "$(readlink tree/libldvbi.so)" = libldvbi.so.1 ]
 
 # What is built is built anew after a change of any of its sources, and after no other change.
 # changed FILE: makes this file the latest of the copy, behind those that are built

@@ -63,6 +63,29 @@ check 'cells where SIGNAL.md has them' cmp off empty
 check 'their bits' grep -qx 100000101100111111111111 found
 check 'the digits' grep -qx 82CFFF found
 
+# The same word where only a part of the line is seen: a boundary right behind the last column, and one column further
+second=$(sed -n 2p cells)
+plotted "$second" $ntsc --last $((second - 1))
+check 'a boundary behind the last column' grep -qx "cells $(sed -n 1p cells) $second" found
+plotted $((second - 1)) $ntsc --last $((second - 2))
+check 'a boundary out of sight' grep -qx "cells $(sed -n 1p cells)" found
+# Columns are numbered by tens where at most 301 are seen
+for row in '300 31' '301 7'; do
+    plotted 910 $ntsc --last "${row% *}"
+    check "numbers of columns up to ${row% *}" [ "$(grep -c 'y="[0-9.]*" text-anchor="middle">[0-9]' out)" = "${row#* }" ]
+done
+# Samples at the middle of black and white are low, those above it high
+for levels in '--black 0 --white 32768' '--black 50000 --white 52399'; do
+    plotted 910 --system NTSC $levels
+    check "$levels" [ "$status $(sed -n 2p found)" = '0 82CFFF' ]
+done
+# A drawn word of PAL begins at column 190 and has 851 columns, give or take one
+echo 8AE012 | signal PAL 0 | pal_samples > line.raw
+plotted 1135 $pal
+sed -n 's/^cells \([0-9]*\) .* \([0-9]*\)$/\1 \2/p' found |
+    awk '189 <= $1 && $1 <= 191 && 1040 <= $2 && $2 <= 1042' > ends
+check 'where a word of PAL begins and ends' [ "$(wc -l < ends)" = 1 ]
+
 # What lines of each kind give: a title that begins so, the digits of a word, and what is marked. The half cells are the
 # shortest and the longest ones; a word that these samples wouldn't show by the script's own reading is a fault.
 while IFS='|' read -r system description title digits marked; do
