@@ -150,6 +150,8 @@ for seek in ./seek "python3 $top/examples/seek.py"; do
     check "$seek: minutes that differ" prints 1 'not found' $seek marks.tbc $on_clv 0:00:00.02
     check "$seek: hours" prints 0 'field 5' $seek marks.tbc $on_clv 1:09:00.03
     check "$seek: no field" prints 1 'not found' $seek empty.tbc $on_cav 3
+    check "$seek: the greatest picture" prints 1 'not found' $seek cav.tbc $on_cav 79999
+    check "$seek: the greatest time" prints 1 'not found' $seek clv.tbc $on_clv 9:59:59.99
     while read -r file system black white picture; do
         check "$seek: $file $system $black $white $picture" \
             refuses_in_a_line "seek\(.py\)\?" $seek $file $system $black $white $picture
@@ -183,6 +185,10 @@ done
 check 'seek: what is refused is said' refuses 'seek: black is not below white, or one of them is above 65535' \
     ./seek cav.tbc NTSC 51200 16384 3
 check 'seek: a system is named exactly' refuses 'seek: system is neither NTSC nor PAL' ./seek cav.tbc pal 1 2 3
+truncate -s 1G great.tbc
+check 'seek: a file that cannot be mapped' refuses 'seek: great.tbc: Cannot allocate memory' \
+    sh -c 'ulimit -v 500000 && exec ./seek great.tbc NTSC 16384 51200 3'
+rm great.tbc
 check 'stops: a CAV disc' prints 0 'field 7 picture 3
 field 8
 2 stops' sh -c './stops NTSC 16384 51200 < cav.tbc'
