@@ -8,7 +8,8 @@ names   the functions, clauses, definitions and fields that PROMISES.md names ar
         and files in the prose of DECISIONS.md and SIGNAL.md
 faults  the fault texts of FORMATS.md are those of the source, in its order, and those of the manual page among them
 causes  the names of causes in FORMATS.md, SIGNAL.md and the manual page are those of the source
-sizes   the sizes in FORMATS.md, RECIPES.md, SIGNAL.md and the manual page are those of the source, each in its sentence
+sizes   the sizes in README.md, FORMATS.md, RECIPES.md, SIGNAL.md, ldvbi.h and the manual page are those of the source,
+        each in its sentence
 
 usage: python3 tests/documents.py CHECK..     (at the top of the repository)
 """
@@ -21,10 +22,11 @@ import source_names
 from source_names import read
 
 # The least that each check has to look at. A check that finds less no longer understands the documents.
-LEAST = {"links": 40, "paths": 95, "names": 680, "faults": 28, "causes": 20, "sizes": 20}
+LEAST = {"links": 40, "paths": 95, "names": 680, "faults": 28, "causes": 20, "sizes": 27}
 # The links to the net, of which nothing else is looked at
 NET = ["https://github.com/happycube/ld-decode"]
 PAGE = "share/man/ldvbi.1"
+HEADER = "include/ldvbi.h"
 # A number in the texts of faults and causes
 NUMBER = r"(?:[1-9]\d*|0)"
 
@@ -45,6 +47,11 @@ def one_line(text):
 def page_text():
     """Returns the manual page as one line of words, without its macros."""
     return one_line(re.sub(r"^\.\w+ ?", "", read(PAGE), flags=re.M))
+
+
+def header_text():
+    """Returns the comments of the library's header as one line of words."""
+    return one_line(re.sub(r"^ \* ", "", " ".join(re.findall(r"/\*(.*?)\*/", read(HEADER), re.S)), flags=re.M))
 
 
 def section(path, heading):
@@ -218,6 +225,15 @@ SENTENCES = {
         "A field has {field_bytes, n} bytes (NTSC) or {field_bytes, p} (PAL).",
         "of {line_bytes, n} bytes ({line_bytes, p} in PAL, which has {height_of p} lines for {height_of n})",
     ],
+    HEADER: [
+        "525 lines; {width_of n} samples to a line, {height_of n} lines to a field",
+        "625 lines; {width_of p} samples to a line, {height_of p} lines to a field",
+        "may have {least_half n} to {greatest_half n} samples, read as PAL {least_half p} to {greatest_half p}.",
+        "1. Take at most {width_of n} samples.",
+        "and take the rest, or the first {width_of n} of it.",
+        "3. Fill up to {width_of n} samples with black",
+        "keeps its {least_half n} to {greatest_half n} samples.",
+    ],
     PAGE: [
         "It reads the bytes of one line ({line_bytes n} for NTSC, {line_bytes p} for PAL)",
         "NTSC (fields of {width_of n}x{height_of n} samples) or PAL ({width_of p}x{height_of p})",
@@ -241,7 +257,7 @@ def sizes(faults):
                         if value >= 100 and not name.startswith(("start_of", "number_of"))}
     looked_at = 0
     for path, sentences in SENTENCES.items():
-        text = page_text() if path == PAGE else one_line(prose(path))
+        text = {PAGE: page_text, HEADER: header_text}.get(path, lambda: one_line(prose(path)))()
         named = 0
         for sentence in sentences:
             wanted = PLACE.sub(number, sentence)

@@ -55,6 +55,7 @@ docs|hangs
 docs|README.md|s/^18 F00003 picture 00003$/18 F00003 picture 00004/
 docs|README.md|s/^```sh skip$/```sh skipped/
 docs|README.md|s/](docs/](dogs/
+docs|include/ldvbi.h|s/263 lines to/262 lines to/
 docs|docs/RECIPES.md|s/^```text$/```test/
 docs|docs/RECIPES.md|s/^```sh lib$/```sh/
 docs|docs/RECIPES.md|s,](SIDES.md),](https://example.org/SIDES.md),

@@ -1,6 +1,7 @@
 """The classes of words in Python: rows of each pattern and its edges, and each word beside the library."""
 
 import os
+import re
 import struct
 import subprocess
 import sys
@@ -33,6 +34,14 @@ ROWS = [
     (0x88D000, Kind.other, 0, 0), (0x800000, Kind.other, 0, 0), (0xE00000, Kind.other, 0, 0),
     (0xFFFFFF, Kind.other, 0, 0),
 ]
+
+
+def ranges_of_header():
+    """The greatest first and second number of each kind, by its number, where include/ldvbi.h says `0 to` one."""
+    with open(TOP + "/include/ldvbi.h", encoding="ascii") as file:
+        kinds = re.findall(r"^    LDVBI_\w+ = (\d+), +/\* (first: .*) \*/$", file.read(), re.M)
+    return [(int(kind), place, int(greatest)) for kind, text in kinds for place, said in enumerate(text.split("; "))
+            for greatest in re.findall(r", 0 to (\d+)$", said)]
 
 
 class Classes(unittest.TestCase):
@@ -70,14 +79,19 @@ class Classes(unittest.TestCase):
             # Where the lines that run are recorded, these calls would take minutes, and show no new line.
             self.addCleanup(sys.settrace, sys.gettrace())
             sys.settrace(None)
-            compared = 0
+            compared, greatest = 0, {}
             with subprocess.Popen([program], stdout=subprocess.PIPE) as codes:
                 for begin in range(0x800000, 0x1000000, BLOCK):
                     wanted = list(struct.iter_unpack("=III", codes.stdout.read(12 * BLOCK)))
                     self.assertEqual(list(map(classify, range(begin, begin + BLOCK))), wanted)
                     compared += len(wanted)
+                    for kind, *numbers in set(wanted):
+                        greatest[kind] = list(map(max, greatest.get(kind, numbers), numbers))
                 self.assertEqual(codes.stdout.read(), b"")
             self.assertEqual((codes.returncode, compared), (0, 2 ** 23))
+            ranges = ranges_of_header()
+            self.assertEqual([(kind, place, greatest[kind][place]) for kind, place, _ in ranges], ranges)
+            self.assertEqual(len(ranges), 8)
 
 
 if __name__ == "__main__":
