@@ -108,6 +108,8 @@ check 'the checksums' sh -c 'cd first && sha256sum -c --quiet SHA256SUMS'
 tar -tzf first/ldvbi-0.1.0.tar.gz | sed 's/^ldvbi-0.1.0\///; /\/$/d; /^$/d' | sort > found
 (cd tree && git ls-files | sort) > listed
 check 'the source archive has each file' cmp found listed
+for archive in first/*.tar.gz; do tar --numeric-owner -tvzf "$archive"; done | awk '{ print $2 }' | sort -u > owners
+check "the files in the archives are root's" [ "$(cat owners)" = 0/0 ]
 tar -tzf first/ldvbi-0.1.0-x86_64-linux.tar.gz | sed '/\/$/d; s/^ldvbi-0.1.0-x86_64-linux/usr/' | sort > found
 check 'the archive of the program has what is installed' cmp found files
 sleep 1

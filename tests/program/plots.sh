@@ -117,6 +117,7 @@ NTSC|-|no word: blank||
 NTSC|L900 H10|no word: unfinished||
 PAL|8AE012|8AE012, by the samples|8AE012|
 PAL|8AE012 @50-52H|8AE012, by the smoothed levels (pass 2)|8AE012|50 51 52
+PAL|FFFFFF/14/48|FFFFFF, by the samples|FFFFFF|
 PAL|800000/22/48|800000, by the samples|800000|
 PAL|L207 H928|no word: hold 251||251
 END
@@ -135,6 +136,8 @@ for columns in '--first -1' '--first 910' '--last 910' '--first 20 --last 19'; d
     plotted 910 $ntsc $columns
     check "$columns" [ $status = 2 ]
 done
+plotted 1135 $pal --last 1135
+check 'PAL --last 1135' [ $status = 2 ]
 head -c 1819 line.raw > short.raw
 cp short.raw line.raw
 plotted 910 $ntsc
