@@ -141,6 +141,7 @@ for seek in ./seek "python3 $top/examples/seek.py"; do
     check "$seek: a CAV disc" prints 0 'field 7' $seek cav.tbc $on_cav 3
     check "$seek: no such picture" prints 1 'not found' $seek cav.tbc $on_cav 5
     check "$seek: a CLV disc" prints 0 'field 7' $seek clv.tbc $on_clv 0:01:00.00
+    check "$seek: a time without zeros" prints 0 'field 7' $seek clv.tbc $on_clv 0:1:0.0
     check "$seek: no such time" prints 1 'not found' $seek clv.tbc $on_clv 0:02:00.00
     check "$seek: the number on line 18 alone" prints 0 'field 5' $seek stops.tbc $on_cav 3
     check "$seek: the number on line 17 alone" prints 0 'field 7' $seek stops.tbc $on_cav 4
