@@ -67,6 +67,7 @@ class Places:
         self.table, self.tried, self.faults, self.count = table, set(), [], 0
 
     def expect(self, document, is_valid, place, what):
+        """Counts a document, and keeps a fault where the schema says otherwise of it."""
         self.count += 1
         if self.validator.is_valid(document) != is_valid:
             self.faults.append("%s: %s is %s" % (place, what, "refused" if is_valid else "valid"))
@@ -116,6 +117,8 @@ class Places:
         if items:
             self.put(document, path, items[:-1], count is None, place)
         if count is not None:
+            if len(items) != count:
+                self.faults.append("%s has %d items" % (place, len(items)))
             self.put(document, path, items + items[-1:], False, place)
 
     def change_members(self, document, path, place, value):

@@ -107,7 +107,7 @@ done < rows
 
 # What may stand at each place of a document is valid there, and all else is refused: of a document of one record each,
 # with a word on some of its lines
-# places SYSTEM OTHER WIDTH HEIGHT BYTES LINE LINE LINE: the table. BYTES are a whole field; a LINE is word or none
+# places SYSTEM OTHER WIDTH HEIGHT BYTES LINE LINE LINE: the table. BYTES are a whole field; a LINE is word or none.
 places() {
     cat << END
 .version 2..2
