@@ -46,24 +46,29 @@ endef
 # Proofs take all processors, and the program and the library have crates in common.
 .NOTPARALLEL:
 
+# How many jobs a crate's proof is shared among. Several take a third more of the processors' time than one, and are worth
+# it in the four large crates, whose number the toolchain chooses. `make JOBS=1` takes the least of the processors.
+LARGE := $(if $(JOBS),--jobs $(JOBS))
+SMALL := --jobs $(or $(JOBS),1)
+
 # Libraries, lowest first: with one of them missing, `rt run` would first pass over the sources of all
 ldvbi: crates.txt $(SOURCES)
 	@$(MAKE) -s toolchain
-	$(call proved,vbi_words,rt lib)
-	$(call proved,vbi_line,rt lib)
-	$(call proved,vbi_field,rt lib)
-	$(call proved,vbi_meta,rt lib)
-	$(call proved,vbi_cli,rt lib)
-	$(call proved,ldvbi,rt run -- --help)
+	$(call proved,vbi_words,rt lib $(LARGE))
+	$(call proved,vbi_line,rt lib $(LARGE))
+	$(call proved,vbi_field,rt lib $(LARGE))
+	$(call proved,vbi_meta,rt lib $(SMALL))
+	$(call proved,vbi_cli,rt lib $(LARGE))
+	$(call proved,ldvbi,rt run $(SMALL) -- --help)
 	cp crates/ldvbi/out/ldvbi ldvbi
 
 lib: libldvbi.a libldvbi.so
 
 libldvbi.a: crates.txt $(LIBRARY_SOURCES)
 	@$(MAKE) -s toolchain
-	$(call proved,vbi_words,rt lib)
-	$(call proved,vbi_line,rt lib)
-	$(call proved,vbi_c,rt lib)
+	$(call proved,vbi_words,rt lib $(LARGE))
+	$(call proved,vbi_line,rt lib $(LARGE))
+	$(call proved,vbi_c,rt lib $(SMALL))
 	cp crates/vbi_c/out/libvbi_c.a libldvbi.a
 
 # No start files, which have undefined symbols of their own

@@ -124,13 +124,13 @@ def paths(faults):
 
 def source_faults():
     """Returns the fault texts of the source, in its order, each as a pattern; those of the command line's words are
-    clap's, and a text that is another fault's is no row."""
+    clap's, and the program never prints that of a feeder."""
     found = []
     for path in sorted(glob.glob("crates/*/src/*.rt")):
-        for text in re.findall(r"enum (?:App|Main|Meta|Words)Fault \{(.*?)^\}", read(path), re.M | re.S):
-            found += re.findall(r'#\[error\("([^"]*)"\)\]', text)
-    texts = list(dict.fromkeys(text for text in found if text != "{0}"))
-    return [re.sub(r"\\\{\w+\\\}", lambda _: NUMBER, re.escape(text)) for text in texts]
+        for body in re.findall(r"^impl (?:fmt::Display for )?(?:App|Draw|Main|Meta|Run|Words)Fault \{(.*?)^\}",
+                               read(path), re.M | re.S):
+            found += [text for text in re.findall(r'"([^"]+)"', body) if text != "feeder failed before"]
+    return [re.sub(r"\\\{\w+\\\}", lambda _: NUMBER, re.escape(text)) for text in dict.fromkeys(found)]
 
 
 def faults_of_documents(faults):

@@ -10,7 +10,8 @@ An edit has lines 'file: src/x.rt', 'old: TEXT' (once in that file) and 'new: TE
 changes more than bodies, as a constant or a head, gets a round of its own; a line 'refuses: a::b' may name the function
 that the prover has to refuse, and else it is any of the crate.
 
-Kept work is that of `rt lib`, `rt run` or `rt check` in each crate, which must have passed on the same files.
+Each crate is proved by `rt lib` first, as it stands. That takes a second where it was proved before, and what it keeps is
+what the rounds begin from. A round looks at the edited functions alone (`--only`), since no other can be refused for them.
 
 usage: python3 tests/wrong_bodies.py [--lanes N] [--only WORD] [--plan] [CRATE..]    (at the top, `rt` on the PATH)
 """
@@ -165,6 +166,12 @@ class Round:
         self.texts = texts
         return True
 
+    def only(self):
+        """Returns the flags that have a check look at the edited functions alone; none where an edit changes more."""
+        if any(edit.alone for edit in self.edits):
+            return []
+        return [f"--only={name}" for edit in self.edits for name in edit.refuses]
+
 
 def round_of(edits, folder):
     made = Round()
@@ -220,13 +227,14 @@ class Crate:
         write(f"{copy}/crates.txt", "\n".join(rows) + "\n")
         return copy
 
-    def check(self, texts):
-        """Returns what the check says of the crate with these texts in place of its own."""
+    def check(self, texts, only=()):
+        """Returns what the check says of the crate with these texts in place of its own; of some functions alone where
+        they are named, and not of their callers."""
         copy = self.copy()
         folder = f"{copy}/crates/{self.name}"
         for file, text in texts.items():
             write(f"{folder}/{file}", text)
-        ran = subprocess.run(["rt", "check", "--jobs", "1"], cwd=folder, stdin=subprocess.DEVNULL,
+        ran = subprocess.run(["rt", "check", "--jobs", "1", *only], cwd=folder, stdin=subprocess.DEVNULL,
                              stdout=subprocess.PIPE, stderr=subprocess.STDOUT, errors="replace", check=False)
         shutil.rmtree(copy)
         return ran.stdout
@@ -235,13 +243,19 @@ class Crate:
         """Returns 'proved' or 'not-proved', or None where the check came to no verdict on this crate. Those on crates
         below it, which are built first where they have changed, aren't it."""
         own = re.search(rf"^crate {self.name}: modules .*", said, re.M)
-        found = own and re.search(r"^logic=(proved|not-proved)", said[own.end():], re.M)
-        return found and found[1]
+        if own is None:
+            return None
+        found = re.search(r"^logic=(proved|not-proved)", said[own.end():], re.M)
+        some = re.search(r"^only=(\d+) proved=(\d+)", said[own.end():], re.M)
+        return found[1] if found else some and ("proved" if some[1] == some[2] else "not-proved")
 
-    def proved(self):
-        """Returns whether the crate is proved as it stands, and the end of what the check says."""
-        said = self.check({})
-        return self.verdict(said) == "proved", said[-300:]
+    def fault(self):
+        """Proves and builds the crate as it stands, which keeps what the rounds begin from, and returns the end of what
+        the toolchain says where it isn't proved, else None."""
+        ran = subprocess.run(["rt", "lib"], cwd=self.folder, stdin=subprocess.DEVNULL, stdout=subprocess.PIPE,
+                             stderr=subprocess.STDOUT, errors="replace", check=False)
+        proved = ran.returncode == 0 and re.search("^logic=proved", ran.stdout, re.M)
+        return None if proved else ran.stdout[-300:]
 
     def judged(self, edit, said):
         """Returns by what the check refused the edit's own function, 'goal', 'proof' or 'name' (or None, where it
@@ -264,7 +278,7 @@ class Crate:
 
     def tried(self, one):
         """Checks a round, and returns each of its edits with the verdict on it."""
-        said = self.check(one.texts)
+        said = self.check(one.texts, one.only())
         if len(one.edits) > 1 and self.verdict(said) is None:
             # One of them doesn't compile, so half of them is tried at a time
             half = len(one.edits) // 2
@@ -295,22 +309,16 @@ def planned(crates, word):
     return sorted(tasks, key=lambda it: -len(it[1].edits)), faulty
 
 
-def run(crates, tasks, lanes):
+def run(tasks, lanes):
     """Tries all rounds, prints each verdict, and returns how many edits were refused by what."""
     counts = collections.Counter()
     with concurrent.futures.ThreadPoolExecutor(lanes) as pool:
         rounds = {pool.submit(crate.tried, one): crate for crate, one in tasks}
-        as_they_stand = {pool.submit(crate.proved): crate for crate in crates}
         for done in concurrent.futures.as_completed(rounds):
             for edit, by, why in done.result():
                 word = {None: "NOT REFUSED", "bad": "BAD EDIT"}.get(by, f"refused by a {by}")
                 print(f"{rounds[done].name}/{edit.name}: {word}: {why}", flush=True)
                 counts[by] += 1
-        for done in concurrent.futures.as_completed(as_they_stand):
-            proved, said = done.result()
-            if not proved:
-                print(f"{as_they_stand[done].name}: not proved as it stands: {said}", flush=True)
-                counts["bad"] += 1
     return counts
 
 
@@ -328,7 +336,12 @@ def main():
         tasks, faulty = planned(crates, given.only)
         if given.plan:
             return 0
-        counts = run(crates, tasks, given.lanes)
+        for crate in crates:
+            said = crate.fault()
+            if said:
+                print(f"{crate.name}: not proved as it stands: {said}")
+                return 1
+        counts = run(tasks, given.lanes)
     refused = counts["goal"] + counts["proof"] + counts["name"]
     not_refused = faulty + counts["bad"] + counts[None]
     print(f"wrong bodies: {refused} refused ({counts['goal']} by a goal, {counts['proof']} by a written proof, "

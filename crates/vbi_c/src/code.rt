@@ -10,7 +10,7 @@ use std::mem::size_of;
 use vbi_words::{Code, Word24, classify};
 
 /// What a word says: its kind, and the numbers that go with it.
-#[derive(Clone, Copy, Debug, PartialEq, Eq)]
+#[derive(Clone, Copy)]
 #[repr(C)]
 pub struct LdvbiCode {
     /// 0 for a word of no kind, 1 for a picture number, 2 a chapter, 3 a CLV time, 4 a CLV picture, 5 and 6 a programme

@@ -13,7 +13,7 @@ use crate::word::word_or_none;
 use vbi_words::{Word24, draw_line};
 
 /// What is to be drawn, and how.
-#[derive(Clone, Copy, Debug)]
+#[derive(Clone, Copy)]
 pub(crate) struct Drawing {
     pub(crate) setup: Setup,
     pub(crate) word: Option<Word24>,

@@ -18,7 +18,7 @@ use vbi_words::System;
 const FIRST_ROW: usize = 15;
 
 /// The readings of a field's three lines with code words.
-#[derive(Clone, Copy, Debug, PartialEq, Eq)]
+#[derive(Clone, Copy)]
 #[repr(C)]
 pub struct LdvbiFieldReadings {
     /// Those of lines 16, 17 and 18.

@@ -10,7 +10,7 @@ use vbi_line::read_bytes_twice;
 use vbi_words::Outcome;
 
 /// What a line shows: its word, or the cause for which it has none.
-#[derive(Clone, Copy, Debug, PartialEq, Eq)]
+#[derive(Clone, Copy)]
 #[repr(C)]
 pub struct LdvbiReading {
     /// 0 for a word, 1 for a blank line, 2 for an unfinished one, 3 where the level changes at the first hopeless

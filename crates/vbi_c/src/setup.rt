@@ -7,7 +7,7 @@ use crate::status::Refusal;
 use vbi_words::{Levels, System};
 
 /// A system and its black and white.
-#[derive(Clone, Copy, Debug)]
+#[derive(Clone, Copy)]
 pub(crate) struct Setup {
     pub(crate) system: System,
     pub(crate) levels: Levels,

@@ -15,7 +15,7 @@ pub const BAD_LENGTH: u32 = 3;
 pub const BAD_WORD: u32 = 4;
 
 /// Why a call is refused. What comes first here is tested first.
-#[derive(Clone, Copy, Debug)]
+#[derive(Clone, Copy)]
 pub(crate) enum Refusal {
     /// There is no system of that number.
     System,

@@ -8,8 +8,9 @@ use crate::commands::program;
 use clap::ArgMatches;
 use clap::error::ErrorKind;
 use std::alloc::{AllocError, AllocFailed, Global};
-use thiserror::Error;
-use vbi_meta::Overrides;
+use std::error::Error;
+use std::fmt;
+use vbi_meta::{MetaFault, Overrides};
 use vbi_words::System;
 
 /// What the program is to do.
@@ -39,16 +40,13 @@ pub struct Job {
 }
 
 /// Why a command line gives no job.
-#[derive(Debug, Drop, Error)]
+#[derive(Debug, Drop)]
 pub enum WordsFault {
     /// The words are refused, with the text that says why.
-    #[error("{0}")]
     Refused(String),
     /// Help or the version is asked for, with its text.
-    #[error("{0}")]
     Help(String),
     /// Memory was refused.
-    #[error("out of memory")]
     OutOfMemory,
 }
 
@@ -64,6 +62,17 @@ impl WordsFault {
         }
     }
 }
+
+impl fmt::Display for WordsFault {
+    fn fmt<W: fmt::Write>(&self, f: &mut fmt::Formatter<W>) -> fmt::Result {
+        match self {
+            WordsFault::Refused(text) | WordsFault::Help(text) => f.write_str(text.as_str()),
+            WordsFault::OutOfMemory => MetaFault::OutOfMemory.fmt(f),
+        }
+    }
+}
+
+impl Error for WordsFault {}
 
 impl From<AllocError> for WordsFault {
     fn from(_refused: AllocError) -> WordsFault {

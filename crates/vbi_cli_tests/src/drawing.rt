@@ -35,7 +35,7 @@ const WHOLE: End = Ok(Ended::Whole);
 /// The limit and the text of words, after how many of its bytes the reader fails, how the run ends, the fields that are
 /// written, and the reads: one for each byte up to the newline of a malformed row or the byte past the limit, or else
 /// for all bytes and one for the end or the fault.
-const ROWS: [(Option<u32>, &[u8], Option<usize>, End, &[Words], u64); 12] = [
+static ROWS: [(Option<u32>, &[u8], Option<usize>, End, &[Words], u64); 12] = [
     (None, b"", None, WHOLE, &[], 1),
     (
         None,
@@ -140,7 +140,7 @@ fn each_text_has_its_end_and_its_fields(rt: HostRuntime) -> Result<(), Fail> {
 
 /// A text of words, the bytes that the writer takes one by one before it fails once, the fields of which these are
 /// the first, and the reads: one for each byte of the rows up to the one that isn't written whole.
-const WRITE_FAULTS: [(&[u8], u32, &[Words], u64); 4] = [
+static WRITE_FAULTS: [(&[u8], u32, &[Words], u64); 4] = [
     (b"82CFFF - -\n", 0, &[ONE], 11),
     (b"82CFFF - -\n- - -\n", 1000, &[ONE], 11),
     (b"- - -\n82CFFF - -\n", 478_659, &[BLACK, ONE], 6),

@@ -51,7 +51,7 @@ const MILLION_AND_ONE: Overrides = Overrides {
 };
 
 /// Options and metadata that settle nothing, and why.
-const UNSETTLED: [(Overrides, Option<&[u8]>, MetaFault); 8] = [
+static UNSETTLED: [(Overrides, Option<&[u8]>, MetaFault); 8] = [
     (NO_FIELD, None, MetaFault::BadMaxFields),
     (MILLION_AND_ONE, None, MetaFault::BadMaxFields),
     (NO_FIELD, Some(FULL), MetaFault::BadMaxFields),
@@ -124,7 +124,7 @@ fn shows_what_was_drawn(rt: HostRuntime) -> Result<(), Fail> {
 
 /// The system, the bytes that there are of its line, after how many of them the reader fails, the bytes that the writer
 /// takes before it fails, and how `line` ends.
-const LINES: [(System, usize, Option<usize>, Option<usize>, AppFault); 4] = [
+static LINES: [(System, usize, Option<usize>, Option<usize>, AppFault); 4] = [
     (
         System::Ntsc,
         1819,
@@ -186,7 +186,7 @@ fn names_the_faults_of_a_line(rt: HostRuntime) -> Result<(), Fail> {
 }
 
 /// The faults of a job and their texts. One of metadata or settings has its own.
-const TEXTS: [(AppFault, &str); 8] = [
+static TEXTS: [(AppFault, &str); 8] = [
     (AppFault::Meta(MetaFault::NotJson), "metadata is not JSON"),
     (
         AppFault::ReadField {

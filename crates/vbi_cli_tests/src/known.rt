@@ -57,14 +57,14 @@ pub(crate) fn black_stream(alloc: Global, bytes: usize) -> Result<Vec<u8>, Alloc
 
 /// Where each half cell of a drawn word ends, in columns from the word's start: the whole part of its number, from 1,
 /// by 315/22.
-const NTSC_ENDS: [usize; 48] = [
+static NTSC_ENDS: [usize; 48] = [
     14, 28, 42, 57, 71, 85, 100, 114, 128, 143, 157, 171, 186, 200, 214, 229, 243, 257, 272, 286,
     300, 315, 329, 343, 357, 372, 386, 400, 415, 429, 443, 458, 472, 486, 501, 515, 529, 544, 558,
     572, 587, 601, 615, 630, 644, 658, 672, 687,
 ];
 
 /// The same by 709379/40000.
-const PAL_ENDS: [usize; 48] = [
+static PAL_ENDS: [usize; 48] = [
     17, 35, 53, 70, 88, 106, 124, 141, 159, 177, 195, 212, 230, 248, 266, 283, 301, 319, 336, 354,
     372, 390, 407, 425, 443, 461, 478, 496, 514, 532, 549, 567, 585, 602, 620, 638, 656, 673, 691,
     709, 727, 744, 762, 780, 798, 815, 833, 851,

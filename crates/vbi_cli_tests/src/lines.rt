@@ -54,7 +54,7 @@ fn stored_config() -> Result<Config, Fail> {
 /// The bytes that there are of the stored line, after how many of them the reader fails, the interruptions before its
 /// first read, the fault, how many bytes were fetched, how often the reader failed, and how often it was asked: once
 /// for the bytes, and once for the end or the fault.
-const READ_FAULTS: [(usize, Option<usize>, usize, LineFault, [u64; 3]); 9] = [
+static READ_FAULTS: [(usize, Option<usize>, usize, LineFault, [u64; 3]); 9] = [
     (0, None, 0, LineFault::Short { bytes: 0 }, [0, 0, 1]),
     (1, None, 0, LineFault::Short { bytes: 1 }, [1, 0, 2]),
     (
@@ -121,7 +121,7 @@ fn ends_at_a_read_fault_and_asks_no_more(rt: HostRuntime) -> Result<(), Fail> {
 
 /// The bytes that the writer takes one by one before it fails, the interruptions before its first write, how often it
 /// failed, and how often it was asked.
-const WRITE_FAULTS: [(u16, usize, [u64; 2]); 8] = [
+static WRITE_FAULTS: [(u16, usize, [u64; 2]); 8] = [
     (0, 0, [1, 1]),
     (1, 0, [1, 2]),
     (2, 0, [1, 3]),
@@ -166,7 +166,7 @@ fn ends_at_a_write_fault_and_asks_no_more(rt: HostRuntime) -> Result<(), Fail> {
 
 /// The interruptions before the first read and before the first write, the bytes of each read, and how often the reader
 /// and the writer of one byte a write were asked.
-const WHOLE: [(usize, usize, usize, [u64; 2]); 4] = [
+static WHOLE: [(usize, usize, usize, [u64; 2]); 4] = [
     (0, 0, 5000, [1, 7]),
     (16, 0, 1, [1836, 7]),
     (0, 16, 3, [607, 23]),

@@ -42,7 +42,7 @@ fn is_said(
 const MORE: &str = "\n\nFor more information, try '--help'.\n";
 
 /// Words behind a command that are refused, why, and whether the command's usage is shown.
-const REFUSALS: [(&[&str], &str, bool); 23] = [
+static REFUSALS: [(&[&str], &str, bool); 23] = [
     (
         &["--meta", "a", "--meta", "b"],
         "the argument '--meta <PATH>' cannot be used multiple times",
@@ -158,7 +158,7 @@ const REFUSALS: [(&[&str], &str, bool); 23] = [
 
 #[test]
 fn each_command_says_why_it_refuses(rt: HostRuntime) -> Result<(), Fail> {
-    for (command, _) in COMMANDS {
+    for &(command, _) in &COMMANDS {
         let usage = ["\n\nUsage: ldvbi ", command, " [OPTIONS] [INPUT]"];
         let [before, named, behind] = usage;
         for &(words, why, has_usage) in &REFUSALS {
@@ -175,7 +175,7 @@ fn each_command_says_why_it_refuses(rt: HostRuntime) -> Result<(), Fail> {
 }
 
 /// More words behind a command that are refused.
-const REFUSED: [&[&str]; 16] = [
+static REFUSED: [&[&str]; 16] = [
     // An option without its value.
     &["--black", "--white", "5"],
     // An unknown system.
@@ -199,7 +199,7 @@ const REFUSED: [&[&str]; 16] = [
 ];
 
 /// Values that are no level, a whole number from 0 to 65535.
-const NO_LEVELS: [&str; 9] = [
+static NO_LEVELS: [&str; 9] = [
     "65536",
     "4294967296",
     "-1",
@@ -214,11 +214,11 @@ const NO_LEVELS: [&str; 9] = [
 #[test]
 fn each_command_refuses_other_values(rt: HostRuntime) -> Result<(), Fail> {
     let alloc = rt.alloc();
-    for (command, _) in COMMANDS {
+    for &(command, _) in &COMMANDS {
         for words in &REFUSED {
             refused(rt.alloc(), read_behind(alloc, command, words), words)?;
         }
-        for value in NO_LEVELS {
+        for &value in &NO_LEVELS {
             for option in ["--black", "--white"] {
                 let words = [option, value];
                 refused(rt.alloc(), read_behind(alloc, command, &words), &words)?;
@@ -232,7 +232,7 @@ fn each_command_refuses_other_values(rt: HostRuntime) -> Result<(), Fail> {
 }
 
 /// Words that name no option of a command, though some begin a name or are its first letter.
-const NO_OPTIONS: [&str; 17] = [
+static NO_OPTIONS: [&str; 17] = [
     "--levels",
     "--blac",
     "--met",
@@ -255,8 +255,8 @@ const NO_OPTIONS: [&str; 17] = [
 #[test]
 fn each_command_refuses_other_options(rt: HostRuntime) -> Result<(), Fail> {
     let alloc = rt.alloc();
-    for (command, _) in COMMANDS {
-        for word in NO_OPTIONS {
+    for &(command, _) in &COMMANDS {
+        for &word in &NO_OPTIONS {
             let words = [word, "5"];
             let text = refused(rt.alloc(), read_behind(alloc, command, &words), &words)?;
             let first = format!(in alloc; "error: unexpected argument '{word}' found\n")?;
@@ -267,7 +267,7 @@ fn each_command_refuses_other_options(rt: HostRuntime) -> Result<(), Fail> {
 }
 
 /// Words that name no command, the program's name first, and why they are refused.
-const NO_COMMAND: [(&[&str], &str); 5] = [
+static NO_COMMAND: [(&[&str], &str); 5] = [
     (
         &["ldvbi"],
         "'ldvbi' requires a subcommand but one was not provided\n  \
@@ -299,7 +299,7 @@ fn the_program_says_why_it_refuses(rt: HostRuntime) -> Result<(), Fail> {
 }
 
 /// More words that name no command.
-const NO_NAMES: [&[&str]; 6] = [
+static NO_NAMES: [&[&str]; 6] = [
     // The first word is the program's name, whatever it is.
     &["line"],
     &["ldvbi", ""],

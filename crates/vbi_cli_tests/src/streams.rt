@@ -72,7 +72,7 @@ const FAULTY: Row = Row {
     ..EMPTY
 };
 
-const ROWS: [Row; 10] = [
+static ROWS: [Row; 10] = [
     EMPTY,
     Row {
         bytes: 478_660,
@@ -189,7 +189,7 @@ fn each_stream_has_its_end_and_its_text(rt: HostRuntime) -> Result<(), Fail> {
 
 /// The command, the bytes that the writer takes one by one before it fails once, and the reads by then: none before
 /// the head is whole, a black field's 263 lines before its record is, and then the one for the end.
-const WRITE_FAULTS: [(Verb, u32, u64); 13] = [
+static WRITE_FAULTS: [(Verb, u32, u64); 13] = [
     (Verb::Extract, 0, 0),
     (Verb::Extract, 134, 0),
     (Verb::Extract, 135, 263),

@@ -35,7 +35,7 @@ fn owned(alloc: Global, texts: &[&str]) -> Result<Vec<String>, AllocError> {
     Ok(words)
 }
 
-pub(crate) const COMMANDS: [(&str, Verb); 4] = [
+pub(crate) static COMMANDS: [(&str, Verb); 4] = [
     ("line", Verb::Line),
     ("extract", Verb::Extract),
     ("show", Verb::Show),
@@ -61,7 +61,7 @@ fn contents_of(job: &Job) -> Held<'_> {
 }
 
 /// The words of each option, with its value apart, and joined to it.
-const OPTIONS: [(&[&str], &[&str]); 5] = [
+static OPTIONS: [(&[&str], &[&str]); 5] = [
     (&["--meta", "disc.tbc.json"], &["--meta=disc.tbc.json"]),
     (&["--system", "PAL"], &["--system=PAL"]),
     (&["--black", "16384"], &["--black=16384"]),
@@ -81,8 +81,9 @@ fn said(
     if let (true, Some(path)) = (is_joined, input) {
         words.push(path)?;
     }
-    for ((apart, joined), is_given) in OPTIONS.iter().zip(given.iter()) {
-        if *is_given {
+    for place in 0..OPTIONS.len() {
+        let (apart, joined) = OPTIONS[place];
+        if given[place] {
             words.extend_from_slice(if is_joined { joined } else { apart })?;
         }
     }
@@ -110,7 +111,7 @@ fn wanted(verb: Verb, given: [bool; 5], input: Option<&'static str>) -> Held<'st
 
 #[test]
 fn each_command_takes_each_set_of_options(rt: HostRuntime) -> Result<(), Fail> {
-    for (command, verb) in COMMANDS {
+    for &(command, verb) in &COMMANDS {
         for set in 0..32u32 {
             let given = [
                 set & 1 != 0,
@@ -134,7 +135,7 @@ fn each_command_takes_each_set_of_options(rt: HostRuntime) -> Result<(), Fail> {
 }
 
 /// The words behind the command, the path of the metadata and that of the input.
-const PATHS: [(&[&str], Option<&str>, Option<&str>); 17] = [
+static PATHS: [(&[&str], Option<&str>, Option<&str>); 17] = [
     (&[], None, None),
     (&["disc.tbc"], None, Some("disc.tbc")),
     (&["two words"], None, Some("two words")),
@@ -164,7 +165,7 @@ const PATHS: [(&[&str], Option<&str>, Option<&str>); 17] = [
 
 #[test]
 fn paths_are_kept_as_they_are(rt: HostRuntime) -> Result<(), Fail> {
-    for (command, verb) in COMMANDS {
+    for &(command, verb) in &COMMANDS {
         for &(words, meta, input) in &PATHS {
             let job = read_behind(rt.alloc(), command, words)?;
             let wanted = Held {
@@ -181,7 +182,7 @@ fn paths_are_kept_as_they_are(rt: HostRuntime) -> Result<(), Fail> {
 
 /// Fails where an option with this value isn't taken, or isn't all that the job holds.
 fn takes(alloc: Global, option: &str, value: &str, overrides: Overrides) -> Result<(), Fail> {
-    for (command, verb) in COMMANDS {
+    for &(command, verb) in &COMMANDS {
         let job = read_behind(alloc, command, &[option, value])?;
         let wanted = Held {
             verb,
@@ -195,9 +196,9 @@ fn takes(alloc: Global, option: &str, value: &str, overrides: Overrides) -> Resu
 }
 
 /// Levels from the least to the greatest, and limits. The settings may still refuse them.
-const LEVELS: [(&str, u16); 3] = [("0", 0), ("8224", 8224), ("65535", 65535)];
+static LEVELS: [(&str, u16); 3] = [("0", 0), ("8224", 8224), ("65535", 65535)];
 
-const LIMITS: [(&str, u32); 5] = [
+static LIMITS: [(&str, u32); 5] = [
     ("0", 0),
     ("1", 1),
     ("1000000", 1_000_000),
@@ -211,13 +212,13 @@ fn each_command_takes_values_up_to_their_bounds(rt: HostRuntime) -> Result<(), F
         let system = Some(system);
         takes(rt.alloc(), "--system", value, Overrides { system, ..NONE })?;
     }
-    for (value, level) in LEVELS {
+    for &(value, level) in &LEVELS {
         let black = Some(level);
         takes(rt.alloc(), "--black", value, Overrides { black, ..NONE })?;
         let white = Some(level);
         takes(rt.alloc(), "--white", value, Overrides { white, ..NONE })?;
     }
-    for (value, limit) in LIMITS {
+    for &(value, limit) in &LIMITS {
         let max_fields = Some(limit);
         takes(
             rt.alloc(),

@@ -12,6 +12,7 @@ ghost use Rattle.vbi_field.specs.Draws.{RunsDrawing};
 use crate::config::Config;
 use crate::outlet::Outlet;
 use crate::row_intake::{NextByte, NextRow, RowIntake};
+use crate::summary::RunFault;
 use crate::word_row::WordRow;
 use std::error::Error;
 use std::fmt;
@@ -45,8 +46,8 @@ impl fmt::Display for DrawFault {
         match self {
             DrawFault::Row { number } => write!(f, "row {number} is malformed"),
             DrawFault::Read { number } => write!(f, "read failed in row {number}"),
-            DrawFault::Write { written } => write!(f, "write failed after {written} bytes"),
-            DrawFault::TooManyFields => write!(f, "too many fields"),
+            DrawFault::Write { written } => RunFault::Write { written: *written }.fmt(f),
+            DrawFault::TooManyFields => RunFault::TooManyFields.fmt(f),
         }
     }
 }

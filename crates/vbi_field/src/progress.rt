@@ -15,7 +15,7 @@ use std::io::Write;
 use vbi_words::Reading;
 
 /// The readings of rows 15, 16 and 17 of a field, each once its row is whole.
-#[derive(Clone, Copy, Debug)]
+#[derive(Clone, Copy)]
 pub(crate) struct PartialReadings {
     pub(crate) first: Option<Reading>,
     pub(crate) second: Option<Reading>,
@@ -61,7 +61,7 @@ impl PartialReadings {
 }
 
 /// The number of whole fields, the row of the unfinished one, counted from 0, and its finished readings. No samples.
-#[derive(Clone, Copy, Debug)]
+#[derive(Clone, Copy)]
 pub(crate) struct Progress {
     pub(crate) fields: u32,
     pub(crate) row: usize,

@@ -9,7 +9,7 @@ use vbi_line::Counted;
 const ROW_LIMIT: usize = 21;
 
 /// What the reader gives when a byte is asked for.
-#[derive(Clone, Copy, Debug, PartialEq, Eq)]
+#[derive(Clone, Copy)]
 pub(crate) enum NextByte {
     /// A byte.
     Byte(u8),
@@ -20,7 +20,7 @@ pub(crate) enum NextByte {
 }
 
 /// What the reader gives when a row is asked for.
-#[derive(Clone, Copy, Debug, PartialEq, Eq)]
+#[derive(Clone, Copy)]
 pub(crate) enum NextRow {
     /// A row with its newline, and the words that it stands for.
     Row(WordRow),

@@ -9,7 +9,7 @@ ghost use Rattle.vbi_field.specs.WordRows.{space, item_of, row_of_items, parts_o
 use vbi_words::Word24;
 
 /// What a row of the text of words stands for: a word or none for each of lines 16, 17 and 18 of a field.
-#[derive(Clone, Copy, Debug, PartialEq, Eq)]
+#[derive(Clone, Copy)]
 pub struct WordRow {
     /// The word of line 16.
     pub first: Option<Word24>,

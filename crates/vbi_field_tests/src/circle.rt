@@ -9,7 +9,7 @@ use vbi_test_devices::{Paper, Tape, same};
 use vbi_words::System;
 
 /// A text of words, and the head and the record of its field's document.
-const CIRCLES: [(System, &str, &str, &str); 2] = [
+static CIRCLES: [(System, &str, &str, &str); 2] = [
     (System::Ntsc, "82CFFF F12345 F12345\n", HEAD, WORDS),
     (System::Pal, "8AE012 87FFFF F0DD00", PAL_HEAD, PAL_WORDS),
 ];
@@ -17,7 +17,7 @@ const CIRCLES: [(System, &str, &str, &str); 2] = [
 #[test]
 fn drawn_words_come_back(rt: HostRuntime) -> Result<(), Fail> {
     let alloc = rt.alloc();
-    for (system, words, head, record) in CIRCLES {
+    for &(system, words, head, record) in &CIRCLES {
         let config = config(system, 5)?;
         let mut stream = Paper::new(alloc);
         let run = drew(&config, Tape::new(words.as_bytes()), &mut stream);

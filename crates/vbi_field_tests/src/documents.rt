@@ -37,7 +37,7 @@ fn heads(system: System) -> (&'static str, &'static str) {
 }
 
 /// A system, the lines 16, 17 and 18 of a field, its record, and its part of the report.
-const FIELDS: [(System, Lines, &str, &str); 11] = [
+static FIELDS: [(System, Lines, &str, &str); 11] = [
     (Ntsc, NONE, BLACK, REPORT_BLACK),
     (Pal, NONE, BLACK, REPORT_BLACK),
     (Ntsc, DRAWN, WORDS, REPORT_WORDS),
@@ -95,7 +95,7 @@ const FIELDS: [(System, Lines, &str, &str); 11] = [
 
 #[test]
 fn a_field_has_its_record_and_its_part_of_the_report(rt: HostRuntime) -> Result<(), Fail> {
-    for (system, lines, record, part) in FIELDS {
+    for &(system, lines, record, part) in &FIELDS {
         let config = config(system, 5)?;
         let stream = field(rt.alloc(), &config, lines)?;
         let ended = whole(1, None, 3 * system.width() as u64);
@@ -131,7 +131,7 @@ fn each_field_has_its_own_words(rt: HostRuntime) -> Result<(), Fail> {
 }
 
 /// A system, black and white, and what the heads of a document and of a report say of them.
-const HEADS: [(System, u16, u16, &str, &str); 4] = [
+static HEADS: [(System, u16, u16, &str, &str); 4] = [
     (
         Ntsc,
         0,
@@ -164,7 +164,7 @@ const HEADS: [(System, u16, u16, &str, &str); 4] = [
 
 #[test]
 fn an_empty_stream_has_a_head_and_a_tail(rt: HostRuntime) -> Result<(), Fail> {
-    for (system, black, white, levels, report_head) in HEADS {
+    for &(system, black, white, levels, report_head) in &HEADS {
         let config = Config::new(system, Levels::new(black, white)?, 5)?;
         let ended = whole(0, None, 0);
         let head = match system {
@@ -196,7 +196,7 @@ fn nothing_is_held_of_an_empty_stream(rt: HostRuntime) -> Result<(), Fail> {
 }
 
 /// A system, the bytes that a field is cut to, and the samples looked at of its lines 16 to 18.
-const CUTS: [(System, u32, &str, u64); 14] = [
+static CUTS: [(System, u32, &str, u64); 14] = [
     (Ntsc, 1, "1", 0),
     (Ntsc, 27299, "27299", 0),
     (Ntsc, 27300, "27300", 0),
@@ -217,7 +217,7 @@ const CUTS: [(System, u32, &str, u64); 14] = [
 fn a_cut_field_is_named(rt: HostRuntime) -> Result<(), Fail> {
     let ntsc = field(rt.alloc(), &config(Ntsc, 5)?, NONE)?;
     let pal = field(rt.alloc(), &config(Pal, 5)?, NONE)?;
-    for (system, length, bytes, looked) in CUTS {
+    for &(system, length, bytes, looked) in &CUTS {
         let config = config(system, 5)?;
         let cut = match system {
             Ntsc => front(ntsc.as_slice(), length as usize),

@@ -11,7 +11,7 @@ use vbi_words::{Levels, System};
 const FIELD: u64 = 478_660;
 
 /// The systems, and the bytes of a field of each.
-const SYSTEMS: [(System, u64); 2] = [(System::Ntsc, FIELD), (System::Pal, 710_510)];
+static SYSTEMS: [(System, u64); 2] = [(System::Ntsc, FIELD), (System::Pal, 710_510)];
 
 type Ended = Result<u32, DrawFault>;
 
@@ -23,7 +23,7 @@ const TOO_MANY: Ended = Err(DrawFault::TooManyFields);
 
 /// A text, the limit of fields, the answer, the bytes fetched, how often the reader was asked (for each byte, and where
 /// the end is met once more), and the fields written.
-const ROWS: [(&[u8], u32, Ended, u64, u64, u64); 15] = [
+static ROWS: [(&[u8], u32, Ended, u64, u64, u64); 15] = [
     (b"", 9, Ok(0), 0, 1, 0),
     (b"82CFFF - -", 9, Ok(1), 10, 11, 1),
     (b"82CFFF - -", 1, Ok(1), 10, 11, 1),
@@ -51,8 +51,8 @@ fn draws(config: &Config, words: Tape, mut paper: Paper, answer: Drawn) -> Resul
 
 #[test]
 fn each_text_has_its_answer(rt: HostRuntime) -> Result<(), Fail> {
-    for (bytes, limit, result, fetched, asked, fields) in ROWS {
-        for (system, field_bytes) in SYSTEMS {
+    for &(bytes, limit, result, fetched, asked, fields) in &ROWS {
+        for &(system, field_bytes) in &SYSTEMS {
             let answer = Drawn {
                 result,
                 fetched,
@@ -101,7 +101,7 @@ fn a_writer_that_cuts_and_interrupts_gets_the_same_field(rt: HostRuntime) -> Res
 
 /// The bytes of two good rows that come before the fault, the limit of fields, the row of the fault and the bytes
 /// written.
-const READ_FAULTS: [(usize, u32, u32, u64); 5] = [
+static READ_FAULTS: [(usize, u32, u32, u64); 5] = [
     (0, 9, 1, 0),
     (20, 9, 1, 0),
     (21, 9, 2, FIELD),
@@ -111,7 +111,7 @@ const READ_FAULTS: [(usize, u32, u32, u64); 5] = [
 
 #[test]
 fn a_read_fault_leaves_whole_fields(rt: HostRuntime) -> Result<(), Fail> {
-    for (count, limit, number, written) in READ_FAULTS {
+    for &(count, limit, number, written) in &READ_FAULTS {
         let words = Tape::failing(b"82CFFF F12345 F12345\n- - -\n", count);
         let answer = Drawn {
             result: Err(DrawFault::Read { number }),
@@ -129,7 +129,7 @@ fn a_read_fault_leaves_whole_fields(rt: HostRuntime) -> Result<(), Fail> {
 
 /// How a writer is set that takes 1,000 bytes of a field: the most of a write and the interruptions before each, how
 /// often it is asked until it fails, and how often it fails by then, the last time by an error.
-const WRITE_FAULTS: [(usize, usize, u64, u64); 3] = [
+static WRITE_FAULTS: [(usize, usize, u64, u64); 3] = [
     (1_000_000, 0, 2, 1),
     (1, 0, 1001, 1),
     // 125 writes of 8 bytes and the one that fails.
@@ -139,7 +139,7 @@ const WRITE_FAULTS: [(usize, usize, u64, u64); 3] = [
 #[test]
 fn a_write_fault_has_its_count(rt: HostRuntime) -> Result<(), Fail> {
     let config = config(System::Ntsc, 9)?;
-    for (piece, interrupts, asked, all) in WRITE_FAULTS {
+    for &(piece, interrupts, asked, all) in &WRITE_FAULTS {
         let mut paper = Paper {
             piece,
             interrupts,
@@ -166,7 +166,7 @@ const WRITE: Ended = Err(DrawFault::Write { written: 1000 });
 
 /// A text of words with two faults where one field is allowed, after how many bytes the writer fails, and the answer:
 /// the fault that is met first.
-const TWO_FAULTS: [(&[u8], usize, Ended); 4] = [
+static TWO_FAULTS: [(&[u8], usize, Ended); 4] = [
     (b"82CFFF\n", 0, FIRST),
     (b"- - -\nx\n", 1000, WRITE),
     (b"- - -\nx\n", 478_660, TOO_MANY),
@@ -176,7 +176,7 @@ const TWO_FAULTS: [(&[u8], usize, Ended); 4] = [
 #[test]
 fn the_first_of_two_faults_is_the_answer(rt: HostRuntime) -> Result<(), Fail> {
     let config = config(System::Ntsc, 1)?;
-    for (text, count, result) in TWO_FAULTS {
+    for &(text, count, result) in &TWO_FAULTS {
         let mut paper = Paper::failing(rt.alloc(), count);
         let run = drew(&config, Tape::new(text), &mut paper);
         same(run.result, result, text)?;
@@ -186,7 +186,7 @@ fn the_first_of_two_faults_is_the_answer(rt: HostRuntime) -> Result<(), Fail> {
 
 /// The interruptions before a row's first byte, and before each other byte and the end, which are borne up to 16 in a
 /// row; the answer, the bytes fetched, how often the reader failed and was asked, and the bytes written.
-const INTERRUPTED: [(usize, usize, Ended, u64, usize, u64, u64); 2] = [
+static INTERRUPTED: [(usize, usize, Ended, u64, usize, u64, u64); 2] = [
     (16, 16, Ok(1), 6, 112, 119, FIELD),
     (0, 17, Err(DrawFault::Read { number: 1 }), 1, 17, 18, 0),
 ];
@@ -194,7 +194,7 @@ const INTERRUPTED: [(usize, usize, Ended, u64, usize, u64, u64); 2] = [
 #[test]
 fn sixteen_interruptions_before_each_byte_are_borne(rt: HostRuntime) -> Result<(), Fail> {
     let config = config(System::Ntsc, 9)?;
-    for (interrupts, again, result, fetched, failures, asked, written) in INTERRUPTED {
+    for &(interrupts, again, result, fetched, failures, asked, written) in &INTERRUPTED {
         let words = Tape {
             interrupts,
             again,
@@ -230,7 +230,7 @@ const WHITE: u32 = 51200;
 /// Columns of a row from one to another, without that, all of which have a sample.
 type Part = (usize, usize, usize, u32);
 
-const NTSC_PARTS: [Part; 16] = [
+static NTSC_PARTS: [Part; 16] = [
     (14, 0, 910, BLACK),
     (15, 0, 910, BLACK),
     (16, 0, 164, BLACK),
@@ -249,7 +249,7 @@ const NTSC_PARTS: [Part; 16] = [
     (18, 0, 910, BLACK),
 ];
 
-const PAL_PARTS: [Part; 16] = [
+static PAL_PARTS: [Part; 16] = [
     (14, 0, 1135, BLACK),
     (15, 0, 1135, BLACK),
     (16, 0, 207, BLACK),

@@ -5,7 +5,7 @@ use vbi_field::{ConfigFault, DrawFault, OutletFault, RunFault};
 use vbi_test_devices::same;
 
 /// Faults of a run, and the text of each.
-const OF_RUNS: [(RunFault, &str); 4] = [
+static OF_RUNS: [(RunFault, &str); 4] = [
     (
         RunFault::Read {
             field: 2,
@@ -22,7 +22,7 @@ const OF_RUNS: [(RunFault, &str); 4] = [
 ];
 
 /// Faults of drawing, and the text of each.
-const OF_DRAWING: [(DrawFault, &str); 4] = [
+static OF_DRAWING: [(DrawFault, &str); 4] = [
     (DrawFault::Row { number: 3 }, "row 3 is malformed"),
     (DrawFault::Read { number: 3 }, "read failed in row 3"),
     (
@@ -35,10 +35,10 @@ const OF_DRAWING: [(DrawFault, &str); 4] = [
 #[test]
 fn faults_have_their_texts(rt: HostRuntime) -> Result<(), Fail> {
     let alloc = rt.alloc();
-    for (fault, text) in OF_RUNS {
+    for &(fault, text) in &OF_RUNS {
         same(fault.to_string(alloc)?.as_str(), text, fault)?;
     }
-    for (fault, text) in OF_DRAWING {
+    for &(fault, text) in &OF_DRAWING {
         same(fault.to_string(alloc)?.as_str(), text, fault)?;
     }
     let text = "max fields is not from 1 to 1000000";

@@ -38,7 +38,7 @@ const PAL_FIELD: usize = 710_510;
 
 /// The system, the limit of fields, the bytes of the stream, after how many of them the reader fails, how the run ends,
 /// and how often the reader is asked.
-const READERS: [(System, u32, usize, Option<usize>, End, u64); 22] = [
+static READERS: [(System, u32, usize, Option<usize>, End, u64); 22] = [
     (Ntsc, 5, 0, None, Whole(0), 1),
     (Ntsc, 5, 1, None, Cut, 2),
     (Ntsc, 5, FIELD, None, Whole(1), 478_661),
@@ -65,13 +65,13 @@ const READERS: [(System, u32, usize, Option<usize>, End, u64); 22] = [
 ];
 
 /// What stands behind the head of a document or a report of one byte.
-const CUTS: [&str; 2] = [
+static CUTS: [&str; 2] = [
     "\n],\"cutField\":{\"seqNo\":1,\"bytes\":1}}\n",
     "fields 0 cut field 1 bytes 1\n",
 ];
 
 /// The last lines of reports.
-const LASTS: [&str; 3] = ["fields 0 cut none\n", REPORT_TAIL, "fields 2 cut none\n"];
+static LASTS: [&str; 3] = ["fields 0 cut none\n", REPORT_TAIL, "fields 2 cut none\n"];
 
 /// The head, the records of two black fields and, where the run is whole, the tail that stand after a run.
 fn texts_of(verb: Verb, system: System, end: End) -> [&'static str; 4] {
@@ -116,7 +116,7 @@ fn no_reader_is_asked_again_after_its_end_or_an_error(rt: HostRuntime) -> Result
     let mut ntsc = two_fields(rt.alloc(), &config(Ntsc, 5)?, NONE)?;
     ntsc.push(0)?;
     let pal = two_fields(rt.alloc(), &config(Pal, 5)?, NONE)?;
-    for (system, limit, bytes, fault, end, asked) in READERS {
+    for &(system, limit, bytes, fault, end, asked) in &READERS {
         let config = config(system, limit)?;
         let stream = match system {
             Ntsc => front(ntsc.as_slice(), bytes),
@@ -127,7 +127,7 @@ fn no_reader_is_asked_again_after_its_end_or_an_error(rt: HostRuntime) -> Result
             Some(count) => count,
             None => bytes,
         };
-        for verb in VERBS {
+        for &verb in &VERBS {
             let texts = texts_of(verb, system, end);
             let mut tape = Tape {
                 piece: 1,
@@ -153,7 +153,7 @@ fn no_reader_is_asked_again_after_its_end_or_an_error(rt: HostRuntime) -> Result
 }
 
 /// The bytes of the head and of all texts of a black field's document and report.
-const WRITERS: [(Verb, u32, u32); 2] = [(Verb::Extract, 135, 247), (Verb::Show, 44, 120)];
+static WRITERS: [(Verb, u32, u32); 2] = [(Verb::Extract, 135, 247), (Verb::Show, 44, 120)];
 
 /// How a run over black fields ends where the writer takes so many bytes, and then fails; the head has `head` of them.
 fn unwritten(room: u32, head: u32) -> Done {
@@ -171,7 +171,7 @@ fn unwritten(room: u32, head: u32) -> Done {
 fn no_writer_is_asked_again_after_it_failed_at_any_byte(rt: HostRuntime) -> Result<(), Fail> {
     let config = config(Ntsc, 5)?;
     let stream = field(rt.alloc(), &config, NONE)?;
-    for (verb, head, bytes) in WRITERS {
+    for &(verb, head, bytes) in &WRITERS {
         let texts = texts_of(verb, Ntsc, Whole(1));
         for room in 0..bytes {
             let mut paper = Paper {
@@ -238,7 +238,7 @@ const UNWRITTEN: Ended = Err(RunFault::Write { written: 0 });
 
 /// The interruptions before the first read and before the first write, each of which is a failure and no error, and how
 /// the run over a black field then ends: its result, the bytes fetched and those written.
-const INTERRUPTIONS: [(usize, usize, Ended, u64, u64); 4] = [
+static INTERRUPTIONS: [(usize, usize, Ended, u64, u64); 4] = [
     (16, 0, BLACK_FIELD, 478_660, 247),
     (17, 0, UNREAD, 0, 135),
     (0, 16, BLACK_FIELD, 478_660, 247),
@@ -249,7 +249,7 @@ const INTERRUPTIONS: [(usize, usize, Ended, u64, u64); 4] = [
 fn sixteen_interruptions_in_a_row_are_borne(rt: HostRuntime) -> Result<(), Fail> {
     let config = config(Ntsc, 5)?;
     let stream = field(rt.alloc(), &config, NONE)?;
-    for (reads, interrupts, result, fetched, written) in INTERRUPTIONS {
+    for &(reads, interrupts, result, fetched, written) in &INTERRUPTIONS {
         let mut tape = Tape {
             interrupts: reads,
             ..Tape::new(stream.as_slice())

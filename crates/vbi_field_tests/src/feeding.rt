@@ -158,7 +158,7 @@ const WRITE: RunFault = RunFault::Write { written: 150 };
 
 /// The bytes that come beside a black field, those after which the writer fails, the fault, the writer's failures, the
 /// bytes written one by one, and how often the writer was asked for these, in all calls.
-const FAULTS: [(usize, Option<usize>, RunFault, Failures, u64, u64); 3] = [
+static FAULTS: [(usize, Option<usize>, RunFault, Failures, u64, u64); 3] = [
     (0, Some(150), WRITE, ONE_ERROR, 150, 151),
     (1, None, RunFault::TooManyFields, NO_FAILURE, 227, 227),
     // Too many fields as well, behind the record that isn't written.
@@ -171,7 +171,7 @@ fn a_feeder_that_failed_writes_nothing_more(rt: HostRuntime) -> Result<(), Fail>
     let mut stream = field(rt.alloc(), &config, NONE)?;
     // The field's first byte again.
     stream.push(0)?;
-    for (more, fault, error, failures, written, asked) in FAULTS {
+    for &(more, fault, error, failures, written, asked) in &FAULTS {
         let mut paper = Paper {
             piece: 1,
             fault,

@@ -112,7 +112,7 @@ pub(crate) fn front(stream: &[u8], count: usize) -> &[u8] {
 }
 
 /// Limits of fields, and what a config of them is refused for.
-const LIMITS: [(u32, Option<ConfigFault>); 4] = [
+static LIMITS: [(u32, Option<ConfigFault>); 4] = [
     (0, Some(ConfigFault::BadMaxFields)),
     (1, None),
     (1_000_000, None),
@@ -123,7 +123,7 @@ const LIMITS: [(u32, Option<ConfigFault>); 4] = [
 fn a_limit_is_from_one_to_a_million_fields() -> Result<(), Fail> {
     let levels = Levels::new(16384, 51200)?;
     for system in [System::Ntsc, System::Pal] {
-        for (limit, fault) in LIMITS {
+        for &(limit, fault) in &LIMITS {
             same(Config::new(system, levels, limit).err(), fault, limit)?;
         }
     }

@@ -10,7 +10,7 @@ use vbi_test_devices::{Paper, Tape, same};
 use vbi_words::System;
 
 /// Items that are none, wherever they stand in a row.
-const NO_ITEMS: [&str; 36] = [
+static NO_ITEMS: [&str; 36] = [
     "0",
     "8",
     "_",
@@ -72,7 +72,7 @@ fn ends(
 #[test]
 fn each_of_the_three_items_is_looked_at(rt: HostRuntime) -> Result<(), Fail> {
     let alloc = rt.alloc();
-    for item in NO_ITEMS {
+    for &item in &NO_ITEMS {
         for text in [
             format!(in alloc; "{item} - -\n")?,
             format!(in alloc; "- {item} -\n")?,
@@ -86,7 +86,7 @@ fn each_of_the_three_items_is_looked_at(rt: HostRuntime) -> Result<(), Fail> {
 }
 
 /// Rows of good items that aren't three with one space between two of them.
-const NO_ROWS: [&str; 17] = [
+static NO_ROWS: [&str; 17] = [
     "\n",
     "-\n",
     "- -\n",
@@ -108,14 +108,14 @@ const NO_ROWS: [&str; 17] = [
 
 #[test]
 fn a_row_is_three_items_and_two_spaces(rt: HostRuntime) -> Result<(), Fail> {
-    for text in NO_ROWS {
+    for &text in &NO_ROWS {
         ends(rt.alloc(), System::Pal, text, MALFORMED, 0)?;
     }
     Ok(())
 }
 
 /// Rows that are drawn, with each digit in either case.
-const ROWS: [&str; 5] = [
+static ROWS: [&str; 5] = [
     "- - -\n",
     "800000 FFFFFF -\n",
     "F01234 F56789 FABCDE\n",
@@ -125,7 +125,7 @@ const ROWS: [&str; 5] = [
 
 #[test]
 fn words_have_any_digits_behind_the_first(rt: HostRuntime) -> Result<(), Fail> {
-    for text in ROWS {
+    for &text in &ROWS {
         ends(rt.alloc(), System::Ntsc, text, Ok(1), 478_660)?;
         ends(rt.alloc(), System::Pal, text, Ok(1), 710_510)?;
     }

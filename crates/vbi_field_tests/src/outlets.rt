@@ -14,7 +14,7 @@ type Call = (Answer, u64, u64, u64, u64);
 
 /// How a writer is set: the most of a write, the interruptions before the first and before each other, and the bytes
 /// after which it fails; and what a call with six bytes does.
-const WRITERS: [(usize, usize, usize, Option<usize>, Call); 8] = [
+static WRITERS: [(usize, usize, usize, Option<usize>, Call); 8] = [
     (6, 0, 0, None, (Ok(()), 6, 0, 0, 1)),
     (1, 0, 0, None, (Ok(()), 6, 0, 0, 6)),
     (6, 16, 0, None, (Ok(()), 6, 16, 0, 17)),
@@ -35,7 +35,7 @@ fn put(paper: &mut Paper) -> Call {
 
 #[test]
 fn bytes_are_written_whole_or_up_to_a_fault(rt: HostRuntime) -> Result<(), Fail> {
-    for (piece, interrupts, again, fault, expected) in WRITERS {
+    for &(piece, interrupts, again, fault, expected) in &WRITERS {
         for jams in [false, true] {
             let mut paper = Paper {
                 piece,

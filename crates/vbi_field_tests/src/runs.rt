@@ -52,7 +52,7 @@ pub(crate) enum Verb {
     Show,
 }
 
-pub(crate) const VERBS: [Verb; 2] = [Verb::Extract, Verb::Show];
+pub(crate) static VERBS: [Verb; 2] = [Verb::Extract, Verb::Show];
 
 pub(crate) fn ran<R: Read>(verb: Verb, config: &Config, reader: &mut R, paper: &mut Paper) -> Done {
     let mut intake = Intake::new(reader, config.system());

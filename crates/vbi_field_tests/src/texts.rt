@@ -5,7 +5,7 @@ use vbi_field::{cause_text, code_text, hex_text};
 use vbi_test_devices::same;
 use vbi_words::{Code, Outcome, Word24, classify};
 
-const WORDS: [(u32, &str, &str); 41] = [
+static WORDS: [(u32, &str, &str); 41] = [
     (0x88FFFF, "88FFFF", "lead-in"),
     (0x80EEEE, "80EEEE", "lead-out"),
     (0x82CFFF, "82CFFF", "picture stop"),
@@ -51,7 +51,7 @@ const WORDS: [(u32, &str, &str); 41] = [
 ];
 
 // Numbers too wide for their digits, as no word has them.
-const BY_HAND: [(Code, &str); 5] = [
+static BY_HAND: [(Code, &str); 5] = [
     (Code::Picture(4294967295), "picture 4294967295"),
     (Code::Picture(100_000), "picture 100000"),
     (Code::Chapter(255), "chapter 255"),
@@ -77,7 +77,7 @@ const CAUSES: [(Outcome, &str); 13] = [
 
 #[test]
 fn words_have_their_texts() -> Result<(), Fail> {
-    for (value, hex, text) in WORDS {
+    for &(value, hex, text) in &WORDS {
         let word = Word24::new(value)?;
         same(hex_text(word).as_str(), hex, "hex")?;
         same(code_text(classify(word)).as_str(), text, hex)?;
@@ -87,7 +87,7 @@ fn words_have_their_texts() -> Result<(), Fail> {
 
 #[test]
 fn wide_numbers_have_all_digits() -> Result<(), Fail> {
-    for (code, text) in BY_HAND {
+    for &(code, text) in &BY_HAND {
         same(code_text(code).as_str(), text, code)?;
     }
     let (hours, minutes) = (12, 255);
@@ -103,7 +103,7 @@ fn wide_numbers_have_all_digits() -> Result<(), Fail> {
 
 #[test]
 fn causes_have_their_texts() -> Result<(), Fail> {
-    for (outcome, text) in CAUSES {
+    for &(outcome, text) in &CAUSES {
         same(cause_text(outcome).as_str(), text, outcome)?;
     }
     let word = Outcome::Word(Word24::new(0x82CFFF)?);

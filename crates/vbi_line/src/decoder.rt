@@ -16,7 +16,7 @@ const CELLS: u32 = 24;
 
 /// What is known after some levels of a line: the last run of equal levels, and the bits of the cells so far, the first
 /// the most significant. Whether that run is one half cell or two is decided by its length when the level changes.
-#[derive(Clone, Copy, Debug)]
+#[derive(Clone, Copy)]
 pub(crate) enum Decoder {
     /// All levels were low, and there were this many.
     Lead(usize),

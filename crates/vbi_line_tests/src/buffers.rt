@@ -7,11 +7,11 @@ use vbi_test_devices::{holds, same};
 use vbi_words::System;
 
 /// A system, the bytes of its line, and those that are left of it after 820.
-const ROOMS: [(System, usize, usize); 2] = [(System::Ntsc, 1820, 1000), (System::Pal, 2270, 1450)];
+static ROOMS: [(System, usize, usize); 2] = [(System::Ntsc, 1820, 1000), (System::Pal, 2270, 1450)];
 
 #[test]
 fn what_is_not_committed_is_not_held() -> Result<(), Fail> {
-    for (system, bytes, left) in ROOMS {
+    for &(system, bytes, left) in &ROOMS {
         let mut line = LineBuf::new(system);
         holds(!line.is_full(), "a new line isn't full")?;
         line.room().fill(1);

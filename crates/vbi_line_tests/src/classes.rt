@@ -5,7 +5,7 @@ use vbi_test_devices::same;
 use vbi_words::{Code, Format, Word24, classify, format_of};
 
 /// Words, and the code of each. Digits differ where a number has several, so that each has its own place.
-const CODES: [(u32, Code); 31] = [
+static CODES: [(u32, Code); 31] = [
     (0x88FFFF, Code::LeadIn),
     (0x80EEEE, Code::LeadOut),
     (0x82CFFF, Code::PictureStop),
@@ -42,7 +42,7 @@ const CODES: [(u32, Code); 31] = [
 ];
 
 /// Words, and the hours and minutes of each.
-const TIMES: [(u32, u8, u8); 6] = [
+static TIMES: [(u32, u8, u8); 6] = [
     (0xF0DD00, 0, 0),
     (0xF1DD09, 1, 9),
     (0xF5DD37, 5, 37),
@@ -52,7 +52,7 @@ const TIMES: [(u32, u8, u8); 6] = [
 ];
 
 /// Words, and the seconds and the picture of each.
-const CLV_PICTURES: [(u32, u8, u8); 4] = [
+static CLV_PICTURES: [(u32, u8, u8); 4] = [
     (0x8AE000, 0, 0),
     (0x8AE712, 7, 12),
     (0x8CE345, 23, 45),
@@ -60,7 +60,7 @@ const CLV_PICTURES: [(u32, u8, u8); 4] = [
 ];
 
 /// Users' words, and the digit and the number of each.
-const USERS: [(u32, u8, u16); 6] = [
+static USERS: [(u32, u8, u16); 6] = [
     (0x80D000, 0, 0),
     (0x80DEEE, 0, 0xEEE),
     (0x82DFFF, 2, 0xFFF),
@@ -71,18 +71,18 @@ const USERS: [(u32, u8, u16); 6] = [
 
 #[test]
 fn known_words_have_their_codes() -> Result<(), Fail> {
-    for (value, code) in CODES {
+    for &(value, code) in &CODES {
         same(classify(Word24::new(value)?), code, value)?;
     }
-    for (value, hours, minutes) in TIMES {
+    for &(value, hours, minutes) in &TIMES {
         let code = Code::Time { hours, minutes };
         same(classify(Word24::new(value)?), code, value)?;
     }
-    for (value, seconds, picture) in CLV_PICTURES {
+    for &(value, seconds, picture) in &CLV_PICTURES {
         let code = Code::ClvPicture { seconds, picture };
         same(classify(Word24::new(value)?), code, value)?;
     }
-    for (value, digit, number) in USERS {
+    for &(value, digit, number) in &USERS {
         let code = Code::Users { digit, number };
         same(classify(Word24::new(value)?), code, value)?;
     }
@@ -90,7 +90,7 @@ fn known_words_have_their_codes() -> Result<(), Fail> {
 }
 
 /// Words beside those of each class, which differ from them in one digit and have no class.
-const OTHERS: [&[u32]; 18] = [
+static OTHERS: [&[u32]; 18] = [
     // 88FFFF, 80EEEE, 82CFFF and 87FFFF stand alone.
     &[0x98FFFF, 0x89FFFF, 0x88EFFF, 0x88FEFF, 0x88FFEF, 0x88FFFE],
     &[0x90EEEE, 0x81EEEE, 0x80FEEE, 0x80EDEE, 0x80EFEE],
@@ -126,7 +126,7 @@ const OTHERS: [&[u32]; 18] = [
 
 #[test]
 fn words_beside_a_class_have_other_codes() -> Result<(), Fail> {
-    for values in OTHERS {
+    for &values in &OTHERS {
         for &value in values {
             same(classify(Word24::new(value)?), Code::Other, value)?;
         }
@@ -145,7 +145,7 @@ fn format(values: [u32; 3]) -> Format {
 }
 
 /// Words, and the format of a field that has one of them alone, on any line.
-const ALONE: [(u32, Format); 12] = [
+static ALONE: [(u32, Format); 12] = [
     (0xF12345, Format::Cav),
     (0x82CFFF, Format::Cav),
     (0x87FFFF, Format::Clv),
@@ -162,7 +162,7 @@ const ALONE: [(u32, Format); 12] = [
 
 #[test]
 fn one_word_on_any_line_gives_its_format() -> Result<(), Fail> {
-    for (value, expected) in ALONE {
+    for &(value, expected) in &ALONE {
         for values in [[value, 0, 0], [0, value, 0], [0, 0, value]] {
             same(format(values), expected, values)?;
         }

@@ -13,7 +13,7 @@ const INTERRUPTED: Result<usize, Fail> = Err(Fail::Interrupted);
 
 /// How a writer is set: its interruptions, the bytes before it fails, and whether it then takes none in place of an
 /// error; what it answers to three bytes and to three more, and what it took.
-const WRITERS: [(usize, Option<usize>, bool, [Asked; 2], &[u8]); 4] = [
+static WRITERS: [(usize, Option<usize>, bool, [Asked; 2], &[u8]); 4] = [
     (0, None, false, [(Ok(3), 0, 0), (Ok(3), 0, 0)], b"abcabc"),
     (0, Some(2), true, [(Ok(2), 0, 0), (OTHER, 1, 1)], b"ab"),
     (0, Some(0), false, [(OTHER, 1, 1), (Ok(3), 1, 1)], b"abc"),
@@ -22,7 +22,7 @@ const WRITERS: [(usize, Option<usize>, bool, [Asked; 2], &[u8]); 4] = [
 
 #[test]
 fn a_writer_is_asked_once_and_its_failures_are_counted(rt: HostRuntime) -> Result<(), TestFail> {
-    for (interrupts, fault, jams, expected, taken) in WRITERS {
+    for &(interrupts, fault, jams, expected, taken) in &WRITERS {
         let mut paper = Paper {
             interrupts,
             fault,

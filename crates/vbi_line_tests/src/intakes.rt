@@ -21,7 +21,7 @@ pub(crate) fn stored_line() -> [u8; 1820] {
 }
 
 /// Places in the stored line, and the bytes there.
-const STORED: [(usize, u8); 6] = [
+static STORED: [(usize, u8); 6] = [
     (0, b' '),
     (327, b' '),
     (328, b'@'),
@@ -33,7 +33,7 @@ const STORED: [(usize, u8); 6] = [
 #[test]
 fn the_stored_line_is_text() -> Result<(), Fail> {
     let bytes = stored_line();
-    for (at, byte) in STORED {
+    for &(at, byte) in &STORED {
         same(bytes.get(at), Some(&byte), at)?;
     }
     Ok(())
@@ -56,7 +56,7 @@ fn with_counts<R: Read>(answer: Answer, intake: &Intake<R>) -> Call {
 
 /// The most bytes of a read of the stored line, the interruptions before each read, how often the reader then failed
 /// and how often it was asked.
-const WHOLE: [(usize, usize, u64, u64); 6] = [
+static WHOLE: [(usize, usize, u64, u64); 6] = [
     (1, 0, 0, 1820),
     (3, 0, 0, 607),
     (1000, 0, 0, 2),
@@ -68,7 +68,7 @@ const WHOLE: [(usize, usize, u64, u64); 6] = [
 #[test]
 fn reads_of_any_length_fill_a_line() -> Result<(), Fail> {
     let line = stored_line();
-    for (piece, again, failures, asked) in WHOLE {
+    for &(piece, again, failures, asked) in &WHOLE {
         let mut reader = Tape {
             piece,
             interrupts: again,
@@ -87,7 +87,7 @@ fn reads_of_any_length_fill_a_line() -> Result<(), Fail> {
 
 /// Interruptions before the first read of 1,000 bytes and before the second, after how many bytes an error comes, what
 /// two calls answer, and how often the reader was then asked.
-const FAULTS: [(usize, usize, Option<usize>, Call, Call, u64); 5] = [
+static FAULTS: [(usize, usize, Option<usize>, Call, Call, u64); 5] = [
     (0, 0, Some(1000), (READ, 1000, 1, 1), (FULL, 1820, 1, 1), 3),
     (3, 0, Some(0), (READ, 0, 4, 1), (FULL, 1820, 4, 1), 6),
     (17, 0, None, (READ, 0, 17, 0), (FULL, 1820, 17, 0), 19),
@@ -99,7 +99,7 @@ const FAULTS: [(usize, usize, Option<usize>, Call, Call, u64); 5] = [
 #[test]
 fn a_line_is_filled_after_a_fault() -> Result<(), Fail> {
     let line = stored_line();
-    for (interrupts, again, fault, first, second, asked) in FAULTS {
+    for &(interrupts, again, fault, first, second, asked) in &FAULTS {
         let mut reader = Tape {
             piece: 1000,
             interrupts,
@@ -143,7 +143,7 @@ fn a_cleared_line_holds_nothing() -> Result<(), Fail> {
 }
 
 /// A system, the bytes of a reader, the answer, and how often the reader is asked, which has a byte for each read.
-const SYSTEMS: [(System, usize, Answer, u64); 8] = [
+static SYSTEMS: [(System, usize, Answer, u64); 8] = [
     (System::Ntsc, 0, Ok(Filled::Ended(0)), 1),
     (System::Ntsc, 1819, Ok(Filled::Ended(1819)), 1820),
     (System::Ntsc, 1820, FULL, 1820),
@@ -157,7 +157,7 @@ const SYSTEMS: [(System, usize, Answer, u64); 8] = [
 #[test]
 fn a_line_has_as_many_bytes_as_its_system_says() -> Result<(), Fail> {
     let bytes = [0; 2271];
-    for (system, count, expected, asked) in SYSTEMS {
+    for &(system, count, expected, asked) in &SYSTEMS {
         let (front, _) = bytes.split_at(count.min(2271));
         let mut reader = Tape {
             piece: 1,

@@ -25,7 +25,7 @@ const STOP: u32 = 0x82CFFF;
 const CLV: u32 = 0x8AE012;
 
 /// Words whose runs are all single half cells or all double ones.
-const LENGTHS: [Clear; 18] = [
+static LENGTHS: [Clear; 18] = [
     (Ntsc, Runs(11, 10, 47), Change(21)),
     (Ntsc, Runs(11, 11, 47), Word(ONES)),
     (Ntsc, Runs(11, 18, 47), Word(ONES)),
@@ -53,7 +53,7 @@ fn half_cells_have_their_least_and_greatest_length() -> Result<(), Fail> {
 }
 
 /// The low run behind a single high one begins a cell and can't be double; that behind a double one can.
-const CAUSES: [Clear; 54] = [
+static CAUSES: [Clear; 54] = [
     (Ntsc, Run(0, 0), Blank),
     (Ntsc, Run(0, 1), Change(0)),
     (Ntsc, Run(10, 14), Change(10)),
@@ -119,7 +119,7 @@ fn causes_have_the_first_hopeless_column() -> Result<(), Fail> {
 
 /// Words at a line's very begin and end, whose second pass adds three lows at the begin and takes three columns off the
 /// last run.
-const EDGES: [Glitch; 29] = [
+static EDGES: [Glitch; 29] = [
     (Ntsc, Runs(10, 11, 47), Nothing, Change(10), ONES),
     (Ntsc, Runs(8, 11, 47), Nothing, Change(8), ONES),
     (Ntsc, Runs(7, 11, 47), Nothing, Change(7), 0),
@@ -162,7 +162,7 @@ fn words_reach_from_edge_to_edge() -> Result<(), Fail> {
 }
 
 /// Drawn words with columns that are turned.
-const GLITCHES: [Glitch; 22] = [
+static GLITCHES: [Glitch; 22] = [
     (Ntsc, Drawn(STOP), Nothing, Word(STOP), 0),
     (Ntsc, Drawn(STOP), Low(170, 172), Change(170), STOP),
     (Ntsc, Drawn(STOP), Low(170, 173), Change(170), STOP),

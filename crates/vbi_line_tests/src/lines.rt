@@ -113,7 +113,7 @@ pub(crate) fn by_intake(
 }
 
 /// A system, the sample in the high columns of the drawn row of 82CFFF, and its reading by the system's usual levels.
-const MIDWAY: [(System, u16, (Answer, u8)); 4] = [
+static MIDWAY: [(System, u16, (Answer, u8)); 4] = [
     (System::Ntsc, 33792, (Answer::Blank, 0)),
     (System::Ntsc, 33793, (Answer::Word(0x82CFFF), 1)),
     (System::Pal, 35200, (Answer::Blank, 0)),
@@ -122,7 +122,7 @@ const MIDWAY: [(System, u16, (Answer, u8)); 4] = [
 
 #[test]
 fn a_sample_midway_is_low() -> Result<(), Fail> {
-    for (system, high, expected) in MIDWAY {
+    for &(system, high, expected) in &MIDWAY {
         let drawn = Levels::new(16384, high)?;
         let levels = levels_of(system);
         let mut samples = [16384; 1135];

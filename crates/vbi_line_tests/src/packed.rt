@@ -58,11 +58,11 @@ fn the_comparison_does_not_wrap() -> Result<(), Fail> {
 }
 
 /// A system, the whole blocks of its line, and the column behind these.
-const BLOCKS: [(System, usize, usize); 2] = [(System::Ntsc, 56, 896), (System::Pal, 70, 1120)];
+static BLOCKS: [(System, usize, usize); 2] = [(System::Ntsc, 56, 896), (System::Pal, 70, 1120)];
 
 #[test]
 fn a_block_needs_sixteen_samples() -> Result<(), Fail> {
-    for (system, blocks, column) in BLOCKS {
+    for &(system, blocks, column) in &BLOCKS {
         let mut samples = [0; 1135];
         set(&mut samples, column, column + 1, 1896);
         let mut line = line_of(system, &samples);
@@ -80,7 +80,7 @@ fn a_block_needs_sixteen_samples() -> Result<(), Fail> {
 }
 
 /// A system, the columns that are high, from one to another, and a column with the run from there on.
-const RUNS: [(System, (usize, usize), usize, (bool, u16)); 12] = [
+static RUNS: [(System, (usize, usize), usize, (bool, u16)); 12] = [
     (System::Ntsc, (60, 70), 0, (false, 60)),
     (System::Ntsc, (60, 70), 60, (true, 10)),
     (System::Ntsc, (60, 70), 65, (true, 5)),
@@ -97,7 +97,7 @@ const RUNS: [(System, (usize, usize), usize, (bool, u16)); 12] = [
 
 #[test]
 fn runs_go_on_across_words() -> Result<(), Fail> {
-    for (system, (from, to), column, run) in RUNS {
+    for &(system, (from, to), column, run) in &RUNS {
         let levels = levels_of(system);
         let mut samples = [levels.black(); 1135];
         set(&mut samples, from, to, levels.white());

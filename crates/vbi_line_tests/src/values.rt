@@ -5,21 +5,21 @@ use vbi_test_devices::{holds, same};
 use vbi_words::{Levels, LevelsFault, System, Word24, WordFault, drawn_sample};
 
 // Columns from the start of the word, at which half cell j begins, and the last ends: the whole part of j times 315/22.
-const NTSC: [usize; 49] = [
+static NTSC: [usize; 49] = [
     0, 14, 28, 42, 57, 71, 85, 100, 114, 128, 143, 157, 171, 186, 200, 214, 229, 243, 257, 272,
     286, 300, 315, 329, 343, 357, 372, 386, 400, 415, 429, 443, 458, 472, 486, 501, 515, 529, 544,
     558, 572, 587, 601, 615, 630, 644, 658, 672, 687,
 ];
 
 // The same of j times 709379/40000.
-const PAL: [usize; 49] = [
+static PAL: [usize; 49] = [
     0, 17, 35, 53, 70, 88, 106, 124, 141, 159, 177, 195, 212, 230, 248, 266, 283, 301, 319, 336,
     354, 372, 390, 407, 425, 443, 461, 478, 496, 514, 532, 549, 567, 585, 602, 620, 638, 656, 673,
     691, 709, 727, 744, 762, 780, 798, 815, 833, 851,
 ];
 
 /// Black, white, and whether they are refused.
-const LEVELS: [(u16, u16, bool); 6] = [
+static LEVELS: [(u16, u16, bool); 6] = [
     (5, 5, true),
     (5, 6, false),
     (6, 5, true),
@@ -30,7 +30,7 @@ const LEVELS: [(u16, u16, bool); 6] = [
 
 #[test]
 fn levels_out_of_order_are_refused() -> Result<(), Fail> {
-    for (black, white, is_refused) in LEVELS {
+    for &(black, white, is_refused) in &LEVELS {
         let expected = if is_refused {
             Err(LevelsFault::Order)
         } else {
@@ -46,7 +46,7 @@ fn levels_out_of_order_are_refused() -> Result<(), Fail> {
 }
 
 /// Numbers, and what each is refused for.
-const NUMBERS: [(u32, Option<WordFault>); 6] = [
+static NUMBERS: [(u32, Option<WordFault>); 6] = [
     (0, Some(WordFault::TopBitClear)),
     (8_388_607, Some(WordFault::TopBitClear)),
     (8_388_608, None),
@@ -57,7 +57,7 @@ const NUMBERS: [(u32, Option<WordFault>); 6] = [
 
 #[test]
 fn numbers_that_are_no_words_are_refused() -> Result<(), Fail> {
-    for (value, fault) in NUMBERS {
+    for &(value, fault) in &NUMBERS {
         same(Word24::new(value).err(), fault, value)?;
     }
     Ok(())
@@ -65,14 +65,14 @@ fn numbers_that_are_no_words_are_refused() -> Result<(), Fail> {
 
 /// A system, its name, the samples and the bytes of a line, the lines and the bytes of a field, the fewest and the most
 /// samples of a half cell, and the column at which a drawn word begins.
-const SYSTEMS: [(System, &str, [usize; 7]); 2] = [
+static SYSTEMS: [(System, &str, [usize; 7]); 2] = [
     (System::Ntsc, "NTSC", [910, 1820, 263, 478_660, 11, 18, 150]),
     (System::Pal, "PAL", [1135, 2270, 313, 710_510, 14, 22, 190]),
 ];
 
 #[test]
 fn both_systems_have_their_geometry() -> Result<(), Fail> {
-    for (system, name, numbers) in SYSTEMS {
+    for &(system, name, numbers) in &SYSTEMS {
         same(system.name(), name, system)?;
         same(System::named(name), Some(system), name)?;
         let found = [

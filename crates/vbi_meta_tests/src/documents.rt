@@ -49,7 +49,7 @@ fn a_document_over_the_limit_is_too_large(rt: HostRuntime) -> Result<(), Fail> {
     Ok(())
 }
 
-const TEXTS: [(MetaFault, &str); 15] = [
+static TEXTS: [(MetaFault, &str); 15] = [
     (MetaFault::TooLarge, "metadata too large"),
     (MetaFault::NotJson, "metadata is not JSON"),
     (MetaFault::OutOfMemory, "out of memory"),
@@ -87,7 +87,7 @@ const TEXTS: [(MetaFault, &str); 15] = [
 
 #[test]
 fn faults_have_their_texts(rt: HostRuntime) -> Result<(), Fail> {
-    for (fault, text) in TEXTS {
+    for &(fault, text) in &TEXTS {
         let said = fault.to_string(rt.alloc())?;
         same(said.as_str(), text, fault)?;
     }

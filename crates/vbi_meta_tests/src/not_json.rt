@@ -8,7 +8,7 @@ use vbi_meta::MetaFault;
 use vbi_test_devices::same;
 
 /// Texts of no byte, one and two, and the shortest of the kinds that need more.
-const SHORT: [&[u8]; 58] = [
+static SHORT: [&[u8]; 58] = [
     b"",
     b" ",
     b"\n\n",
@@ -78,7 +78,7 @@ const SHORT: [&[u8]; 58] = [
 #[test]
 fn short_texts_that_are_no_json_are_refused_as_such(rt: HostRuntime) -> Result<(), Fail> {
     let alloc = rt.alloc();
-    for bytes in SHORT {
+    for &bytes in &SHORT {
         same(refusal(alloc, bytes), Some(MetaFault::NotJson), bytes)?;
     }
     same(refusal(alloc, b"{}"), None, "an empty object")?;
@@ -86,7 +86,7 @@ fn short_texts_that_are_no_json_are_refused_as_such(rt: HostRuntime) -> Result<(
 }
 
 /// Long texts: what they begin with, the byte that fills them, and what they end with.
-const LONG: [(&[u8], u8, &[u8]); 20] = [
+static LONG: [(&[u8], u8, &[u8]); 20] = [
     (b"", b' ', b""),
     (b"", b'x', b""),
     (b"", 0, b""),
@@ -110,7 +110,7 @@ const LONG: [(&[u8], u8, &[u8]); 20] = [
 ];
 
 /// One mebibyte, and two million bytes.
-const LENGTHS: [usize; 2] = [1_048_576, 2_000_000];
+static LENGTHS: [usize; 2] = [1_048_576, 2_000_000];
 
 /// The text of so many bytes that begins and ends with these.
 fn filled(
@@ -130,8 +130,8 @@ fn filled(
 #[test]
 fn long_texts_that_are_no_json_are_refused_as_such(rt: HostRuntime) -> Result<(), Fail> {
     let alloc = rt.alloc();
-    for length in LENGTHS {
-        for (head, fill, tail) in LONG {
+    for &length in &LENGTHS {
+        for &(head, fill, tail) in &LONG {
             let text = filled(alloc, length, head, fill, tail)?;
             same(text.len(), length, head)?;
             let found = refusal(alloc, text.as_slice());

@@ -76,7 +76,7 @@ fn limited(overrides: &Overrides, max_fields: u32) -> Overrides {
 }
 
 /// Documents without an object `videoParameters`, which have other faults as well.
-const EMPTY: [&str; 8] = [
+static EMPTY: [&str; 8] = [
     "[]",
     "3",
     "{}",
@@ -89,7 +89,7 @@ const EMPTY: [&str; 8] = [
 
 #[test]
 fn documents_without_parameters_are_refused(rt: HostRuntime) -> Result<(), Fail> {
-    for text in EMPTY {
+    for &text in &EMPTY {
         for overrides in [NONE, ALL, limited(&NONE, 0)] {
             let found = settled(rt.alloc(), text, &overrides);
             same(found, Err(NoVideoParameters), text)?;
@@ -119,7 +119,7 @@ fn refuses(
 
 /// Members, and the first of their faults. Beside each row with two faults or more there is one with all of them but
 /// the first.
-const REFUSED: [(&str, MetaFault); 29] = [
+static REFUSED: [(&str, MetaFault); 29] = [
     ("", NoSystem),
     (r#""system":"PAL""#, NoBlack),
     (r#""black16bIre":-1"#, NoSystem),
@@ -162,14 +162,14 @@ const REFUSED: [(&str, MetaFault); 29] = [
 
 #[test]
 fn of_two_faults_the_first_in_order_is_the_refusal(rt: HostRuntime) -> Result<(), Fail> {
-    for (members, fault) in REFUSED {
+    for &(members, fault) in &REFUSED {
         refuses(rt.alloc(), members, &NONE, fault)?;
     }
     Ok(())
 }
 
 /// The same with overrides, each of which replaces its member whatever that holds.
-const OVERRIDDEN: [(&str, Overrides, MetaFault); 20] = [
+static OVERRIDDEN: [(&str, Overrides, MetaFault); 20] = [
     ("", NTSC, NoBlack),
     ("", NTSC_LEVELS, BadMaxFields),
     (r#""system":"NTSC","isSourcePal":"no""#, NTSC, NoBlack),
@@ -195,7 +195,7 @@ const OVERRIDDEN: [(&str, Overrides, MetaFault); 20] = [
 
 #[test]
 fn options_stand_in_for_members_in_the_same_order(rt: HostRuntime) -> Result<(), Fail> {
-    for (members, overrides, fault) in OVERRIDDEN {
+    for &(members, overrides, fault) in &OVERRIDDEN {
         refuses(rt.alloc(), members, &overrides, fault)?;
     }
     Ok(())
@@ -203,7 +203,7 @@ fn options_stand_in_for_members_in_the_same_order(rt: HostRuntime) -> Result<(),
 
 /// Sizes of a field, and what they are refused for where the system is NTSC: that of the other system, one off, or no
 /// whole number.
-const NTSC_SIZES: [(&str, MetaFault); 9] = [
+static NTSC_SIZES: [(&str, MetaFault); 9] = [
     (r#""fieldHeight":312,"fieldWidth":null"#, WidthDiffers),
     (r#""fieldHeight":264,"fieldWidth":911"#, WidthDiffers),
     (r#""fieldHeight":264,"fieldWidth":910"#, HeightDiffers),
@@ -216,7 +216,7 @@ const NTSC_SIZES: [(&str, MetaFault); 9] = [
 ];
 
 /// The same where it is PAL.
-const PAL_SIZES: [(&str, MetaFault); 9] = [
+static PAL_SIZES: [(&str, MetaFault); 9] = [
     (r#""fieldHeight":312,"fieldWidth":{}"#, WidthDiffers),
     (r#""fieldWidth":1136,"fieldHeight":314"#, WidthDiffers),
     (r#""fieldWidth":1135,"fieldHeight":314"#, HeightDiffers),
@@ -229,7 +229,7 @@ const PAL_SIZES: [(&str, MetaFault); 9] = [
 ];
 
 /// How metadata name a system, with levels that are in order.
-const NAMED: [(&str, System); 4] = [
+static NAMED: [(&str, System); 4] = [
     (r#""isSourcePal":false"#, System::Ntsc),
     (r#""isSourcePal":true"#, System::Pal),
     (r#""system":"NTSC""#, System::Ntsc),
@@ -239,23 +239,23 @@ const NAMED: [(&str, System); 4] = [
 #[test]
 fn sizes_are_those_of_the_system(rt: HostRuntime) -> Result<(), Fail> {
     let alloc = rt.alloc();
-    for (members, fault) in NTSC_SIZES {
+    for &(members, fault) in &NTSC_SIZES {
         refuses(alloc, members, &NTSC_LEVELS, fault)?;
     }
-    for (members, fault) in PAL_SIZES {
+    for &(members, fault) in &PAL_SIZES {
         refuses(alloc, members, &PAL_LEVELS, fault)?;
     }
-    for (name, system) in NAMED {
+    for &(name, system) in &NAMED {
         let levels = r#""black16bIre":0,"white16bIre":65535"#;
         let members = format!(in alloc; "{name},{levels}")?;
         let text = document(alloc, members.as_str())?;
         let found = settled(alloc, text.as_str(), &NONE);
         same(found, Ok((system, 0, 65535, 1_000_000)), name)?;
         let sizes = match system {
-            System::Ntsc => NTSC_SIZES,
-            System::Pal => PAL_SIZES,
+            System::Ntsc => &NTSC_SIZES,
+            System::Pal => &PAL_SIZES,
         };
-        for (size, fault) in sizes {
+        for &(size, fault) in sizes {
             let members = format!(in alloc; "{name},{levels},{size}")?;
             refuses(alloc, members.as_str(), &NONE, fault)?;
         }
@@ -274,22 +274,22 @@ const REPLACED: &str =
     "black16bIre":16384.0,"white16bIre":"x"},"fields":[]}"#;
 
 /// Metadata, overrides, and what they settle.
-const SETTLED: [(&str, Overrides, Settled); 3] = [
+static SETTLED: [(&str, Overrides, Settled); 3] = [
     (FULL, NONE, (System::Ntsc, 16384, 51200, 1_000_000)),
     (FULL, ALL, (System::Ntsc, 16384, 51200, 5)),
     (REPLACED, PAL_LEVELS, (System::Pal, 16384, 51200, 1_000_000)),
 ];
 
 /// Limits of fields, and whether they are refused.
-const LIMITS: [(u32, bool); 4] = [(0, true), (1, false), (1_000_000, false), (1_000_001, true)];
+static LIMITS: [(u32, bool); 4] = [(0, true), (1, false), (1_000_000, false), (1_000_001, true)];
 
 #[test]
 fn the_full_metadata_settles_a_run(rt: HostRuntime) -> Result<(), Fail> {
     let alloc = rt.alloc();
-    for (text, overrides, expected) in SETTLED {
+    for &(text, overrides, expected) in &SETTLED {
         same(settled(alloc, text, &overrides), Ok(expected), text)?;
     }
-    for (fields, is_refused) in LIMITS {
+    for &(fields, is_refused) in &LIMITS {
         let expected = if is_refused {
             Err(BadMaxFields)
         } else {
@@ -302,7 +302,7 @@ fn the_full_metadata_settles_a_run(rt: HostRuntime) -> Result<(), Fail> {
 }
 
 /// Options without metadata, and what they settle or are refused for.
-const OPTIONS: [(Overrides, Result<Settled, MetaFault>); 7] = [
+static OPTIONS: [(Overrides, Result<Settled, MetaFault>); 7] = [
     (NONE, Err(NoSystem)),
     (NTSC, Err(NoBlack)),
     (PAL, Err(NoBlack)),
@@ -314,7 +314,7 @@ const OPTIONS: [(Overrides, Result<Settled, MetaFault>); 7] = [
 
 #[test]
 fn options_alone_settle_a_run() -> Result<(), Fail> {
-    for (overrides, expected) in OPTIONS {
+    for &(overrides, expected) in &OPTIONS {
         let found = match settings(None, &overrides) {
             Ok(config) => Ok(held(config.system(), config.levels(), config.max_fields())),
             Err(fault) => Err(fault),
