@@ -140,10 +140,12 @@ seq 99 >&2
 touch "out/$crate" "out/lib$crate.a"
 END
 chmod +x toolchain/rt
-# proves CRATE TARGET: `make` of this target by that toolchain, which fails in this crate; its times are N
+# proves CRATE WORD..: `make` with these words by that toolchain, which fails in this crate; its times are N
 proves() {
     status=0
-    (cd tree && bounded env FAILS="$1" PATH="$work/toolchain:$PATH" make -s "$2") < empty > said 2> err || status=$?
+    fails=$1
+    shift
+    (cd tree && bounded env FAILS="$fails" PATH="$work/toolchain:$PATH" make -s "$@") < empty > said 2> err || status=$?
     sed 's/, [0-9][0-9]* s$/, N s/' said > out
 }
 # proved NAME..: a line for each crate
@@ -156,9 +158,24 @@ library_crates='vbi_words vbi_line vbi_c'
 # shellcheck disable=SC2086
 proved $program_crates > wanted_text
 judge 'make says one line of a crate' 0 wanted_text ''
-{ echo 'rt run -- --help'; seq 99; } > wanted
+{ echo 'rt run --jobs 1 -- --help'; seq 99; } > wanted
 check 'the log has what the toolchain said' cmp tree/crates/ldvbi/out/make.log wanted
 check 'the program is copied from where it is built' cmp tree/ldvbi tree/crates/ldvbi/out/ldvbi
+# asked: the toolchain's commands, crate by crate
+asked() {
+    for crate in $program_crates; do
+        sed -n 1p "tree/crates/$crate/out/make.log"
+    done
+}
+printf '%s\n' 'rt lib' 'rt lib' 'rt lib' 'rt lib --jobs 1' 'rt lib' 'rt run --jobs 1 -- --help' > wanted
+asked > found
+check 'small crates are proved by one job' cmp found wanted
+rm tree/ldvbi
+proves none ldvbi JOBS=3
+printf 'rt lib --jobs 3\n%.0s' 1 2 3 4 5 > wanted
+echo 'rt run --jobs 3 -- --help' >> wanted
+asked > found
+check 'make JOBS=3 has each crate proved by three' cmp found wanted
 proves none libldvbi.a
 # shellcheck disable=SC2086
 proved $library_crates > wanted_text
