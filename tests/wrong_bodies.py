@@ -11,7 +11,7 @@ changes more than bodies, as a constant or a head, gets a round of its own; a li
 that the prover has to refuse, and else it is any of the crate.
 
 Each crate is proved by `rt lib` first, as it stands. That takes a second where it was proved before, and what it keeps is
-what the rounds begin from. A round looks at the edited functions alone (`--only`), since no other can be refused for them.
+what the rounds begin from. A round looks at the edited functions alone (`--only`), since no other is judged by it.
 
 usage: python3 tests/wrong_bodies.py [--lanes N] [--only WORD] [--plan] [CRATE..]    (at the top, `rt` on the PATH)
 """
@@ -167,10 +167,10 @@ class Round:
         return True
 
     def only(self):
-        """Returns the flags that have a check look at the edited functions alone; none where an edit changes more."""
-        if any(edit.alone for edit in self.edits):
-            return []
-        return [f"--only={name}" for edit in self.edits for name in edit.refuses]
+        """Returns the flags that have a check look alone at the functions that it has to refuse; none where an edit
+        names no function."""
+        names = [name for edit in self.edits for name in edit.refuses]
+        return [] if "*" in names else [f"--only={name}" for name in names]
 
 
 def round_of(edits, folder):
@@ -254,8 +254,7 @@ class Crate:
         the toolchain says where it isn't proved, else None."""
         ran = subprocess.run(["rt", "lib"], cwd=self.folder, stdin=subprocess.DEVNULL, stdout=subprocess.PIPE,
                              stderr=subprocess.STDOUT, errors="replace", check=False)
-        proved = ran.returncode == 0 and re.search("^logic=proved", ran.stdout, re.M)
-        return None if proved else ran.stdout[-300:]
+        return ran.stdout[-300:] if ran.returncode else None
 
     def judged(self, edit, said):
         """Returns by what the check refused the edit's own function, 'goal', 'proof' or 'name' (or None, where it

@@ -3,7 +3,7 @@
 
 use crate::asserts::{ends, writes};
 use crate::known::{black_stream, drawn_line, front, stored_line};
-use crate::runs::{NEVER, NONE, NTSC, PAL, STORED, job, run_between, run_over};
+use crate::runs::{NEVER, NONE, NTSC, PAL, Ran, STORED, job, run_between, run_over};
 use std::alloc::Global;
 use std::test::Fail;
 use vbi_cli::{AppFault, Ended, Job, Verb};
@@ -161,13 +161,18 @@ static LINES: [(System, usize, Option<usize>, Option<usize>, AppFault); 4] = [
     ),
 ];
 
+/// Does `line` over a tape, for this system.
+fn run_line_of(alloc: Global, system: System, tape: Tape, paper: Paper) -> Ran {
+    let overrides = match system {
+        System::Ntsc => NTSC,
+        System::Pal => PAL,
+    };
+    run_between(alloc, &job(Verb::Line, overrides), None, tape, paper)
+}
+
 #[test]
 fn names_the_faults_of_a_line(rt: HostRuntime) -> Result<(), Fail> {
     for &(system, bytes, fails_after, room, fault) in &LINES {
-        let overrides = match system {
-            System::Ntsc => NTSC,
-            System::Pal => PAL,
-        };
         let line = drawn_line(rt.alloc(), system, 16384, 51200, 0x82_CFFF)?;
         let tape = Tape {
             fault: fails_after,
@@ -177,9 +182,9 @@ fn names_the_faults_of_a_line(rt: HostRuntime) -> Result<(), Fail> {
             fault: room,
             ..Paper::new(rt.alloc())
         };
-        let ran = run_between(rt.alloc(), &job(Verb::Line, overrides), None, tape, paper);
-        ends(&ran, Err(fault), 1, fault)?;
+        let ran = run_line_of(rt.alloc(), system, tape, paper);
         let taken = front(b"82CFFF\n", room.unwrap_or(0));
+        ends(&ran, Err(fault), 1, fault)?;
         same(ran.written.as_slice(), taken, fault)?;
     }
     Ok(())

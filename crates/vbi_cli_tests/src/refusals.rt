@@ -156,19 +156,29 @@ static REFUSALS: [(&[&str], &str, bool); 23] = [
     (&["one", "two"], "unexpected argument 'two' found", true),
 ];
 
+/// Fails where a command doesn't refuse these words for this reason, with its usage or without.
+fn says_why(
+    alloc: Global,
+    command: &str,
+    words: &[&str],
+    why: &str,
+    has_usage: bool,
+) -> Result<(), Fail> {
+    let outcome = read_behind(alloc, command, words);
+    let [before, named, behind] = if has_usage {
+        ["\n\nUsage: ldvbi ", command, " [OPTIONS] [INPUT]"]
+    } else {
+        [""; 3]
+    };
+    let texts = ["error: ", why, before, named, behind, MORE];
+    is_said(alloc, outcome, words, &texts)
+}
+
 #[test]
 fn each_command_says_why_it_refuses(rt: HostRuntime) -> Result<(), Fail> {
     for &(command, _) in &COMMANDS {
-        let usage = ["\n\nUsage: ldvbi ", command, " [OPTIONS] [INPUT]"];
-        let [before, named, behind] = usage;
         for &(words, why, has_usage) in &REFUSALS {
-            let outcome = read_behind(rt.alloc(), command, words);
-            if has_usage {
-                let texts = ["error: ", why, before, named, behind, MORE];
-                is_said(rt.alloc(), outcome, words, &texts)?;
-            } else {
-                is_said(rt.alloc(), outcome, words, &["error: ", why, MORE])?;
-            }
+            says_why(rt.alloc(), command, words, why, has_usage)?;
         }
     }
     Ok(())
@@ -211,21 +221,28 @@ static NO_LEVELS: [&str; 9] = [
     " 5",
 ];
 
+/// Fails where a command doesn't refuse these words.
+fn refuses(alloc: Global, command: &str, words: &[&str]) -> Result<(), Fail> {
+    refused(alloc, read_behind(alloc, command, words), words)?;
+    Ok(())
+}
+
+/// Fails where a command takes an option with this value, apart from it or joined to it.
+fn refuses_value(alloc: Global, command: &str, option: &str, value: &str) -> Result<(), Fail> {
+    refuses(alloc, command, &[option, value])?;
+    let word = format!(in alloc; "{option}={value}")?;
+    refuses(alloc, command, &[word.as_str()])
+}
+
 #[test]
 fn each_command_refuses_other_values(rt: HostRuntime) -> Result<(), Fail> {
-    let alloc = rt.alloc();
     for &(command, _) in &COMMANDS {
-        for words in &REFUSED {
-            refused(rt.alloc(), read_behind(alloc, command, words), words)?;
+        for &words in &REFUSED {
+            refuses(rt.alloc(), command, words)?;
         }
         for &value in &NO_LEVELS {
-            for option in ["--black", "--white"] {
-                let words = [option, value];
-                refused(rt.alloc(), read_behind(alloc, command, &words), &words)?;
-                let word = format!(in alloc; "{option}={value}")?;
-                let words = [word.as_str()];
-                refused(rt.alloc(), read_behind(alloc, command, &words), &words)?;
-            }
+            refuses_value(rt.alloc(), command, "--black", value)?;
+            refuses_value(rt.alloc(), command, "--white", value)?;
         }
     }
     Ok(())

@@ -26,9 +26,16 @@ fn what_is_not_committed_is_not_held() -> Result<(), Fail> {
     Ok(())
 }
 
-/// The passes over a line, the looks at its samples in these, and all looks ever.
-fn counts(line: &LineBuf) -> (usize, usize, u64) {
-    (line.passes(), line.looks(), line.looked())
+/// Fails where the passes over a line, the looks at its samples in these, or all looks ever are other than these.
+fn counts(
+    line: &LineBuf,
+    passes: usize,
+    looks: usize,
+    looked: u64,
+    row: &'static str,
+) -> Result<(), Fail> {
+    let found = (line.passes(), line.looks(), line.looked());
+    same(found, (passes, looks, looked), row)
 }
 
 // The stored line has 0x2020 and 0x4040 as its samples; of 910, 14 are left after 56 blocks of 16.
@@ -39,7 +46,7 @@ fn each_pass_counts_its_looks() -> Result<(), Fail> {
     line.room().copy_from_slice(&bytes);
     line.commit(1820);
     holds(line.is_full(), "full")?;
-    same(counts(&line), (0, 0, 0), "before a pass")?;
+    counts(&line, 0, 0, 0, "before a pass")?;
     line.start_pass();
     for _ in 0..56 {
         holds(line.passes() == 1, "one pass")?;
@@ -47,18 +54,18 @@ fn each_pass_counts_its_looks() -> Result<(), Fail> {
         holds(block[0] == 0x2020 || block[0] == 0x4040, "a sample")?;
     }
     holds(line.passes() == 1, "one pass")?;
-    same(counts(&line), (1, 896, 896), "after 56 blocks")?;
+    counts(&line, 1, 896, 896, "after 56 blocks")?;
     holds(line.next_block().is_none(), "no more blocks")?;
     holds(line.passes() == 1, "one pass")?;
     same(line.next_sample(), Some(0x2020), "sample 897")?;
-    same(counts(&line), (1, 897, 897), "after sample 897")?;
+    counts(&line, 1, 897, 897, "after sample 897")?;
     holds(
         line.is_full() && line.passes() == 1 && line.looked() == 897,
         "to start again",
     )?;
     line.start_pass();
     same(line.next_sample(), Some(0x2020), "sample 1 again")?;
-    same(counts(&line), (2, 898, 898), "in a second pass")?;
+    counts(&line, 2, 898, 898, "in a second pass")?;
     line.clear();
-    same(counts(&line), (0, 0, 898), "cleared")
+    counts(&line, 0, 0, 898, "cleared")
 }
