@@ -21,9 +21,11 @@ VERSION := 0.1.0
 ABI := 1
 ROOT := $(DESTDIR)$(PREFIX)
 LIBRARIES := $(DESTDIR)$(LIBDIR)
-MANUAL := $(ROOT)/share/man/man1/ldvbi.1
-BASH_COMPLETION := $(ROOT)/share/bash-completion/completions/ldvbi
-ZSH_COMPLETION := $(ROOT)/share/zsh/site-functions/_ldvbi
+# The commands, each with its manual page and completions
+COMMANDS := ldvbi ldvbi-side
+MANUALS := $(ROOT)/share/man/man1
+BASH_COMPLETIONS := $(ROOT)/share/bash-completion/completions
+ZSH_COMPLETIONS := $(ROOT)/share/zsh/site-functions
 SHARED := share/schema/ldvbi.schema.json share/schema/ldvbi-side.schema.json contrib/ldvbi.jq contrib/plot_line.py
 DOCUMENTS := $(ROOT)/share/doc/ldvbi
 PYTHON := $(wildcard python/ldvbi_side/*.py)
@@ -83,9 +85,10 @@ setup:
 
 install: ldvbi $(if $(wildcard libldvbi.a),install-lib)
 	install -D -m 755 ldvbi $(ROOT)/bin/ldvbi
-	install -D -m 644 share/man/ldvbi.1 $(MANUAL)
-	install -D -m 644 share/completions/ldvbi.bash $(BASH_COMPLETION)
-	install -D -m 644 share/completions/_ldvbi $(ZSH_COMPLETION)
+	install -D -m 755 python/ldvbi-side $(ROOT)/bin/ldvbi-side
+	$(foreach command,$(COMMANDS),install -D -m 644 share/man/$(command).1 $(MANUALS)/$(command).1 &&) :
+	$(foreach command,$(COMMANDS),install -D -m 644 share/completions/$(command).bash $(BASH_COMPLETIONS)/$(command) &&) :
+	$(foreach command,$(COMMANDS),install -D -m 644 share/completions/_$(command) $(ZSH_COMPLETIONS)/_$(command) &&) :
 	install -d $(ROOT)/share/ldvbi
 	install -m 644 $(SHARED) $(ROOT)/share/ldvbi
 	install -d $(ROOT)/share/ldvbi/python/ldvbi_side
@@ -116,7 +119,8 @@ install-lib: lib
 	chmod 644 $(LIBRARIES)/pkgconfig/ldvbi.pc
 
 uninstall:
-	rm -f $(ROOT)/bin/ldvbi $(MANUAL) $(BASH_COMPLETION) $(ZSH_COMPLETION)
+	rm -f $(COMMANDS:%=$(ROOT)/bin/%) $(COMMANDS:%=$(MANUALS)/%.1) $(COMMANDS:%=$(BASH_COMPLETIONS)/%) \
+	    $(COMMANDS:%=$(ZSH_COMPLETIONS)/_%)
 	rm -rf $(ROOT)/share/ldvbi $(DOCUMENTS)
 	rm -f $(ROOT)/include/ldvbi.h $(LIBRARIES)/libldvbi.a $(LIBRARIES)/libldvbi.so $(LIBRARIES)/libldvbi.so.$(ABI) \
 	    $(LIBRARIES)/pkgconfig/ldvbi.pc

@@ -21,7 +21,7 @@ names; else libldvbi.so.1 in the folder of this file or in the one above it; els
 Only CPython and its standard library are needed beside it. `ldvbi_side`, the folder beside this file, holds the parts
 of this module and of the command:
 
-    python3 -m ldvbi side.tbc --system NTSC --black 16384 --white 51200 > pictures.csv
+    ldvbi-side side.tbc --system NTSC --black 16384 --white 51200 > pictures.csv
 """
 
 import ctypes
@@ -247,7 +247,7 @@ def fields(source, system, black, white):
 
 
 def main(words=None):
-    """The command `python3 -m ldvbi`. The answer is its exit status."""
+    """The command `ldvbi-side`. The answer is its exit status."""
     # What was started by that name isn't to be loaded a second time by the command's parts.
     sys.modules.setdefault("ldvbi", sys.modules[__name__])
     try:

@@ -45,7 +45,9 @@ are_for_all() {
 {
     cat << 'END'
 usr/bin/ldvbi
+usr/bin/ldvbi-side
 usr/share/bash-completion/completions/ldvbi
+usr/share/bash-completion/completions/ldvbi-side
 usr/share/doc/ldvbi/CHANGELOG.md
 usr/share/doc/ldvbi/README.md
 END
@@ -59,8 +61,10 @@ usr/share/ldvbi/python/ldvbi.py
 END
     (cd tree && git ls-files 'python/ldvbi_side/*.py' | sed 's/^/usr\/share\/ldvbi\//')
     cat << 'END'
+usr/share/man/man1/ldvbi-side.1
 usr/share/man/man1/ldvbi.1
 usr/share/zsh/site-functions/_ldvbi
+usr/share/zsh/site-functions/_ldvbi-side
 END
 } > files
 
@@ -81,6 +85,9 @@ find usr -type f | sort | comm -13 others - > found
 check 'what is installed' cmp found files
 check 'the program is copied as it is' cmp usr/bin/ldvbi "$program"
 check 'it can be run' [ -x usr/bin/ldvbi ]
+status=0
+PYTHONDONTWRITEBYTECODE=1 bounded usr/bin/ldvbi-side --help < empty > out 2> err || status=$?
+check 'ldvbi-side finds its module where it is installed' [ "$status $(head -c 18 out)" = '0 usage: ldvbi-side ' ]
 check 'the module is found where it is installed' \
     [ "$(jq -nc -L usr/share/ldvbi 'include "ldvbi"; 8572927 | code')" = '{"kind":"picture stop"}' ]
 made uninstall PREFIX="$work/usr"
