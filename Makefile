@@ -4,12 +4,14 @@
 # The toolchain's command `rt` has to be on the PATH; `make test` needs the tools of tests/tools.sh as well. What the
 # toolchain says of a crate goes to crates/NAME/out/make.log.
 #
-# Once the program is built, these need no toolchain: `make install PREFIX=DIR` copies it to DIR/bin, the manual page,
-# completions, schema, contrib's files, the Python module, documents and examples to DIR/share, and the library with its
-# header to DIR/lib (or LIBDIR) and DIR/include where it is built, too; DESTDIR goes before all of them; `make uninstall
-# PREFIX=DIR` takes all of it away; `make check PROGRAM=./ldvbi` runs the gate's scripts on it; `make dist` packs source
-# and what is built, with checksums; `make peers` has other programs read what it reads, and needs mame-tools and
-# libzvbi-dev. The system's loader finds a library that is installed to /usr/local once `ldconfig` was run as root.
+# Once the program is built, these need no toolchain: `make install PREFIX=DIR` copies it and `ldvbi-side` to DIR/bin,
+# the manual pages, completions, schema, contrib's files, the Python module, documents and examples to DIR/share, and
+# the library with its header to DIR/lib (or LIBDIR) and DIR/include where it is built, too; `make install-lib` installs
+# the library alone; DESTDIR goes before all of them; `make uninstall PREFIX=DIR` takes all of it away; `make wheel`
+# packs the Python module with the library for pip; `make check PROGRAM=./ldvbi` runs the gate's scripts on the program;
+# `make dist` packs source and what is built, with checksums; `make peers` has other programs read what it reads, and
+# needs mame-tools and libzvbi-dev. With FROM=rust `install`, `install-lib` and `wheel` take what `make rust` built. The
+# system's loader finds a library that is installed to /usr/local once `ldconfig` was run as root.
 
 PREFIX ?= /usr/local
 # Debian's is /usr/lib/x86_64-linux-gnu
@@ -29,6 +31,11 @@ ZSH_COMPLETIONS := $(ROOT)/share/zsh/site-functions
 SHARED := share/schema/ldvbi.schema.json share/schema/ldvbi-side.schema.json contrib/ldvbi.jq contrib/plot_line.py
 DOCUMENTS := $(ROOT)/share/doc/ldvbi
 PYTHON := $(wildcard python/ldvbi_side/*.py)
+# What is installed and packed: what was proved and built here (proved), or what `make rust` leaves in rust/ (rust)
+FROM ?= proved
+BUILT := $(if $(filter rust,$(FROM)),rust/)
+# Where `make wheel` puts the wheel
+WHEELS ?= dist
 SOURCES := $(shell find crates -name out -prune -o \( -name '*.rt' -o -name '*.antt' \) -print)
 LIBRARY_SOURCES := $(filter crates/vbi_words/% crates/vbi_line/% crates/vbi_c/%,$(SOURCES))
 
@@ -83,8 +90,14 @@ test: toolchain
 setup:
 	sh tests/tools.sh install
 
-install: ldvbi $(if $(wildcard libldvbi.a),install-lib)
-	install -D -m 755 ldvbi $(ROOT)/bin/ldvbi
+# A folder's name is a word of make's, which ends at a space.
+places:
+	@[ "$(words x$(PREFIX)x x$(LIBDIR)x x$(DESTDIR)x)" = 3 ] || \
+	    { echo "make: PREFIX, LIBDIR and DESTDIR can't have a space" >&2; exit 1; }
+	@[ "$(filter proved rust,$(FROM))" ] || { echo "make: FROM is 'proved' or 'rust'" >&2; exit 1; }
+
+install: places $(BUILT)ldvbi $(if $(wildcard $(BUILT)libldvbi.a),install-lib)
+	install -D -m 755 $(BUILT)ldvbi $(ROOT)/bin/ldvbi
 	install -D -m 755 python/ldvbi-side $(ROOT)/bin/ldvbi-side
 	$(foreach command,$(COMMANDS),install -D -m 644 share/man/$(command).1 $(MANUALS)/$(command).1 &&) :
 	$(foreach command,$(COMMANDS),install -D -m 644 share/completions/$(command).bash $(BASH_COMPLETIONS)/$(command) &&) :
@@ -100,34 +113,53 @@ install: ldvbi $(if $(wildcard libldvbi.a),install-lib)
 	install -m 644 $(wildcard docs/pictures/*.svg) $(DOCUMENTS)/docs/pictures
 	install -m 644 $(wildcard examples/*) $(DOCUMENTS)/examples
 
-# The description for pkg-config finds header and library from its own place, wherever that is moved, unless the library
-# is put outside PREFIX.
+# The descriptions for pkg-config and CMake find header and library from their own place, wherever that is moved, unless
+# the library is put outside PREFIX.
 SPACE := $(subst x,,x x)
 BELOW := $(patsubst $(PREFIX)/%,%,$(filter $(PREFIX)/%,$(LIBDIR)))
 UP := $(subst $(SPACE),/,$(foreach folder,$(subst /, ,$(BELOW)) pkgconfig,..))
 DESCRIBED_PREFIX := $(if $(BELOW),$${pcfiledir}/$(UP),$(PREFIX))
 DESCRIBED_LIBDIR := $(if $(BELOW),$${prefix}/$(BELOW),$(LIBDIR))
+CMAKE_PREFIX := $(if $(BELOW),$${CMAKE_CURRENT_LIST_DIR}/../$(UP),$(PREFIX))
+# The C library's parts that the archive of `make rust` needs, where they aren't in libc itself
+PRIVATE := $(if $(BUILT),-lpthread -ldl)
 
-install-lib: lib
+# $(call described,FOLDER,NAME,PREFIX): installs a description below the libraries
+define described
+	install -d $(LIBRARIES)/$(1)
+	sed -e 's|@PREFIX@|$(3)|' -e 's|@LIBDIR@|$(DESCRIBED_LIBDIR)|' -e 's|@VERSION@|$(VERSION)|' -e 's|@ABI@|$(ABI)|' \
+	    -e 's|@PRIVATE@|$(PRIVATE)|' include/$(2).in > $(LIBRARIES)/$(1)/$(2)
+	chmod 644 $(LIBRARIES)/$(1)/$(2)
+endef
+
+install-lib: places $(if $(BUILT),rust/libldvbi.a rust/libldvbi.so.$(ABI),lib)
 	install -D -m 644 include/ldvbi.h $(ROOT)/include/ldvbi.h
-	install -D -m 644 libldvbi.a $(LIBRARIES)/libldvbi.a
-	install -D -m 755 libldvbi.so.$(ABI) $(LIBRARIES)/libldvbi.so.$(ABI)
+	install -D -m 644 $(BUILT)libldvbi.a $(LIBRARIES)/libldvbi.a
+	install -D -m 755 $(BUILT)libldvbi.so.$(ABI) $(LIBRARIES)/libldvbi.so.$(ABI)
 	ln -sf libldvbi.so.$(ABI) $(LIBRARIES)/libldvbi.so
-	install -d $(LIBRARIES)/pkgconfig
-	sed -e 's|@PREFIX@|$(DESCRIBED_PREFIX)|' -e 's|@LIBDIR@|$(DESCRIBED_LIBDIR)|' -e 's|@VERSION@|$(VERSION)|' \
-	    include/ldvbi.pc.in > $(LIBRARIES)/pkgconfig/ldvbi.pc
-	chmod 644 $(LIBRARIES)/pkgconfig/ldvbi.pc
+	$(call described,pkgconfig,ldvbi.pc,$(DESCRIBED_PREFIX))
+	$(call described,cmake/ldvbi,ldvbi-config.cmake,$(CMAKE_PREFIX))
+	$(call described,cmake/ldvbi,ldvbi-config-version.cmake,$(CMAKE_PREFIX))
 
-uninstall:
+uninstall: places
 	rm -f $(COMMANDS:%=$(ROOT)/bin/%) $(COMMANDS:%=$(MANUALS)/%.1) $(COMMANDS:%=$(BASH_COMPLETIONS)/%) \
 	    $(COMMANDS:%=$(ZSH_COMPLETIONS)/_%)
 	rm -rf $(ROOT)/share/ldvbi $(DOCUMENTS)
 	rm -f $(ROOT)/include/ldvbi.h $(LIBRARIES)/libldvbi.a $(LIBRARIES)/libldvbi.so $(LIBRARIES)/libldvbi.so.$(ABI) \
 	    $(LIBRARIES)/pkgconfig/ldvbi.pc
+	rm -rf $(LIBRARIES)/cmake/ldvbi
 
 check:
 	@sh tests/tools.sh
 	sh tests/scripts.sh $(PROGRAM) --as-built
+
+# What is asked for from rust/ is built by `make rust` alone.
+$(addprefix rust/,ldvbi libldvbi.a libldvbi.so.$(ABI)):
+	@echo "make: $@ isn't there: make rust builds it" >&2; exit 1
+
+# The Python module with the library inside, which `pip install` takes
+wheel: places $(if $(BUILT),rust/libldvbi.so.$(ABI),lib)
+	python3 packaging/make_wheel.py $(BUILT)libldvbi.so.$(ABI) $(WHEELS)
 
 # Archives of one commit and one program are the same byte for byte, whenever they are made. Uncommitted changes aren't
 # in them.
@@ -159,4 +191,4 @@ clean:
 toolchain:
 	@command -v rt > /dev/null || { echo "make: the command rt of the Rattle toolchain is not on the PATH" >&2; exit 1; }
 
-.PHONY: lib test setup install install-lib uninstall check dist bench peers clean toolchain
+.PHONY: lib test setup places install install-lib uninstall check wheel dist bench peers clean toolchain

@@ -16,8 +16,9 @@ read then. `system` is a `System` or its name; `black` and `white` are samples, 
 capture's .tbc.json. They are handed to the library as they are, and it is the library that refuses them.
 
 The library is loaded with the first samples that are read, and is the file that the environment variable LDVBI_LIBRARY
-names; else libldvbi.so.1 in the folder of this file or in the one above it; else the one in lib/ of the folder that
-`make install` installed both to; else the one that the system's loader finds. `classify` and `format_of` need none.
+names; else libldvbi.so.1 in ldvbi_side, as a wheel has it, in the folder of this file or in the one above it; else the
+one in lib/ of the folder that `make install` installed both to; else the one that the system's loader finds. `classify`
+and `format_of` need none.
 Only CPython and its standard library are needed beside it. `ldvbi_side`, the folder beside this file, holds the parts
 of this module and of the command:
 

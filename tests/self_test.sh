@@ -84,6 +84,9 @@ docs|share/man/ldvbi.1|s/^.Sq unfinished/.Sq unfinish/
 docs|share/man/ldvbi.1|s/1820 for NTSC/1810 for NTSC/
 docs|README.md|s/Of [0-9]* wrong bodies/Of 1 wrong bodies/
 docs|README.md|s/in [0-9]* lines, or/in 1 lines, or/
+wheel|packaging/make_wheel.py|s/entry_points.txt/entry_point.txt/
+wheel|packaging/make_wheel.py|s/-v\[2-9\]/-w/
+wheel|contrib/plot_line.py|s/change, ldvbi.Cause.hold/change,/
 lines|out|82CFFF|82CFFE
 lines|err|short line|shirt line
 lines|status|1|0

@@ -25,12 +25,13 @@ class System(enum.IntEnum):
 
 def _library_file():
     """The file that the environment names, or one in a folder where it may be, or the one that the loader looks for."""
-    here = os.path.dirname(os.path.dirname(os.path.abspath(__file__)))
+    package = os.path.dirname(os.path.abspath(__file__))  # where a wheel has it
+    here = os.path.dirname(package)
     name = "libldvbi.so.%d" % ABI
     above = os.path.join(here, os.pardir)
     # as installed, ldvbi.py is in PREFIX/share/ldvbi/python
     installed = os.path.join(above, os.pardir, os.pardir, "lib")
-    places = [os.path.join(folder, name) for folder in (here, above, installed)]
+    places = [os.path.join(folder, name) for folder in (package, here, above, installed)]
     return os.environ.get("LDVBI_LIBRARY") or next((place for place in places if os.path.exists(place)), name)
 
 

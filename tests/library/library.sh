@@ -353,7 +353,10 @@ check "Debian's make install" makes install DESTDIR="$work/debian" $debian
 (cd debian && find . ! -type d ! -path './usr/share/*' | sort) > found
 cat > wanted << 'END'
 ./usr/bin/ldvbi
+./usr/bin/ldvbi-side
 ./usr/include/ldvbi.h
+./usr/lib/x86_64-linux-gnu/cmake/ldvbi/ldvbi-config-version.cmake
+./usr/lib/x86_64-linux-gnu/cmake/ldvbi/ldvbi-config.cmake
 ./usr/lib/x86_64-linux-gnu/libldvbi.a
 ./usr/lib/x86_64-linux-gnu/libldvbi.so
 ./usr/lib/x86_64-linux-gnu/libldvbi.so.1

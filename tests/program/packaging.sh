@@ -230,6 +230,9 @@ check 'the status is that of the toolchain' [ "$(sed -n '22s/.*\(Error [0-9]*\)$
 made check
 missing='gcc libc6-dev g++ binutils python3 jq pkg-config less mandoc parallel pv zsh'
 /usr/bin/python3 -c 'import jsonschema' 2> /dev/null || missing="$missing python3-jsonschema"
+for pair in ensurepip:venv setuptools:setuptools wheel:wheel; do
+    /usr/bin/python3 -c "import ${pair%:*}" 2> /dev/null || missing="$missing python3-${pair#*:}"
+done
 echo "tests: missing on this machine, as Debian's packages: $missing (make setup installs them)" > wanted
 head -n 1 err > found
 check 'make check names the tools that are missing' cmp found wanted

@@ -172,7 +172,7 @@ class Library(unittest.TestCase):
                          "fits, LDVBI_LIBRARY names its file\n" % file)
 
     def test_places(self):
-        for place in ("lib", "share/ldvbi", "share/ldvbi/python"):
+        for place in ("lib", "share/ldvbi", "share/ldvbi/python", "share/ldvbi/python/ldvbi_side"):
             with self.subTest(place):
                 shutil.rmtree(os.path.join(self.folder, "share"), ignore_errors=True)
                 shutil.rmtree(os.path.join(self.folder, "lib"), ignore_errors=True)
@@ -180,7 +180,7 @@ class Library(unittest.TestCase):
 
     def test_the_first_place_counts(self):
         """Each place before those behind it, which have no library that can be loaded; the variable before all."""
-        places = ["share/ldvbi/python", "share/ldvbi", "lib"]
+        places = ["share/ldvbi/python/ldvbi_side", "share/ldvbi/python", "share/ldvbi", "lib"]
         for count, place in enumerate(places):
             with self.subTest(place):
                 shutil.rmtree(os.path.join(self.folder, "share"), ignore_errors=True)
