@@ -87,6 +87,9 @@ docs|README.md|s/in [0-9]* lines, or/in 1 lines, or/
 wheel|packaging/make_wheel.py|s/entry_points.txt/entry_point.txt/
 wheel|packaging/make_wheel.py|s/-v\[2-9\]/-w/
 wheel|contrib/plot_line.py|s/change, ldvbi.Cause.hold/change,/
+installed|include/ldvbi-config.cmake.in|s/libldvbi.a/libldvbi.b/
+installed|Makefile|s/^install-lib: places /install-lib: /
+installed|README.md|s/-Wl,-rpath,/-Wl,-rpath-link,/
 lines|out|82CFFF|82CFFE
 lines|err|short line|shirt line
 lines|status|1|0

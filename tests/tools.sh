@@ -9,7 +9,7 @@ missing=
 for pair in "${CC:-cc}:gcc libc6-dev" "${CXX:-c++}:g++" nm:binutils python3:python3 jq:jq pkg-config:pkg-config; do
     command -v "${pair%%:*}" > /dev/null || missing="$missing ${pair#*:}"
 done
-for tool in git less mandoc parallel pv zsh; do
+for tool in cmake git less mandoc parallel pv zsh; do
     command -v $tool > /dev/null || missing="$missing $tool"
 done
 # A command of docs/RECIPES.md is run by the system's Python, whose packages are Debian's.

@@ -308,10 +308,10 @@ makes() {
     does env PATH=/usr/bin:/bin make -s -C "$top" "$@"
 }
 # says_with FOLDER: what the program in README prints, built by the line in README as it stands with what this folder
-# has, whose library the loader is told of here, as it is by `ldconfig`
-readme_line=$(sed -n 's|^#include <ldvbi.h> */\* \(.*\) \*/$|\1|p' "$top/README.md")
+# has
+readme_line=$(sed -n '/^cc say.c /p' "$top/README.md")
 says_with() {
-    prints 0 'picture 12345' env PKG_CONFIG_PATH="$1/pkgconfig" LD_LIBRARY_PATH="$1" sh -c "$readme_line"
+    prints 0 'picture 12345' env PKG_CONFIG_PATH="$1/pkgconfig" sh -c "$readme_line"
 }
 # Files of others, whose names begin as ours do; and somebody whose new files are for themselves alone
 cat > others << 'END'

@@ -228,7 +228,7 @@ check 'the status is that of the toolchain' [ "$(sed -n '22s/.*\(Error [0-9]*\)$
 
 # What the tests need and this PATH hasn't
 made check
-missing='gcc libc6-dev g++ binutils python3 jq pkg-config less mandoc parallel pv zsh'
+missing='gcc libc6-dev g++ binutils python3 jq pkg-config cmake less mandoc parallel pv zsh'
 /usr/bin/python3 -c 'import jsonschema' 2> /dev/null || missing="$missing python3-jsonschema"
 for pair in ensurepip:venv setuptools:setuptools wheel:wheel; do
     /usr/bin/python3 -c "import ${pair%:*}" 2> /dev/null || missing="$missing python3-${pair#*:}"
