@@ -162,21 +162,38 @@ wheel: places $(if $(BUILT),rust/libldvbi.so.$(ABI),lib)
 	python3 packaging/make_wheel.py $(BUILT)libldvbi.so.$(ABI) $(WHEELS)
 
 # Archives of one commit and one program are the same byte for byte, whenever they are made. Uncommitted changes aren't
-# in them.
+# in them. The source; what `make install` installs, as it is proved and as `make rust` built it; the crate that `make
+# rust` wrote, in the form of those that cargo takes; the wheel. What isn't built, or is older than its source, is left
+# out.
 PACK := gzip -9n
+RELEASE := ldvbi-$(VERSION)
+RUST_RELEASE = $(RELEASE)-rust-$(shell uname -m)-linux
+
+# $(call packed,FOLDER,ENDING): packs this folder of dist/ to a file with this ending, and takes it away. What cargo
+# built of a crate, and where it found others on this machine, is left out.
+packed = tar -C dist --sort=name --mtime="@$$(git log -1 --format=%ct)" --owner=0 --group=0 --numeric-owner \
+	    --exclude=target --exclude=.cargo -cf - $(1) | $(PACK) > dist/$(1).$(2) && rm -r dist/$(1)
+# Whether the last `make rust` was of the source as it is. It leaves the times of a crate that hasn't changed.
+is_rust_current = [ -e rust/ldvbi ] && \
+	    [ -z "$$(find $(SOURCES) $(wildcard rust/hand rust/*.py rust/*.sh) -type f -newer rust/ldvbi)" ]
+
 dist:
 	rm -rf dist
 	mkdir dist
-	git archive --prefix=ldvbi-$(VERSION)/ HEAD | $(PACK) > dist/ldvbi-$(VERSION).tar.gz
+	git archive --prefix=$(RELEASE)/ HEAD | $(PACK) > dist/$(RELEASE).tar.gz
 	if $(MAKE) -q ldvbi 2> /dev/null; then \
-		$(MAKE) -s install DESTDIR=dist/ PREFIX=ldvbi-$(VERSION)-x86_64-linux && \
-		tar -C dist --sort=name --mtime="@$$(git log -1 --format=%ct)" --owner=0 --group=0 --numeric-owner \
-			-cf - ldvbi-$(VERSION)-x86_64-linux | $(PACK) > dist/ldvbi-$(VERSION)-x86_64-linux.tar.gz && \
-		rm -r dist/ldvbi-$(VERSION)-x86_64-linux; \
+		$(MAKE) -s install FROM=proved DESTDIR=dist/ PREFIX=$(RELEASE)-x86_64-linux && \
+		$(call packed,$(RELEASE)-x86_64-linux,tar.gz); \
 	else \
-		echo "the program isn't built, or is older than its source: source alone is packed"; \
+		echo "the program isn't built, or is older than its source: it isn't packed"; \
 	fi
-	cd dist && sha256sum *.tar.gz > SHA256SUMS
+	if $(is_rust_current); then \
+		$(MAKE) -s install FROM=rust DESTDIR=dist/ PREFIX=$(RUST_RELEASE) && \
+		$(call packed,$(RUST_RELEASE),tar.gz) && \
+		cp -r rust/crate dist/$(RELEASE) && $(call packed,$(RELEASE),crate); \
+	fi
+	if [ -e libldvbi.so ] && $(MAKE) -q lib 2> /dev/null; then $(MAKE) -s wheel FROM=proved WHEELS=dist; fi
+	cd dist && sha256sum $(RELEASE)* > SHA256SUMS
 
 bench: ldvbi lib
 	sh bench/all.sh ./ldvbi

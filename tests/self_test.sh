@@ -46,6 +46,7 @@ packaging|Makefile|s/-m 644 $(SHARED)/-m 600 $(SHARED)/
 packaging|Makefile|s/ -o -name '\*.antt'//
 packaging|Makefile|s/scripts.sh $(PROGRAM)/scripts.sh .\/ldvbi/
 packaging|Makefile|s/rm -f $(COMMANDS:%=$(ROOT)\/bin\/%) /rm -f $(ROOT)\/bin\/* /
+packaging|Makefile|s/ --exclude=.cargo//
 packaging|tests/tools.sh|s/ jq:jq//
 jq_module|out|chapter 0|chapter 1
 jq_module|hangs

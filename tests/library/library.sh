@@ -376,7 +376,10 @@ mkdir tree unpacked
     cd tree && git init -q && git add . &&
         git -c user.name=test -c user.email=test@localhost commit -qm source
 ) > git.log 2>&1
-check 'make dist' does env PATH=/usr/bin:/bin make -s -C tree dist
+packs() {
+    does env PATH=/usr/bin:/bin make -s -C tree dist && [ "$(find tree/dist -name '*.whl' | wc -l)" = 1 ]
+}
+check 'make dist, the wheel with it' packs
 tar -xzf "tree/dist/ldvbi-$(header_version)-x86_64-linux.tar.gz" -C unpacked --strip-components=1
 check 'the line in README with the archive' says_with "$work/unpacked/lib"
 for document in README.md CHANGELOG.md docs/RECIPES.md docs/SPEED.md examples/player.cpp; do

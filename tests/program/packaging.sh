@@ -12,7 +12,7 @@ mkdir tree tools
     cd "$top" &&
         tar --exclude=.git --exclude=out --exclude=./ldvbi --exclude='./libldvbi.*' --exclude=./dist -cf - .
 ) | tar -xf - -C tree
-for tool in sh make install rm mkdir find cp touch git tar gzip sha256sum; do
+for tool in sh make install rm mkdir find cp touch git tar gzip sha256sum uname; do
     ln -s "$(command -v $tool)" tools/$tool
 done
 cd tree || exit 1
@@ -122,6 +122,27 @@ check 'the archive of the program has what is installed' cmp found files
 sleep 1
 made_privately dist
 check 'archives made again are the same' cmp first/SHA256SUMS tree/dist/SHA256SUMS
+
+# What `make rust` leaves, as which the program stands here with a crate that has been built by cargo
+mkdir -p tree/rust/crate/src tree/rust/crate/target tree/rust/crate/.cargo
+cp "$program" tree/rust/ldvbi
+echo '[package]' > tree/rust/crate/Cargo.toml
+echo '//! A crate' > tree/rust/crate/src/lib.rs
+touch tree/rust/crate/target/built tree/rust/crate/.cargo/config.toml
+made dist
+check 'archives of what make rust leaves' [ "$status $(wc -l < tree/dist/SHA256SUMS)" = '0 4' ]
+check 'their checksums' sh -c 'cd tree/dist && sha256sum -c --quiet SHA256SUMS'
+rust=ldvbi-0.1.0-rust-$(uname -m)-linux
+tar -tzf tree/dist/$rust.tar.gz | sed "/\/\$/d; s/^$rust/usr/" | sort > found
+check 'the archive of its program has what is installed' cmp found files
+tar -tzf tree/dist/ldvbi-0.1.0.crate | sed '/\/$/d' | sort > found
+printf 'ldvbi-0.1.0/%s\n' Cargo.toml src/lib.rs > listed
+check 'the crate has its files, and nothing of this machine' cmp found listed
+touch -d @1300000000 tree/rust/ldvbi
+made dist
+check 'nothing of it is packed that is older than its source' [ "$(wc -l < tree/dist/SHA256SUMS)" = 2 ]
+rm -r tree/rust
+
 touch tree/crates.txt
 made dist
 check 'no archive of a program older than its source' [ ! -e tree/dist/ldvbi-0.1.0-x86_64-linux.tar.gz ]
