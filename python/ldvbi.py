@@ -58,7 +58,8 @@ class Cause(enum.IntEnum):
 class Reading(NamedTuple):
     """What a line shows. `pass_` is 1 for a word of the line's own levels, 2 for one of the levels without short
     glitches, 0 for no word; `column` is the first hopeless column, counted from 0, of the causes change and hold, else
-    0; `word` is the word, from 0x800000 to 0xFFFFFF, or 0."""
+    0; `word` is the word, from 0x800000 to 0xFFFFFF, or 0. A cause of a later library, which this module doesn't know, is
+    its number."""
     cause: Cause
     pass_: int
     column: int
@@ -74,7 +75,7 @@ class FieldReadings(NamedTuple):
 
 _PACKED_LINE = struct.Struct("=BBHI")  # LdvbiReading of ldvbi.h
 PACKED_FIELD = struct.Struct("=BBHIBBHIBBHI")  # LdvbiFieldReadings
-_CAUSES = tuple(Cause)
+_CAUSES = (*Cause, *range(len(Cause), 256))  # those that a later library may add stay numbers
 _SIZES = {System.NTSC: (910, 263), System.PAL: (1135, 313)}  # samples of a line, lines of a field
 
 

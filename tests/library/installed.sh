@@ -104,11 +104,60 @@ archive='-Wl,-Bstatic $(pkg-config --static --libs ldvbi) -Wl,-Bdynamic'
 check 'the archive, by pkg-config' does sh -c "$cc -o say user/say.c \$(pkg-config --cflags ldvbi) $archive"
 check 'it reads the line' says ./say
 check 'it needs no shared library' sh -c '! readelf -d say | grep -q libldvbi'
+
+# The examples that are installed, each on a side with a cut last field, and on what is no file
+run draw $ntsc "$top/examples/cav.words"
+cp out cav.tbc
+{ cat cav.tbc; head -c 12345 cav.tbc; } > cut.tbc
+head -c 12345 cav.tbc > beginning.tbc
+: > empty.tbc
+on_cav='NTSC 16384 51200'
+examples=usr/share/doc/ldvbi/examples
+found_there=-Wl,-rpath,$work/usr/lib
+for name in seek.c stops.cpp player.cpp; do
+    command="$cc -std=c99"
+    [ "${name#*.}" = c ] || command="${CXX:-c++} -std=c++17"
+    check "$name is built" does sh -c \
+        "$command -Wall -Wextra -Werror -o ${name%.*} $examples/$name \$(pkg-config --cflags --libs ldvbi) $found_there"
+done
+# says_of STATUS TEXT LINE COMMAND..: whether it ends with this status, writes this text and says this line; neither is
+# said where it is empty
+says_of() {
+    for said in "$2" "$3"; do
+        [ -z "$said" ] || printf '%s\n' "$said"
+        echo
+    done > wanted
+    wanted_status=$1
+    shift 3
+    does bounded "$@"
+    [ "$status" = "$wanted_status" ] && { cat out; echo; cat err; echo; } | cmp -s - wanted
+}
+for seek in ./seek "env PYTHONPATH=usr/share/ldvbi/python python3 $examples/seek.py"; do
+    name=$(basename "${seek##* }")
+    cut="$name: the last field is cut: field"
+    check "$name: a cut field is named" says_of 0 'field 7' "$cut 13 has 12345 of 478660 bytes" $seek cut.tbc $on_cav 3
+    check "$name: a cut field is none" says_of 1 'not found' "$cut 1 has 12345 of 478660 bytes" \
+        $seek beginning.tbc $on_cav 1
+    check "$name: no field, none cut" says_of 1 'not found' '' $seek empty.tbc $on_cav 1
+    check "$name: a whole last field" says_of 0 'field 7' '' $seek cav.tbc $on_cav 3
+    for place in usr /dev/null; do
+        check "$name: $place is refused" refuses "$name: .*$place" bounded $seek $place $on_cav 3
+        check "$name: with status 2" [ "$status" = 2 ]
+    done
+done
+cut='the last field is cut: field 13 has 12345 of 478660 bytes'
+stops='field 7 picture 3
+field 8
+2 stops'
+check 'stops: a cut field is named' says_of 0 "$stops" "stops: $cut" sh -c "./stops $on_cav < cut.tbc"
+check 'stops: no field is cut' says_of 0 "$stops" '' sh -c "./stops $on_cav < cav.tbc"
+check 'stops: a folder' says_of 2 '' 'stops: standard input: Is a directory' sh -c "./stops $on_cav < usr"
+check 'player: a cut field is named' says_of 0 'search: field 9 picture 4' "player: $cut" \
+    ./player cut.tbc $on_cav search 4
+check 'player: a folder' says_of 2 '' 'player: usr is no file that can be mapped' ./player usr $on_cav play
 unset PKG_CONFIG_PATH
 
 # The commands that are installed, by a link as well
-run draw $ntsc "$top/examples/cav.words"
-cp out cav.tbc
 ln -s "$work/usr/bin/ldvbi-side" linked
 for command in usr/bin/ldvbi-side ./linked; do
     check "$command reads a TBC file" prints 'field 7, frame 4' bounded $command cav.tbc $ntsc --seek 3
