@@ -133,7 +133,7 @@ made dist
 check 'archives of what make rust leaves' [ "$status $(wc -l < tree/dist/SHA256SUMS)" = '0 4' ]
 check 'their checksums' sh -c 'cd tree/dist && sha256sum -c --quiet SHA256SUMS'
 rust=ldvbi-0.1.0-rust-$(uname -m)-linux
-tar -tzf tree/dist/$rust.tar.gz | sed "/\/\$/d; s/^$rust/usr/" | sort > found
+tar -tzf "tree/dist/$rust.tar.gz" | sed "/\/\$/d; s/^$rust/usr/" | sort > found
 check 'the archive of its program has what is installed' cmp found files
 tar -tzf tree/dist/ldvbi-0.1.0.crate | sed '/\/$/d' | sort > found
 printf 'ldvbi-0.1.0/%s\n' Cargo.toml src/lib.rs > listed

@@ -110,7 +110,7 @@ tag_of() {
     rm -rf tagged
     bounded $cc -shared -fPIC -o libraries/libldvbi.so.1 "$@" &&
         bounded python3 "$top/packaging/make_wheel.py" libraries/libldvbi.so.1 tagged > tagged.out &&
-        sed -n "s/.*-py3-none-\(.*\)_$processor[.]whl$/\1/p" tagged.out
+        sed -n "s/.*-py3-none-\(.*\)_${processor}[.]whl$/\1/p" tagged.out
 }
 check 'a library that needs an old C library' [ "$(tag_of say.c)" = manylinux_2_17 ]
 cat > new.c << 'END_OF_C'
