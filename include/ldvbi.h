@@ -42,10 +42,10 @@
  * the kind that is asked for, whatever their passes. One such word, or two that say the same, are the answer; two that
  * say different things are none, since one of them was misread. Compare what ldvbi_classify says, not the words: a
  * picture or a chapter has two words each, since the first bit of its first digit says nothing (F12345 and F92345 are
- * picture 12345). A stop counts on line 16 or 17, or on 18 if it is there; its picture is that
- * of its field, else the latest before it. A time of a CLV disc is in two places: hours and minutes on lines 17 and 18,
- * seconds and picture on line 16. Words are wrong at times, those of pass 2 more often. Whoever can look at the fields
- * around takes a number only where it fits theirs, as `ldvbi-side` does.
+ * picture 12345). A stop counts on line 16 or 17, or on 18 if it is there; its picture is that of its field, else the
+ * latest before it. A time of a CLV disc is in two places: hours and minutes on lines 17 and 18, seconds and picture on
+ * line 16. Words are wrong at times, those of pass 2 more often. Whoever can look at the fields around takes a number
+ * only where it fits theirs, as `ldvbi-side` does.
  *
  * Some words, as digits: F and 5 decimal digits is a picture (F00123 is picture 123), 8 and two decimal digits and DDD
  * a chapter (807DDD is chapter 7), 82CFFF a stop, 87FFFF the CLV mark, 88FFFF lead-in, 80EEEE lead-out.
