@@ -4,12 +4,14 @@
 # The toolchain's command `rt` has to be on the PATH; `make test` needs the tools of tests/tools.sh as well. What the
 # toolchain says of a crate goes to crates/NAME/out/make.log.
 #
-# Once the program is built, these need no toolchain: `make install PREFIX=DIR` copies it to DIR/bin, the manual page,
-# completions, schema, contrib's files, the Python module, documents and examples to DIR/share, and the library with its
-# header to DIR/lib (or LIBDIR) and DIR/include where it is built, too; DESTDIR goes before all of them; `make uninstall
-# PREFIX=DIR` takes all of it away; `make check PROGRAM=./ldvbi` runs the gate's scripts on it; `make dist` packs source
-# and what is built, with checksums; `make peers` has other programs read what it reads, and needs mame-tools and
-# libzvbi-dev. The system's loader finds a library that is installed to /usr/local once `ldconfig` was run as root.
+# Once the program is built, these need no toolchain: `make install PREFIX=DIR` copies it and `ldvbi-side` to DIR/bin,
+# the manual pages, completions, schema, contrib's files, the Python module, documents and examples to DIR/share, and
+# the library with its header to DIR/lib (or LIBDIR) and DIR/include where it is built, too; `make install-lib` installs
+# the library alone; DESTDIR goes before all of them; `make uninstall PREFIX=DIR` takes all of it away; `make wheel`
+# packs the Python module with the library for pip; `make check PROGRAM=./ldvbi` runs the gate's scripts on the program;
+# `make dist` packs source and what is built, with checksums; `make peers` has other programs read what it reads, and
+# needs mame-tools and libzvbi-dev. With FROM=rust `install`, `install-lib` and `wheel` take what `make rust` built. The
+# system's loader finds a library that is installed to /usr/local once `ldconfig` was run as root.
 
 PREFIX ?= /usr/local
 # Debian's is /usr/lib/x86_64-linux-gnu
@@ -21,12 +23,19 @@ VERSION := 0.1.0
 ABI := 1
 ROOT := $(DESTDIR)$(PREFIX)
 LIBRARIES := $(DESTDIR)$(LIBDIR)
-MANUAL := $(ROOT)/share/man/man1/ldvbi.1
-BASH_COMPLETION := $(ROOT)/share/bash-completion/completions/ldvbi
-ZSH_COMPLETION := $(ROOT)/share/zsh/site-functions/_ldvbi
+# The commands, each with its manual page and completions
+COMMANDS := ldvbi ldvbi-side
+MANUALS := $(ROOT)/share/man/man1
+BASH_COMPLETIONS := $(ROOT)/share/bash-completion/completions
+ZSH_COMPLETIONS := $(ROOT)/share/zsh/site-functions
 SHARED := share/schema/ldvbi.schema.json share/schema/ldvbi-side.schema.json contrib/ldvbi.jq contrib/plot_line.py
 DOCUMENTS := $(ROOT)/share/doc/ldvbi
 PYTHON := $(wildcard python/ldvbi_side/*.py)
+# What is installed and packed: what was proved and built here (proved), or what `make rust` leaves in rust/ (rust)
+FROM ?= proved
+BUILT := $(if $(filter rust,$(FROM)),rust/)
+# Where `make wheel` puts the wheel
+WHEELS ?= dist
 SOURCES := $(shell find crates -name out -prune -o \( -name '*.rt' -o -name '*.antt' \) -print)
 LIBRARY_SOURCES := $(filter crates/vbi_words/% crates/vbi_line/% crates/vbi_c/%,$(SOURCES))
 
@@ -86,11 +95,18 @@ test: toolchain
 setup:
 	sh tests/tools.sh install
 
-install: ldvbi $(if $(wildcard libldvbi.a),install-lib)
-	install -D -m 755 ldvbi $(ROOT)/bin/ldvbi
-	install -D -m 644 share/man/ldvbi.1 $(MANUAL)
-	install -D -m 644 share/completions/ldvbi.bash $(BASH_COMPLETION)
-	install -D -m 644 share/completions/_ldvbi $(ZSH_COMPLETION)
+# A folder's name is a word of make's, which ends at a space.
+places:
+	@[ "$(words x$(PREFIX)x x$(LIBDIR)x x$(DESTDIR)x)" = 3 ] || \
+	    { echo "make: PREFIX, LIBDIR and DESTDIR can't have a space" >&2; exit 1; }
+	@[ "$(filter proved rust,$(FROM))" ] || { echo "make: FROM is 'proved' or 'rust'" >&2; exit 1; }
+
+install: places $(BUILT)ldvbi $(if $(wildcard $(BUILT)libldvbi.a),install-lib)
+	install -D -m 755 $(BUILT)ldvbi $(ROOT)/bin/ldvbi
+	install -D -m 755 python/ldvbi-side $(ROOT)/bin/ldvbi-side
+	$(foreach command,$(COMMANDS),install -D -m 644 share/man/$(command).1 $(MANUALS)/$(command).1 &&) :
+	$(foreach command,$(COMMANDS),install -D -m 644 share/completions/$(command).bash $(BASH_COMPLETIONS)/$(command) &&) :
+	$(foreach command,$(COMMANDS),install -D -m 644 share/completions/_$(command) $(ZSH_COMPLETIONS)/_$(command) &&) :
 	install -d $(ROOT)/share/ldvbi
 	install -m 644 $(SHARED) $(ROOT)/share/ldvbi
 	install -d $(ROOT)/share/ldvbi/python/ldvbi_side
@@ -102,50 +118,87 @@ install: ldvbi $(if $(wildcard libldvbi.a),install-lib)
 	install -m 644 $(wildcard docs/pictures/*.svg) $(DOCUMENTS)/docs/pictures
 	install -m 644 $(wildcard examples/*) $(DOCUMENTS)/examples
 
-# The description for pkg-config finds header and library from its own place, wherever that is moved, unless the library
-# is put outside PREFIX.
+# The descriptions for pkg-config and CMake find header and library from their own place, wherever that is moved, unless
+# the library is put outside PREFIX.
 SPACE := $(subst x,,x x)
 BELOW := $(patsubst $(PREFIX)/%,%,$(filter $(PREFIX)/%,$(LIBDIR)))
 UP := $(subst $(SPACE),/,$(foreach folder,$(subst /, ,$(BELOW)) pkgconfig,..))
 DESCRIBED_PREFIX := $(if $(BELOW),$${pcfiledir}/$(UP),$(PREFIX))
 DESCRIBED_LIBDIR := $(if $(BELOW),$${prefix}/$(BELOW),$(LIBDIR))
+CMAKE_PREFIX := $(if $(BELOW),$${CMAKE_CURRENT_LIST_DIR}/../$(UP),$(PREFIX))
+# The C library's parts that the archive of `make rust` needs, where they aren't in libc itself
+PRIVATE := $(if $(BUILT),-lpthread -ldl)
 
-install-lib: lib
+# $(call described,FOLDER,NAME,PREFIX): installs a description below the libraries
+define described
+	install -d $(LIBRARIES)/$(1)
+	sed -e 's|@PREFIX@|$(3)|' -e 's|@LIBDIR@|$(DESCRIBED_LIBDIR)|' -e 's|@VERSION@|$(VERSION)|' -e 's|@ABI@|$(ABI)|' \
+	    -e 's|@PRIVATE@|$(PRIVATE)|' include/$(2).in > $(LIBRARIES)/$(1)/$(2)
+	chmod 644 $(LIBRARIES)/$(1)/$(2)
+endef
+
+install-lib: places $(if $(BUILT),rust/libldvbi.a rust/libldvbi.so.$(ABI),lib)
 	install -D -m 644 include/ldvbi.h $(ROOT)/include/ldvbi.h
-	install -D -m 644 libldvbi.a $(LIBRARIES)/libldvbi.a
-	install -D -m 755 libldvbi.so.$(ABI) $(LIBRARIES)/libldvbi.so.$(ABI)
+	install -D -m 644 $(BUILT)libldvbi.a $(LIBRARIES)/libldvbi.a
+	install -D -m 755 $(BUILT)libldvbi.so.$(ABI) $(LIBRARIES)/libldvbi.so.$(ABI)
 	ln -sf libldvbi.so.$(ABI) $(LIBRARIES)/libldvbi.so
-	install -d $(LIBRARIES)/pkgconfig
-	sed -e 's|@PREFIX@|$(DESCRIBED_PREFIX)|' -e 's|@LIBDIR@|$(DESCRIBED_LIBDIR)|' -e 's|@VERSION@|$(VERSION)|' \
-	    include/ldvbi.pc.in > $(LIBRARIES)/pkgconfig/ldvbi.pc
-	chmod 644 $(LIBRARIES)/pkgconfig/ldvbi.pc
+	$(call described,pkgconfig,ldvbi.pc,$(DESCRIBED_PREFIX))
+	$(call described,cmake/ldvbi,ldvbi-config.cmake,$(CMAKE_PREFIX))
+	$(call described,cmake/ldvbi,ldvbi-config-version.cmake,$(CMAKE_PREFIX))
 
-uninstall:
-	rm -f $(ROOT)/bin/ldvbi $(MANUAL) $(BASH_COMPLETION) $(ZSH_COMPLETION)
+uninstall: places
+	rm -f $(COMMANDS:%=$(ROOT)/bin/%) $(COMMANDS:%=$(MANUALS)/%.1) $(COMMANDS:%=$(BASH_COMPLETIONS)/%) \
+	    $(COMMANDS:%=$(ZSH_COMPLETIONS)/_%)
 	rm -rf $(ROOT)/share/ldvbi $(DOCUMENTS)
 	rm -f $(ROOT)/include/ldvbi.h $(LIBRARIES)/libldvbi.a $(LIBRARIES)/libldvbi.so $(LIBRARIES)/libldvbi.so.$(ABI) \
 	    $(LIBRARIES)/pkgconfig/ldvbi.pc
+	rm -rf $(LIBRARIES)/cmake/ldvbi
 
 check:
 	@sh tests/tools.sh
 	sh tests/scripts.sh $(PROGRAM) --as-built
 
+# What is asked for from rust/ is built by `make rust` alone.
+$(addprefix rust/,ldvbi libldvbi.a libldvbi.so.$(ABI)):
+	@echo "make: $@ isn't there: make rust builds it" >&2; exit 1
+
+# The Python module with the library inside, which `pip install` takes
+wheel: places $(if $(BUILT),rust/libldvbi.so.$(ABI),lib)
+	python3 packaging/make_wheel.py $(BUILT)libldvbi.so.$(ABI) $(WHEELS)
+
 # Archives of one commit and one program are the same byte for byte, whenever they are made. Uncommitted changes aren't
-# in them.
+# in them. The source; what `make install` installs, as it is proved and as `make rust` built it; the crate that `make
+# rust` wrote, in the form of those that cargo takes; the wheel. What isn't built, or is older than its source, is left
+# out.
 PACK := gzip -9n
+RELEASE := ldvbi-$(VERSION)
+RUST_RELEASE = $(RELEASE)-rust-$(shell uname -m)-linux
+
+# $(call packed,FOLDER,ENDING): packs this folder of dist/ to a file with this ending, and takes it away. What cargo
+# built of a crate, and where it found others on this machine, is left out.
+packed = tar -C dist --sort=name --mtime="@$$(git log -1 --format=%ct)" --owner=0 --group=0 --numeric-owner \
+	    --exclude=target --exclude=.cargo -cf - $(1) | $(PACK) > dist/$(1).$(2) && rm -r dist/$(1)
+# Whether the last `make rust` was of the source as it is. It leaves the times of a crate that hasn't changed.
+is_rust_current = [ -e rust/ldvbi ] && \
+	    [ -z "$$(find $(SOURCES) $(wildcard rust/hand rust/*.py rust/*.sh) -type f -newer rust/ldvbi)" ]
+
 dist:
 	rm -rf dist
 	mkdir dist
-	git archive --prefix=ldvbi-$(VERSION)/ HEAD | $(PACK) > dist/ldvbi-$(VERSION).tar.gz
+	git archive --prefix=$(RELEASE)/ HEAD | $(PACK) > dist/$(RELEASE).tar.gz
 	if $(MAKE) -q ldvbi 2> /dev/null; then \
-		$(MAKE) -s install DESTDIR=dist/ PREFIX=ldvbi-$(VERSION)-x86_64-linux && \
-		tar -C dist --sort=name --mtime="@$$(git log -1 --format=%ct)" --owner=0 --group=0 --numeric-owner \
-			-cf - ldvbi-$(VERSION)-x86_64-linux | $(PACK) > dist/ldvbi-$(VERSION)-x86_64-linux.tar.gz && \
-		rm -r dist/ldvbi-$(VERSION)-x86_64-linux; \
+		$(MAKE) -s install FROM=proved DESTDIR=dist/ PREFIX=$(RELEASE)-x86_64-linux && \
+		$(call packed,$(RELEASE)-x86_64-linux,tar.gz); \
 	else \
-		echo "the program isn't built, or is older than its source: source alone is packed"; \
+		echo "the program isn't built, or is older than its source: it isn't packed"; \
 	fi
-	cd dist && sha256sum *.tar.gz > SHA256SUMS
+	if $(is_rust_current); then \
+		$(MAKE) -s install FROM=rust DESTDIR=dist/ PREFIX=$(RUST_RELEASE) && \
+		$(call packed,$(RUST_RELEASE),tar.gz) && \
+		cp -r rust/crate dist/$(RELEASE) && $(call packed,$(RELEASE),crate); \
+	fi
+	if [ -e libldvbi.so ] && $(MAKE) -q lib 2> /dev/null; then $(MAKE) -s wheel FROM=proved WHEELS=dist; fi
+	cd dist && sha256sum $(RELEASE)* > SHA256SUMS
 
 bench: ldvbi lib
 	sh bench/all.sh ./ldvbi
@@ -160,4 +213,4 @@ clean:
 toolchain:
 	@command -v rt > /dev/null || { echo "make: the command rt of the Rattle toolchain is not on the PATH" >&2; exit 1; }
 
-.PHONY: lib test setup install install-lib uninstall check dist bench peers clean toolchain
+.PHONY: lib test setup places install install-lib uninstall check wheel dist bench peers clean toolchain

@@ -1,4 +1,5 @@
-/* Times the library for C, NTSC, each call beside a plain way to do the same, in turn: the two have to agree.
+/* Times the library for C, NTSC but for one row, each call beside a plain way to do the same, in turn: the two have to
+   agree.
    usage: library */
 #define _GNU_SOURCE
 #include "plain.h"
@@ -6,7 +7,7 @@
 enum { LINES = 1024, FIELDS = 64, WORDS = 4096, DRAWN = 128, ROUNDS = 41 };
 
 /* What a call returns is what the rest of a program goes on with. */
-static uint8_t lines[LINES][LINE], *fields;
+static uint8_t lines[LINES][LINE], pal_lines[LINES][PAL_LINE], *fields;
 static uint32_t words[WORDS], sum;
 
 static void done(uint32_t status)
@@ -33,6 +34,28 @@ static void read_plain_lines(void)
 {
     for (size_t i = 0; i < LINES; i++)
         sum += plain_word(lines[i]);
+}
+
+static void read_plain_lines_in_two(void)
+{
+    for (size_t i = 0; i < LINES; i++)
+        sum += plain_word_in_two(lines[i]);
+}
+
+static void read_pal_lines(void)
+{
+    LdvbiReading reading;
+
+    for (size_t i = 0; i < LINES; i++) {
+        done(ldvbi_read_line(LDVBI_PAL, 16384, 51200, pal_lines[i], PAL_LINE, &reading));
+        sum += reading.word;
+    }
+}
+
+static void read_plain_pal_lines(void)
+{
+    for (size_t i = 0; i < LINES; i++)
+        sum += plain_pal_word(pal_lines[i]);
 }
 
 static void add_words(const LdvbiFieldReadings *readings)
@@ -167,6 +190,53 @@ static void compare(const char *name, size_t count, void (*ours)(void), void (*p
            beside[0], middle_of_theirs, median(ratios, ROUNDS));
 }
 
+/* Turns the level of so many columns in the middle of a half cell, which is about columns 436 to 450. */
+static void damage(uint8_t *line, size_t columns)
+{
+    for (size_t column = 442; column < 442 + columns; column++) {
+        unsigned sample = (line[2 * column] | line[2 * column + 1] << 8) == 16384 ? 51200 : 16384;
+
+        line[2 * column] = (uint8_t)sample;
+        line[2 * column + 1] = (uint8_t)(sample >> 8);
+    }
+}
+
+/* Lines that are drawn, and then damaged in so many columns; and those whose level changes at every column. */
+static void fill_lines(size_t damaged)
+{
+    for (size_t i = 0; i < LINES; i++) {
+        draw(random_word(), lines[i]);
+        damage(lines[i], damaged);
+    }
+}
+
+static void alternate_lines(void)
+{
+    for (size_t i = 0; i < LINES; i++)
+        for (size_t at = 0; at < LINE; at += 2) {
+            lines[i][at] = 0;
+            lines[i][at + 1] = at % 4 == 0 ? 0x40 : 0xC8;
+        }
+}
+
+static void compare_lines(void)
+{
+    fill_lines(0);
+    compare("a drawn line", LINES, read_lines, read_plain_lines);
+    fill_lines(3);
+    compare("a line with a glitch", LINES, read_lines, read_plain_lines_in_two);
+    fill_lines(5);
+    compare("a damaged line", LINES, read_lines, read_plain_lines_in_two);
+    alternate_lines();
+    compare("the worst line", LINES, read_lines, read_plain_lines_in_two);
+    for (size_t i = 0; i < LINES; i++)
+        draw(0, lines[i]);
+    compare("a blank line", LINES, read_lines, read_plain_lines);
+    for (size_t i = 0; i < LINES; i++)
+        done(ldvbi_draw_line(LDVBI_PAL, 16384, 51200, random_word(), pal_lines[i], PAL_LINE));
+    compare("a line of PAL", LINES, read_pal_lines, read_plain_pal_lines);
+}
+
 /* The words of real sides in turn, then random ones. */
 static void fill_words(int is_random)
 {
@@ -182,14 +252,9 @@ int main(void)
     fields = malloc((size_t)FIELDS * FIELD);
     if (fields == NULL)
         return 2;
-    for (size_t i = 0; i < LINES; i++)
-        draw(random_word(), lines[i]);
+    compare_lines();
     for (size_t i = 0; i < FIELDS; i++)
         draw_field(fields + i * FIELD);
-    compare("a drawn line", LINES, read_lines, read_plain_lines);
-    for (size_t i = 0; i < LINES; i++)
-        draw(0, lines[i]);
-    compare("a blank line", LINES, read_lines, read_plain_lines);
     compare("a field", FIELDS, read_fields_one_by_one, read_plain_fields);
     compare("its three lines alone", FIELDS, read_rows_one_by_one, read_plain_fields);
     compare("a field of a block", FIELDS, read_fields_in_a_block, read_plain_fields);

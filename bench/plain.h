@@ -1,12 +1,12 @@
-/* What the library is timed beside, NTSC: readers and writers as one writes them without it, sample by sample, and a
-   switch over a word's digits; clocks and random words. */
+/* What the library is timed beside: readers and writers as one writes them without it, sample by sample, and a switch
+   over a word's digits; clocks and random words. Lines are of NTSC where nothing else is said. */
 #include <ldvbi.h>
 #include <stdio.h>
 #include <stdlib.h>
 #include <string.h>
 #include <time.h>
 
-enum { LINE = 1820, ROWS = 263, FIELD = LINE * ROWS };
+enum { LINE = 1820, ROWS = 263, FIELD = LINE * ROWS, PAL_LINE = 2270 };
 
 static double seconds(void)
 {
@@ -60,42 +60,40 @@ typedef struct {
     uint32_t word;
 } Runs;
 
-/* Whether a word can be shown still, after the run has ended. */
-static int turn(Runs *runs, int high)
+#define READER plain_word
+#define TURN turn
+#define BYTES LINE
+#define LEAST 11
+#define MOST 18
+#include "plain_reader.h"
+
+#define READER plain_pal_word
+#define TURN turn_of_pal
+#define BYTES PAL_LINE
+#define LEAST 14
+#define MOST 22
+#include "plain_reader.h"
+
+/* The same of NTSC with a second reading where the first finds no word: of the levels of the latest four equal columns,
+   in which there are no short glitches. */
+static uint32_t plain_word_in_two(const uint8_t *line)
 {
-    int is_single = 11 <= runs->run && runs->run <= 18, is_double = 22 <= runs->run && runs->run <= 36;
+    uint32_t word = plain_word(line);
+    uint8_t smooth[LINE];
+    int before = 0, latest = 0;
 
-    if (runs->cells == 0) {
-        if (runs->run < 11)
-            return 0;
-        runs->word = 1, runs->cells = 1, runs->middle = 1;
-    } else if (is_single && runs->middle) {
-        runs->middle = 0;
-    } else if (is_single || (is_double && runs->middle)) {
-        runs->word = runs->word << 1 | (uint32_t)high;
-        runs->cells++;
-        runs->middle = 1;
-    } else {
-        return 0;
-    }
-    runs->high = high;
-    runs->run = 1;
-    return runs->cells <= 24;
-}
-
-static uint32_t plain_word(const uint8_t *line)
-{
-    Runs runs = {0, 0, 0, 0, 0};
-
-    for (size_t at = 0; at < LINE; at += 2) {
+    if (word != 0)
+        return word;
+    for (size_t at = 0, equal = 0; at < LINE; at += 2) {
         int high = (line[at] | line[at + 1] << 8) > 33792;
 
-        if (high == runs.high)
-            runs.run++;
-        else if (!turn(&runs, high))
-            return 0;
+        equal = high == before ? equal + 1 : 1;
+        before = high;
+        if (equal >= 4)
+            latest = high;
+        smooth[at] = smooth[at + 1] = latest ? 255 : 0;
     }
-    return runs.cells == 24 && !runs.high && (!runs.middle || runs.run >= 11) ? runs.word : 0;
+    return plain_word(smooth);
 }
 
 /* ---- The plain writer */

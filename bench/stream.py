@@ -1,7 +1,7 @@
 #!/usr/bin/env python3
 """Time and peak memory of `ldvbi extract` beside a plain reader of the same stream in reads of one line's bytes, from a
-file and from a pipe, and of `ldvbi draw` beside `head -c` of zeros and a plain writer of as many lines into the same
-sink, all in one run. Works in a folder of its own.
+file and from a pipe, of `ldvbi draw` beside `head -c` of zeros and a plain writer of as many lines into the same sink,
+and of metadata beside `jq`, all in one run. Works in a folder of its own.
 
 usage: stream.py PROGRAM [FIELDS]"""
 
@@ -88,6 +88,17 @@ def compared(name, ours, theirs, size):
           f"best {min(spent):.3f} s beside {min(other):.3f} s, ratio {min(spent) / min(other):.3f}", flush=True)
 
 
+def write_metadata(path, size):
+    """Writes metadata of about this size, as ld-decode has it: what is wanted stands behind the records of fields."""
+    record = ('{"audioSamples":735,"diskLoc":%d.1,"isFirstField":true,"medianBurstIRE":19.7,"seqNo":%d,"syncConf":100,'
+              '"vitsMetrics":{"bPSNR":38.1,"wSNR":36.2}}')
+    count = size // len(record)
+    with open(path, "w", encoding="ascii") as file:
+        file.write('{"fields":[%s],"videoParameters":{"black16bIre":16384,"fieldHeight":263,"fieldWidth":910,'
+                   '"system":"NTSC","white16bIre":51200}}' % ",".join(record % (i, i) for i in range(1, count + 1)))
+    return os.path.getsize(path)
+
+
 def main():
     program = os.path.abspath(sys.argv[1])
     fields = int(sys.argv[2]) if len(sys.argv) > 2 else 4400
@@ -117,6 +128,11 @@ def main():
         lines = [writer, str(size // LINE)]
         compared("draw into a pipe, beside head", lambda: into_pipe(draw), lambda: into_pipe(zeros), size)
         compared("draw into a pipe, beside lines of zeros", lambda: into_pipe(draw), lambda: into_pipe(lines), size)
+        metadata = os.path.join(work, "side.tbc.json")
+        size = write_metadata(metadata, 10**7)
+        extract = [program, "extract", "--meta", metadata, os.devnull]
+        compared("metadata of 10 MB, beside jq", lambda: timed(extract),
+                 lambda: timed(["jq", "-c", ".videoParameters", metadata]), size)
 
 
 if __name__ == "__main__":

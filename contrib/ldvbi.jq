@@ -8,7 +8,7 @@
 # kind is named as `ldvbi show` names it, and which line carries which kind is the table of docs/FORMATS.md.
 #
 # Each field is taken by itself here. Whether a number is right, and what is missing or lost, only the fields around
-# can say: that is left to `python3 -m ldvbi`.
+# can say: that is left to `ldvbi-side`.
 
 # The hexadecimal digits of a word as six numbers, the most significant first.
 def digits: [(1048576, 65536, 4096, 256, 16, 1) as $unit | (. / $unit | floor) % 16];

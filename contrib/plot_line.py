@@ -4,7 +4,8 @@ of it: the half cells and bits of a word, or the first hopeless column of a line
 
     dd if=side.tbc bs=1820 skip=15 count=1 | plot_line.py --system NTSC --black 16384 --white 51200 > line.svg
 
-Python's standard library is enough; the program `ldvbi` has to be on the PATH, or be named by --program."""
+Python's standard library is enough; the program `ldvbi` has to be on the PATH, or be named by --program. Where it isn't
+on the PATH, the line is read by the module `ldvbi` and its library, as pip installs them."""
 
 import argparse
 import itertools
@@ -238,16 +239,40 @@ def read_arguments():
     return arguments
 
 
+def answer_of(line, arguments):
+    """What `ldvbi line` says of the line's bytes. A fault ends this process."""
+    options = [f"--{name}={getattr(arguments, name)}" for name in ("system", "black", "white")]
+    try:
+        run = subprocess.run([arguments.program, "line", *options], input=line, capture_output=True, check=False)
+    except OSError as error:
+        if arguments.program != "ldvbi":
+            sys.exit(f"plot_line: {error}")
+        return answer_of_module(line, arguments)
+    if run.returncode != 0:
+        sys.exit(run.stderr.decode().rstrip("\n"))
+    return run.stdout.decode().rstrip("\n")
+
+
+def answer_of_module(line, arguments):
+    """The same by the module `ldvbi`."""
+    try:
+        import ldvbi
+        reading = ldvbi.read_line(line, arguments.system, arguments.black, arguments.white)
+    except (ImportError, OSError, ValueError) as error:
+        sys.exit(f"plot_line: no program ldvbi on the PATH, and by the module: {error}")
+    if reading.word:
+        return f"{reading.word:06X}"
+    is_hopeless = reading.cause in (ldvbi.Cause.change, ldvbi.Cause.hold)
+    return f"{reading.cause.name} {reading.column}" if is_hopeless else reading.cause.name
+
+
 def main():
     arguments = read_arguments()
     with open(arguments.input, "rb") if arguments.input else sys.stdin.buffer as file:
         line = file.read(2 * SYSTEMS[arguments.system].width)
-    options = [f"--{name}={getattr(arguments, name)}" for name in ("system", "black", "white")]
-    run = subprocess.run([arguments.program, "line", *options], input=line, capture_output=True, check=False)
-    if run.returncode != 0:
-        sys.exit(run.stderr.decode().rstrip("\n"))
+    answer = answer_of(line, arguments)
     samples = [low + 256 * high for low, high in zip(line[::2], line[1::2])]
-    sys.stdout.write(picture(samples, run.stdout.decode().rstrip("\n"), arguments))
+    sys.stdout.write(picture(samples, answer, arguments))
 
 
 if __name__ == "__main__":

@@ -1,6 +1,6 @@
 // The heart of a player: maps a side of a CAV disc, searches a picture or a chapter by halving, and plays to the next
 // stop. It prints the field, from 1, at which each command ends. Status 1: a command found nothing; 2: the side can't
-// be read so, and standard error says why.
+// be read so, and standard error says why. It also says where the file ends inside a field.
 //
 //     c++ -std=c++17 -o player player.cpp -lldvbi
 //     ./player side.tbc NTSC 16384 51200 search 12345 play chapter 3 play
@@ -45,7 +45,11 @@ public:
         const int file = open(path, O_RDONLY);
         struct stat about;
         if (file < 0 || fstat(file, &about) != 0) throw std::runtime_error(std::string("can't open ") + path);
+        if (!S_ISREG(about.st_mode)) throw std::runtime_error(std::string(path) + " is no file that can be mapped");
         fields_ = static_cast<std::size_t>(about.st_size) / field_bytes_;
+        if (const std::size_t cut = static_cast<std::size_t>(about.st_size) % field_bytes_)
+            std::cerr << "player: the last field is cut: field " << fields_ + 1 << " has " << cut << " of "
+                      << field_bytes_ << " bytes\n";
         if (fields_ == 0) throw std::runtime_error(std::string("no field in ") + path);
         void *mapping = mmap(nullptr, fields_ * field_bytes_, PROT_READ, MAP_SHARED, file, 0);
         close(file);

@@ -1,6 +1,6 @@
 /* Finds a picture in a TBC file and prints the number of its first field, from 1: that of a CAV disc by its number,
  * that of a CLV disc by its time, as 0:59:29.07 for picture 7 of its second. Status 0: found; 1: not found; 2: what was
- * asked for can't be read, and standard error says why.
+ * asked for can't be read, and standard error says why. It also says where the file ends inside a field.
  *
  *     cc -o seek seek.c -lldvbi && ./seek side.tbc NTSC 16384 51200 12345 */
 #define _DEFAULT_SOURCE
@@ -126,13 +126,18 @@ static int fail(const char *path) {
     return 0;
 }
 
-/* Maps the whole fields of a file. A file without one has no mapping. */
+/* Maps the whole fields of a file, and names one that is cut at its end. A file without one has no mapping. */
 static int map_side(const char *path, Side *side) {
+    size_t field = ldvbi_field_bytes(side->system), cut;
     int file = open(path, O_RDONLY);
     struct stat about;
     if (file < 0 || fstat(file, &about) != 0) return fail(path);
-    side->fields = (size_t)about.st_size / ldvbi_field_bytes(side->system);
-    side->size = side->fields * ldvbi_field_bytes(side->system);
+    if (!S_ISREG(about.st_mode)) {
+        fprintf(stderr, "seek: %s is no file that can be mapped\n", path);
+        return 0;
+    }
+    side->fields = (size_t)about.st_size / field;
+    side->size = side->fields * field;
     if (side->fields > 0) {
         side->bytes = mmap(NULL, side->size, PROT_READ, MAP_SHARED, file, 0);
         if (side->bytes == MAP_FAILED) return fail(path);
@@ -140,6 +145,9 @@ static int map_side(const char *path, Side *side) {
         madvise(side->bytes, side->size, MADV_RANDOM);
     }
     close(file);
+    cut = (size_t)about.st_size - side->size;
+    if (cut > 0)
+        fprintf(stderr, "seek: the last field is cut: field %zu has %zu of %zu bytes\n", side->fields + 1, cut, field);
     return 1;
 }
 

@@ -1,7 +1,7 @@
 #!/usr/bin/env python3
 """Finds a picture in a TBC file and prints the number of its first field, from 1: that of a CAV disc by its number,
 that of a CLV disc by its time, as 0:59:29.07 for picture 7 of its second. Status 0: found; 1: not found; 2: what was
-asked for can't be read, and standard error says why.
+asked for can't be read, and standard error says why. It also says where the file ends inside a field.
 
     PYTHONPATH=python python3 examples/seek.py side.tbc NTSC 16384 51200 12345
 """
@@ -47,11 +47,14 @@ def main():
         raise ValueError("usage: seek.py FILE NTSC|PAL BLACK WHITE NUMBER|H:MM:SS.PP")
     path, system, black, white, text = sys.argv[1:]
     number, seconds = wanted_codes(text)
-    fields = ldvbi.fields(path, system, whole_number("black", black), whole_number("white", white))
-    for place, field in enumerate(fields, 1):
-        if shows(field, number, seconds):
-            print("field", place)
-            return 0
+    with ldvbi.Stream(path, system, whole_number("black", black), whole_number("white", white)) as side:
+        if side.cut_bytes:
+            print("seek.py: the last field is cut: field %d has %d of %d bytes"
+                  % (len(side) + 1, side.cut_bytes, ldvbi.field_bytes(system)), file=sys.stderr)
+        for place, field in enumerate(side, 1):
+            if shows(field, number, seconds):
+                print("field", place)
+                return 0
     print("not found")
     return 1
 

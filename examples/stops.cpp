@@ -1,9 +1,12 @@
 // Lists the picture stops of a TBC stream on standard input, field by field, as a player would meet them. Status 2: the
-// stream can't be read so, and standard error says why.
+// stream can't be read so, and standard error says why. It also says where the stream ends inside a field.
 //
 //     c++ -std=c++17 -o stops stops.cpp -lldvbi && ./stops NTSC 16384 51200 < side.tbc
+#include <cerrno>
 #include <cstdint>
+#include <cstdio>
 #include <cstdlib>
+#include <cstring>
 #include <iostream>
 #include <ldvbi.h>
 #include <optional>
@@ -80,8 +83,8 @@ int main(int count, char **words) try {
     if (count != 4) throw std::invalid_argument("usage: stops NTSC|PAL BLACK WHITE < FILE");
     const Reader reader(parse_system(words[1]), parse_number("black", words[2]), parse_number("white", words[3]));
     std::vector<std::uint8_t> field(reader.field_bytes());
-    std::size_t stops = 0;
-    for (std::size_t number = 1; std::cin.read(reinterpret_cast<char *>(field.data()), field.size()); number++) {
+    std::size_t stops = 0, number = 1, length;
+    for (; (length = std::fread(field.data(), 1, field.size(), stdin)) == field.size(); number++) {
         const LdvbiFieldReadings readings = reader.read(field);
         if (!has_stop(readings)) continue;
         stops++;
@@ -89,6 +92,10 @@ int main(int count, char **words) try {
         if (const auto picture = find_picture(readings)) std::cout << " picture " << *picture;
         std::cout << '\n';
     }
+    if (std::ferror(stdin)) throw std::runtime_error(std::string("standard input: ") + std::strerror(errno));
+    if (length > 0)
+        std::cerr << "stops: the last field is cut: field " << number << " has " << length << " of " << field.size()
+                  << " bytes\n";
     std::cout << stops << " stops\n";
     return 0;
 } catch (const std::exception &error) {

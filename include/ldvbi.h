@@ -4,11 +4,12 @@
  * each field. The library reads the words of digitised lines, says what they mean, and draws such lines. Programs that
  * show its use are in examples/, which is installed as share/doc/ldvbi/examples.
  *
- * Link with -lldvbi, or with libldvbi.a. The library needs memcpy and memset of the C library at most. It
- * runs under Linux on x86-64 processors of level v2 (with SSE4.2, from about 2009 on). It has no call frames for
- * unwinding: nothing is thrown out of a call, and no call calls back, but a debugger finds no way back out of one. What
- * is proved of each call stands in docs/PROMISES.md; that this header says the same as the library, and its functions
- * that are defined here, are shown by tests alone.
+ * Link with -lldvbi, or with libldvbi.a. The library that is proved needs no other one: of the C library it takes
+ * memcpy and memset at most, which a program without one can define itself. It runs under Linux on x86-64 processors of
+ * level v2 (with SSE4.2, from about 2009 on). It has no unwind tables (.eh_frame): nothing is thrown out of a call, and
+ * no call calls back, but a debugger finds no way back out of one. What is proved of each call stands in
+ * docs/PROMISES.md; that this header says the same as the library, and its functions that are defined here, are shown by
+ * tests alone.
  *
  * Samples have 16 bits, the low byte first, as in ld-decode's TBC files: line after line, field after field. So an
  * array of uint16_t goes in as it is on a little-endian machine, as x86-64 is; it need not be aligned. Black and white
@@ -16,12 +17,13 @@
  * high.
  *
  * Threads: no call allocates, takes a lock, prints, or keeps anything between two calls, so that any thread may call at
- * any time, in a signal handler too.
+ * any time, in a signal handler too. A handler may also leave a call by siglongjmp, as one for SIGBUS does: later calls
+ * know nothing of it. What that call was to write then holds anything.
  *
  * Ownership: the library keeps no pointer. What a call writes is the caller's.
  *
- * Numbers are uint32_t and are tested in their full width: 257 is not taken for system 1. What a caller owes, which
- * nothing tests:
+ * Numbers are uint32_t, and all of their 32 bits are tested: 257 is not taken for system 1. C cuts a wider number to
+ * these bits before the call, so whoever has one tests it first. What a caller owes, which nothing tests:
  *   - each pointer points to as many bytes, or readings, as the length or count beside it says, or to one value of its
  *     type; what is to be written may hold anything before. A pointer may be null where the length or count beside it
  *     is 0, as that of an empty std::vector, and nowhere else;
@@ -39,10 +41,11 @@
  * one of a picture's two or three fields has its number. To find a field's number, take of lines 17 and 18 the words of
  * the kind that is asked for, whatever their passes. One such word, or two that say the same, are the answer; two that
  * say different things are none, since one of them was misread. Compare what ldvbi_classify says, not the words: a
- * picture or a chapter has two words each. A stop counts on line 16 or 17, or on 18 if it is there; its picture is that
- * of its field, else the latest before it. A time of a CLV disc is in two places: hours and minutes on lines 17 and 18,
- * seconds and picture on line 16. Words are wrong at times, those of pass 2 more often. Whoever can look at the fields
- * around takes a number only where it fits theirs, as `python3 -m ldvbi` does.
+ * picture or a chapter has two words each, since the first bit of its first digit says nothing (F12345 and F92345 are
+ * picture 12345). A stop counts on line 16 or 17, or on 18 if it is there; its picture is that of its field, else the
+ * latest before it. A time of a CLV disc is in two places: hours and minutes on lines 17 and 18, seconds and picture on
+ * line 16. Words are wrong at times, those of pass 2 more often. Whoever can look at the fields around takes a number
+ * only where it fits theirs, as `ldvbi-side` does.
  *
  * Some words, as digits: F and 5 decimal digits is a picture (F00123 is picture 123), 8 and two decimal digits and DDD
  * a chapter (807DDD is chapter 7), 82CFFF a stop, 87FFFF the CLV mark, 88FFFF lead-in, 80EEEE lead-out.
@@ -64,8 +67,9 @@
  * discs alike are read as LDVBI_NTSC from 11.5 to 17.7 MHz: at 13.5 MHz a PAL disc's lines too, whose half cells of 13
  * or 14 samples are too short for LDVBI_PAL. A word has 48 half cells, 850 samples at 17.7 MHz, and begins about 10.5
  * microseconds after the line does.
- *   1. Take at most 910 samples. Where a line has more (some do above 14.2 MHz), leave out its first 10 microseconds,
- *      and take the rest, or the first 910 of it.
+ *   1. Take at most 910 samples. Where a line begins with its sync and has more (some do above 14.2 MHz), leave out its
+ *      first 10 microseconds, and take the rest, or the first 910 of it. Where it is active video alone, which begins
+ *      when its word does or shortly before, leave out nothing, and take its first 910 samples.
  *   2. Samples of 8 bits: multiply them by 257, and black and white too.
  *   3. Fill up to 910 samples with black, and read them as LDVBI_NTSC.
  * From 13 to 16 MHz, and at ld-decode's own rates, each change of level may besides come a sample early or late,

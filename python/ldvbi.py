@@ -16,12 +16,13 @@ read then. `system` is a `System` or its name; `black` and `white` are samples, 
 capture's .tbc.json. They are handed to the library as they are, and it is the library that refuses them.
 
 The library is loaded with the first samples that are read, and is the file that the environment variable LDVBI_LIBRARY
-names; else libldvbi.so.1 in the folder of this file or in the one above it; else the one in lib/ of the folder that
-`make install` installed both to; else the one that the system's loader finds. `classify` and `format_of` need none.
+names; else libldvbi.so.1 in ldvbi_side, as a wheel has it, in the folder of this file or in the one above it; else the
+one in lib/ of the folder that `make install` installed both to; else the one that the system's loader finds. `classify`
+and `format_of` need none.
 Only CPython and its standard library are needed beside it. `ldvbi_side`, the folder beside this file, holds the parts
 of this module and of the command:
 
-    python3 -m ldvbi side.tbc --system NTSC --black 16384 --white 51200 > pictures.csv
+    ldvbi-side side.tbc --system NTSC --black 16384 --white 51200 > pictures.csv
 """
 
 import ctypes
@@ -57,7 +58,8 @@ class Cause(enum.IntEnum):
 class Reading(NamedTuple):
     """What a line shows. `pass_` is 1 for a word of the line's own levels, 2 for one of the levels without short
     glitches, 0 for no word; `column` is the first hopeless column, counted from 0, of the causes change and hold, else
-    0; `word` is the word, from 0x800000 to 0xFFFFFF, or 0."""
+    0; `word` is the word, from 0x800000 to 0xFFFFFF, or 0. A cause of a later library, which this module doesn't know, is
+    its number."""
     cause: Cause
     pass_: int
     column: int
@@ -73,7 +75,7 @@ class FieldReadings(NamedTuple):
 
 _PACKED_LINE = struct.Struct("=BBHI")  # LdvbiReading of ldvbi.h
 PACKED_FIELD = struct.Struct("=BBHIBBHIBBHI")  # LdvbiFieldReadings
-_CAUSES = tuple(Cause)
+_CAUSES = (*Cause, *range(len(Cause), 256))  # those that a later library may add stay numbers
 _SIZES = {System.NTSC: (910, 263), System.PAL: (1135, 313)}  # samples of a line, lines of a field
 
 
@@ -247,7 +249,7 @@ def fields(source, system, black, white):
 
 
 def main(words=None):
-    """The command `python3 -m ldvbi`. The answer is its exit status."""
+    """The command `ldvbi-side`. The answer is its exit status."""
     # What was started by that name isn't to be loaded a second time by the command's parts.
     sys.modules.setdefault("ldvbi", sys.modules[__name__])
     try:

@@ -39,13 +39,14 @@ jq_and_python|hangs
 jq_and_python|contrib/ldvbi.jq|s/lines: \[16, /lines: [15, /
 jq_and_python|python/ldvbi_side/codes.py|s/Kind.chapter: (17, 18)/Kind.chapter: (18,)/
 packaging|out|0.1.0|0.1.1
-packaging|Makefile|/install.*MANUAL/d
+packaging|Makefile|/install.*MANUALS/d
 packaging|Makefile|s/exit \$\$status/exit 1/
 packaging|CHANGELOG.md|s/^## 0/## 1/
 packaging|Makefile|s/-m 644 $(SHARED)/-m 600 $(SHARED)/
 packaging|Makefile|s/ -o -name '\*.antt'//
 packaging|Makefile|s/scripts.sh $(PROGRAM)/scripts.sh .\/ldvbi/
-packaging|Makefile|s/rm -f $(ROOT)\/bin\/ldvbi /rm -f $(ROOT)\/bin\/* /
+packaging|Makefile|s/rm -f $(COMMANDS:%=$(ROOT)\/bin\/%) /rm -f $(ROOT)\/bin\/* /
+packaging|Makefile|s/ --exclude=.cargo//
 packaging|tests/tools.sh|s/ jq:jq//
 jq_module|out|chapter 0|chapter 1
 jq_module|hangs
@@ -84,6 +85,13 @@ docs|share/man/ldvbi.1|s/^.Sq unfinished/.Sq unfinish/
 docs|share/man/ldvbi.1|s/1820 for NTSC/1810 for NTSC/
 docs|README.md|s/Of [0-9]* wrong bodies/Of 1 wrong bodies/
 docs|README.md|s/in [0-9]* lines, or/in 1 lines, or/
+wheel|packaging/make_wheel.py|s/entry_points.txt/entry_point.txt/
+wheel|packaging/make_wheel.py|s/-v\[2-9\]/-w/
+wheel|contrib/plot_line.py|s/change, ldvbi.Cause.hold/change,/
+installed|include/ldvbi-config.cmake.in|s/libldvbi.a/libldvbi.b/
+installed|Makefile|s/^install-lib: places /install-lib: /
+installed|examples/stops.cpp|s/std::ferror(stdin)/false/
+installed|README.md|s/-Wl,-rpath,/-Wl,-rpath-link,/
 lines|out|82CFFF|82CFFE
 lines|err|short line|shirt line
 lines|status|1|0
@@ -122,6 +130,8 @@ manual|out|  draw     Turns|  draw     Terns
 manual|share/man/ldvbi.1|s/1000000/1000001/
 manual|share/completions/ldvbi.bash|s/extract/extrakt/
 manual|share/completions/_ldvbi|s/extract/extrakt/
+manual|share/man/ldvbi-side.1|s/at most 20 lines/at most 30 lines/
+manual|share/completions/ldvbi-side.bash|s/--svg/--svgs/
 plots|out|change 170|change 171
 plots|hangs
 plots|contrib/plot_line.py|s/(pass 2)/(pass 3)/

@@ -9,11 +9,15 @@ missing=
 for pair in "${CC:-cc}:gcc libc6-dev" "${CXX:-c++}:g++" nm:binutils python3:python3 jq:jq pkg-config:pkg-config; do
     command -v "${pair%%:*}" > /dev/null || missing="$missing ${pair#*:}"
 done
-for tool in git less mandoc parallel pv zsh; do
+for tool in cmake git less mandoc parallel pv zsh; do
     command -v $tool > /dev/null || missing="$missing $tool"
 done
 # A command of docs/RECIPES.md is run by the system's Python, whose packages are Debian's.
 /usr/bin/python3 -c 'import jsonschema' 2> /dev/null || missing="$missing python3-jsonschema"
+# The wheel is tried by that Python, too.
+for pair in ensurepip:venv setuptools:setuptools wheel:wheel; do
+    /usr/bin/python3 -c "import ${pair%:*}" 2> /dev/null || missing="$missing python3-${pair#*:}"
+done
 [ -n "$missing" ] || exit 0
 if [ "${1:-}" != install ]; then
     echo "tests: missing on this machine, as Debian's packages:$missing (make setup installs them)" >&2

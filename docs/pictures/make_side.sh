@@ -76,5 +76,5 @@ for side in side clv; do
     [ $side = side ] || levels=$clv_levels
     # shellcheck disable=SC2086
     "$program" extract $levels "$work/$side.tbc" > "$work/$side.vbi.json"
-    PYTHONPATH=$top/python PYTHONDONTWRITEBYTECODE=1 python3 -m ldvbi "$work/$side.vbi.json" --svg $side.svg
+    PYTHONDONTWRITEBYTECODE=1 "$top/python/ldvbi-side" "$work/$side.vbi.json" --svg $side.svg
 done

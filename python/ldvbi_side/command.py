@@ -1,4 +1,4 @@
-"""The command `python3 -m ldvbi`: what the words of a side mean."""
+"""The command `ldvbi-side`: what the words of a side mean."""
 
 import argparse
 import contextlib
@@ -20,6 +20,7 @@ from .side import Side, cut_of, side_of_stream
 from .summary import is_whole, summary
 from .tables import BAD_LINE_COLUMNS, FIELD_COLUMNS, bad_line_rows, field_rows
 
+NAME = "ldvbi-side"
 DESCRIPTION = """Reads a side from a TBC file, or from a document that `ldvbi extract` wrote, and says what its words
 mean. A file is taken for a document where its name ends with .json or its text begins as a document's does. Statuses: 0
 done, 1 a fault, 2 the command line was refused, 3 done and the last field is cut, 130 ended by Ctrl-C."""
@@ -34,7 +35,7 @@ def _wanted(text):
 
 
 def _parser():
-    parser = argparse.ArgumentParser(prog="python3 -m ldvbi", description=DESCRIPTION)
+    parser = argparse.ArgumentParser(prog=NAME, description=DESCRIPTION)
     parser.add_argument("side", help="the TBC file, or the document; - is standard input, for a document")
     parser.add_argument("--meta", metavar="FILE", help="system and levels of a TBC file from ld-decode's .tbc.json or "
                         ".tbc.db; levels with decimals are rounded to the next whole number; the .tbc.json's "
@@ -98,7 +99,7 @@ def _add_parity(side, path, is_all):
 
 
 def _note(text):
-    print("ldvbi: " + text, file=sys.stderr)
+    print("%s: %s" % (NAME, text), file=sys.stderr)
 
 
 def _print_table(columns, rows):
@@ -172,5 +173,5 @@ def main(words=None):
         drop_standard_output()
         return 1
     except (OSError, ValueError) as error:
-        print("ldvbi: %s" % error, file=sys.stderr)
+        _note(error)
         return 1

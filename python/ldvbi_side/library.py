@@ -9,7 +9,7 @@ from typing import NamedTuple
 from .classes import whole_number
 
 ABI = 1
-BAD_SYSTEM, BAD_LEVELS, BAD_LENGTH = 1, 2, 3  # the statuses whose text depends on the call
+BAD_SYSTEM, BAD_LEVELS, BAD_LENGTH, BAD_WORD = 1, 2, 3, 4  # statuses
 
 _NO_SYSTEM = "system is neither NTSC nor PAL"
 _MOST = 0xFFFFFFFF
@@ -25,12 +25,13 @@ class System(enum.IntEnum):
 
 def _library_file():
     """The file that the environment names, or one in a folder where it may be, or the one that the loader looks for."""
-    here = os.path.dirname(os.path.dirname(os.path.abspath(__file__)))
+    package = os.path.dirname(os.path.abspath(__file__))  # where a wheel has it
+    here = os.path.dirname(package)
     name = "libldvbi.so.%d" % ABI
     above = os.path.join(here, os.pardir)
     # as installed, ldvbi.py is in PREFIX/share/ldvbi/python
     installed = os.path.join(above, os.pardir, os.pardir, "lib")
-    places = [os.path.join(folder, name) for folder in (here, above, installed)]
+    places = [os.path.join(folder, name) for folder in (package, here, above, installed)]
     return os.environ.get("LDVBI_LIBRARY") or next((place for place in places if os.path.exists(place)), name)
 
 
@@ -106,7 +107,7 @@ class Setup(NamedTuple):
             wide = [name for name in ("black", "white") if getattr(self, name) > 65535]
             raise ValueError("%s is not from 0 to 65535" % wide[0] if wide else "black is not below white")
         if status:
-            raise ValueError("number is no code word")
+            raise ValueError("number is no code word" if status == BAD_WORD else "the library's status is %d" % status)
 
 
 def setup_of(system, black, white):

@@ -6,8 +6,8 @@ import shlex
 from .lines import SIZES
 
 _HERE = os.path.dirname(os.path.abspath(__file__))
-# in the repository, and as installed to PREFIX/share/ldvbi
-_PLACES = ("../../contrib/plot_line.py", "../../plot_line.py")
+# in a wheel, in the repository, and as installed to PREFIX/share/ldvbi
+_PLACES = ("contrib/plot_line.py", "../../contrib/plot_line.py", "../../plot_line.py")
 
 
 def _script():

@@ -308,10 +308,10 @@ makes() {
     does env PATH=/usr/bin:/bin make -s -C "$top" "$@"
 }
 # says_with FOLDER: what the program in README prints, built by the line in README as it stands with what this folder
-# has, whose library the loader is told of here, as it is by `ldconfig`
-readme_line=$(sed -n 's|^#include <ldvbi.h> */\* \(.*\) \*/$|\1|p' "$top/README.md")
+# has
+readme_line=$(sed -n '/^cc say.c /p' "$top/README.md")
 says_with() {
-    prints 0 'picture 12345' env PKG_CONFIG_PATH="$1/pkgconfig" LD_LIBRARY_PATH="$1" sh -c "$readme_line"
+    prints 0 'picture 12345' env PKG_CONFIG_PATH="$1/pkgconfig" sh -c "$readme_line"
 }
 # Files of others, whose names begin as ours do; and somebody whose new files are for themselves alone
 cat > others << 'END'
@@ -353,7 +353,10 @@ check "Debian's make install" makes install DESTDIR="$work/debian" $debian
 (cd debian && find . ! -type d ! -path './usr/share/*' | sort) > found
 cat > wanted << 'END'
 ./usr/bin/ldvbi
+./usr/bin/ldvbi-side
 ./usr/include/ldvbi.h
+./usr/lib/x86_64-linux-gnu/cmake/ldvbi/ldvbi-config-version.cmake
+./usr/lib/x86_64-linux-gnu/cmake/ldvbi/ldvbi-config.cmake
 ./usr/lib/x86_64-linux-gnu/libldvbi.a
 ./usr/lib/x86_64-linux-gnu/libldvbi.so
 ./usr/lib/x86_64-linux-gnu/libldvbi.so.1
@@ -373,7 +376,10 @@ mkdir tree unpacked
     cd tree && git init -q && git add . &&
         git -c user.name=test -c user.email=test@localhost commit -qm source
 ) > git.log 2>&1
-check 'make dist' does env PATH=/usr/bin:/bin make -s -C tree dist
+packs() {
+    does env PATH=/usr/bin:/bin make -s -C tree dist && [ "$(find tree/dist -name '*.whl' | wc -l)" = 1 ]
+}
+check 'make dist, the wheel with it' packs
 tar -xzf "tree/dist/ldvbi-$(header_version)-x86_64-linux.tar.gz" -C unpacked --strip-components=1
 check 'the line in README with the archive' says_with "$work/unpacked/lib"
 for document in README.md CHANGELOG.md docs/RECIPES.md docs/SPEED.md examples/player.cpp; do

@@ -1,6 +1,7 @@
 /* Reads fields by the library for C: a stream, one field, its three lines alone, each at lengths one off. The stream
    lies in pages that can't be written, and ends where no page follows. */
 #include "library.h"
+#include <setjmp.h>
 #include <signal.h>
 #include <sys/wait.h>
 #include <unistd.h>
@@ -111,6 +112,31 @@ static void test_fields(const Television *tv)
     test_rows(&fields);
 }
 
+static sigjmp_buf before;
+
+static void leave(int number)
+{
+    siglongjmp(before, number);
+}
+
+/* A call over this memory, which ends by SIGBUS, is left by a signal handler. The next call reads these rows. */
+static void test_leaving(const uint8_t *cut, const uint8_t *rows)
+{
+    size_t field = ldvbi_field_bytes(LDVBI_NTSC);
+    LdvbiFieldReadings readings;
+    volatile int has_returned = 0;
+
+    CHECK(signal(SIGBUS, leave) != SIG_ERR);
+    if (sigsetjmp(before, 1) == 0)
+        has_returned = ldvbi_read_field(LDVBI_NTSC, 1, 2, cut, field, &readings) + 1;
+    CHECK(has_returned == 0);
+    memset(&readings, 9, sizeof readings);
+    CHECK(ldvbi_read_rows(LDVBI_NTSC, 1, 2, rows, 3 * ldvbi_line_bytes(LDVBI_NTSC), &readings) == LDVBI_DONE);
+    for (size_t i = 0; i < 3; i++)
+        CHECK(is_reading(readings.lines[i], LDVBI_BLANK, 0, 0, 0));
+    CHECK(signal(SIGBUS, SIG_DFL) == leave);
+}
+
 /* A file that is cut off while it is mapped: reading it ends the process by SIGBUS, and fetching its lines does not. */
 static void test_cut_file(void)
 {
@@ -132,6 +158,7 @@ static void test_cut_file(void)
         _exit(ldvbi_read_field(LDVBI_NTSC, 1, 2, mapped, field, &readings) == LDVBI_DONE);
     }
     CHECK(waitpid(child, &ended, 0) == child && WIFSIGNALED(ended) && WTERMSIG(ended) == SIGBUS);
+    test_leaving(mapped, rows);
     CHECK(pread(fileno(file), rows, sizeof rows, 15 * 1820) == 0);
     munmap(mapped, field);
     fclose(file);

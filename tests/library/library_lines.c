@@ -43,11 +43,9 @@ static size_t draw_capture(Capture capture, uint32_t word, unsigned early_or_lat
     return samples;
 }
 
-/* The reading of such a line, as the header has it: at most 910 samples, of long lines from 10 microseconds on, times
-   257, and black behind them. */
-static LdvbiReading read_capture(Capture capture, const uint8_t *line, size_t samples)
+/* The reading of a line, of 910 samples from one of its columns on, times 257, and black behind them. */
+static LdvbiReading read_from(size_t begin, const uint8_t *line, size_t samples)
 {
-    size_t begin = samples > SAMPLES ? 10 * capture.kilohertz / 1000 : 0;
     uint16_t wide[SAMPLES];
     LdvbiReading reading = {9, 9, 9, 9};
 
@@ -55,6 +53,12 @@ static LdvbiReading read_capture(Capture capture, const uint8_t *line, size_t sa
         wide[column] = (uint16_t)(257 * (begin + column < samples ? line[begin + column] : BLACK));
     CHECK(ldvbi_read_line(LDVBI_NTSC, 257 * BLACK, 257 * WHITE, wide, sizeof wide, &reading) == LDVBI_DONE);
     return reading;
+}
+
+/* The reading of a line that begins with its sync, as the header has it: of long lines from 10 microseconds on. */
+static LdvbiReading read_capture(Capture capture, const uint8_t *line, size_t samples)
+{
+    return read_from(samples > SAMPLES ? 10 * capture.kilohertz / 1000 : 0, line, samples);
 }
 
 /* How many of some words are read, of lines of both systems. */
@@ -82,6 +86,37 @@ static void test_rates(void)
         CHECK(words_read(read[i], 0) == WORDS);
     CHECK(words_read(10400, 0) == 0);
     CHECK(words_read(18600, 0) == 0);
+}
+
+/* How many words are read of active video, which begins so many microseconds after its line, where so many of its own
+   are left out. */
+static int active_words_read(unsigned kilohertz, double begin, unsigned left_out)
+{
+    Capture capture = {kilohertz, pal_line};
+    uint32_t state = 777;
+    int found = 0;
+
+    for (int i = 0; i < WORDS; i++) {
+        uint32_t word = 0x800000 | (random_number(&state) & 0x7FFFFF);
+        uint8_t line[2000];
+        size_t samples = draw_capture(capture, word, 0, line), sync = (size_t)(begin * kilohertz / 1000);
+
+        CHECK(samples - sync > SAMPLES);
+        LdvbiReading reading = read_from(left_out * kilohertz / 1000, line + sync, samples - sync);
+        found += is_reading(reading, LDVBI_WORD, 1, 0, word);
+    }
+    return found;
+}
+
+/* Active video of more than 910 samples is read from its beginning, and not as whole lines are. */
+static void test_active_video(void)
+{
+    static const double begins[] = {9, 9.5, 10.4};
+
+    for (size_t i = 0; i < sizeof begins / sizeof *begins; i++) {
+        CHECK(active_words_read(17700, begins[i], 0) == WORDS);
+        CHECK(active_words_read(17700, begins[i], 10) == 0);
+    }
 }
 
 static void test_early_and_late(void)
@@ -160,6 +195,7 @@ static void test_frame(const Television *tv)
 int main(void)
 {
     test_rates();
+    test_active_video();
     test_early_and_late();
     test_pal_at_13_5();
     for (size_t i = 0; i < 2; i++) {

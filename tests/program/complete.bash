@@ -1,13 +1,15 @@
-# What bash offers behind each command line of standard input, by a file of completions: `files` where it is file names.
+# What bash offers behind each command line of standard input, by a file of completions for one command: `files` where it
+# is file names.
 # usage: bash tests/program/complete.bash FILE
 compopt() { printf 'files\n'; }
 # shellcheck source=share/completions/ldvbi.bash
 . "$1"
+function=$(complete -p | sed 's/.*-F \([a-z_]*\) .*/\1/')
 while IFS= read -r words; do
     # the words as bash cuts them, with = a word of its own, and an empty one behind a space or =
     read -ra COMP_WORDS <<< "${words//=/ = }"
     [[ $words == *[[:space:]] ]] && COMP_WORDS+=('')
     COMP_CWORD=$((${#COMP_WORDS[@]} - 1))
-    offered=$(_ldvbi && printf '%s\n' "${COMPREPLY[@]}")
+    offered=$("$function" && printf '%s\n' "${COMPREPLY[@]}")
     echo "$words|$(printf '%s\n' "$offered" | sed '/^$/d' | sort | paste -s -d ' ')"
 done

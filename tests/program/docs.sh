@@ -14,6 +14,7 @@
 
 mkdir bin
 ln -s "$program" bin/ldvbi
+ln -s "$top/python/ldvbi-side" bin/ldvbi-side
 PATH=$work/bin:$PATH
 PYTHONDONTWRITEBYTECODE=1
 export PATH PYTHONDONTWRITEBYTECODE

@@ -1,19 +1,22 @@
 #!/bin/sh
-# Compares the manual page and the completions with the built program's --help: commands, options, numbers, statuses.
+# Compares the manual pages and the completions with the --help of the built program and of ldvbi-side: commands,
+# options, numbers, statuses.
 # usage: sh tests/program/manual.sh PROGRAM
 # shellcheck disable=SC2086
 
 # shellcheck source=tests/helpers.sh
 . "$(dirname "$0")/../helpers.sh"
 
-page=$top/share/man/ldvbi.1
 completions=$top/share/completions
-status=0
-mandoc -T lint -W warning "$page" > out 2>&1 || status=$?
-cp out err
-check 'mandoc has no warning' [ "$status$(cat out)" = 0 ]
-mandoc -T ascii -O width=200 "$page" | sed 's/.'"$(printf '\010')"'//g' > page.txt
 
+# page_of NAME: makes page.txt of this manual page
+page_of() {
+    status=0
+    mandoc -T lint -W warning "$top/share/man/$1" > out 2>&1 || status=$?
+    cp out err
+    check "mandoc has no warning of $1" [ "$status$(cat out)" = 0 ]
+    mandoc -T ascii -O width=200 "$top/share/man/$1" | sed 's/.'"$(printf '\010')"'//g' > page.txt
+}
 # section NAME: what a section of the page says
 section() {
     sed -n "/^$1\$/,/^[A-Z]/p" page.txt | sed '1d;$d'
@@ -24,14 +27,29 @@ same() {
     check "$1" cmp page.found help.found
 }
 
+# options_of_page: makes page.options of page.txt, each line one option, then what is said of it, which begins on the
+# same line where the option is short
+options_of_page() {
+    section OPTIONS | awk '
+        /^     -/ {
+            if (option) print option "|" text
+            is_short = match(substr($0, 6), /  +/)
+            option = is_short ? substr($0, 1, 4 + RSTART) : $0
+            text = is_short ? substr($0, 5 + RSTART) : ""
+            next
+        }
+        option && /^        / { text = text " " $0 }
+        END { print option "|" text }' | tr -s ' ' | sed 's/^ //' | sort > page.options
+}
+
 # Commands with what they do
+page_of ldvbi.1
 section DESCRIPTION | grep -E '^     (line|extract|show|draw) ' | sed 's/[.].*//' | tr -s ' ' > page.found
 output_of --help | sed -n '/^Commands:/,/^$/p' | grep -E '^  (line|extract|show|draw) ' | sed 's/^/ /' | tr -s ' ' \
     > help.found
 same 'the commands of the page'
 
-# Options: the page's, and those of each command, with their values and the numbers in their descriptions. Each line of
-# `options` is one option, then what is said of it.
+# Options: the page's, and those of each command, with their values and the numbers in their descriptions
 numbers() {
     awk '{
         option = $0
@@ -42,10 +60,7 @@ numbers() {
         print option "|" text
     }'
 }
-section OPTIONS | awk '
-    /^     -/ { if (option) print option "|" text; option = $0; text = ""; next }
-    option && /^        / { text = text " " $0 }
-    END { print option "|" text }' | tr -s ' ' | sed 's/^ //' | sort > page.options
+options_of_page
 grep -v -e '--help' -e '--version' page.options | numbers > page.found
 for command in line extract show draw; do
     output_of $command --help | sed -n '/^Options:/,/^[A-Z][a-z]* *[a-z]*:$/p' | awk '
@@ -104,4 +119,34 @@ sed 's/|.*//' bash.offers | bounded bash "$here/complete.bash" "$completions/ldv
 check 'what bash offers' cmp out bash.offers
 sed 's/|.*//' zsh.offers | bounded zsh -f "$here/complete.zsh" "$completions" > out 2> err
 check 'what zsh offers' cmp out zsh.offers
+
+# The page of ldvbi-side: its options, each with VALUE where it has one, the numbers in their descriptions but for
+# statuses, and the statuses; then what is offered
+side=$top/python/ldvbi-side
+page_of ldvbi-side.1
+COLUMNS=500 PYTHONDONTWRITEBYTECODE=1 bounded "$side" --help < empty > side.help 2> err
+options_of_page
+sed 's/ldvbi(1)//g; s/--\([a-z-]*\) [A-Z]*|/--\1 VALUE|/' page.options | numbers | sed 's/ *$//' > page.found
+sed -n 's/^  \(-[^ ].*\)$/\1/p' side.help | sed 's/   *\| *$/|/; s/status [0-9]//g
+    s/ [A-Z{][A-Z,}]*\([,|]\)/ VALUE\1/g; s/^-\(.\) VALUE,/-\1,/' | sort | numbers | sed 's/ *$//' > help.found
+same 'the options of the page of ldvbi-side'
+section 'EXIT STATUS' | grep -o '^     [0-9]*' | tr -d ' ' | paste -s -d ' ' > page.found
+tr '\n' ' ' < side.help | sed 's/.*Statuses: \([^.]*\)[.].*/\1/' | grep -o '[0-9][0-9]*' | paste -s -d ' ' > help.found
+same 'the statuses of the page of ldvbi-side'
+grep -o '^ *-[^ ].*' side.help | sed 's/^ *//; s/   .*//' | grep -o -e '--[a-z-]*' | sort |
+    paste -s -d ' ' > side.options
+check 'ldvbi-side has options' grep -q -e '--summary' side.options
+cat > offers << END
+ldvbi-side --|$(cat side.options)
+ldvbi-side side.tbc --s|--seek --summary --svg --system
+ldvbi-side --system |NTSC PAL
+ldvbi-side --system=P|PAL
+ldvbi-side --seek |
+END
+{ cat offers; printf '%s\n' 'ldvbi-side |files' 'ldvbi-side --svg |files' 'ldvbi-side -o s|files'; } > bash.offers
+{ cat offers; printf '%s\n' 'ldvbi-side page.t|page.txt' 'ldvbi-side --svg page.t|page.txt'; } > zsh.offers
+sed 's/|.*//' bash.offers | bounded bash "$here/complete.bash" "$completions/ldvbi-side.bash" > out 2> err
+check 'what bash offers behind ldvbi-side' cmp out bash.offers
+sed 's/|.*//' zsh.offers | bounded zsh -f "$here/complete.zsh" "$completions" > out 2> err
+check 'what zsh offers behind ldvbi-side' cmp out zsh.offers
 finish

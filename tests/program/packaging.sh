@@ -12,7 +12,7 @@ mkdir tree tools
     cd "$top" &&
         tar --exclude=.git --exclude=out --exclude=./ldvbi --exclude='./libldvbi.*' --exclude=./dist -cf - .
 ) | tar -xf - -C tree
-for tool in sh make install rm mkdir find cp touch git tar gzip sha256sum; do
+for tool in sh make install rm mkdir find cp touch git tar gzip sha256sum uname; do
     ln -s "$(command -v $tool)" tools/$tool
 done
 cd tree || exit 1
@@ -45,7 +45,9 @@ are_for_all() {
 {
     cat << 'END'
 usr/bin/ldvbi
+usr/bin/ldvbi-side
 usr/share/bash-completion/completions/ldvbi
+usr/share/bash-completion/completions/ldvbi-side
 usr/share/doc/ldvbi/CHANGELOG.md
 usr/share/doc/ldvbi/README.md
 END
@@ -59,8 +61,10 @@ usr/share/ldvbi/python/ldvbi.py
 END
     (cd tree && git ls-files 'python/ldvbi_side/*.py' | sed 's/^/usr\/share\/ldvbi\//')
     cat << 'END'
+usr/share/man/man1/ldvbi-side.1
 usr/share/man/man1/ldvbi.1
 usr/share/zsh/site-functions/_ldvbi
+usr/share/zsh/site-functions/_ldvbi-side
 END
 } > files
 
@@ -81,6 +85,9 @@ find usr -type f | sort | comm -13 others - > found
 check 'what is installed' cmp found files
 check 'the program is copied as it is' cmp usr/bin/ldvbi "$program"
 check 'it can be run' [ -x usr/bin/ldvbi ]
+status=0
+PYTHONDONTWRITEBYTECODE=1 bounded usr/bin/ldvbi-side --help < empty > out 2> err || status=$?
+check 'ldvbi-side finds its module where it is installed' [ "$status $(head -c 18 out)" = '0 usage: ldvbi-side ' ]
 check 'the module is found where it is installed' \
     [ "$(jq -nc -L usr/share/ldvbi 'include "ldvbi"; 8572927 | code')" = '{"kind":"picture stop"}' ]
 made uninstall PREFIX="$work/usr"
@@ -115,6 +122,27 @@ check 'the archive of the program has what is installed' cmp found files
 sleep 1
 made_privately dist
 check 'archives made again are the same' cmp first/SHA256SUMS tree/dist/SHA256SUMS
+
+# What `make rust` leaves, as which the program stands here with a crate that has been built by cargo
+mkdir -p tree/rust/crate/src tree/rust/crate/target tree/rust/crate/.cargo
+cp "$program" tree/rust/ldvbi
+echo '[package]' > tree/rust/crate/Cargo.toml
+echo '//! A crate' > tree/rust/crate/src/lib.rs
+touch tree/rust/crate/target/built tree/rust/crate/.cargo/config.toml
+made dist
+check 'archives of what make rust leaves' [ "$status $(wc -l < tree/dist/SHA256SUMS)" = '0 4' ]
+check 'their checksums' sh -c 'cd tree/dist && sha256sum -c --quiet SHA256SUMS'
+rust=ldvbi-0.1.0-rust-$(uname -m)-linux
+tar -tzf "tree/dist/$rust.tar.gz" | sed "/\/\$/d; s/^$rust/usr/" | sort > found
+check 'the archive of its program has what is installed' cmp found files
+tar -tzf tree/dist/ldvbi-0.1.0.crate | sed '/\/$/d' | sort > found
+printf 'ldvbi-0.1.0/%s\n' Cargo.toml src/lib.rs > listed
+check 'the crate has its files, and nothing of this machine' cmp found listed
+touch -d @1300000000 tree/rust/ldvbi
+made dist
+check 'nothing of it is packed that is older than its source' [ "$(wc -l < tree/dist/SHA256SUMS)" = 2 ]
+rm -r tree/rust
+
 touch tree/crates.txt
 made dist
 check 'no archive of a program older than its source' [ ! -e tree/dist/ldvbi-0.1.0-x86_64-linux.tar.gz ]
@@ -238,8 +266,11 @@ check 'the status is that of the toolchain' [ "$(sed -n '22s/.*\(Error [0-9]*\)$
 
 # What the tests need and this PATH hasn't
 made check
-missing='gcc libc6-dev g++ binutils python3 jq pkg-config less mandoc parallel pv zsh'
+missing='gcc libc6-dev g++ binutils python3 jq pkg-config cmake less mandoc parallel pv zsh'
 /usr/bin/python3 -c 'import jsonschema' 2> /dev/null || missing="$missing python3-jsonschema"
+for pair in ensurepip:venv setuptools:setuptools wheel:wheel; do
+    /usr/bin/python3 -c "import ${pair%:*}" 2> /dev/null || missing="$missing python3-${pair#*:}"
+done
 echo "tests: missing on this machine, as Debian's packages: $missing (make setup installs them)" > wanted
 head -n 1 err > found
 check 'make check names the tools that are missing' cmp found wanted

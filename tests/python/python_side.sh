@@ -128,7 +128,7 @@ END
 echo '{"videoParameters":{"isSourcePal":false,"black16bIre":16383.5,"white16bIre":51200}}' > meta.json
 told side.tbc --meta meta.json --seek 3
 echo 'field 7, frame 4' > wanted_text
-judge 'levels that are rounded' 0 wanted_text 'ldvbi: black16bIre is 16383.5, rounded to 16384'
+judge 'levels that are rounded' 0 wanted_text 'ldvbi-side: black16bIre is 16383.5, rounded to 16384'
 
 # isFirstField of the metadata, with a document as with a TBC file: frame 1 begins with field 2
 jq -c '{videoParameters, fields: [.fields[] | {seqNo, isFirstField: (.seqNo % 2 == 0)}]}' side.vbi.json > meta.json
@@ -138,11 +138,11 @@ jq -c '.fields |= .[1:]' meta.json > shorter.json
 told side.vbi.json --meta shorter.json --seek 3
 echo 'field 7, frame 4' > wanted_text
 judge 'metadata of another count of fields' 0 wanted_text \
-    "ldvbi: shorter.json has 10 fields, not 11: its isFirstField isn't used"
+    "ldvbi-side: shorter.json has 10 fields, not 11: its isFirstField isn't used"
 jq -c '.fields |= map({seqNo})' meta.json > without.json
 told side.vbi.json --meta without.json --seek 3
 echo 'field 7, frame 4' > wanted_text
-judge 'metadata without isFirstField' 0 wanted_text 'ldvbi: without.json has no isFirstField of each field'
+judge 'metadata without isFirstField' 0 wanted_text 'ldvbi-side: without.json has no isFirstField of each field'
 
 # Levels that can't be right are recognised, and the command that looks at a line is printed
 # levels_said NAME TEXT LEVELS: checks how the line of the summary that speaks of levels begins
@@ -211,7 +211,7 @@ stray codes: none' $source --summary
     told $source --bad-lines
     printf '%s\n' field,line,cause,offset 2,16,unfinished,505960 '2,17,change 170,507780' '2,18,hold 200,509600' \
         > wanted_text
-    judge "the bad lines of $source" 3 wanted_text 'ldvbi: the last field is cut: field 3 has 5 of 478660 bytes'
+    judge "the bad lines of $source" 3 wanted_text 'ldvbi-side: the last field is cut: field 3 has 5 of 478660 bytes'
     told $source --json
     bounded jq -c '[.stops[0].lines, .badLines[1].offset, .cutField, .lines["17"].pass2, .format]' out < empty > found
     echo '[[16,17],507780,{"seqNo":3,"bytes":5},1,"cav"]' > wanted_text
@@ -227,7 +227,7 @@ refused() {
     text=$1
     shift
     told "$@"
-    judge "refused: $*" 1 empty "ldvbi: $text"
+    judge "refused: $*" 1 empty "ldvbi-side: $text"
 }
 side_of "$ntsc" < cav_words
 refused "[Errno 2] No such file or directory: 'absent'" absent
@@ -261,5 +261,5 @@ jq -c '.fields[2].vbiPass[1] = 3' side.vbi.json > broken.json
 refused 'field 3: 3 is no pass' broken.json
 head -c -3 side.vbi.json > broken.json
 told broken.json
-check 'a document without an end' [ "$status $(wc -l < err) $(cut -c 1-17 err)" = "1 1 ldvbi: not JSON: " ]
+check 'a document without an end' [ "$status $(wc -l < err) $(cut -c 1-22 err)" = "1 1 ldvbi-side: not JSON: " ]
 finish

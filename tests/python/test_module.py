@@ -160,19 +160,35 @@ class Library(unittest.TestCase):
         self.assertRegex(said, r"^no library to read samples with \(.*undefined symbol: ldvbi_abi\): `make lib` builds")
         self.assertEqual(said.count("\n"), 1)
 
-    def test_another_interface(self):
+    def other(self, interface, status, cause):
+        """The file of a library with this interface, whose calls return this status and write this cause."""
         source, file = os.path.join(self.folder, "other.c"), os.path.join(self.folder, "other.so")
         with open(source, "w", encoding="ascii") as text:
-            text.write("unsigned ldvbi_abi(void) { return 2; }\n")
-            for name in ("line", "rows", "field", "fields"):
-                text.write("void ldvbi_read_%s(void) {}\n" % name)
-            text.write("void ldvbi_draw_line(void) {}\n")
+            text.write("#include <stddef.h>\n#define CALL(name) unsigned name(unsigned system, unsigned black, "
+                       "unsigned white, const void *samples, size_t length, unsigned char *out)\n")
+            text.write("unsigned ldvbi_abi(void) { return %d; }\n" % interface)
+            for name in ("read_line", "read_rows", "read_field", "read_fields", "draw_line"):
+                text.write("CALL(ldvbi_%s) { if (length) out[0] = %d; return %d; }\n" % (name, cause, status))
         subprocess.run([os.environ.get("CC", "cc"), "-shared", "-fPIC", "-o", file, source], check=True)
+        return file
+
+    def test_numbers_that_a_later_library_adds(self):
+        """Causes stay numbers, in lines and in fields; statuses are refusals."""
+        code = 'import ldvbi; print(repr(ldvbi.read_line(bytes(1820), "NTSC", 1, 2).cause), ' \
+               '[cause for (cause, *_), *_ in ldvbi.fields(bytearray(478660), "NTSC", 1, 2)])'
+        self.assertEqual(run(code, LDVBI_LIBRARY=self.other(1, 0, 5)), "5 [5]\n")
+        self.assertEqual(run(code, LDVBI_LIBRARY=self.other(1, 0, 255)), "255 [255]\n")
+        self.assertEqual(run(code, LDVBI_LIBRARY=self.other(1, 0, 4)), "<Cause.hold: 4> [<Cause.hold: 4>]\n")
+        said = run(code, LDVBI_LIBRARY=self.other(1, 9, 0)).split("\n")
+        self.assertEqual(said[-2], "ValueError: the library's status is 9")
+
+    def test_another_interface(self):
+        file = self.other(2, 0, 0)
         self.assertEqual(run(READ, LDVBI_LIBRARY=file), "%s has the interface 2, not 1: `make lib` builds the one that "
                          "fits, LDVBI_LIBRARY names its file\n" % file)
 
     def test_places(self):
-        for place in ("lib", "share/ldvbi", "share/ldvbi/python"):
+        for place in ("lib", "share/ldvbi", "share/ldvbi/python", "share/ldvbi/python/ldvbi_side"):
             with self.subTest(place):
                 shutil.rmtree(os.path.join(self.folder, "share"), ignore_errors=True)
                 shutil.rmtree(os.path.join(self.folder, "lib"), ignore_errors=True)
@@ -180,7 +196,7 @@ class Library(unittest.TestCase):
 
     def test_the_first_place_counts(self):
         """Each place before those behind it, which have no library that can be loaded; the variable before all."""
-        places = ["share/ldvbi/python", "share/ldvbi", "lib"]
+        places = ["share/ldvbi/python/ldvbi_side", "share/ldvbi/python", "share/ldvbi", "lib"]
         for count, place in enumerate(places):
             with self.subTest(place):
                 shutil.rmtree(os.path.join(self.folder, "share"), ignore_errors=True)

@@ -57,7 +57,7 @@ class Runs(unittest.TestCase):
         return run.returncode, run.stdout, run.stderr.decode()
 
     def refused(self, text, *words, status=1):
-        self.assertEqual(self.run_command(*words), (status, b"", "ldvbi: %s\n" % text))
+        self.assertEqual(self.run_command(*words), (status, b"", "ldvbi-side: %s\n" % text))
 
 
 class WithoutLibrary(Runs):
@@ -72,16 +72,16 @@ class WithoutLibrary(Runs):
                 self.assertEqual((status, said), (0, ""))
                 self.assertEqual(self.run_command("side.vbi.json", *words), (status, text, said))
         status, text, said = self.run_command("--help", env=self.absent)
-        self.assertEqual((status, text[:6], said), (0, b"usage:", ""))
+        self.assertEqual((status, text[:18], said), (0, b"usage: ldvbi-side ", ""))
 
     def test_samples(self):
         for words in ([], ["--summary"], ["--document"]):
             with self.subTest(words):
                 status, text, said = self.run_command("side.tbc", *LEVELS, *words, env=self.absent)
                 self.assertEqual((status, text), (1, b""))
-                self.assertEqual(said, "ldvbi: no library to read samples with (/absent: cannot open shared object "
-                                 "file: No such file or directory): `make lib` builds it, LDVBI_LIBRARY names its "
-                                 "file\n")
+                self.assertEqual(said, "ldvbi-side: no library to read samples with (/absent: cannot open shared "
+                                 "object file: No such file or directory): `make lib` builds it, LDVBI_LIBRARY names "
+                                 "its file\n")
 
 
 class Documents(Runs):
@@ -89,7 +89,7 @@ class Documents(Runs):
         self.assertEqual(self.run_command("side.tbc", *LEVELS, "--document"), (0, self.document, ""))
         write_stream(self.path("pal.tbc"), PAL, pictures(70), 12)
         options = ["--system", "PAL", "--black", "16384", "--white", "54016"]
-        said = "ldvbi: the last field is cut: field 71 has 12 of 710510 bytes\n"
+        said = "ldvbi-side: the last field is cut: field 71 has 12 of 710510 bytes\n"
         wanted = self.extracted("pal.tbc", options)
         self.assertEqual(self.run_command("pal.tbc", *options, "--document"), (3, wanted, said))
 
@@ -97,7 +97,7 @@ class Documents(Runs):
         parameters = {"system": "NTSC", "black16bIre": 16383.5, "white16bIre": 51200}
         self.write("side.tbc.json", json.dumps({"videoParameters": parameters}).encode())
         self.assertEqual(self.run_command("side.tbc", "--meta", "side.tbc.json", "--document"),
-                         (0, self.document, "ldvbi: black16bIre is 16383.5, rounded to 16384\n"))
+                         (0, self.document, "ldvbi-side: black16bIre is 16383.5, rounded to 16384\n"))
         database = sqlite3.connect(self.path("side.tbc.db"))
         database.execute("CREATE TABLE capture (system TEXT, black_16b_ire INTEGER, white_16b_ire INTEGER)")
         database.execute("INSERT INTO capture VALUES ('NTSC', 16384, 51200)")
@@ -145,7 +145,7 @@ class Files(Runs):
         with open("/dev/full", "wb") as full:
             run = subprocess.run(COMMAND + ["side.tbc", *LEVELS, "--document"], cwd=self.folder, stdout=full,
                                  stderr=subprocess.PIPE, timeout=DEADLINE, check=False)
-        self.assertEqual((run.returncode, run.stderr), (1, b"ldvbi: [Errno 28] No space left on device\n"))
+        self.assertEqual((run.returncode, run.stderr), (1, b"ldvbi-side: [Errno 28] No space left on device\n"))
 
     def test_no_output_in_the_place_of_an_input(self):
         shutil.copy(self.path("side.vbi.json"), self.path("meta.json"))
@@ -163,7 +163,8 @@ class Files(Runs):
         for name, words in (("side.vbi.json", ["side.vbi.json"]), ("side.tbc", ["side.tbc", *LEVELS, "--document"])):
             with self.subTest(words), open(self.path(name), "ab") as file:
                 run = subprocess.run(COMMAND + words, cwd=self.folder, stdout=file, stderr=subprocess.PIPE, check=False)
-                self.assertEqual((run.returncode, run.stderr.decode()), (1, "ldvbi: %s\n" % text % "standard output"))
+                self.assertEqual((run.returncode, run.stderr.decode()),
+                                 (1, "ldvbi-side: %s\n" % text % "standard output"))
         self.assertEqual({name: self.read(name) for name in os.listdir(self.folder)}, before)
 
 
@@ -172,7 +173,8 @@ class CutSides(Runs):
         """Cuts the TBC file, and returns what is said of it then."""
         os.truncate(self.path("side.tbc"), size)
         self.write("side.vbi.json", self.extracted("side.tbc"))
-        return "ldvbi: the last field is cut: field %d has %d of %d bytes\n" % (size // SIZE + 1, size % SIZE, SIZE)
+        cut = (size // SIZE + 1, size % SIZE, SIZE)
+        return "ldvbi-side: the last field is cut: field %d has %d of %d bytes\n" % cut
 
     def test_cut_and_too_short(self):
         for size, whole in ((4 * SIZE + 85360, 4), (SIZE - 1, 0), (1, 0)):

@@ -1,0 +1,34 @@
+# Completion of ldvbi-side's command line, for bash 4 or later.
+
+_ldvbi_side() {
+    local word=${COMP_WORDS[COMP_CWORD]} before=${COMP_WORDS[COMP_CWORD - 1]} answers=
+    COMPREPLY=()
+
+    # bash cuts --system=PAL into three words
+    if [ "$word" = = ]; then
+        word=
+    elif [ "$before" = = ]; then
+        before=${COMP_WORDS[COMP_CWORD - 2]}
+    fi
+
+    case $before in
+        --system) answers='NTSC PAL' ;;
+        --black | --white | --seek) return ;;
+        --meta | --svg | --output | -o) compopt -o default ;;
+        *)
+            case $word in
+                -*)
+                    answers='--help --meta --system --black --white --csv --json --bad-lines --seek --summary'
+                    answers="$answers --document --output --svg"
+                    ;;
+                *) compopt -o default ;;
+            esac
+            ;;
+    esac
+    if [ -n "$answers" ]; then
+        # shellcheck disable=SC2207
+        COMPREPLY=($(compgen -W "$answers" -- "$word"))
+    fi
+}
+
+complete -F _ldvbi_side ldvbi-side
