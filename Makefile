@@ -78,6 +78,10 @@ test: toolchain
 	@sh tests/tools.sh
 	sh tests/gate.sh
 
+# The same source as plain Rust, for any machine: rust/ldvbi and rust/libldvbi.*, or rust/TARGET/..
+rust:
+	sh rust/build.sh $(TARGET)
+
 setup:
 	sh tests/tools.sh install
 
@@ -150,9 +154,9 @@ peers:
 
 clean:
 	rm -rf ldvbi libldvbi.a libldvbi.so libldvbi.so.$(ABI) dist
-	rm -rf crates/*/out
+	rm -rf crates/*/out rust/crate rust/target rust/ldvbi rust/libldvbi.* rust/*-*-*
 
 toolchain:
 	@command -v rt > /dev/null || { echo "make: the command rt of the Rattle toolchain is not on the PATH" >&2; exit 1; }
 
-.PHONY: lib test setup install install-lib uninstall check dist bench peers clean toolchain
+.PHONY: lib test rust setup install install-lib uninstall check dist bench peers clean toolchain
