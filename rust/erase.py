@@ -54,6 +54,7 @@ REWRITTEN = [(re.compile(pattern, re.M), other) for pattern, other in [
 ]]
 # `let .. else`, whose body may have braces in a text
 LET_ELSE = re.compile(r"\blet ([A-Z]\w*\([^=;]*\)) = ([^;{}]*?) else \{((?:[^{}]|\{[^{}]*\})*?)\};")
+BODILESS = re.compile(r"^(?:pub )?fn (?:[^{};\[]|\[[^\]]*\])*;", re.M)
 LET_OTHER = re.compile(r"(?<!if )(?<!while )\blet [A-Z]\w*\(")
 
 
@@ -120,21 +121,17 @@ class Source:
             self.stop(found.start(), "a module of laws has something else")
 
     def check_rust(self):
-        """Stops at what isn't Rust as this script knows it."""
-        for found in FOREIGN.finditer(self.code):
-            self.stop(found.start(), f"'{found.group()}' is unknown here")
-        for found in WORDS.finditer(self.code):
-            if found.group(1) not in KEYWORDS and found.group(2) not in BEHIND_A_NAME:
-                self.stop(found.start(), f"'{found.group(1)}' is no keyword that is known")
-        for form, known, what in [(HEAD, KEYWORDS, "keyword"), (MACRO, MACROS, "macro"),
+        """Stops at the first place that isn't Rust as this script knows it."""
+        found = [(match.start(), f"'{match.group()}' is unknown here") for match in FOREIGN.finditer(self.code)]
+        for form, known, what in [(WORDS, KEYWORDS, "keyword"), (HEAD, KEYWORDS, "keyword"), (MACRO, MACROS, "macro"),
                                   (ATTRIBUTE, ATTRIBUTES, "attribute")]:
-            for found in form.finditer(self.code):
-                if found.group(1) not in known:
-                    self.stop(found.start(1), f"'{found.group(1)}' is no {what} that is known")
-        for found in LET_OTHER.finditer(self.code):
-            self.stop(found.start(), "a let .. else of another form")
-        for found in re.finditer(r"^(?:pub )?fn (?:[^{};\[]|\[[^\]]*\])*;", self.code, re.M):
-            self.stop(found.start(), "a function has no body")
+            found += [(match.start(1), f"'{match.group(1)}' is no {what} that is known")
+                      for match in form.finditer(self.code)
+                      if match.group(1) not in known and match.group(match.lastindex) not in BEHIND_A_NAME]
+        for form, why in [(LET_OTHER, "a let .. else of another form"), (BODILESS, "a function has no body")]:
+            found += [(match.start(), why) for match in form.finditer(self.code)]
+        if found:
+            self.stop(*min(found))
 
     def left(self):
         """What is left, without the lines that are empty now and weren't before."""

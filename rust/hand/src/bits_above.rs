@@ -47,7 +47,7 @@ mod tests {
     /// Each position among others that are low and that are high, for levels at the ends and beside powers of two.
     #[test]
     fn is_the_plain_loop() {
-        let mut edges = vec![0, 1, 2, 16384, 51200, 65533, 65534, 65535];
+        let mut edges = vec![0u16, 1, 2, 16384, 51200, 65533, 65534, 65535];
         edges.extend((2..16).flat_map(|power| [(1 << power) - 1, 1 << power, (1 << power) + 1]));
         for &low in &edges {
             for &sample in &edges {
