@@ -89,8 +89,19 @@ libldvbi.so: libldvbi.so.$(ABI)
 	ln -sf libldvbi.so.$(ABI) libldvbi.so
 
 test: toolchain
-	@sh tests/tools.sh
+	@sh tests/tools.sh rust
 	sh tests/gate.sh
+
+# The same source as plain Rust, for any machine: rust/ldvbi and rust/libldvbi.*, or rust/TARGET/..
+rust:
+	sh rust/build.sh $(TARGET)
+
+# N times the runs of the gate; RUNNER runs the program of another machine, SEED is where the random runs begin
+N := 10
+SEED := 1
+rust-compare:
+	COMPARE_RUNS=$(N) COMPARE_SEED=$(SEED) COMPARE_RUNNER="$(RUNNER)" SCRIPT_SECONDS=86400 \
+	    sh tests/scripts.sh rust/$(if $(TARGET),$(TARGET)/)ldvbi$(if $(findstring windows,$(TARGET)),.exe) rust_compare
 
 setup:
 	sh tests/tools.sh install
@@ -208,9 +219,9 @@ peers:
 
 clean:
 	rm -rf ldvbi libldvbi.a libldvbi.so libldvbi.so.$(ABI) dist
-	rm -rf crates/*/out
+	rm -rf crates/*/out rust/out rust/crate rust/ldvbi rust/libldvbi.* rust/*-*-*
 
 toolchain:
 	@command -v rt > /dev/null || { echo "make: the command rt of the Rattle toolchain is not on the PATH" >&2; exit 1; }
 
-.PHONY: lib test setup places install install-lib uninstall check wheel dist bench peers clean toolchain
+.PHONY: lib test rust rust-compare setup places install install-lib uninstall check wheel dist bench peers clean toolchain

@@ -1,6 +1,7 @@
 #!/bin/sh
 # The whole gate, at the top of the repository: every proof, test and stored run by `rt ci`, each wrong body by
-# tests/wrong_bodies.py, then the scripts on the built program and library, and the scripts tried themselves.
+# tests/wrong_bodies.py, then the scripts on the built program and library, and the scripts tried themselves; then the
+# same source is built by cargo, and compared with what was proved.
 #
 # `rt ci` works on a copy without must-fail/, whose edits it would try one at a time, while program and library are
 # built here; what these keep, the wrong bodies are tried over. So the program is proved and built twice, and the two
@@ -67,7 +68,7 @@ if [ "${1:-}" = one-by-one ]; then
 fi
 mkdir "$work/copy"
 # shellcheck disable=SC2086
-tar --exclude='./.git' --exclude='./crates/*/out' $without_edits -cf - . | tar -C "$work/copy" -xf -
+tar --exclude='./.git' --exclude='./crates/*/out' --exclude='./rust/out' $without_edits -cf - . | tar -C "$work/copy" -xf -
 # One job for each crate, which takes a quarter less of the processors' time than several, and as many crates side by side
 # as there are processors
 (cd "$work/copy" && RT_JOBS=$(nproc) && export RT_JOBS && exec setsid rt ci > "$work/log" 2>&1) &
@@ -91,5 +92,8 @@ fi
 cmp ldvbi "$work/copy/crates/ldvbi/out/ldvbi"
 sh tests/scripts.sh ./ldvbi
 part 'scripts'
+make -s rust
+sh tests/scripts.sh rust/ldvbi --rust
+part 'the Rust program and its library'
 cat "$work/times"
 echo "$((passed + refused)) passed, 0 failed"

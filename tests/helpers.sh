@@ -5,6 +5,8 @@
 #
 # A run of the program, or of another tool, takes RUN_SECONDS at most (120 where the environment doesn't say): a script
 # ends at the first that takes longer. Where STOP_AT_FIRST isn't empty it ends at the first check that fails.
+#
+# Where DIFFERENCES names a file, it has a line for each check that has to fail of this program: SCRIPT | CHECK | WHY.
 set -u
 
 LC_ALL=C
@@ -16,9 +18,13 @@ tests=$here
 top=$(dirname "$tests")
 program=$(cd "$(dirname "$1")" && pwd)/$(basename "$1")
 script=$(basename "$0" .sh)
+# The folder of the library: beside the program, where it is there, else the top
+built=$(dirname "$program")
+[ -e "$built/libldvbi.so.1" ] || built=$top
 seconds=${RUN_SECONDS:-120}
 judged=0
 passed=0
+differed=0
 left_out=0
 work=$(mktemp -d)
 trap 'rm -rf "$work"' EXIT
@@ -81,12 +87,30 @@ check() {
     if [ -e "$work/endless" ]; then
         echo "$script: $checked: a run before it was ended after $seconds seconds" >&2
         stop 'a run that takes too long'
+    elif is_different "$checked"; then
+        differed=$((differed + 1))
+        if "$@"; then
+            echo "$script: $checked: it holds, and $DIFFERENCES says that it doesn't" >&2
+        else
+            passed=$((passed + 1))
+        fi
     elif "$@"; then
         passed=$((passed + 1))
     else
         echo "$script: $checked: status $status, and on standard error: $(cat err)" >&2
         [ -z "${STOP_AT_FIRST:-}" ] || stop 'the first check that failed'
     fi
+}
+
+# differences [NAME]: how many lines DIFFERENCES has for this script, or for its check with this name
+differences() {
+    awk -F ' [|] ' -v script="$script" -v name="${1:-}" '
+        $1 == script && (name == "" || $2 == name) { lines++ } END { print lines + 0 }' "${DIFFERENCES:-/dev/null}"
+}
+
+# is_different NAME: whether this check has to fail of this program
+is_different() {
+    [ "${DIFFERENCES:-}" ] && [ "$(differences "$1")" != 0 ]
 }
 
 # stop WHY: ends the script before its end
@@ -128,6 +152,7 @@ finish() {
     else
         echo "$script: $passed of $checks checks as wanted, $left_out left out"
     fi
+    [ "$differed" = "$(differences)" ] || stop "$differed differences, and DIFFERENCES has $(differences)"
     [ "$judged $passed" = "$checks $checks" ]
     exit
 }

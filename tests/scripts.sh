@@ -6,8 +6,9 @@
 # doesn't name, or where a script that is to be run isn't there or has the name of another.
 #
 # With --as-built, what needs the library is left out where that isn't built, and so is what the whole gate alone runs.
-# With names, those scripts are run and no others.
-# usage: sh tests/scripts.sh PROGRAM [--as-built | NAME..]
+# With --rust, what is about the Rust program and its library is run on these (`make rust`), and the checks that
+# rust/differences.txt names have to fail. With names, those scripts are run and no others.
+# usage: sh tests/scripts.sh PROGRAM [--as-built | --rust | NAME..]
 set -eu
 
 here=$(cd "$(dirname "$0")" && pwd)
@@ -40,7 +41,7 @@ path_of() {
 # is_named FILE: whether the table has it, as a script that is run somewhere or as what isn't run by itself
 is_named() {
     awk -v file="$1" '
-        $1 ".sh" == file && $3 ~ /^(everywhere|library|python|whole)$/ || $1 == file && $3 == "helper" { named = 1 }
+        $1 ".sh" == file && $3 ~ /^(everywhere|library|python|whole|rust)$/ || $1 == file && $3 == "helper" { named = 1 }
         END { exit !named }' "$here/scripts.txt"
 }
 
@@ -85,6 +86,12 @@ case ${1:-} in
         rows everywhere ${library:+library} > "$work/first"
         : > "$work/then"
         [ "$library" ] || echo "scripts: left out, since the library isn't built: $(rows library | paste -s -d ' ')"
+        ;;
+    --rust)
+        DIFFERENCES=$here/../rust/differences.txt
+        export DIFFERENCES
+        awk '!/^#/ && $NF == "rust" { print $1 }' "$here/scripts.txt" > "$work/first"
+        : > "$work/then"
         ;;
     *)
         printf '%s\n' "$@" > "$work/first"

@@ -1,8 +1,8 @@
 #!/bin/sh
 # The tools that the tests need besides the toolchain: a C compiler with its sanitizers, a C++ compiler, binutils,
-# python3 and jq; and what the commands in the documents need. Names those that are missing and fails, or installs them
-# from Debian's packages, as root or by sudo.
-# usage: sh tests/tools.sh [install]
+# python3 and jq; and what the commands in the documents need. With a word, cargo as well, and the crates that the Rust
+# program depends on. Names those that are missing and fails, or installs them from Debian's packages, as root or by sudo.
+# usage: sh tests/tools.sh [rust | install]
 set -eu
 
 missing=
@@ -18,6 +18,14 @@ done
 for pair in ensurepip:venv setuptools:setuptools wheel:wheel; do
     /usr/bin/python3 -c "import ${pair%:*}" 2> /dev/null || missing="$missing python3-${pair#*:}"
 done
+if [ "${1:-}" ]; then
+    command -v cargo > /dev/null || missing="$missing rustc cargo"
+    command -v rustfmt > /dev/null || missing="$missing rustfmt"
+    command -v cargo-clippy > /dev/null || missing="$missing rust-clippy"
+    for crate in arrayvec byteorder itoa serde-json thiserror; do
+        [ -e /usr/share/doc/librust-$crate-dev ] || missing="$missing librust-$crate-dev"
+    done
+fi
 [ -n "$missing" ] || exit 0
 if [ "${1:-}" != install ]; then
     echo "tests: missing on this machine, as Debian's packages:$missing (make setup installs them)" >&2

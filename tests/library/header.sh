@@ -1,7 +1,7 @@
 #!/bin/sh
 # Compiles what includes ldvbi.h: by each standard, twice, in two parts of a program; and calls whose status nobody
 # looks at or whose pointer is null, of which the compiler has to warn.
-# Needs libldvbi.a at the top of the repository (`make lib`).
+# Needs libldvbi.a beside the program, or at the top of the repository (`make lib`).
 # usage: sh tests/library/header.sh PROGRAM
 # shellcheck disable=SC2086,SC2317
 
@@ -44,7 +44,7 @@ for name in one two; do
 done
 echo 'int main(void) { return 0; }' > main.c
 status=0
-bounded $cc -o program main.c one.o two.o "$top/libldvbi.a" < empty > out 2> err || status=$?
+bounded $cc -o program main.c one.o two.o "$built/libldvbi.a" < empty > out 2> err || status=$?
 check 'the header in two parts of a program' ended 0 empty empty
 
 # called_as STATEMENT: makes a file in which a call stands as this statement. What it reads can't be written.

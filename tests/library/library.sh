@@ -1,7 +1,7 @@
 #!/bin/sh
 # Builds and runs what calls the library from C, C++ and Python: tests over its border under the C compiler's
 # sanitizers, the examples on drawn discs, and the document that Python's readings make beside the one of `extract`.
-# Needs libldvbi.a and libldvbi.so.1 at the top of the repository (`make lib`).
+# Needs libldvbi.a and libldvbi.so.1 beside the program, or at the top of the repository (`make lib`).
 # usage: sh tests/library/library.sh PROGRAM
 # shellcheck disable=SC2016,SC2086,SC2317
 
@@ -11,7 +11,7 @@
 cc=${CC:-cc}
 cxx=${CXX:-c++}
 strict='-Wall -Wextra -Wpedantic -Werror -O1 -g'
-LDVBI_LIBRARY=$top/libldvbi.so.1
+LDVBI_LIBRARY=$built/libldvbi.so.1
 PYTHONPATH=$top/python
 PYTHONDONTWRITEBYTECODE=1
 export LDVBI_LIBRARY PYTHONPATH PYTHONDONTWRITEBYTECODE
@@ -59,19 +59,19 @@ is_among_both() {
 }
 
 # What the library needs, and what it gives
-undefined=$(nm -D --undefined-only "$top/libldvbi.so.1" | sed 's/^ *U //; s/@.*//' | tr '\n' ' ')
+undefined=$(nm -D --undefined-only "$built/libldvbi.so.1" | sed 's/^ *U //; s/@.*//' | tr '\n' ' ')
 check 'the library needs memcpy and memset at most' is_among_both $undefined
-undefined=$(nm -u "$top/libldvbi.a" | sed -n 's/^ *U //p' | tr '\n' ' ')
+undefined=$(nm -u "$built/libldvbi.a" 2> err | sed -n 's/^ *U //p' | tr '\n' ' ')
 check 'the archive needs memcpy and memset at most' is_among_both $undefined
-nm -D --defined-only "$top/libldvbi.so.1" | sed 's/.* //' | sort > exported
+nm -D --defined-only "$built/libldvbi.so.1" | sed 's/.* //' | sort > exported
 sed -n 's/^[a-z0-9_]* \(ldvbi_[a-z_]*\)(.*/\1/p' "$top/include/ldvbi.h" | sort > declared
 check 'the library gives what the header declares, and nothing else' cmp -s exported declared
 check 'the name of the library has the number of its interface' \
-    sh -c "readelf -d '$top/libldvbi.so.1' | grep -q 'SONAME.*\[libldvbi.so.1\]'"
+    sh -c "readelf -d '$built/libldvbi.so.1' | grep -q 'SONAME.*\[libldvbi.so.1\]'"
 check 'the library has no call frames, as its header says' \
-    sh -c "! readelf -SW '$top/libldvbi.a' | grep -q ' \.eh_frame '"
+    sh -c "! readelf -SW '$built/libldvbi.a' | grep -q ' \.eh_frame '"
 check 'the library has no section that it writes to' \
-    sh -c "! readelf -SW '$top/libldvbi.so.1' | grep -q ' \.\(data\|bss\) '"
+    sh -c "! readelf -SW '$built/libldvbi.so.1' | grep -q ' \.\(data\|bss\) '"
 
 # One version
 header_version() {
@@ -85,16 +85,16 @@ check 'the interface of the header is that of make' \
 # Calls over the border
 for sanitizer in address,undefined thread; do
     check "the tests in C are built for $sanitizer" does $cc -std=c99 $strict -fsanitize=$sanitizer \
-        -I"$top/include" -o library "$here/library.c" "$top/libldvbi.a" -lpthread
+        -I"$top/include" -o library "$here/library.c" "$built/libldvbi.a" -lpthread
     check "the tests in C under $sanitizer" prints 0 '0 wrong' ./library
 done
 for part in fields lines; do
     check "the tests of $part are built" does $cc -std=c99 $strict -fsanitize=address,undefined -I"$top/include" \
-        -o library_$part "$here/library_$part.c" "$top/libldvbi.a"
+        -o library_$part "$here/library_$part.c" "$built/libldvbi.a"
     check "the tests of $part" prints 0 '0 wrong' ./library_$part
 done
 check 'the tests of pages are built' does $cc -std=c99 $strict -Wno-unused-function -fsanitize=undefined \
-    -I"$top/include" -o library_pages "$here/library_pages.c" "$top/libldvbi.a"
+    -I"$top/include" -o library_pages "$here/library_pages.c" "$built/libldvbi.a"
 check 'the tests of pages' prints 0 '0 wrong' ./library_pages
 check 'what Python refuses' does python3 "$here/library.py" refusals
 
@@ -133,7 +133,7 @@ cp out marks.tbc
 : > empty.tbc
 
 # The examples, of which those in C and C++ are linked with the shared library
-linked="-I$top/include -L$top -lldvbi -Wl,-rpath,$top"
+linked="-I$top/include -L$built -lldvbi -Wl,-rpath,$built"
 check 'seek is built' does $cc -std=c99 $strict -o seek "$top/examples/seek.c" $linked
 check 'stops is built' does $cxx -std=c++17 $strict -o stops "$top/examples/stops.cpp" $linked
 check 'player is built' does $cxx -std=c++17 $strict -o player "$top/examples/player.cpp" $linked
@@ -292,7 +292,7 @@ kind users
 END
 check 'each kind, cause and format is in the report' cmp -s found wanted
 check 'the texts are built' does $cc -std=c99 $strict -I"$top/include" -o texts "$here/library_texts.c" \
-    "$top/libldvbi.a"
+    "$built/libldvbi.a"
 check "the header's texts" prints 0 "$(cat reported)" sh -c "./texts $on_cav < texts.tbc"
 
 # The program in README.md

@@ -14,8 +14,8 @@ command -v "$compiler" > /dev/null || {
 "$compiler" -shared -fPIC -O2 -Wall -o refuse.so "$here/refuse.c" -ldl || exit 1
 echo 'ldvbi: out of memory' > wanting
 
-# What each of these runs has at least. They have 66 to 110 allocations; how many it is changes with the program.
-least=50
+# What each of these runs has at least. They have 50 to 150 allocations; how many it is changes with the program.
+least=40
 
 # each NAME FILE WORD..: checks the program's answers on these words, with this file on standard input, where each of
 # its allocations is refused in turn

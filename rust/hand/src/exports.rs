@@ -1,0 +1,126 @@
+//! The calls of include/ldvbi.h, from C's pointers and lengths.
+//!
+//! The caller owes what that header says: a pointer points to as many bytes, or readings, as the length beside it says,
+//! or to one value; only where the length is 0 it may be null.
+#![allow(clippy::missing_safety_doc)]
+use crate::c::{self, LdvbiCode, LdvbiFieldReadings, LdvbiReading};
+use std::mem::size_of;
+use std::slice::{from_raw_parts, from_raw_parts_mut};
+
+/// The most bytes that a slice may have. A length past that is never right, nor is this one.
+const MOST: usize = isize::MAX as usize;
+
+unsafe fn bytes<'a>(start: *const u8, length: usize) -> &'a [u8] {
+    if length == 0 {
+        return &[];
+    }
+    from_raw_parts(start, length.min(MOST))
+}
+
+unsafe fn room<'a, T>(start: *mut T, length: usize) -> &'a mut [T] {
+    if length == 0 {
+        return &mut [];
+    }
+    from_raw_parts_mut(start, length.min(MOST / size_of::<T>()))
+}
+
+#[no_mangle]
+pub extern "C" fn ldvbi_abi() -> u32 {
+    c::ldvbi_abi()
+}
+
+#[no_mangle]
+pub extern "C" fn ldvbi_version() -> u32 {
+    c::ldvbi_version()
+}
+
+#[no_mangle]
+pub extern "C" fn ldvbi_line_samples(system: u32) -> usize {
+    c::ldvbi_line_samples(system)
+}
+
+#[no_mangle]
+pub extern "C" fn ldvbi_line_bytes(system: u32) -> usize {
+    c::ldvbi_line_bytes(system)
+}
+
+#[no_mangle]
+pub extern "C" fn ldvbi_lines(system: u32) -> usize {
+    c::ldvbi_lines(system)
+}
+
+#[no_mangle]
+pub extern "C" fn ldvbi_field_bytes(system: u32) -> usize {
+    c::ldvbi_field_bytes(system)
+}
+
+#[no_mangle]
+pub unsafe extern "C" fn ldvbi_read_line(
+    system: u32,
+    black: u32,
+    white: u32,
+    samples: *const u8,
+    length: usize,
+    out: *mut LdvbiReading,
+) -> u32 {
+    c::ldvbi_read_line(system, black, white, bytes(samples, length), &mut *out)
+}
+
+#[no_mangle]
+pub unsafe extern "C" fn ldvbi_read_rows(
+    system: u32,
+    black: u32,
+    white: u32,
+    samples: *const u8,
+    length: usize,
+    out: *mut LdvbiFieldReadings,
+) -> u32 {
+    c::ldvbi_read_rows(system, black, white, bytes(samples, length), &mut *out)
+}
+
+#[no_mangle]
+pub unsafe extern "C" fn ldvbi_read_field(
+    system: u32,
+    black: u32,
+    white: u32,
+    samples: *const u8,
+    length: usize,
+    out: *mut LdvbiFieldReadings,
+) -> u32 {
+    c::ldvbi_read_field(system, black, white, bytes(samples, length), &mut *out)
+}
+
+#[no_mangle]
+pub unsafe extern "C" fn ldvbi_read_fields(
+    system: u32,
+    black: u32,
+    white: u32,
+    samples: *const u8,
+    length: usize,
+    out: *mut LdvbiFieldReadings,
+    count: usize,
+) -> u32 {
+    c::ldvbi_read_fields(system, black, white, bytes(samples, length), room(out, count))
+}
+
+#[no_mangle]
+pub unsafe extern "C" fn ldvbi_classify(word: u32, code: *mut LdvbiCode) -> u32 {
+    c::ldvbi_classify(word, &mut *code)
+}
+
+#[no_mangle]
+pub unsafe extern "C" fn ldvbi_format(first: u32, second: u32, third: u32, format: *mut u32) -> u32 {
+    c::ldvbi_format(first, second, third, &mut *format)
+}
+
+#[no_mangle]
+pub unsafe extern "C" fn ldvbi_draw_line(
+    system: u32,
+    black: u32,
+    white: u32,
+    word: u32,
+    samples: *mut u8,
+    length: usize,
+) -> u32 {
+    c::ldvbi_draw_line(system, black, white, word, room(samples, length))
+}

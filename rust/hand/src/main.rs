@@ -1,0 +1,80 @@
+//! The program `ldvbi`: it opens what the command line names, has the job done over that, and prints what went wrong.
+//! What it has of the system is in `system`.
+#![deny(unsafe_code)]
+#![no_main]
+
+#[allow(unsafe_code)]
+mod system;
+
+use ldvbi::cli::{do_command, read_words, settle, status, AppFault, Input, Job, Source, WordsFault};
+use ldvbi::field::Outlet;
+use ldvbi::meta::META_LIMIT;
+use std::fs::File;
+use std::io::{ErrorKind, Read, Write};
+use system::Stream;
+
+/// Prints the line of a fault, and answers the status. Where printing fails, nothing is left to say so with.
+fn complain(fault: &str, status: u8) -> u8 {
+    let _ = Stream::error().write_all(format!("ldvbi: {fault}\n").as_bytes());
+    status
+}
+
+/// Runs the program, and answers its status.
+fn run() -> u8 {
+    let words: Result<Vec<String>, _> = std::env::args_os().map(|word| word.into_string()).collect();
+    let words = match words {
+        Ok(words) => words,
+        Err(_) => return complain("arguments are not UTF-8", 2),
+    };
+    let job = match read_words(&words) {
+        Ok(job) => job,
+        Err(fault) => {
+            let _ = match &fault {
+                WordsFault::Help(text) => Stream::output().write_all(text.as_bytes()),
+                _ => Stream::error().write_all(fault.to_string().as_bytes()),
+            };
+            return fault.status();
+        }
+    };
+    match run_with_files(&job) {
+        Ok(status) => status,
+        Err(fault) => complain(fault, 1),
+    }
+}
+
+/// Opens what the job names, does the job, and answers the status.
+fn run_with_files(job: &Job) -> Result<u8, &'static str> {
+    let meta = job.meta.as_deref().map(metadata).transpose()?;
+    let mut input = match &job.input {
+        None => Input::Standard(Stream::input()),
+        Some(path) => Input::File(File::open(path).map_err(|_| "cannot open input")?),
+    };
+    let mut output = Stream::output();
+    let ended = match settle(job, meta.as_deref()) {
+        Ok(config) => {
+            let mut source = Source::new(job.verb, config.system(), &mut input);
+            do_command(&config, job.verb, &mut source, &mut Outlet::new(&mut output))
+        }
+        Err(fault) => Err(AppFault::Meta(fault)),
+    };
+    if let Err(fault) = &ended {
+        complain(&fault.to_string(), 1);
+    }
+    Ok(status(&ended))
+}
+
+/// The bytes of the metadata file, up to one past those that are allowed. An interrupted read is made again.
+fn metadata(path: &str) -> Result<Vec<u8>, &'static str> {
+    let mut file = File::open(path).map_err(|_| "cannot read metadata")?;
+    let (mut bytes, mut piece) = (Vec::new(), vec![0; 65536]);
+    while bytes.len() <= META_LIMIT {
+        let most = piece.len().min(META_LIMIT + 1 - bytes.len());
+        match file.read(&mut piece[..most]) {
+            Ok(0) => break,
+            Ok(count) => bytes.extend_from_slice(&piece[..count]),
+            Err(error) if error.kind() == ErrorKind::Interrupted => {}
+            Err(_) => return Err("cannot read metadata"),
+        }
+    }
+    Ok(bytes)
+}

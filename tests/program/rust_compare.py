@@ -1,0 +1,273 @@
+"""Runs the proved program and the Rust program, or the two libraries, on the same drawn, damaged and random input, and
+compares status, output and what is said, byte for byte.
+usage: python3 tests/program/rust_compare.py WHAT PROVED OTHER COUNT SEED [RUNNER..]
+
+WHAT is words (of the command line), streams (of fields, and lines), rows (of words to be drawn), metadata, or library.
+PROVED and OTHER are programs, or libraries that can be loaded; RUNNER is what runs OTHER, as wine or qemu. Prints how
+many runs there were, and of those that differ how many there are and the first ten; its status is 1 where one does."""
+import ctypes
+import pathlib
+import random
+import subprocess
+import sys
+import tempfile
+
+SYSTEMS = {"NTSC": (1, 910, 263), "PAL": (2, 1135, 313)}
+COMMANDS = ["line", "extract", "show", "draw"]
+OPTIONS = ["--meta", "--system", "--black", "--white", "--max-fields", "--help", "--version", "-h", "-V"]
+VALUES = ["", "-", "0", "1", "5", "-1", "+5", "65535", "65536", "8224", "16448", "1000001", "4294967296", "1e3", " 5",
+          "99999999999999999999", "-99999999999999999999", "NTSC", "PAL", "NTS", "PALS", "ntsc", "line.raw", "absent", ".",
+          "meta.json", "bad.json", "\u00e4\u20ac\U0001f4bf"]
+STRAY = ["--", "-x", "-xh", "-hx", "-5", "--met", "--blac", "--maxfields", "--syste", "--helq", "--vers", "--zzz", "---",
+         "lines", "extra", "lineextract", "sho", "help", "helps", "--=5", "-=", "--help=x", "--black=x=y", "\u00fc"]
+
+
+class Programs:
+    """The two programs, which are run in one folder."""
+
+    def __init__(self, proved, other, runner):
+        self.commands = [[proved], [*runner, other]]
+        self.folder = pathlib.Path(tempfile.mkdtemp())
+
+    def run(self, words, given=b""):
+        """What each of the two answered: status, output, and what it said."""
+        def answer(command):
+            done = subprocess.run([*command, *words], input=given, capture_output=True, cwd=self.folder, timeout=120,
+                                  check=False)
+            return done.returncode, done.stdout, done.stderr
+        return [answer(command) for command in self.commands]
+
+
+def put_files(folder):
+    (folder / "line.raw").write_bytes(bytes(1820))
+    videos = '{"videoParameters":{"system":"NTSC","black16bIre":8224,"white16bIre":16448}}'
+    (folder / "meta.json").write_text(videos, encoding="utf-8")
+    (folder / "bad.json").write_text(videos[:-1], encoding="utf-8")
+
+
+def random_words(choose):
+    """Words that a command line might have, most of them fit."""
+    def one():
+        kind = choose.random()
+        if kind < 0.35:
+            option = choose.choice(OPTIONS[:5])
+            value = choose.choice(VALUES)
+            return [f"{option}={value}"] if choose.random() < 0.4 else [option, value]
+        return [choose.choice(choose.choice([OPTIONS, VALUES, STRAY, COMMANDS]))]
+    words = [choose.choice(COMMANDS)] if choose.random() < 0.7 else []
+    if choose.random() < 0.1:
+        words.insert(0, "help")
+    for _ in range(choose.randrange(5)):
+        words += one()
+    return words
+
+
+def compare_words(programs, choose, count):
+    put_files(programs.folder)
+    for _ in range(count):
+        words = random_words(choose)
+        yield words, programs.run(words)
+
+
+def drawn_line(choose, width, half, black, white):
+    """A line that shows a word, as a list of samples."""
+    levels = [black] * (choose.choice([150, 151, 149, 40, 0]) + choose.randrange(3))
+    level = False
+    for i in range(24):
+        bit = i == 0 or choose.random() < 0.5
+        for high in ((not bit), bit):
+            level = high
+            levels += [white if high else black] * (half + choose.choice([0, 0, 0, 0, 1, -1]))
+    levels += [black] * width
+    return levels[:width]
+
+
+def damage(choose, line, black, white):
+    """Puts glitches, held levels, ramps or noise into a line."""
+    for _ in range(choose.choice([0, 1, 1, 2, 5, 20])):
+        at = choose.randrange(len(line))
+        length = choose.choice([1, 1, 2, 3, 3, 4, 7, 40])
+        level = choose.choice([black, white, (black + white) // 2, (black + white) // 2 + 1, 0, 65535])
+        line[at:at + length] = [level] * len(line[at:at + length])
+    if choose.random() < 0.2:
+        spread = choose.choice([1, 500, 20000])
+        line = [min(65535, max(0, sample + choose.randrange(-spread, spread + 1))) for sample in line]
+    return line
+
+
+def random_line(choose, system, black, white):
+    """The bytes of a line: drawn, damaged, of random runs, or of random samples."""
+    _, width, _ = SYSTEMS[system]
+    kind = choose.random()
+    if kind < 0.7:
+        half = choose.choice([14, 14, 14, 15, 13, 12] if system == "NTSC" else [18, 18, 17, 19, 15, 21])
+        line = damage(choose, drawn_line(choose, width, half, black, white), black, white)
+    elif kind < 0.9:
+        line = []
+        while len(line) < width:
+            line += [choose.choice([black, white])] * choose.choice([1, 2, 3, 11, 14, 18, 28, 29, 36, 60, 300])
+        line = line[:width]
+    else:
+        return choose.randbytes(2 * width) if hasattr(choose, "randbytes") else bytes(
+            choose.randrange(256) for _ in range(2 * width))
+    return b"".join(sample.to_bytes(2, "little") for sample in line)
+
+
+def random_levels(choose):
+    black, white = sorted(choose.sample([0, 1, 8224, 16384, 16448, 51200, 54016, 65534, 65535, choose.randrange(65536)], 2))
+    return (black, white) if choose.random() < 0.97 else (white, black)
+
+
+def options_of(system, black, white):
+    return ["--system", system, "--black", str(black), "--white", str(white)]
+
+
+def compare_streams(programs, choose, count):
+    for _ in range(count):
+        system = choose.choice(list(SYSTEMS))
+        _, width, height = SYSTEMS[system]
+        black, white = random_levels(choose)
+        stream = bytearray()
+        for _ in range(choose.randrange(4)):
+            field = bytearray(black.to_bytes(2, "little") * (width * height))
+            for row in range(15, 18):
+                line = random_line(choose, system, black, white)
+                field[2 * width * row:2 * width * (row + 1)] = line
+            stream += field
+        if choose.random() < 0.3:
+            stream += bytes(choose.randrange(2 * width * height))
+        words = [choose.choice(["extract", "show"]), *options_of(system, black, white)]
+        if choose.random() < 0.2:
+            words += ["--max-fields", str(choose.randrange(4))]
+        yield words, programs.run(words, bytes(stream))
+        line = random_line(choose, system, black, white)
+        words = ["line", *options_of(system, black, white)]
+        yield words, programs.run(words, line[:len(line) - choose.choice([0, 0, 0, 1, 500])])
+
+
+def compare_rows(programs, choose, count):
+    items = ["-", "F12345", "82CFFF", "8ae012", "800000", "FFFFFF", "7FFFFF", "12345", "G12345", "f12345", "1234567"]
+    for _ in range(count):
+        rows = []
+        for _ in range(choose.randrange(6)):
+            row = [choose.choice(items[:6]) for _ in range(3)]
+            if choose.random() < 0.1:
+                row[choose.randrange(3)] = choose.choice(items)
+            text = " ".join(row)
+            rows.append(text if choose.random() < 0.95 else text + choose.choice([" ", "\r", "\t", " -", "\0"]))
+        text = "\n".join(rows) + choose.choice(["\n", "\n", ""])
+        words = ["draw", *options_of(choose.choice(list(SYSTEMS)), *random_levels(choose))]
+        yield words + [text], programs.run(words, text.encode())
+
+
+MEMBERS = {
+    "system": ['"NTSC"', '"PAL"', '"ntsc"', "3", "null"],
+    "isSourcePal": ["true", "false", "0", '"true"'],
+    "black16bIre": ["16384", "0", "65535", "65536", "-1", "1e3", "16384.0", '"5"', "18446744073709551616", "[]"],
+    "white16bIre": ["51200", "16384", "16385", "65536", "5.5", "-0", "1e400", "null"],
+    "fieldWidth": ["910", "1135", "911", "910.0"],
+    "fieldHeight": ["263", "313", "1e2"],
+    "other": ['"\\ud800"', '"\\u0000"', '"\\x"', "[[[]]]", '{"a":1,"a":2}', "NaN", "01", "1.", '"a\tb"', '"\x7f"'],
+}
+
+
+def random_metadata(choose):
+    names = choose.sample(list(MEMBERS)[:-1], choose.randrange(2, 7))
+    names += ["other"] if choose.random() < 0.15 else []
+    names += [choose.choice(names)] if choose.random() < 0.1 else []
+    members = [f'"{name}":{choose.choice(MEMBERS[name][:2] if choose.random() < 0.7 else MEMBERS[name])}' for name in names]
+    text = '{"videoParameters":{' + ",".join(members) + choose.choice(["}}", "}}", "}}\n ", '},"fields":[]}'])
+    data = bytearray(text.encode())
+    if choose.random() < 0.2:
+        data[choose.randrange(len(data))] = choose.randrange(256)
+    if choose.random() < 0.05:
+        depth = choose.choice([126, 127, 128, 129])
+        data = bytearray(b'{"videoParameters":{},"a":' + b"[" * (depth - 1) + b"]" * (depth - 1) + b"}")
+    return bytes(data)
+
+
+def compare_metadata(programs, choose, count):
+    for _ in range(count):
+        data = random_metadata(choose)
+        (programs.folder / "random.json").write_bytes(data)
+        words = ["extract", "--meta", "random.json"]
+        if choose.random() < 0.3:
+            words += choose.choice([["--system", "NTSC"], ["--black", "5"], ["--white", "60000"], ["--max-fields", "0"]])
+        yield words + [data], programs.run(words)
+
+
+class Reading(ctypes.Structure):
+    _fields_ = [("cause", ctypes.c_uint8), ("pass_", ctypes.c_uint8), ("column", ctypes.c_uint16),
+                ("word", ctypes.c_uint32)]
+
+
+def compare_library(paths, choose, count):
+    """Each call, with arguments of which most fit: what is answered, and what is written into memory that had a pattern."""
+    libraries = [ctypes.CDLL(path) for path in paths]
+
+    def call(name, *arguments, room=0):
+        def answer(library):
+            written = ctypes.create_string_buffer(b"\xa5" * room, room)
+            function = getattr(library, name)
+            function.restype = ctypes.c_size_t if name in SIZES else ctypes.c_uint32
+            done = function(*[written if argument is Ellipsis else argument for argument in arguments])
+            return done, written.raw
+        return (name, *arguments), [answer(library) for library in libraries]
+
+    number, size = ctypes.c_uint32, ctypes.c_size_t
+    for name in ("ldvbi_abi", "ldvbi_version"):
+        yield call(name)
+    for name in SIZES:
+        for system in (0, 1, 2, 3, 257, 2 ** 32 - 1):
+            yield call(name, number(system))
+    for _ in range(count):
+        system = choose.choice(list(SYSTEMS))
+        code, width, height = SYSTEMS[system]
+        black, white = random_levels(choose)
+        line = random_line(choose, system, black, white)
+        rows = line + random_line(choose, system, black, white) + line[::-1]
+        code = code if choose.random() < 0.97 else choose.choice([0, 3, 257])
+        white = white if choose.random() < 0.97 else choose.choice([65536, 2 ** 32 - 1])
+        first = (number(code), number(black), number(white))
+        length = len(line) - (choose.random() < 0.05) * choose.randrange(3)
+        yield call("ldvbi_read_line", *first, line, size(length), ..., room=8)
+        yield call("ldvbi_read_rows", *first, rows, size(len(rows) - choose.choice([0] * 20 + [1])), ..., room=24)
+        word = choose.choice([0, choose.randrange(2 ** 24), choose.randrange(2 ** 23, 2 ** 24), 2 ** 32 - 1])
+        yield call("ldvbi_draw_line", *first, number(word), ..., size(length), room=len(line))
+        for value in (word, choose.randrange(2 ** 32), choose.randrange(2 ** 23, 2 ** 24)):
+            yield call("ldvbi_classify", number(value), ..., room=12)
+        words = [choose.choice([0, 0x82CFFF, 0x87FFFF, 0xF12345, 0xF0DD09, word]) for _ in range(3)]
+        yield call("ldvbi_format", *map(number, words), ..., room=4)
+        if choose.random() < 0.05:
+            field = bytes(2 * width * 15) + rows + bytes(2 * width * (height - 18))
+            yield call("ldvbi_read_field", *first, field, size(len(field)), ..., room=24)
+            count_of = choose.choice([1, 2, 3, 2 ** 40])
+            yield call("ldvbi_read_fields", *first, field * 2, size(2 * len(field)), ..., size(count_of), room=72)
+    yield call("ldvbi_read_fields", number(1), number(1), number(2), None, size(0), None, size(0))
+
+
+SIZES = ("ldvbi_line_samples", "ldvbi_line_bytes", "ldvbi_lines", "ldvbi_field_bytes")
+PARTS = {"words": compare_words, "streams": compare_streams, "rows": compare_rows, "metadata": compare_metadata}
+
+
+def main(what, proved, other, count, seed, *runner):
+    choose = random.Random(f"{what} {seed}")
+    if what == "library":
+        pairs = compare_library([proved, other], choose, int(count))
+    else:
+        pairs = PARTS[what](Programs(proved, other, runner), choose, int(count))
+    runs = 0
+    different = 0
+    for given, (one, two) in pairs:
+        runs += 1
+        if one != two:
+            different += 1
+            if different <= 10:
+                print(f"{what}, seed {seed}, run {runs}: {str(given)[:500]}")
+                print(f"  proved: {str(one)[:500]}\n  other:  {str(two)[:500]}")
+    print(f"{what}: {runs} runs, {different} different")
+    return different != 0
+
+
+if __name__ == "__main__":
+    sys.exit(main(*sys.argv[1:]))
