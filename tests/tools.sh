@@ -22,7 +22,7 @@ if [ "${1:-}" ]; then
     command -v cargo > /dev/null || missing="$missing rustc cargo"
     command -v rustfmt > /dev/null || missing="$missing rustfmt"
     command -v cargo-clippy > /dev/null || missing="$missing rust-clippy"
-    for crate in arrayvec byteorder itoa serde-json thiserror; do
+    for crate in arrayvec byteorder itoa serde-json; do
         [ -e /usr/share/doc/librust-$crate-dev ] || missing="$missing librust-$crate-dev"
     done
 fi
