@@ -371,7 +371,7 @@ check 'is described by its own place' grep -qx 'libdir=/elsewhere/lib' outside/e
 
 # The archive of what is built, unpacked anywhere
 mkdir tree unpacked
-(cd "$top" && tar --exclude=.git --exclude=out --exclude=./dist -cf - .) | tar -xf - -C tree
+(cd "$top" && tar --exclude=.git --exclude=out --exclude=./dist --exclude=./rust/ldvbi -cf - .) | tar -xf - -C tree
 (
     cd tree && git init -q && git add . &&
         git -c user.name=test -c user.email=test@localhost commit -qm source

@@ -127,7 +127,7 @@ page_of ldvbi-side.1
 COLUMNS=500 PYTHONDONTWRITEBYTECODE=1 bounded "$side" --help < empty > side.help 2> err
 options_of_page
 sed 's/ldvbi(1)//g; s/--\([a-z-]*\) [A-Z]*|/--\1 VALUE|/' page.options | numbers | sed 's/ *$//' > page.found
-sed -n 's/^  \(-[^ ].*\)$/\1/p' side.help | sed 's/   *\| *$/|/; s/status [0-9]//g
+sed -n 's/^  \(-[^ ].*\)$/\1/p' side.help | sed 's/   *\| *$/|/; s/status [0-9].*//
     s/ [A-Z{][A-Z,}]*\([,|]\)/ VALUE\1/g; s/^-\(.\) VALUE,/-\1,/' | sort | numbers | sed 's/ *$//' > help.found
 same 'the options of the page of ldvbi-side'
 section 'EXIT STATUS' | grep -o '^     [0-9]*' | tr -d ' ' | paste -s -d ' ' > page.found
