@@ -4,6 +4,9 @@
 # The toolchain's command `rt` has to be on the PATH; `make test` needs the tools of tests/tools.sh as well. What the
 # toolchain says of a crate goes to crates/NAME/out/make.log.
 #
+# `make rust` needs no toolchain, but python3 and cargo: it builds the same source without its contracts (docs/RUST.md),
+# for another machine by `make rust TARGET=..`; `make rust-compare` compares that with what is proved.
+#
 # Once the program is built, these need no toolchain: `make install PREFIX=DIR` copies it and `ldvbi-side` to DIR/bin,
 # the manual pages, completions, schema, contrib's files, the Python module, documents and examples to DIR/share, and
 # the library with its header to DIR/lib (or LIBDIR) and DIR/include where it is built, too; `make install-lib` installs
@@ -123,11 +126,13 @@ install: places $(BUILT)ldvbi $(if $(wildcard $(BUILT)libldvbi.a),install-lib)
 	install -d $(ROOT)/share/ldvbi/python/ldvbi_side
 	install -m 644 python/ldvbi.py $(ROOT)/share/ldvbi/python
 	install -m 644 $(PYTHON) $(ROOT)/share/ldvbi/python/ldvbi_side
-	install -d $(DOCUMENTS)/docs/pictures $(DOCUMENTS)/examples
+	install -d $(DOCUMENTS)/docs/pictures $(DOCUMENTS)/examples/rust/src
 	install -m 644 README.md CHANGELOG.md $(DOCUMENTS)
 	install -m 644 $(wildcard docs/*.md) $(DOCUMENTS)/docs
 	install -m 644 $(wildcard docs/pictures/*.svg) $(DOCUMENTS)/docs/pictures
-	install -m 644 $(wildcard examples/*) $(DOCUMENTS)/examples
+	install -m 644 $(wildcard examples/*.*) $(DOCUMENTS)/examples
+	install -m 644 examples/rust/Cargo.toml $(DOCUMENTS)/examples/rust
+	install -m 644 examples/rust/src/main.rs $(DOCUMENTS)/examples/rust/src
 
 # The descriptions for pkg-config and CMake find header and library from their own place, wherever that is moved, unless
 # the library is put outside PREFIX.

@@ -66,4 +66,23 @@ check 'bits_above is the plain loop' quiet rustc --edition 2021 --test -A dead_c
     src/bits_above.rs
 check 'at every position and of every value' quiet "$work/bits_above"
 check 'the example in its documents' quiet cargo test --doc --quiet
+
+# The example project, on a drawn disc, whose third picture is on line 18 alone, and which is cut in its eleventh field
+bounded "$program" draw --system NTSC --black 16384 --white 51200 "$top/examples/cav.words" 2> "$work/err" |
+    head -c 4786601 > "$work/cut.tbc"
+cp -r "$top/examples/rust" "$work/example"
+sed -i "s|\"../../rust/crate\"|\"$top/rust/crate\"|" "$work/example/Cargo.toml"
+[ ! -d .cargo ] || cp -r .cargo "$work/example"
+cd "$work/example" || exit 1
+status=0
+bounded cargo run --quiet -- "$work/cut.tbc" NTSC 16384 51200 > "$work/out" 2> "$work/err" || status=$?
+cat > "$work/pictures" << 'END'
+field 3 picture 1
+field 5 picture 2
+field 7 picture 3
+field 9 picture 4
+END
+echo 'pictures: field 11 is cut after 1 bytes' > "$work/cut"
+cd "$work" || exit 1
+check 'the example project' ended 0 pictures cut
 finish
