@@ -11,7 +11,7 @@ mkdir tree tools
 (
     cd "$top" &&
         tar --exclude=.git --exclude=out --exclude=./ldvbi --exclude='./libldvbi.*' --exclude=./dist \
-            --exclude=./rust/ldvbi --exclude='./rust/libldvbi.*' --exclude=./rust/crate -cf - .
+            --exclude='./rust/crate*' --exclude=./rust/ldvbi --exclude='./rust/libldvbi.*' --exclude='./rust/*-*-*' -cf - .
 ) | tar -xf - -C tree
 for tool in sh make install rm mkdir find cp touch git tar gzip sha256sum uname; do
     ln -s "$(command -v $tool)" tools/$tool
@@ -142,7 +142,7 @@ check 'the crate has its files, and nothing of this machine' cmp found listed
 touch -d @1300000000 tree/rust/ldvbi
 made dist
 check 'nothing of it is packed that is older than its source' [ "$(wc -l < tree/dist/SHA256SUMS)" = 2 ]
-rm -r tree/rust/ldvbi tree/rust/crate
+rm -r tree/rust/crate tree/rust/ldvbi
 
 touch tree/crates.txt
 made dist
