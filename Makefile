@@ -158,7 +158,7 @@ dist:
 	fi
 	cd dist && sha256sum *.tar.gz > SHA256SUMS
 
-bench: ldvbi lib
+bench: ldvbi lib rust
 	sh bench/all.sh ./ldvbi
 
 peers:
