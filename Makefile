@@ -216,7 +216,7 @@ dist:
 	if [ -e libldvbi.so ] && $(MAKE) -q lib 2> /dev/null; then $(MAKE) -s wheel FROM=proved WHEELS=dist; fi
 	cd dist && sha256sum $(RELEASE)* > SHA256SUMS
 
-bench: ldvbi lib
+bench: ldvbi lib rust
 	sh bench/all.sh ./ldvbi
 
 peers:

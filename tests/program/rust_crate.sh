@@ -49,6 +49,10 @@ check 'an unknown macro' stops "$levels:$line" "'print' is no macro that is know
     '$aconst PRINTED: () = print!("");'
 check 'an unknown attribute' stops "$levels:$line" "'ensures' is no attribute that is known" $levels '$a#[ensures(true)]'
 
+check 'the version of the crate is that of make' \
+    [ "$(sed -n 's/^version = "\(.*\)"$/\1/p' "$top/rust/hand/Cargo.toml")" = \
+    "$(sed -n 's/^VERSION := //p' "$top/Makefile")" ]
+
 # The crate as it is built
 cd "$top/rust/crate" || exit 1
 CARGO_TARGET_DIR=$top/rust/out
