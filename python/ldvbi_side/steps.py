@@ -71,7 +71,8 @@ class Steps:
             # of a picture with its number on both fields the first one is meant
             variant = 0 if pace.kind == "both" else reading.variant
             field = before.field + pace.between(before.number, step, before.variant, variant)
-            self.due.append((before.number + step, field))
+            if field not in self.numbers.others:
+                self.due.append((before.number + step, field))
 
     def number_at(self, field):
         """The number of the picture that a field belongs to, read or due: its own, or that of a field just before it;
