@@ -29,7 +29,7 @@ class Clock:
             begin = [number for number in _between(before, reading)
                      if number % MINUTE < 2 and number % TENTH_MINUTE > 1]
             if len(begin) == 2:
-                self.judged.update((number, True) for number in begin)
+                self.judged.update((number, number in begin) for number in _between(before, reading))
             else:
                 self.breaks.append((before, reading))
         self._judge_singles(singles)

@@ -76,7 +76,7 @@ def pictures_of(said, doubts):
         return no_numbers(system)
     numbers = Numbers(Unit("picture", RATES[system]), pace_of(readings, system == "NTSC"), readings)
     if numbers.pace.kind != "both":
-        numbers.others.update(said.kinds[Kind.chapter])
+        numbers.others = said.sure_fields(Kind.chapter)
     doubts.set_aside(numbers, readings)
     doubts.find_second_row(numbers, readings)
     return numbers

@@ -19,6 +19,7 @@ class Pace:
         self.variants = {"video": 1, "both": 2, "film": 3}[kind]
         self.period = 2 if kind == "film" else 1
         self.change = price(1) if kind == "film" else 0
+        self.least = 2 if kind == "both" else 1  # fields with which a number can be lost
 
     def between(self, number, step, variant, other):
         """The fields on the disc from a reading of this number and variant to the one `step` numbers on."""
@@ -32,10 +33,14 @@ class Pace:
             return 0 if self.kind == "both" and fields == other - variant else None
         return fields - self.between(number, step, variant, other)
 
+    def numbers_in(self, fields):
+        """How many numbers as many fields have at least, one after the other."""
+        return (2 * fields + 1) // 5 if self.kind == "film" else fields // 2
+
 
 class MinutePace:
     """The pace of minutes, each of which stands on all its fields, of which it has so many."""
-    kind, variants, change, period = "minute", 1, 0, 1
+    kind, variants, change, period, least = "minute", 1, 0, 1, 1
 
     def __init__(self, fields):
         self.fields = fields
@@ -43,6 +48,10 @@ class MinutePace:
     def off(self, fields, number, step, variant=0, other=0):
         apart = fields - step * self.fields
         return 0 if step >= 0 and abs(apart) < self.fields else apart
+
+    def numbers_in(self, fields):
+        """How many minutes as many fields have at least, one after the other."""
+        return fields // self.fields
 
 
 class ChapterPace:

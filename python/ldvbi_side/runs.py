@@ -33,8 +33,8 @@ class Run:
 
 
 class Runs:
-    """The runs of a side. `parts` has of each field the picture of the minute, of which there are `whole`; `minutes` has
-    of each field the minutes read, each with its weight. A misread word of line 16 is a run of its own, between two
+    """The runs of a side. `parts` has of each field the picture of the minute, of which there are `whole`; `minutes`
+    has of each field the minutes read, each with its weight. A misread word of line 16 is a run of its own, between two
     parts of another."""
 
     def __init__(self, parts, minutes, whole):

@@ -5,13 +5,15 @@ from .clock import Clock
 
 class Steps:
     """The steps of a side from number to number. `showings` are lists of a number, its first and its last field; `due`
-    are pairs of a number that isn't there and the field that it belongs to. `clock` judges the numbers of an NTSC disc
-    that may have been left out by its clock."""
+    are pairs of a number that isn't there and the field that it belongs to; `without_field` are numbers that aren't
+    there, where no field is too few, and whose field isn't known. `clock` judges the numbers of an NTSC disc that
+    may have been left out by its clock."""
 
     def __init__(self, numbers, system):
         self.numbers = numbers
         self.may_leave_out = numbers.unit.name == "time" and system == "NTSC"
         self.showings, self.breaks, self.stills, self.due = [], [], [], []
+        self.without_field = set()
         gaps = []  # of one or two numbers, which a clock may have left out
         before = None
         for reading in numbers.believed:
@@ -66,12 +68,15 @@ class Steps:
         """The fields in which the numbers between two that fit are due."""
         pace = self.numbers.pace
         if pace.kind == "minute":
+            self.without_field.update(range(before.number + 1, reading.number))
             return
         for step in range(1, reading.number - before.number):
             # of a picture with its number on both fields the first one is meant
             variant = 0 if pace.kind == "both" else reading.variant
             field = before.field + pace.between(before.number, step, before.variant, variant)
-            if field not in self.numbers.others:
+            if field in self.numbers.others:
+                self.without_field.add(before.number + step)
+            else:
                 self.due.append((before.number + step, field))
 
     def number_at(self, field):

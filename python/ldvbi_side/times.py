@@ -71,8 +71,7 @@ class _Times:
         """The numbers of these times. Fields without a minute that is believed get the one that brings them nearest to
         the believed times around them, and the chain is drawn again."""
         numbers = Numbers(Unit("time", self.rate), pace_of(readings, False), readings)
-        for kind in (Kind.chapter, Kind.cx_on, Kind.cx_off, Kind.users):
-            numbers.others.update(self.said.kinds[kind])
+        numbers.others = set().union(*map(self.said.sure_fields, (Kind.chapter, Kind.cx_on, Kind.cx_off)))
         more = self._completions(numbers, readings)
         if more:
             numbers.believe(chain(sorted(readings + more, key=lambda one: one.field), numbers.pace))

@@ -14,7 +14,8 @@ from ldvbi_side.said import Fields
 from simulate import simulated
 from truth import Comparison, Truth
 
-SHARES = ("wrong", "right", "wrong chapters", "right chapters", "numbers", "due", "lost", "lost places", "backs")
+SHARES = ("wrong", "right", "wrong chapters", "right chapters", "numbers", "due", "lost", "lost places", "backs",
+          "damaged numbers", "lost numbers")
 EXACT = ("missing", "left out", "first fields", "stops", "chapter table")
 
 

@@ -88,7 +88,7 @@ class Damage(unittest.TestCase):
         found = answer(changed(times(range(1490, 1510)), 15, 16, second(19, 22)))
         self.assertEqual(missing(found), [("0:00:59.22", "0:00:59.22", "damaged")])
         self.assertEqual(doubtful(found), [(15, 16, "19.22", "neighbours")])
-        self.assertEqual(found["damaged"], [{"number": "0:00:59.22", "field": 15}])
+        self.assertEqual(found["damaged"], [{"number": "0:00:59.22", "field": 15, "read": "19.22"}])
 
     def test_times_that_no_clock_shows(self):
         rows = changed(times(range(20)), 5, 16, second(0, 25))
@@ -145,7 +145,7 @@ class MinutesAlone(unittest.TestCase):
         for system, fields in (("NTSC", 3596), ("PAL", 3000)):
             found = answer(self.rows([(0, 9)]) + [BLANK] * (10 * fields) + self.rows([(10, 9)]), system)
             self.assertEqual(found["breaks"] + found["doubtful"], [])
-            self.assertEqual(missing(found), [("0:01", "0:09", "lost")])
+            self.assertEqual(missing(found), [("0:01", "0:09", "damaged")])  # there are fields for all of them
 
     def test_a_wrong_minute_and_one_that_differs(self):
         rows = self.rows([(4, 40)])
@@ -182,6 +182,13 @@ class Clock(unittest.TestCase):
         self.assertEqual(len(found["leftOut"]), 10)
         self.assertEqual((found["leftOut"][0]["first"], found["leftOut"][0]["last"]), ("0:01:00.00", "0:01:00.01"))
         self.assertEqual((found["leftOut"][-1]["first"], found["leftOut"][-1]["count"]), ("0:11:00.00", 2))
+
+    def test_a_damaged_number_beside_two_that_are_left_out(self):
+        rows = times(self.numbers(2000, lambda number: number in (1800, 1801)), 30)
+        rows[3598] = "? ? ?"  # 1799
+        found = answer(rows, "NTSC")
+        self.assertEqual(missing(found), [("0:00:59.29", "0:00:59.29", "damaged")])
+        self.assertEqual([(one["first"], one["last"]) for one in found["leftOut"]], [("0:01:00.00", "0:01:00.01")])
 
     def test_frames_that_are_lost_are_no_clock(self):
         found = answer(times(self.numbers(6000, lambda number: number in (400, 1700, 4100)), 30), "NTSC")

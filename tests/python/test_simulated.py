@@ -52,6 +52,13 @@ class Bounds(unittest.TestCase):
         self.assertEqual(self.all["lost found"], self.all["lost"], self.told)
         self.assertGreater(self.all["lost"], 460)
 
+    def test_why_numbers_are_missing(self):
+        self.assertEqual(self.all["damaged numbers found"], self.all["damaged numbers"], self.told)
+        self.assertGreater(self.all["damaged numbers"], 4200)
+        self.assertGreaterEqual(self.all["lost numbers found"], self.all["lost numbers"] - 4, self.told)
+        self.assertGreater(self.all["lost numbers"], 1400)
+        self.assertLess(self.all["undecided"], 300)
+
     def test_lists_that_are_exact(self):
         for name, least in (("stops", 70), ("missing", 69), ("left out", 70), ("first fields", 69),
                             ("chapter table", 69)):
