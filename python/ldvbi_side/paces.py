@@ -56,15 +56,16 @@ class MinutePace:
 
 class ChapterPace:
     """The pace of chapters, which have any length. The next chapter is no break. Each one passed over counts as a
-    picture would, and going back as all 80 would, since without a break of the pictures' numbers that can't be. The
-    numbers here are 100 times the breaks of those up to the field, and the chapter: at such a break any chapter may
+    picture would, and going back as all 80 would, since without a break of the pictures' numbers that can't be. One that
+    is passed over in many fields may have been there, and not have been read. The numbers here are 100 times the breaks of those up to the field, and the chapter: at such a break any chapter may
     follow, for the least price."""
     kind, variants, change, period = "chapter", 1, 0, 100
     ALL = 80  # chapters, 0 to 79
+    MANY = 18  # fields
 
     def off(self, fields, number, step, variant=0, other=0):
         chapters = (number + step) % 100 - number % 100
-        if chapters in (0, 1):
+        if chapters in (0, 1) or chapters == 2 and fields >= self.MANY:
             return 0
         if number // 100 != (number + step) // 100:
             return 1

@@ -1,6 +1,6 @@
 """What lies between each believed number and the next: nothing, fields in which a number is due, or a break."""
 
-from .clock import Clock
+from .clock import WIDE, Clock, Stretch
 
 
 class Steps:
@@ -14,7 +14,7 @@ class Steps:
         self.may_leave_out = numbers.unit.name == "time" and system == "NTSC"
         self.showings, self.breaks, self.stills, self.due = [], [], [], []
         self.without_field = set()
-        gaps = []  # of one or two numbers, which a clock may have left out
+        stretches = [Stretch()]  # with the gaps of one or two numbers, which a clock may have left out
         before = None
         for reading in numbers.believed:
             if before is None:
@@ -23,9 +23,9 @@ class Steps:
                 self._stay(before, reading)
             else:
                 self._show(reading)
-                self._go_on(before, reading, gaps)
+                self._go_on(before, reading, stretches)
             before = reading
-        self.clock = Clock(gaps, numbers.believed)
+        self.clock = Clock(stretches)
         for before, reading in self.clock.breaks:
             self._add_break(before, reading, numbers.off(before, reading))
         self.breaks.sort(key=lambda one: one["after"])
@@ -50,14 +50,18 @@ class Steps:
             self.stills.append({"number": reading.number, "first": showing[1], "last": reading.field})
         self._show(reading)
 
-    def _go_on(self, before, reading, gaps):
+    def _go_on(self, before, reading, stretches):
         off = self.numbers.off(before, reading)
         if off == 0:
             self._find_due(before, reading)
         elif self.may_leave_out and reading.number > before.number and off in (-2, -4):
-            gaps.append((before, reading, -off // 2))
+            stretches[-1].gaps.append((before, reading, -off // 2))
         else:
             self._add_break(before, reading, off)
+            if abs(off) >= WIDE:
+                stretches.append(Stretch())
+            return
+        stretches[-1].numbers += reading.number - before.number
 
     def _add_break(self, before, reading, off):
         kind = "back" if reading.number < before.number else "lost" if off < 0 else "held"

@@ -190,6 +190,30 @@ class Clock(unittest.TestCase):
         self.assertEqual(missing(found), [("0:00:59.29", "0:00:59.29", "damaged")])
         self.assertEqual([(one["first"], one["last"]) for one in found["leftOut"]], [("0:01:00.00", "0:01:00.01")])
 
+    def test_a_long_loss_leaves_the_clock_as_it_is(self):
+        numbers = self.numbers(12012, lambda number: number % 1001 == 400)
+        rows = times(numbers, 30)
+        del rows[6000:18000]  # 6,000 of 12,000 pictures
+        found = answer(rows, "NTSC")
+        self.assertEqual(found["lost"], [{"after": 5999, "before": 6001, "fields": 12012, "by": "number"}])
+        self.assertEqual((numbers[2999], numbers[9000]), (3002, 9009))
+        self.assertEqual(len(found["leftOut"]), 6)  # of 400, 1401, 2402 and 9409, 10410, 11411
+        self.assertEqual(len(missing(found)), 1)
+
+    def test_two_sides_that_are_joined_have_a_clock_each(self):
+        rows = [row for phase in (400, 750)
+                for row in times(self.numbers(5000, lambda number, phase=phase: number % 1001 == phase), 30)]
+        found = answer(rows, "NTSC")
+        self.assertEqual([found["lost"], len(found["breaks"])], [[], 1])
+
+    def test_a_short_stretch_is_judged_by_another_one(self):
+        numbers = self.numbers(9000, lambda number: number % 1001 == 400)
+        rows = times(numbers[:5000] + numbers[6500:], 30)
+        self.assertEqual(len(answer(rows, "NTSC")["lost"]), 1)
+        # nothing but short ones: together they have enough
+        rows = times(numbers[:1500] + numbers[2900:4400] + numbers[5900:7400], 30)
+        self.assertEqual(len(answer(rows, "NTSC")["lost"]), 2)
+
     def test_frames_that_are_lost_are_no_clock(self):
         found = answer(times(self.numbers(6000, lambda number: number in (400, 1700, 4100)), 30), "NTSC")
         self.assertEqual(missing(found), [("0:00:13.10", "0:00:13.10", "lost"), ("0:00:56.20", "0:00:56.20", "lost"),

@@ -2,7 +2,7 @@
 
 import unittest
 
-from discs import BLANK, answer, film, minutes, picture, pictures, second, times
+from discs import BLANK, LEAD_IN, answer, film, minutes, picture, pictures, second, times
 from ldvbi_side.seek import seek, text_of, wanted_of
 from test_cav import breaks, doubtful, missing
 
@@ -114,6 +114,36 @@ class LostOrDamaged(unittest.TestCase):
         self.assertEqual(missing(answer(rows)), [(11, 11, "damaged")])
         del rows[20]
         self.assertEqual(missing(answer(rows)), [(11, 11, "lost")])
+
+
+class Chapters(unittest.TestCase):
+    def test_a_chapter_read_once_behind_one_that_never_was(self):
+        rows = pictures(range(1, 31))
+        for field in range(1, 60, 2):
+            rows[field] = "- - 801DDD" if field < 18 else "- - 803DDD" if field == 55 else BLANK
+        found = answer(rows)
+        self.assertEqual([(one["chapter"], one["field"]) for one in found["chapters"]], [(1, 2), (3, 56)])
+        self.assertEqual(found["doubtful"], [])
+
+
+class Ends(unittest.TestCase):
+    def test_two_stretches_of_lead_in_are_two(self):
+        two = [{"first": 1, "last": 5, "count": 5}]
+        for between in ([BLANK] * 100, ["- 800DDD -"] * 3, pictures([1])):
+            found = answer([LEAD_IN] * 5 + between + [LEAD_IN] * 3)
+            begin = 6 + len(between)
+            self.assertEqual(found["leadIn"], two + [{"first": begin, "last": begin + 2, "count": 3}])
+
+    def test_a_scratch_makes_no_second_one(self):
+        for between in ([BLANK] * 99, ["- 805DDD* -"] + [BLANK] * 9 + ["- 807DDD* -"]):
+            found = answer([LEAD_IN] * 5 + between + [LEAD_IN] * 3)
+            self.assertEqual([one["count"] for one in found["leadIn"]], [8])
+
+
+class Format(unittest.TestCase):
+    def test_as_many_fields_of_both_formats_are_cav(self):
+        for rows in (["- F00001 F00001", "- 87FFFF -"], ["- 87FFFF F00001"], ["82CFFF - -", "8AE000 - -"]):
+            self.assertEqual(answer(rows)["format"], "cav")
 
 
 class ReadInstead(unittest.TestCase):
