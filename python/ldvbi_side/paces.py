@@ -56,9 +56,10 @@ class MinutePace:
 
 class ChapterPace:
     """The pace of chapters, which have any length. The next chapter is no break. Each one passed over counts as a
-    picture would, and going back as all 80 would, since without a break of the pictures' numbers that can't be. One that
-    is passed over in many fields may have been there, and not have been read. The numbers here are 100 times the breaks of those up to the field, and the chapter: at such a break any chapter may
-    follow, for the least price."""
+    picture would, and going back as all 80 would, since without a break of the pictures' numbers that can't be. One
+    chapter that is passed over in many fields may have been there, and not have been read. The numbers here are 100
+    times the breaks of those up to the field, and the chapter: at such a break any chapter may follow, for the least
+    price."""
     kind, variants, change, period = "chapter", 1, 0, 100
     ALL = 80  # chapters, 0 to 79
     MANY = 18  # fields
