@@ -28,7 +28,7 @@ def analyse(fields):
     answer = {"version": VERSION, "system": fields.system, "format": said.format, "unit": numbers.unit.name,
               "fields": said.count, "cutField": fields.cut, "frameBegin": begin,
               "pace": numbers.pace.kind if numbers.pace else None}
-    answer.update(_of_numbers(steps))
+    answer.update(_of_numbers(steps, doubts))
     answer["missing"], answer["leftOut"] = missing_of(steps, said.count)
     answer["lost"] = lost_fields(steps, fields.first)
     chapters = [dict(one, frame=frame_of(one["field"], begin)) for one in chapters_of(said, steps, doubts)]
@@ -53,15 +53,17 @@ def _place(one):
     return one["field"], one.get("line", 0)
 
 
-def _of_numbers(steps):
+def _of_numbers(steps, doubts):
     text_of = steps.numbers.unit.text_of
+    read = doubts.read_in({field for _, field in steps.due})
     numbers = {number for number, _, _ in steps.showings}
     return {
         "numbers": {"count": len(numbers), "least": text_of(min(numbers)) if numbers else None,
                     "greatest": text_of(max(numbers)) if numbers else None},
         "showings": [[text_of(number), first, last] for number, first, last in steps.showings],
         "completed": sorted(steps.numbers.completed),
-        "damaged": [{"number": text_of(number), "field": field} for number, field in steps.due],
+        "damaged": [{"number": text_of(number), "field": field, "read": read.get(field)}
+                    for number, field in steps.due],
         "breaks": [dict(one, **{"from": text_of(one["from"]), "to": text_of(one["to"])}) for one in steps.breaks],
         "stills": [dict(one, number=text_of(one["number"])) for one in steps.stills],
         "repeated": repeated_of(steps)}

@@ -8,6 +8,7 @@ from .paces import price
 
 REACH = 40  # readings back: setting aside more than these costs more than two of the widest breaks
 NEVER = -10 ** 9  # the value of a state that no chain has
+MOST_PRICES = 1 << 14  # to remember: a side has few different ones, and noise has any
 
 
 def chain(readings, pace):
@@ -89,6 +90,8 @@ class _Chains:
         from which, the price from moving and from still, and the states to which these go."""
         key = apart, step, number % self.pace.period
         if key not in self.prices:
+            if len(self.prices) == MOST_PRICES:
+                self.prices.clear()
             self.prices[key] = [self._price(apart, number, step, v, w) for v, w in self.pairs]
         return self.prices[key]
 

@@ -31,6 +31,15 @@ class Doubts:
         """A field whose lines 17 and 18 have these numbers, each with its lines, of which one was taken, or none."""
         self.conflicts.append(_conflict(field, said, taken))
 
+    def read_in(self, fields):
+        """What was read in these fields instead of a number that is due there, as text or number: of each field the
+        first word that is set aside, by its number or, where no clock shows that, by its digits."""
+        found = {}
+        for one in self.doubtful:
+            if one["field"] in fields and one["kind"] != "chapter":
+                found.setdefault(one["field"], one["word"] if one["number"] is None else one["number"])
+        return found
+
     def add_chapters(self, readings, taken):
         """Names the chapters that aren't believed, and the fields whose lines differ. `taken` are the believed ones by
         field."""

@@ -16,7 +16,7 @@ LANES = {
 _MISSING = {
     "damaged": "fields are there for it, and none shows it",
     "lost": "no field is there for it",
-    "undecided": "lost, or left out by the disc's clock",
+    "undecided": "lost or damaged, or left out by the disc's clock",
 }
 _LOST = {
     "number": "by the numbers",

@@ -2,6 +2,8 @@
 
 import bisect
 
+from .fates import Fates
+
 
 def missing_of(steps, count):
     """The numbers between the least and the greatest that no field has, in stretches of one reason; and those that were
@@ -9,15 +11,16 @@ def missing_of(steps, count):
     number by number."""
     firsts = _first_fields(steps.showings)
     numbers = sorted(firsts)
-    due = {number for number, _ in steps.due}
+    stretches = [(one, other) for one, other in zip(numbers, numbers[1:]) if other - one > 1]
+    fates = Fates(steps, stretches)
     missing, left_out = [], []
-    for one, other in zip(numbers, numbers[1:]):
+    for one, other in stretches:
         fields = firsts[one], firsts[other]
         if other - one > 4 * count:
             missing.append([one + 1, other - 1, "lost", fields])
             continue
         for number in range(one + 1, other):
-            why = _why_missing(number, due, steps.clock)
+            why = fates.why(number, one)
             places = left_out if why == "clock" else missing
             if places and places[-1][1:] == [number - 1, why, fields]:
                 places[-1][1] = number
@@ -31,14 +34,6 @@ def _first_fields(showings):
     for number, field, _ in showings:
         firsts.setdefault(number, field)
     return firsts
-
-
-def _why_missing(number, due, clock):
-    if clock.judged.get(number):
-        return "clock"
-    if number in due or number in clock.judged:
-        return "damaged"
-    return "undecided" if number in clock.open else "lost"
 
 
 def _stretch(first, last, why, fields, unit):

@@ -31,11 +31,12 @@ def minute_text(minutes):
 
 class Numbers:
     """The believed readings of a side by field, what they count, and the pace at which they go on. `completed` are the
-    fields whose minute is another field's."""
+    fields whose minute is another field's; `others` those in which no number is due, since their lines show a code that
+    stands there instead of one."""
 
     def __init__(self, unit, pace, readings):
         self.unit, self.pace = unit, pace
-        self.completed = set()
+        self.completed, self.others = set(), set()
         self.believe(chain(readings, pace) if pace else [])
 
     def believe(self, readings):
@@ -74,15 +75,18 @@ def pictures_of(said, doubts):
     if not readings:
         return no_numbers(system)
     numbers = Numbers(Unit("picture", RATES[system]), pace_of(readings, system == "NTSC"), readings)
+    if numbers.pace.kind != "both":
+        numbers.others = said.sure_fields(Kind.chapter)
     doubts.set_aside(numbers, readings)
     doubts.find_second_row(numbers, readings)
     return numbers
 
 
 def pace_of(readings, may_be_film):
-    """The numbers stand on both fields where a third of the steps from reading to reading is to the same number in the
-    next field; a disc that may be film is one where at least one picture in ten has 3 fields."""
+    """The numbers stand on both fields where a tenth of the steps from reading to reading is to the same number in the
+    next field: of a worn disc few pictures are read in both. A disc that may be film is one where at least one picture
+    in ten has 3 fields."""
     steps = Counter((other.field - one.field, other.number - one.number) for one, other in zip(readings, readings[1:]))
-    if 3 * steps[1, 0] > len(readings):
+    if 10 * steps[1, 0] > len(readings):
         return Pace("both")
     return Pace("film" if may_be_film and 9 * steps[3, 1] > steps[2, 1] else "video")

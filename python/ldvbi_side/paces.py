@@ -19,6 +19,7 @@ class Pace:
         self.variants = {"video": 1, "both": 2, "film": 3}[kind]
         self.period = 2 if kind == "film" else 1
         self.change = price(1) if kind == "film" else 0
+        self.least = 2 if kind == "both" else 1  # fields with which a number can be lost
 
     def between(self, number, step, variant, other):
         """The fields on the disc from a reading of this number and variant to the one `step` numbers on."""
@@ -32,10 +33,14 @@ class Pace:
             return 0 if self.kind == "both" and fields == other - variant else None
         return fields - self.between(number, step, variant, other)
 
+    def numbers_in(self, fields):
+        """How many numbers as many fields have at least, one after the other."""
+        return (2 * fields + 1) // 5 if self.kind == "film" else fields // 2
+
 
 class MinutePace:
     """The pace of minutes, each of which stands on all its fields, of which it has so many."""
-    kind, variants, change, period = "minute", 1, 0, 1
+    kind, variants, change, period, least = "minute", 1, 0, 1, 1
 
     def __init__(self, fields):
         self.fields = fields
@@ -44,18 +49,24 @@ class MinutePace:
         apart = fields - step * self.fields
         return 0 if step >= 0 and abs(apart) < self.fields else apart
 
+    def numbers_in(self, fields):
+        """How many minutes as many fields have at least, one after the other."""
+        return fields // self.fields
+
 
 class ChapterPace:
     """The pace of chapters, which have any length. The next chapter is no break. Each one passed over counts as a
-    picture would, and going back as all 80 would, since without a break of the pictures' numbers that can't be. The
-    numbers here are 100 times the breaks of those up to the field, and the chapter: at such a break any chapter may
-    follow, for the least price."""
+    picture would, and going back as all 80 would, since without a break of the pictures' numbers that can't be. One
+    chapter that is passed over in many fields may have been there, and not have been read. The numbers here are 100
+    times the breaks of those up to the field, and the chapter: at such a break any chapter may follow, for the least
+    price."""
     kind, variants, change, period = "chapter", 1, 0, 100
     ALL = 80  # chapters, 0 to 79
+    MANY = 18  # fields
 
     def off(self, fields, number, step, variant=0, other=0):
         chapters = (number + step) % 100 - number % 100
-        if chapters in (0, 1):
+        if chapters in (0, 1) or chapters == 2 and fields >= self.MANY:
             return 0
         if number // 100 != (number + step) // 100:
             return 1

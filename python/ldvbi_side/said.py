@@ -97,6 +97,11 @@ class Said:
         passes = self.fields.passes[field - 1]
         return sum(WEIGHTS[passes[line - LINES[0]]] for line in lines)
 
+    def sure_fields(self, kind):
+        """The fields that have a code of this kind on a line of pass 1, or on two lines."""
+        return {field for field, values in self.kinds[kind].items()
+                if sum(self.weight(field, lines) for lines in values.values()) >= WEIGHTS[1]}
+
     def readings(self, kind):
         """The values of a kind as readings, by field."""
         return [Reading(field, value, self.weight(field, lines), lines)

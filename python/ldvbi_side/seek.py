@@ -27,24 +27,27 @@ def wanted_of(text):
 
 
 def seek(answer, wanted):
-    """The first field of what is wanted on a side with this answer, as a dict of `field`, `frame` and `read`; None
-    where it isn't there. `read` is false where the number wasn't read in that field, but is due there by its
-    neighbours. A number that was set aside is never answered with. Of a part of a time the first field that has any of
-    it counts."""
+    """The first field of what is wanted on a side with this answer, as a dict of `field`, `frame`, `read` and `other`;
+    None where it isn't there. `read` is false where the number wasn't read in that field, but is due there by its
+    neighbours; `other` is what was read there instead, or None. A number that was set aside is never answered with. Of
+    a part of a time the first field that has any of it counts."""
     if wanted.kind == "chapter":
-        found = [(one["field"], True) for one in answer["chapters"] if one["chapter"] == wanted.numbers[0]]
+        found = [(one["field"], True, None) for one in answer["chapters"] if one["chapter"] == wanted.numbers[0]]
     else:
         found = _numbered(answer, wanted)
     if not found:
         return None
     is_exact = wanted.kind != "time" or len(wanted.numbers) == 4
     # of one number the field in which it was read; of several the first
-    field, read = min([one for one in found if one[1]] or found) if is_exact else min(found)
-    return {"field": field, "frame": frame_of(field, answer["frameBegin"]), "read": read}
+    if is_exact:
+        found = [one for one in found if one[1]] or found
+    field, read, other = min(found, key=lambda one: one[0])
+    return {"field": field, "frame": frame_of(field, answer["frameBegin"]), "read": read, "other": other}
 
 
 def _numbered(answer, wanted):
-    """The fields with the wanted number, or with one that is part of the wanted time, and whether it was read there."""
+    """The fields with the wanted number, or with one that is part of the wanted time, whether it was read there, and
+    what was instead."""
     units = ("picture",) if wanted.kind == "picture" else ("time", "minute")
     if answer["unit"] not in units:
         return []
@@ -56,8 +59,8 @@ def _numbered(answer, wanted):
 
         def fits(number):
             return number == begin or number.startswith(begins)
-    found = [(field, True) for number, field, _ in answer["showings"] if fits(number)]
-    return found + [(one["field"], False) for one in answer["damaged"] if fits(one["number"])]
+    found = [(field, True, None) for number, field, _ in answer["showings"] if fits(number)]
+    return found + [(one["field"], False, one["read"]) for one in answer["damaged"] if fits(one["number"])]
 
 
 def text_of(found):
@@ -65,4 +68,8 @@ def text_of(found):
     if found is None:
         return "not found"
     text = "field %(field)d, frame %(frame)d" % found
-    return text if found["read"] else text + ", by its neighbours: no number was read there"
+    if found["read"]:
+        return text
+    other = "no number was read there" if found["other"] is None else (
+        "another number was read there: %s" % found["other"])
+    return text + ", by its neighbours: " + other

@@ -1,18 +1,20 @@
 """What lies between each believed number and the next: nothing, fields in which a number is due, or a break."""
 
-from .clock import Clock
+from .clock import WIDE, Clock, Stretch
 
 
 class Steps:
     """The steps of a side from number to number. `showings` are lists of a number, its first and its last field; `due`
-    are pairs of a number that isn't there and the field that it belongs to. `clock` judges the numbers of an NTSC disc
-    that may have been left out by its clock."""
+    are pairs of a number that isn't there and the field that it belongs to; `without_field` are numbers that aren't
+    there, where no field is too few, and whose field isn't known. `clock` judges the numbers of an NTSC disc that
+    may have been left out by its clock."""
 
     def __init__(self, numbers, system):
         self.numbers = numbers
         self.may_leave_out = numbers.unit.name == "time" and system == "NTSC"
         self.showings, self.breaks, self.stills, self.due = [], [], [], []
-        gaps = []  # of one or two numbers, which a clock may have left out
+        self.without_field = set()
+        stretches = [Stretch()]  # with the gaps of one or two numbers, which a clock may have left out
         before = None
         for reading in numbers.believed:
             if before is None:
@@ -21,9 +23,9 @@ class Steps:
                 self._stay(before, reading)
             else:
                 self._show(reading)
-                self._go_on(before, reading, gaps)
+                self._go_on(before, reading, stretches)
             before = reading
-        self.clock = Clock(gaps, numbers.believed)
+        self.clock = Clock(stretches)
         for before, reading in self.clock.breaks:
             self._add_break(before, reading, numbers.off(before, reading))
         self.breaks.sort(key=lambda one: one["after"])
@@ -48,14 +50,18 @@ class Steps:
             self.stills.append({"number": reading.number, "first": showing[1], "last": reading.field})
         self._show(reading)
 
-    def _go_on(self, before, reading, gaps):
+    def _go_on(self, before, reading, stretches):
         off = self.numbers.off(before, reading)
         if off == 0:
             self._find_due(before, reading)
         elif self.may_leave_out and reading.number > before.number and off in (-2, -4):
-            gaps.append((before, reading, -off // 2))
+            stretches[-1].gaps.append((before, reading, -off // 2))
         else:
             self._add_break(before, reading, off)
+            if abs(off) >= WIDE:
+                stretches.append(Stretch())
+            return
+        stretches[-1].numbers += reading.number - before.number
 
     def _add_break(self, before, reading, off):
         kind = "back" if reading.number < before.number else "lost" if off < 0 else "held"
@@ -66,12 +72,16 @@ class Steps:
         """The fields in which the numbers between two that fit are due."""
         pace = self.numbers.pace
         if pace.kind == "minute":
+            self.without_field.update(range(before.number + 1, reading.number))
             return
         for step in range(1, reading.number - before.number):
             # of a picture with its number on both fields the first one is meant
             variant = 0 if pace.kind == "both" else reading.variant
             field = before.field + pace.between(before.number, step, before.variant, variant)
-            self.due.append((before.number + step, field))
+            if field in self.numbers.others:
+                self.without_field.add(before.number + step)
+            else:
+                self.due.append((before.number + step, field))
 
     def number_at(self, field):
         """The number of the picture that a field belongs to, read or due: its own, or that of a field just before it;

@@ -5,10 +5,12 @@ from ldvbi import Kind
 from .chain import chain
 from .numbers import RATES, Numbers, Unit, minute_text, no_numbers, pace_of
 from .paces import MinutePace
+from .runs import Runs
 from .said import Reading
 
 # Fields of a minute. NTSC has 59.94 fields in a second, of which a minute has 3,596 or 3,597.
 MINUTE_FIELDS = {"NTSC": 3596, "PAL": 3000}
+CARRIED = 1  # seconds that are lost at most where a minute is carried over although others were read
 
 
 def times_of(said, doubts):
@@ -69,6 +71,7 @@ class _Times:
         """The numbers of these times. Fields without a minute that is believed get the one that brings them nearest to
         the believed times around them, and the chain is drawn again."""
         numbers = Numbers(Unit("time", self.rate), pace_of(readings, False), readings)
+        numbers.others = set().union(*map(self.said.sure_fields, (Kind.chapter, Kind.cx_on, Kind.cx_off)))
         more = self._completions(numbers, readings)
         if more:
             numbers.believe(chain(sorted(readings + more, key=lambda one: one.field), numbers.pace))
@@ -78,14 +81,37 @@ class _Times:
         return numbers
 
     def _completions(self, numbers, readings):
+        """The times of fields that have none: each second and picture with the minute that was read in its run of line
+        16, and with the one that brings it nearest to a believed time beside it. Behind a longer loss the minute there
+        says nothing, so it isn't carried over to a run in which one was read."""
         taken = set(numbers.fields)
+        wanted = sorted(self.parts.keys() - taken)
+        if not wanted:
+            return []
         said = {(reading.field, reading.number) for reading in readings if reading.field not in taken}
+        runs = Runs(self.parts, {field: {minute: self.said.weight(field, lines) for minute, lines in values.items()}
+                                 for field, values in self.minutes.items()}, self.whole)
         more = []
-        for field in sorted(self.parts.keys() - taken):
-            found = {self._nearest(near, field) for near in numbers.around(field) if near}
-            more += [Reading(field, number, self.said.weight(field, (16,)), (16,)) for number in found
+        for field in wanted:
+            run = runs.of_field[field]
+            found = {number for number, lost in self._carried_over(numbers.around(field), field)
+                     if not run.votes or lost <= CARRIED * self.rate} | run.said_at(field)
+            more += [Reading(field, number, self._weight_of_completed(field, number), (16,)) for number in sorted(found)
                      if number >= 0 and (field, number) not in said]
         return more
+
+    def _carried_over(self, around, field):
+        """The times nearest to those due by these readings, and how many pictures each is off."""
+        for near in around:
+            if near:
+                number = self._nearest(near, field)
+                yield number, abs(number - near.number - (field - near.field) // 2)
+
+    def _weight_of_completed(self, field, number):
+        """The weight of line 16, less that of another minute which the field itself says."""
+        against = [self.said.weight(field, lines) for minute, lines in self.minutes.get(field, {}).items()
+                   if minute != number // self.whole]
+        return max(self.said.weight(field, (16,)) - max(against, default=0), 0)
 
     def _nearest(self, near, field):
         """The time with this field's second and picture that is nearest to the one due by that reading."""

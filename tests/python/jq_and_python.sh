@@ -108,6 +108,8 @@ echo '82CFFF F00009 F00009' > words_of_side
 sound 'one field' "$pal" < words_of_side
 side_of "$ntsc" < empty
 alike 'no field' tables "$tables"
+printf -- '- F00009 F00009\n- 87FFFF -\n' > words_of_side
+sound 'as many fields of CAV as of CLV' "$ntsc" < words_of_side
 
 # Lines that differ, in a picture and in the minutes of a time
 differing='conflicts | .[] | [.field, .line17, .line18]'

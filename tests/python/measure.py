@@ -12,9 +12,12 @@ from collections import Counter, defaultdict
 from ldvbi_side.analysis import analyse
 from ldvbi_side.said import Fields
 from simulate import simulated
+from sound import faults_of
 from truth import Comparison, Truth
 
-SHARES = ("wrong", "right", "wrong chapters", "right chapters", "numbers", "due", "lost", "lost places", "backs")
+SHARES = ("wrong", "right", "wrong chapters", "right chapters", "numbers", "due", "lost", "lost places", "backs",
+          "damaged numbers", "lost numbers")
+SOUND = 4  # each so many sides are looked at for what holds of every answer
 EXACT = ("missing", "left out", "first fields", "stops", "chapter table")
 
 
@@ -36,6 +39,10 @@ def measured(seed, parity=False, tell=lambda text: None):
     counts = Comparison(Truth(side), answer, lambda name, text: tell(
         "seed %d, %s, %s: %s: %s" % (seed, side.kind, side.settings, name, text))).counts
     counts["microseconds"] = round(1e6 * spent)
+    if seed % SOUND == 0:
+        for fault in faults_of(fields, answer):
+            counts["faults"] += 1
+            tell("seed %d, %s: %s" % (seed, side.kind, fault))
     return side.kind, counts
 
 
@@ -43,7 +50,8 @@ def print_table(totals):
     for kind, counts in sorted(totals.items()):
         exact = ", ".join("%s %d" % (name, counts[name]) for name in EXACT)
         shares = ", ".join("%s %d of %d" % (name, counts[name + " found"], counts[name]) for name in SHARES)
-        print("%s: %d sides; exact: %s; undecided %d" % (kind, counts["sides"], exact, counts["undecided"]))
+        print("%s: %d sides; exact: %s; undecided %d; faults %d" % (
+            kind, counts["sides"], exact, counts["undecided"], counts["faults"]))
         print("    found: %s; %.1f us a field" % (shares, counts["microseconds"] / counts["fields"]))
 
 

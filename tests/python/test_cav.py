@@ -72,7 +72,7 @@ class Damage(unittest.TestCase):
     def test_one_wrong_number_of_600(self):
         found = answer(numbered(pictures(range(1, 601)), 400, "F79999", "F79999"))
         self.assertEqual(missing(found), [(400, 400, "damaged")])
-        self.assertEqual(found["damaged"], [{"number": 400, "field": 799}])
+        self.assertEqual(found["damaged"], [{"number": 400, "field": 799, "read": 79999}])
         self.assertEqual(doubtful(found), [(799, 17, 79999, "neighbours"), (799, 18, 79999, "neighbours")])
         self.assertEqual(found["doubtful"][0]["before"], {"field": 797, "number": 399})
         self.assertEqual(found["doubtful"][0]["after"], {"field": 801, "number": 401})

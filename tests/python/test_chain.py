@@ -1,7 +1,9 @@
 """What breaks cost, how far apart numbers stand, and which readings are believed."""
 
 import unittest
+import unittest.mock
 
+from ldvbi_side import chain as chains
 from ldvbi_side.chain import chain
 from ldvbi_side.paces import ChapterPace, MinutePace, Pace, price
 from ldvbi_side.said import Reading
@@ -39,6 +41,17 @@ class Paces(unittest.TestCase):
         pace = MinutePace(3000)
         self.assertEqual([pace.off(10, 4, 0), pace.off(2999, 4, 0), pace.off(1, 4, 1), pace.off(5999, 4, 1)], [0] * 4)
         self.assertEqual([pace.off(6001, 4, 1), pace.off(1, 4, 3), pace.off(5, 4, -1)], [3001, -8999, 3005])
+
+    def test_how_many_numbers_have_so_many_fields(self):
+        for pace, fields, numbers in ((Pace("video"), 5, 2), (Pace("both"), 3, 1), (Pace("film"), 2, 1),
+                                      (Pace("film"), 4, 1), (Pace("film"), 5, 2), (Pace("film"), 7, 3),
+                                      (MinutePace(3000), 2999, 0), (MinutePace(3000), 5999, 1)):
+            self.assertEqual(pace.numbers_in(fields), numbers)
+
+    def test_one_chapter_may_be_passed_over_in_18_fields(self):
+        pace = ChapterPace()
+        self.assertEqual([pace.off(fields, 7, 2) for fields in (17, 18)], [2, 0])
+        self.assertEqual([pace.off(400, 7, 3), pace.off(400, 7, -1)], [4, 160])
 
     def test_chapters_go_on_by_one(self):
         pace = ChapterPace()
@@ -86,6 +99,14 @@ class Chains(unittest.TestCase):
         wrong = [Reading(41 + 2 * place, 61 + place, 1, (18,)) for place in range(14)]
         ones = readings(*range(1, 21)) + wrong + readings(*range(35, 61), first=69)
         self.assertEqual([number for _, number in believed(ones)], list(range(1, 21)) + list(range(35, 61)))
+
+    def test_noise_asks_for_no_more_prices_than_are_remembered(self):
+        with unittest.mock.patch.object(chains, "MOST_PRICES", 50):
+            noise = chains._Chains(readings(*((place * 7919) % 79999 for place in range(200))), Pace("video"))
+            for index in range(200):
+                noise.add(index)
+            self.assertLessEqual(len(noise.prices), 50)
+            self.assertEqual(len(believed(readings(*range(1, 20), *range(40000, 40020)))), 39)
 
     def test_a_still_is_one_break_however_long(self):
         ones = believed(readings(1, 2, 3, *[4] * 50, 5, 6, 7))

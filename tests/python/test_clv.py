@@ -88,7 +88,7 @@ class Damage(unittest.TestCase):
         found = answer(changed(times(range(1490, 1510)), 15, 16, second(19, 22)))
         self.assertEqual(missing(found), [("0:00:59.22", "0:00:59.22", "damaged")])
         self.assertEqual(doubtful(found), [(15, 16, "19.22", "neighbours")])
-        self.assertEqual(found["damaged"], [{"number": "0:00:59.22", "field": 15}])
+        self.assertEqual(found["damaged"], [{"number": "0:00:59.22", "field": 15, "read": "19.22"}])
 
     def test_times_that_no_clock_shows(self):
         rows = changed(times(range(20)), 5, 16, second(0, 25))
@@ -145,7 +145,7 @@ class MinutesAlone(unittest.TestCase):
         for system, fields in (("NTSC", 3596), ("PAL", 3000)):
             found = answer(self.rows([(0, 9)]) + [BLANK] * (10 * fields) + self.rows([(10, 9)]), system)
             self.assertEqual(found["breaks"] + found["doubtful"], [])
-            self.assertEqual(missing(found), [("0:01", "0:09", "lost")])
+            self.assertEqual(missing(found), [("0:01", "0:09", "damaged")])  # there are fields for all of them
 
     def test_a_wrong_minute_and_one_that_differs(self):
         rows = self.rows([(4, 40)])
@@ -182,6 +182,37 @@ class Clock(unittest.TestCase):
         self.assertEqual(len(found["leftOut"]), 10)
         self.assertEqual((found["leftOut"][0]["first"], found["leftOut"][0]["last"]), ("0:01:00.00", "0:01:00.01"))
         self.assertEqual((found["leftOut"][-1]["first"], found["leftOut"][-1]["count"]), ("0:11:00.00", 2))
+
+    def test_a_damaged_number_beside_two_that_are_left_out(self):
+        rows = times(self.numbers(2000, lambda number: number in (1800, 1801)), 30)
+        rows[3598] = "? ? ?"  # 1799
+        found = answer(rows, "NTSC")
+        self.assertEqual(missing(found), [("0:00:59.29", "0:00:59.29", "damaged")])
+        self.assertEqual([(one["first"], one["last"]) for one in found["leftOut"]], [("0:01:00.00", "0:01:00.01")])
+
+    def test_a_long_loss_leaves_the_clock_as_it_is(self):
+        numbers = self.numbers(12012, lambda number: number % 1001 == 400)
+        rows = times(numbers, 30)
+        del rows[6000:18000]  # 6,000 of 12,000 pictures
+        found = answer(rows, "NTSC")
+        self.assertEqual(found["lost"], [{"after": 5999, "before": 6001, "fields": 12012, "by": "number"}])
+        self.assertEqual((numbers[2999], numbers[9000]), (3002, 9009))
+        self.assertEqual(len(found["leftOut"]), 6)  # of 400, 1401, 2402 and 9409, 10410, 11411
+        self.assertEqual(len(missing(found)), 1)
+
+    def test_two_sides_that_are_joined_have_a_clock_each(self):
+        rows = [row for phase in (400, 750)
+                for row in times(self.numbers(5000, lambda number, phase=phase: number % 1001 == phase), 30)]
+        found = answer(rows, "NTSC")
+        self.assertEqual([found["lost"], len(found["breaks"])], [[], 1])
+
+    def test_a_short_stretch_is_judged_by_another_one(self):
+        numbers = self.numbers(9000, lambda number: number % 1001 == 400)
+        rows = times(numbers[:5000] + numbers[6500:], 30)
+        self.assertEqual(len(answer(rows, "NTSC")["lost"]), 1)
+        # nothing but short ones: together they have enough
+        rows = times(numbers[:1500] + numbers[2900:4400] + numbers[5900:7400], 30)
+        self.assertEqual(len(answer(rows, "NTSC")["lost"]), 2)
 
     def test_frames_that_are_lost_are_no_clock(self):
         found = answer(times(self.numbers(6000, lambda number: number in (400, 1700, 4100)), 30), "NTSC")

@@ -48,7 +48,7 @@ class Marks(unittest.TestCase):
         for why, first, last, text in (
                 ("damaged", 10, 12, "fields are there for it, and none shows it"),
                 ("lost", 13, 13, "no field is there for it"),
-                ("undecided", 13, 13, "lost, or left out by the disc's clock")):
+                ("undecided", 13, 13, "lost or damaged, or left out by the disc's clock")):
             self.check("missing", "missing", missing(why), first, last, "missing: 5" + place + text)
         self.check("missing", "missing", missing("lost", 3), 13, 13,
                    "missing: 5 to 7" + place + "no field is there for it")

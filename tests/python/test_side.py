@@ -81,8 +81,8 @@ class Seeking(unittest.TestCase):
         known = answer(rows)
         self.assertEqual([found(known, text) for text in ("70000", "15", "5", "10")],
                          ["not found", "field 29, frame 15",
-                          "field 9, frame 5, by its neighbours: no number was read there",
-                          "field 19, frame 10, by its neighbours: no number was read there"])
+                          "field 9, frame 5, by its neighbours: another number was read there: 15",
+                          "field 19, frame 10, by its neighbours: another number was read there: 70000"])
 
     def test_of_a_number_that_was_read_later_the_field_in_which_it_was_read(self):
         rows = pictures(list(range(1, 31)) + list(range(11, 51)))
@@ -286,7 +286,7 @@ class Sides(unittest.TestCase):
 
     def test_seeking(self):
         one = side(pictures(range(5, 25)))
-        self.assertEqual(one.seek("7"), {"field": 5, "frame": 3, "read": True})
+        self.assertEqual(one.seek("7"), {"field": 5, "frame": 3, "read": True, "other": None})
         self.assertIsNone(one.seek("25"))
 
     def test_codes_are_judged_by_nothing(self):

@@ -5,10 +5,11 @@ import random
 import unittest
 from collections import Counter
 
-from discs import BLANK, LEAD_IN, LEAD_OUT, answer, film, picture, pictures, times
+from discs import BLANK, LEAD_IN, LEAD_OUT, answer, film, picture, pictures, plain, times
 from ldvbi_side.analysis import analyse
 from measure import fields_of, measured
 from simulate import KINDS, simulated
+from sound import faults_of
 from truth import Comparison, Truth
 
 SEEDS = range(2000, 2070)
@@ -31,6 +32,9 @@ class Bounds(unittest.TestCase):
     def test_ten_sides_of_each_kind(self):
         self.assertEqual({kind: counts["sides"] for kind, counts in self.totals.items()}, dict.fromkeys(KINDS, 10))
 
+    def test_no_answer_contradicts_the_words_of_its_side(self):
+        self.assertEqual(self.all["faults"], 0, self.told)
+
     def test_wrong_numbers_are_set_aside(self):
         self.share("wrong", 1184)
         self.share("wrong chapters", 947, 2)
@@ -51,6 +55,13 @@ class Bounds(unittest.TestCase):
         self.share("backs", 366)
         self.assertEqual(self.all["lost found"], self.all["lost"], self.told)
         self.assertGreater(self.all["lost"], 460)
+
+    def test_why_numbers_are_missing(self):
+        self.assertEqual(self.all["damaged numbers found"], self.all["damaged numbers"], self.told)
+        self.assertGreater(self.all["damaged numbers"], 4200)
+        self.assertGreaterEqual(self.all["lost numbers found"], self.all["lost numbers"] - 4, self.told)
+        self.assertGreater(self.all["lost numbers"], 1400)
+        self.assertLess(self.all["undecided"], 300)
 
     def test_lists_that_are_exact(self):
         for name, least in (("stops", 70), ("missing", 69), ("left out", 70), ("first fields", 69),
@@ -116,6 +127,49 @@ class Comparing(unittest.TestCase):
         self.assertEqual(counts["lost"] - counts["lost found"], 1 + before["lost"] - before["lost found"])
         self.assertEqual(counts["due"] - counts["due found"], 1)
         self.assertEqual([name for name, _ in told], ["lost"])
+
+
+class Soundness(unittest.TestCase):
+    """What holds of every answer is found to be broken in one that is changed."""
+
+    def faults(self, kind, change):
+        fields = fields_of(simulated(2000, kind, 0.02, 300))
+        known = analyse(fields)
+        self.assertEqual(faults_of(fields, known), [])
+        change(known)
+        return faults_of(fields, known)
+
+    def test_changed_answers(self):
+        def due_in_a_chapter(one):
+            one["damaged"].append({"number": 1, "field": one["chapters"][0]["field"], "read": None})
+
+        def other_minutes(one):
+            one["doubtful"] = [entry for entry in one["doubtful"] if entry["kind"] != "time"]
+
+        def completed_from_afar(one):
+            number, field, last = one["showings"][0]
+            one["showings"][0] = ["7" + number[1:], field, last]
+            one["completed"].insert(0, field)
+
+        cases = (("cav-pal", due_in_a_chapter),
+                 ("cav-pal", lambda one: one["doubtful"].append(one["doubtful"][0])),
+                 ("cav-pal", lambda one: one["doubtful"].clear()), ("cav-pal", lambda one: one["showings"].pop()),
+                 ("clv-pal", due_in_a_chapter), ("clv-pal", other_minutes), ("clv-pal", completed_from_afar))
+        for place, (kind, change) in enumerate(cases):
+            self.assertGreater(len(self.faults(kind, change)), 0, place)
+
+    def test_a_number_that_fits_and_one_that_was_read(self):
+        rows = pictures(range(1, 30))
+        rows[18] = "- F70000 F70000"
+        fields = plain(rows)
+        known = analyse(fields)
+        self.assertEqual(faults_of(fields, known), [])
+        for one in known["doubtful"]:
+            one["number"] = 10
+        self.assertEqual(faults_of(fields, known), ["field 19 fits and is doubtful"] * 2)
+        known = analyse(fields)
+        known["damaged"][0]["read"] = None
+        self.assertEqual(faults_of(fields, known), ["a number was read in field 19"] * 2)
 
 
 def damaged(rows, places, change):

@@ -23,7 +23,8 @@ def number_of(text, rate, unit):
 class Truth:
     """`read` is the first field in which each number can be read, `chapters` that of each chapter; `right` and
     `right_chapters` are the lines whose word says a number or a chapter rightly, `wrong` and `wrong_chapters` those
-    that say one wrongly; `missing` the numbers of the disc that can't be read, `left_out` those that the disc hasn't;
+    that say one wrongly; `missing` the numbers of the disc that can't be read, each with why (`damaged` where a field
+    has it, else `lost`), `left_out` those that the disc hasn't;
     `lost` how many fields are lost behind which field, `backs` the fields behind which the disc's order is broken."""
 
     def __init__(self, side):
@@ -68,7 +69,9 @@ class Truth:
     def _find_missing(self):
         on_disc = set(self.side.on_disc)
         span = range(min(self.read), max(self.read) + 1) if self.read else ()
-        self.missing = {number for number in span if number not in self.read and number in on_disc}
+        captured = set(self.side.numbers)
+        self.missing = {number: "damaged" if number in captured else "lost"
+                        for number in span if number not in self.read and number in on_disc}
         self.left_out = {number for number in span if number not in on_disc}
 
     def _find_lost(self, numbered):
@@ -129,9 +132,18 @@ class Comparison:
 
     def _compare_numbers(self):
         answer, truth = self.answer, self.truth
-        undecided = self._numbers_in(one for one in answer["missing"] if one["why"] == "undecided")
+        missing = {why: self._numbers_in(one for one in answer["missing"] if one["why"] == why)
+                   for why in ("damaged", "lost", "undecided")}
+        undecided = missing["undecided"]
         self.counts["undecided"] = len(undecided)
-        self._exact("missing", self._numbers_in(answer["missing"]) - undecided, truth.missing - undecided)
+        for why in ("damaged", "lost"):
+            self.counts[why + " numbers"] = len(missing[why])
+            self.counts[why + " numbers found"] = sum(truth.missing.get(number) == why for number in missing[why])
+            for number in sorted(missing[why]):
+                if truth.missing.get(number, why) != why:
+                    self.tell("not " + why, number)
+        # of a number that is undecided the clock may have left it out
+        self._exact("missing", set().union(*missing.values()) - (undecided & truth.left_out), set(truth.missing))
         self._exact("left out", self._numbers_in(answer["leftOut"]) - undecided, truth.left_out - undecided)
         showings = [(self._number_of(number), field) for number, field, _ in answer["showings"]]
         numbers = truth.side.numbers
