@@ -12,6 +12,7 @@ from .numbers import no_numbers, pictures_of
 from .said import Said
 from .steps import Steps
 from .times import times_of
+from .whole import reasons_of
 
 VERSION = 1  # of the answer's form
 
@@ -40,6 +41,8 @@ def analyse(fields):
         "stray": sorted(said.stray, key=_place)})
     bad, rates = bad_lines_of(fields), rates_of(fields)
     answer.update({"badLines": bad, "lines": rates, "levels": levels_of(rates, bad, said.count)})
+    reasons = reasons_of(answer, fields.expected, fields.is_strict)
+    answer.update({"whole": not reasons, "reasons": reasons})
     return answer
 
 

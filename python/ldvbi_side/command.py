@@ -17,7 +17,7 @@ from .plot import plot_command
 from .progress import Progress
 from .seek import seek, text_of, wanted_of
 from .side import Side, cut_of, side_of_stream
-from .summary import is_whole, summary
+from .summary import summary
 from .tables import BAD_LINE_COLUMNS, FIELD_COLUMNS, bad_line_rows, field_rows
 
 DESCRIPTION = """Reads a side from a TBC file, or from a document that `ldvbi extract` wrote, and says what its words
@@ -50,10 +50,11 @@ def _parser():
     output.add_argument("--seek", metavar="WANTED", type=_wanted, help="print the first field of a picture, which is "
                         "given by its number or as a CLV time h:mm:ss.pp, of a minute h:mm, of a second h:mm:ss, or of "
                         "a chapter, as 'chapter 3'; status 1 where there is none")
-    output.add_argument("--summary", action="store_true", help="print what to look at first, in at most 20 lines; "
-                        "status 1 where a picture is missing, none is there, or the last field is cut")
+    output.add_argument("--summary", action="store_true", help="print whether the side is whole, and what to look at "
+                        "first, in at most 24 lines; status 0 where it is whole, else 1")
     output.add_argument("--document", action="store_true", help="print the document that `ldvbi extract` writes of the "
                         "TBC file, the same byte for byte")
+    parser.add_argument("--strict", action="store_true", help="take a side without lead-in or lead-out for not whole")
     parser.add_argument("-o", "--output", metavar="FILE", help="print into this file, which gets its name only when it "
                         "is whole")
     parser.add_argument("--svg", metavar="FILE", help="draw the side into this file; with one of the others, that is "
@@ -141,6 +142,7 @@ def _answer(options):
         if not options.svg:
             return _cut_status(cut_of(source), source.system)
     side = _side_of(source)
+    side.is_strict = options.strict
     if options.meta:
         _add_parity(side, options.meta, isinstance(source, Side))
     if options.svg:
@@ -151,7 +153,7 @@ def _answer(options):
         return int(found is None)
     if options.summary:
         print(*summary(side.answer, lambda *line: plot_command(side, options.side, *line)), sep="\n")
-        return 0 if is_whole(side.answer) else 1
+        return 0 if side.answer["whole"] else 1
     if options.json:
         json.dump(side.answer, sys.stdout)
         print()

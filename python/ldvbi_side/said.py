@@ -12,13 +12,17 @@ WEIGHTS = (0, 2, 1)  # of a line without a word, with one of pass 1, with one of
 class Fields(NamedTuple):
     """The whole fields of a side as plain data: of each field the words, passes and causes of lines 16, 17 and 18, as
     the document of `ldvbi extract` has them. `cut` is the document's `cutField`. `first` says of each field whether it
-    is the first one of its frame (`isFirstField` of ld-decode's metadata), or is None where that isn't known."""
+    is the first one of its frame (`isFirstField` of ld-decode's metadata), or is None where that isn't known.
+    `expected` is the number of fields that the metadata has, or None; `is_strict` says that a side without lead-in or
+    lead-out isn't whole."""
     system: str
     words: List[Tuple[int, int, int]]
     passes: List[Tuple[int, int, int]]
     causes: List[Tuple[str, str, str]]
     cut: Optional[dict] = None
     first: Optional[List[bool]] = None
+    expected: Optional[int] = None
+    is_strict: bool = False
 
 
 class Reading(NamedTuple):

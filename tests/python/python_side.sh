@@ -85,7 +85,8 @@ for source in side.vbi.json "side.tbc $ntsc"; do
     tells "a time that $source doesn't have" 1 'not found' $source --seek 0:00:00.00
     tells "no line of $source is bad" 0 'field,line,cause,offset' $source --bad-lines
     tells "a chapter of $source" 0 'field 8, frame 4' $source --seek 'chapter 1'
-    tells "the summary of $source" 0 'system: NTSC, CAV
+    tells "the summary of $source" 1 'whole: no: numbers set aside in 1 of 4 fields
+system: NTSC, CAV
 fields: 11, cut: none
 line 16: 2 words, 0 of them of pass 2; 0 bad (0.00 %), 9 blank
 line 17: 10 words, 0 of them of pass 2; 0 bad (0.00 %), 1 blank
@@ -97,10 +98,10 @@ jumps: none
 stills: none
 shown again: none
 doubtful, set aside: 1 (picture 79999 in field 7 line 18)
-lines 17 and 18 differ: 1 (field 7: 3 and 79999, 3 taken)
-chapters: 2 (0 in field 4, 1 in field 8)
-picture stops: 2 (2 in field 5, 3 in field 8)
-lead-in: 1 (fields 1), lead-out: 1 (fields 11)
+lines 17 and 18 differ: 1 (field 7: picture 3 and 79999, 3 taken)
+chapters: 2 (chapter 0 in field 4, chapter 1 in field 8)
+picture stops: 2 (picture 2 in field 5, picture 3 in field 8)
+lead-in: 1 (field 1), lead-out: 1 (field 11)
 stray codes: none' $source --summary
 done
 cp side.vbi.json document
@@ -196,7 +197,9 @@ WORDS
 printf '12345' >> side.tbc
 output_of extract $ntsc side.tbc > side.vbi.json
 for source in side.vbi.json "side.tbc $ntsc"; do
-    tells "the summary of a cut stream with each cause, $source" 1 'system: NTSC, CAV
+    tells "the summary of a cut stream with each cause, $source" 1 'whole: no: no picture number and no time; '\
+'line 18 shows no code; field 3 is cut
+system: NTSC, CAV
 fields: 2, cut: field 3, of 5 bytes
 line 16: 1 words, 0 of them of pass 2; 1 bad (50.00 %), 0 blank
 line 17: 1 words, 1 of them of pass 2; 1 bad (50.00 %), 0 blank

@@ -14,7 +14,7 @@ from ldvbi_side.parity import first_fields_of
 from ldvbi_side.plot import plot_command, tbc_name
 from ldvbi_side.seek import seek, text_of, wanted_of
 from ldvbi_side.side import Cut
-from ldvbi_side.summary import is_whole, summary
+from ldvbi_side.summary import summary
 from ldvbi_side.tables import bad_line_rows, field_rows
 
 
@@ -164,67 +164,82 @@ class Summaries(unittest.TestCase):
         rows[26] = "- F00013 F00003"
         rows[44:46] = []  # picture 22
         self.assertEqual(lines_of(side(rows)), [
+            "whole: no: 2 fields lost; 3 pictures missing",
             "system: PAL, CAV",
             "fields: 62, cut: none",
             "line 16: 1 words, 0 of them of pass 2; 1 bad (50.00 %), 60 blank",
             "line 17: 61 words, 0 of them of pass 2; 1 bad (1.61 %), 0 blank",
             "line 18: 61 words, 0 of them of pass 2; 1 bad (1.61 %), 0 blank",
             "pictures: 27, from 1 to 30",
-            "missing: 3 (damaged 2, lost 1: 10 to 11 after field 19, 22 after field 43)",
+            "missing: 3 (damaged 2, lost 1: pictures 10 to 11 after field 19, picture 22 after field 43)",
             "lost fields: 2 (2 after field 43)",
             "jumps: none",
             "stills: none",
             "shown again: none",
             "doubtful, set aside: 3 (picture 79999 in field 21 line 17, picture 79999 in field 21 line 18, "
             "picture 3 in field 27 line 18)",
-            "lines 17 and 18 differ: 1 (field 27: 13 and 3, 13 taken)",
-            "chapters: 1 (0 in field 4)",
-            "picture stops: 1 (12 in field 25)",
+            "lines 17 and 18 differ: 1 (field 27: picture 13 and 3, 13 taken)",
+            "chapters: 1 (chapter 0 in field 4)",
+            "picture stops: 1 (picture 12 in field 25)",
             "lead-in: 2 (fields 1 to 2), lead-out: 2 (fields 61 to 62)",
             "stray codes: none"])
-        self.assertFalse(is_whole(side(rows).answer))
 
     def test_jumps_stills_and_more_than_are_listed(self):
         rows = pictures(list(range(1, 11)) + [10] * 3 + list(range(11, 31)) + list(range(21, 31)))
         for field in (2, 6, 10, 14, 40):  # pictures 2, 4, 6, 8 and 18
             rows[field] = "- ? ?"
         lines = lines_of(side(rows))
-        for line in ("missing: 5 (damaged 5: 2 after field 1, 4 after field 5, 6 after field 9, 8 after field 13 and 1 "
-                     "more)",
-                     "jumps: 1 (30 to 21 in field 67)", "stills: 1 (10 in fields 19 to 25)",
-                     "shown again: 2 (10 in field 21, 21 to 30 in field 67)"):
+        for line in ("missing: 5 (damaged 5: picture 2 after field 1, picture 4 after field 5, "
+                     "picture 6 after field 9, picture 8 after field 13 and 1 more)",
+                     "jumps: 1 (picture 30 to 21 in field 67)", "stills: 1 (picture 10 in fields 19 to 25)",
+                     "shown again: 2 (pictures 21 to 30 in field 67, picture 10 in field 21)"):
+            self.assertIn(line, lines)
+
+    def test_the_largest_stand_first(self):
+        numbers = [number for number in range(1, 101) if number not in (10, 31, 32, 33, 61, 62)]
+        numbers[50:50] = [numbers[49]] * 5
+        rows = pictures(numbers + list(range(91, 96)) + list(range(71, 101)))
+        rows[6:6] = pictures([3, 3])
+        lines = lines_of(side(rows))
+        for line in ("missing: 6 (lost 6: pictures 31 to 33 after field 61, pictures 61 to 62 after field 125, "
+                     "picture 10 after field 21)",
+                     "lost fields: 12 (6 after field 61, 4 after field 125, 2 after field 21)",
+                     "jumps: 2 (picture 95 to 71 in field 213, picture 100 to 91 in field 203)",
+                     "stills: 2 (picture 54 in fields 103 to 113, picture 3 in fields 5 to 9)"):
             self.assertIn(line, lines)
 
     def test_a_side_without_numbers(self):
-        self.assertEqual(lines_of(side([LEAD_IN]))[5:], [
+        lines = lines_of(side([LEAD_IN]))
+        self.assertEqual(lines[:1] + lines[6:], [
+            "whole: no: no picture number and no time",
             "pictures: none", "doubtful, set aside: none", "lines 17 and 18 differ: none", "chapters: none",
-            "picture stops: none", "lead-in: 1 (fields 1), lead-out: none", "stray codes: none"])
+            "picture stops: none", "lead-in: 1 (field 1), lead-out: none", "stray codes: none"])
 
     def test_film_and_clv(self):
-        self.assertEqual(lines_of(side(film(range(1, 31)), "NTSC"))[0],
-                         "system: NTSC, CAV, film (2 and 3 fields a picture)")
+        self.assertEqual(lines_of(side(film(range(1, 31)), "NTSC"))[:2],
+                         ["whole: yes", "system: NTSC, CAV, film (2 and 3 fields a picture)"])
         lines = lines_of(side(times([0, 1, 3, 4], 30), "NTSC"))
-        self.assertEqual([lines[0], lines[5], lines[6]], [
+        self.assertEqual([lines[1], lines[6], lines[7]], [
             "system: NTSC, CLV", "times: 4, from 0:00:00.00 to 0:00:00.04",
-            "missing: 1 (undecided 1: 0:00:00.02 after field 3)"])
+            "missing: 1 (undecided 1: time 0:00:00.02 after field 3)"])
         left_out = times([number for number in range(6000) if number % 1001 != 400], 30)
         self.assertIn("left out by the disc's clock: 6", lines_of(side(left_out, "NTSC")))
 
     def test_levels(self):
         blank, bad = lines_of(side([BLANK] * 4, "NTSC")), lines_of(side(["- ? !"] * 4))
         script = "contrib/plot_line.py"
-        self.assertRegex(blank[5], r"^levels: lines 17 and 18 have 0 words, 0 are bad, 8 blank: black and white may be "
+        self.assertRegex(blank[6], r"^levels: lines 17 and 18 have 0 words, 0 are bad, 8 blank: black and white may be "
                          r"too high, or the side has no codes\. Look at one: dd if=side\.tbc bs=1820 skip=542 count=1 "
                          r"status=none \| python3 \S*%s --system NTSC --black 16384 --white 51200 --title "
                          r"'side\.tbc, field 3, line 17' > line\.svg$" % re.escape(script))
-        self.assertRegex(bad[5], r"^levels: lines 17 and 18 have 0 words, 8 are bad, 0 blank: black and white may be "
+        self.assertRegex(bad[6], r"^levels: lines 17 and 18 have 0 words, 8 are bad, 0 blank: black and white may be "
                          r"wrong, or the signal is noise\. Look at one: dd ")
 
     def test_levels_where_the_script_is_not_beside_the_package(self):
         with unittest.mock.patch("ldvbi_side.plot._PLACES", ("nowhere/plot_line.py",)):
-            self.assertIn("| python3 plot_line.py --system NTSC ", lines_of(side([BLANK] * 4, "NTSC"))[5])
+            self.assertIn("| python3 plot_line.py --system NTSC ", lines_of(side([BLANK] * 4, "NTSC"))[6])
 
-    def test_at_most_20_lines(self):
+    def test_at_most_24_lines(self):
         rows = times([number for number in range(9000) if number % 1001 != 400], 30)
         rows[100:110] = []
         for field in range(0, len(rows), 2):  # a second row of numbers on line 17
@@ -236,14 +251,8 @@ class Summaries(unittest.TestCase):
                                                        "lastField": 9, "count": 9, "weight": 9, "against": 9}]
         lines = list(summary(known, lambda *line: "dd"))
         self.assertTrue(known["leftOut"])
-        self.assertLessEqual(len(lines), 20)
+        self.assertLessEqual(len(lines), 24)
         self.assertTrue([line for line in lines if line.startswith("a second row of numbers, not taken: 2:20:")])
-
-    def test_what_is_whole(self):
-        self.assertTrue(is_whole(answer(pictures([7, 8, 9]))))
-        self.assertFalse(is_whole(answer(pictures([7, 9]))))
-        self.assertFalse(is_whole(answer([LEAD_IN])))
-        self.assertFalse(is_whole(answer(pictures([7, 8, 9]), cut={"seqNo": 7, "bytes": 5})))
 
 
 class Plotting(unittest.TestCase):
