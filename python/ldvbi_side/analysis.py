@@ -40,8 +40,9 @@ def analyse(fields):
         "chapters": chapters, "stops": _stops(said, steps, begin), **ends,
         "stray": sorted(said.stray, key=_place)})
     bad, rates = bad_lines_of(fields), rates_of(fields)
-    answer.update({"badLines": bad, "lines": rates, "levels": levels_of(rates, bad, said.count)})
-    reasons = reasons_of(answer, fields.expected, fields.is_strict)
+    answer.update({"badLines": bad, "lines": rates, "levels": levels_of(rates, bad, said.count),
+                   "metadataFields": fields.expected})
+    reasons = reasons_of(answer, fields.is_strict)
     answer.update({"whole": not reasons, "reasons": reasons})
     return answer
 

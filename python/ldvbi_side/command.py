@@ -10,9 +10,8 @@ import sys
 from ldvbi import Stream, System, field_bytes
 from .document import is_document, side_of_document
 from .extraction import write_document
-from .metadata import settings_of
+from .metadata import beside, read_metadata, settings_of
 from .outputs import drop_standard_output, refuse_inputs, whole_file
-from .parity import first_fields_of
 from .plot import plot_command
 from .progress import Progress
 from .seek import seek, text_of, wanted_of
@@ -37,8 +36,9 @@ def _parser():
     parser = argparse.ArgumentParser(prog="python3 -m ldvbi", description=DESCRIPTION)
     parser.add_argument("side", help="the TBC file, or the document; - is standard input, for a document")
     parser.add_argument("--meta", metavar="FILE", help="system and levels of a TBC file from ld-decode's .tbc.json or "
-                        ".tbc.db; levels with decimals are rounded to the next whole number; the .tbc.json's "
-                        "isFirstField, which is used of a document, too, shows single lost fields")
+                        ".tbc.db, where it isn't the one beside the file; levels with decimals are rounded to the next "
+                        "whole number; its count of fields is compared; the .tbc.json's isFirstField, which is used of "
+                        "a document, too, shows single lost fields")
     parser.add_argument("--system", choices=list(System.__members__))
     parser.add_argument("--black", type=int, help=LEVELS % "black")
     parser.add_argument("--white", type=int, help=LEVELS % "white")
@@ -63,18 +63,20 @@ def _parser():
 
 
 def _source(options):
-    """The side of the document that the options name, or the stream of the TBC file."""
+    """The side of the document that the options name, or the stream of the TBC file; and the metadata, or None."""
     given = [options.system, options.black, options.white]
     is_standard_input = options.side == "-"
     with open(0 if is_standard_input else options.side, "rb", closefd=not is_standard_input) as file:
         if is_standard_input or is_document(options.side, file.peek(64)):
             if any(value is not None for value in given):
                 raise ValueError("a document has its system and levels; they are options of a TBC file")
-            return side_of_document(file.read())
-    settings = settings_of(options.meta, *given)
+            side = side_of_document(file.read())
+            return side, options.meta and read_metadata(options.meta)
+    metadata = options.meta and read_metadata(options.meta)
+    settings = settings_of(metadata, *given)
     for note in settings.notes:
         _note(note)
-    return Stream(options.side, settings.system, settings.black, settings.white)
+    return Stream(options.side, settings.system, settings.black, settings.white), metadata
 
 
 def _print_document(stream):
@@ -91,11 +93,18 @@ def _side_of(source):
         return side_of_stream(source, progress)
 
 
-def _add_parity(side, path, is_all):
-    """Adds the metadata's isFirstField to the side. `is_all` says that nothing else is wanted of this metadata."""
-    side.first, note = first_fields_of(path, len(side.readings))
-    if note or is_all and side.first is None:
-        _note(note or "%s has no isFirstField of each field" % path)
+def _add_fields(side, metadata, is_all):
+    """Adds what the metadata has of the fields to the side. `is_all` says that nothing else is wanted of it."""
+    count, side.expected = len(side.readings), metadata.fields
+    if metadata.fields is not None and metadata.fields != count:
+        rest = " and %d bytes" % side.cut.bytes if side.cut else ""
+        unused = ", so its isFirstField isn't used" if metadata.first else ""
+        _note("%d fields%s, %s says %d%s: another system, or another file's metadata?" % (
+            count, rest, metadata.path, metadata.fields, unused))
+        return
+    side.first = metadata.first
+    if is_all and side.first is None:
+        _note("%s has no isFirstField of each field" % metadata.path)
 
 
 def _note(text):
@@ -124,6 +133,9 @@ def _draw(side, options):
 
 def _run(options):
     """What the options ask for. The answer is the exit status."""
+    is_open = None in (options.system, options.black, options.white)
+    if not options.meta and is_open and options.side.endswith(".tbc"):
+        options.meta = beside(options.side)
     inputs = [0 if options.side == "-" else options.side, options.meta]
     refuse_inputs([1 if options.output is None else options.output, options.svg], inputs)
     if options.output is None:
@@ -134,7 +146,7 @@ def _run(options):
 
 def _answer(options):
     """Prints and draws what the options ask for."""
-    source = _source(options)
+    source, metadata = _source(options)
     if options.document:
         if isinstance(source, Side):
             raise ValueError("--document is of a TBC file, and this is a document")
@@ -143,8 +155,8 @@ def _answer(options):
             return _cut_status(cut_of(source), source.system)
     side = _side_of(source)
     side.is_strict = options.strict
-    if options.meta:
-        _add_parity(side, options.meta, isinstance(source, Side))
+    if metadata:
+        _add_fields(side, metadata, isinstance(source, Side))
     if options.svg:
         _draw(side, options)
     if options.seek:

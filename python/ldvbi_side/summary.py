@@ -4,7 +4,7 @@ from collections import Counter
 
 from .codes import LINES
 from .marks import fields_text
-from .whole import UNITS
+from .whole import UNITS, other_file
 
 MOST_LISTED = 4  # places in a line
 
@@ -19,7 +19,7 @@ def summary(answer, plot_command):
     for line in LINES:
         yield _line_text(line, answer["lines"][str(line)])
     if answer["levels"]:
-        yield _levels_text(answer["levels"], plot_command)
+        yield _levels_text(answer, plot_command)
     if answer["numbers"]["count"]:
         yield from _number_lines(answer)
     else:
@@ -38,8 +38,11 @@ def _line_text(line, rates):
         line, words, rates["pass2"], bad, share, rates["blank"])
 
 
-def _levels_text(levels, plot_command):
-    if levels["shows"] == "blank":
+def _levels_text(answer, plot_command):
+    levels = answer["levels"]
+    if other_file(answer):
+        why = "perhaps another system, or another file's metadata"
+    elif levels["shows"] == "blank":
         why = "black and white may be too high, or the side has no codes"
     else:
         why = "black and white may be wrong, or the signal is noise"

@@ -11,15 +11,19 @@ NEAR = 2  # fields from one code of the other format to the next, where they are
 SHARE = 10  # numbers to one that is set aside, at most, where a side isn't whole
 
 
-def reasons_of(answer, expected=None, is_strict=False):
+def reasons_of(answer, is_strict=False):
     """Why a side with this answer isn't whole, in order of weight: `why` is a word for programs, `text` says it. There
-    is none where it is whole. `expected` is the number of fields that the metadata has, or None; without lead-in or
-    lead-out a side is whole nevertheless, unless `is_strict`."""
+    is none where it is whole. Without lead-in or lead-out a side is whole nevertheless, unless `is_strict`."""
     found = [_no_numbers(answer), _lost(answer), _jumps(answer), _missing(answer), _begin(answer)]
     found += _ends(answer) if is_strict else []
-    found += [_joined(answer), _other_format(answer), _lines(answer), _doubtful(answer), _fewer(answer, expected),
-              _cut(answer)]
+    found += [_joined(answer), _other_format(answer), _lines(answer), _doubtful(answer), _fewer(answer), _cut(answer)]
     return [{"why": why, "text": text} for why, text in filter(None, found)]
+
+
+def other_file(answer):
+    """Whether the bytes that were read aren't those that the metadata speaks of: of another count of fields, or no
+    whole number of them. Then the levels needn't be wrong."""
+    return answer["cutField"] is not None or answer["metadataFields"] not in (None, answer["fields"])
 
 
 def counted(count, name):
@@ -112,7 +116,8 @@ def _doubtful(answer):
     return "doubtful", "numbers set aside in %d of %s" % (len(doubtful), counted(shown, "field"))
 
 
-def _fewer(answer, expected):
+def _fewer(answer):
+    expected = answer["metadataFields"]
     if expected is None or expected <= answer["fields"]:
         return None
     return "metadata", "%s of %d that the metadata has" % (counted(answer["fields"], "field"), expected)

@@ -139,7 +139,7 @@ jq -c '.fields |= .[1:]' meta.json > shorter.json
 told side.vbi.json --meta shorter.json --seek 3
 echo 'field 7, frame 4' > wanted_text
 judge 'metadata of another count of fields' 0 wanted_text \
-    "ldvbi: shorter.json has 10 fields, not 11: its isFirstField isn't used"
+    "ldvbi: 11 fields, shorter.json says 10, so its isFirstField isn't used: another system, or another file's metadata?"
 jq -c '.fields |= map({seqNo})' meta.json > without.json
 told side.vbi.json --meta without.json --seek 3
 echo 'field 7, frame 4' > wanted_text

@@ -122,6 +122,60 @@ class Documents(Runs):
             self.assertEqual(self.run_command("side.tbc", *LEVELS, "--document", other)[0], 2)
 
 
+class Metadata(Runs):
+    """The metadata beside the TBC file, which is taken where options leave something open."""
+
+    def add(self, name, count, **parameters):
+        parameters = {"system": "NTSC", "black16bIre": 16384, "white16bIre": 51200, **parameters}
+        fields = [{"isFirstField": place % 2 == 1} for place in range(count)]
+        self.write(name, json.dumps({"videoParameters": parameters, "fields": fields}).encode())
+
+    def test_it_is_taken(self):
+        self.add("side.tbc.json", 12)
+        # isFirstField of field 1 is false
+        self.assertEqual(self.run_command("side.tbc", "--seek", "4"), (0, b"field 5, frame 2\n", ""))
+        self.assertEqual(self.run_command("side.tbc", "--white", "51200", "--document"), (0, self.document, ""))
+        self.assertEqual(self.run_command("side.tbc", *LEVELS, "--seek", "4"), (0, b"field 5, frame 3\n", ""))
+        self.add("other.json", 12, black16bIre=60000, white16bIre=60001)
+        self.assertEqual(self.run_command("side.tbc", "--meta", "other.json", "--seek", "4")[1], b"not found\n")
+        os.rename(self.path("side.tbc.json"), self.path("side.tbc.db"))
+        self.assertEqual(self.run_command("side.tbc", "--document"), (0, self.document, ""))
+        os.rename(self.path("side.tbc"), self.path("side"))
+        os.rename(self.path("side.tbc.db"), self.path("side.json"))
+        self.refused("no system given", "side")
+
+    def test_it_is_no_output(self):
+        self.add("side.tbc.json", 12)
+        self.refused("side.tbc.json would be written in the place of an input or of another output",
+                     "side.tbc", "-o", "side.tbc.json")
+
+    def test_counts_are_compared(self):
+        self.add("side.tbc.json", 14)
+        text = "ldvbi: 12 fields, side.tbc.json says 14, so its isFirstField isn't used: another system, " \
+               "or another file's metadata?\n"
+        status, printed, said = self.run_command("side.tbc", "--json")
+        known = json.loads(printed)
+        self.assertEqual((status, said, known["metadataFields"], known["frameBegin"]), (0, text, 14, 1))
+        self.assertIn({"why": "metadata", "text": "12 fields of 14 that the metadata has"}, known["reasons"])
+        self.assertEqual(self.run_command("side.vbi.json", "--meta", "side.tbc.json", "--seek", "3"),
+                         (0, b"field 4, frame 2\n", text))
+        self.write("side.tbc", self.read("side.tbc") + b"x" * 7)
+        self.write("side.tbc.json", json.dumps({"videoParameters": {
+            "system": "NTSC", "black16bIre": 16384, "white16bIre": 51200, "numberOfSequentialFields": 11}}).encode())
+        said = self.run_command("side.tbc", "--json")[2].split("\n")[0]
+        self.assertEqual(said, "ldvbi: 12 fields and 7 bytes, side.tbc.json says 11: another system, or another file's "
+                         "metadata?")
+
+    def test_strict(self):
+        words = [[0, 0xF00001 + place // 2, 0xF00001 + place // 2] if place % 2 == 0 else [0, 0x800DDD, 0x800DDD]
+                 for place in range(8)]
+        write_stream(self.path("side.tbc"), NTSC, words)
+        status, text, _ = self.run_command("side.tbc", *LEVELS, "--summary")
+        self.assertEqual((status, text.split(b"\n")[0]), (0, b"whole: yes"))
+        status, text, _ = self.run_command("side.tbc", *LEVELS, "--summary", "--strict")
+        self.assertEqual((status, text.split(b"\n")[0]), (1, b"whole: no: no lead-in; no lead-out"))
+
+
 class Files(Runs):
     def test_outputs_into_a_file(self):
         for words, status, option in ((["--document"], 0, "-o"), ([], 0, "--output"), (["--summary"], 1, "-o"),

@@ -10,7 +10,6 @@ import unittest.mock
 
 from discs import (BLANK, LEAD_IN, LEAD_OUT, STOP, answer, film, minutes, picture, pictures, plain, side, times)
 from ldvbi_side.lines import SIZES
-from ldvbi_side.parity import first_fields_of
 from ldvbi_side.plot import plot_command, tbc_name
 from ldvbi_side.seek import seek, text_of, wanted_of
 from ldvbi_side.side import Cut
@@ -235,6 +234,16 @@ class Summaries(unittest.TestCase):
         self.assertRegex(bad[6], r"^levels: lines 17 and 18 have 0 words, 8 are bad, 0 blank: black and white may be "
                          r"wrong, or the signal is noise\. Look at one: dd ")
 
+    def test_levels_are_blamed_of_the_right_file_alone(self):
+        text = "perhaps another system, or another file's metadata. Look at one: dd "
+        for rows in ([BLANK] * 4, ["- ? !"] * 4):
+            for expected, cut, is_other in ((4, None, False), (None, None, False), (5, None, True), (3, None, True),
+                                            (4, Cut(5, 7), True), (None, Cut(5, 7), True)):
+                one = side(rows, cut=cut)
+                one.expected = expected
+                self.assertEqual(text in lines_of(one)[6], is_other, (rows[0], expected, cut))
+                self.assertEqual("black and white may be" in lines_of(one)[6], not is_other)
+
     def test_levels_where_the_script_is_not_beside_the_package(self):
         with unittest.mock.patch("ldvbi_side.plot._PLACES", ("nowhere/plot_line.py",)):
             self.assertIn("| python3 plot_line.py --system NTSC ", lines_of(side([BLANK] * 4, "NTSC"))[6])
@@ -311,32 +320,6 @@ class Sides(unittest.TestCase):
         self.assertEqual(one.plain(), plain(rows, "NTSC", [True, False], {"seqNo": 3, "bytes": 99}))
         self.assertEqual(one.answer["cutField"], {"seqNo": 3, "bytes": 99})
         self.assertIs(one.answer, one.answer)
-
-
-class FirstFields(unittest.TestCase):
-    def first_fields(self, text, count=2):
-        with tempfile.TemporaryDirectory() as folder:
-            path = os.path.join(folder, "meta.json")
-            with open(path, "w", encoding="utf-8") as file:
-                file.write(text)
-            first, note = first_fields_of(path, count)
-            return first, note and note.replace(path, "meta.json")
-
-    def test_is_first_field(self):
-        fields = [{"seqNo": 1, "isFirstField": False}, {"seqNo": 2, "isFirstField": True}]
-        self.assertEqual(self.first_fields(json.dumps({"fields": fields})), ([False, True], None))
-
-    def test_another_count_of_fields_is_said(self):
-        self.assertEqual(self.first_fields('{"fields":[{"isFirstField":true}]}'),
-                         (None, "meta.json has 1 fields, not 2: its isFirstField isn't used"))
-
-    def test_of_a_database_it_is_not_read(self):
-        self.assertEqual(self.first_fields("SQLite format 3\0" + 100 * "x"), (None, None))
-
-    def test_without_it_nothing_is_said(self):
-        for text in ('{}', '[]', '{"fields":[]}', '{"fields":5}', '{"fields":[{},{}]}',
-                     '{"fields":[{"isFirstField":1},5]}', 'x', '[' * 100000):
-            self.assertEqual(self.first_fields(text), (None, None))
 
 
 class Sizes(unittest.TestCase):

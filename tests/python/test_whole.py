@@ -135,8 +135,8 @@ class Reasons(unittest.TestCase):
         self.assertFalse(known["whole"])
         known["numbers"].update(least=11, greatest=40)
         known["lines"]["18"].update(pass1=0, pass2=0)
-        self.assertEqual([one["why"] for one in reasons_of(known, 999, True)][3:5], ["begins", "lead-out"])
-        self.assertIn("line", [one["why"] for one in reasons_of(known, 999, True)])
+        self.assertEqual([one["why"] for one in reasons_of(known, True)][3:5], ["begins", "lead-out"])
+        self.assertIn("line", [one["why"] for one in reasons_of(known, True)])
 
 
 if __name__ == "__main__":
