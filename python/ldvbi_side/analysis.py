@@ -38,7 +38,8 @@ def analyse(fields):
         "doubtful": sorted(doubts.doubtful, key=_place), "conflicts": sorted(doubts.conflicts, key=_place),
         "chapterConflicts": sorted(doubts.chapter_conflicts, key=_place), "secondRows": doubts.second_rows,
         "chapters": chapters, "stops": _stops(said, steps, begin), **ends,
-        "stray": sorted(said.stray, key=_place)})
+        "stray": sorted(said.stray, key=_place), "unknown": said.unknown, "programmeStatus": _status(said),
+        "users": _users(said)})
     bad, rates = bad_lines_of(fields), rates_of(fields)
     answer.update({"badLines": bad, "lines": rates, "levels": levels_of(rates, bad, said.count),
                    "metadataFields": fields.expected})
@@ -69,6 +70,18 @@ def _of_numbers(steps):
         "breaks": [dict(one, **{"from": text_of(one["from"]), "to": text_of(one["to"])}) for one in steps.breaks],
         "stills": [dict(one, number=text_of(one["number"])) for one in steps.stills],
         "repeated": repeated_of(steps)}
+
+
+def _status(said):
+    """The programme status codes that differ: whether CX is on, and the three digits behind that as they are."""
+    return [{"cx": word >> 12 == 0x8DC, "digits": "%03X" % (word & 0xFFF), **fields}
+            for word, fields in said.words_of((Kind.cx_on, Kind.cx_off))]
+
+
+def _users(said):
+    """The users' codes that differ."""
+    return [{"digit": word >> 16 & 7, "digits": "%03X" % (word & 0xFFF), **fields}
+            for word, fields in said.words_of((Kind.users,))]
 
 
 def _stops(said, steps, begin):

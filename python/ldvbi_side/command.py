@@ -43,7 +43,7 @@ def _parser():
     parser.add_argument("--black", type=int, help=LEVELS % "black")
     parser.add_argument("--white", type=int, help=LEVELS % "white")
     output = parser.add_mutually_exclusive_group()
-    output.add_argument("--csv", action="store_true", help="print a row for each field with any code (the default)")
+    output.add_argument("--csv", action="store_true", help="print a row for each field with any word (the default)")
     output.add_argument("--json", action="store_true", help="print all that is known of the side, every list in full")
     output.add_argument("--bad-lines", action="store_true", help="print a row for each line that shows no word and "
                         "isn't blank, with its cause and its offset in the TBC file")

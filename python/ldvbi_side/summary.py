@@ -4,7 +4,7 @@ from collections import Counter
 
 from .codes import LINES
 from .marks import fields_text
-from .whole import UNITS, other_file
+from .whole import UNITS, counted, other_file
 
 MOST_LISTED = 4  # places in a line
 
@@ -124,4 +124,16 @@ def _part_lines(answer):
     yield ", ".join("%s: %s" % (name, _listed(sum(one["count"] for one in stretches), (
         fields_text(one["first"], one["last"]) for one in stretches)))
         for name, stretches in (("lead-in", answer["leadIn"]), ("lead-out", answer["leadOut"])))
+    yield "unknown words: " + _listed(len(answer["unknown"]), (
+        "%(word)s in field %(field)d line %(line)d" % one for one in answer["unknown"]))
+    yield "programme status: %s, users' codes: %s" % (
+        _words_text(answer["programmeStatus"], lambda one: "CX %s %s" % ("on" if one["cx"] else "off", one["digits"])),
+        _words_text(answer["users"], lambda one: "%(digit)d %(digits)s" % one))
     yield "stray codes: " + _listed(len(stray), ("%(kind)s in field %(field)d line %(line)d" % one for one in stray))
+
+
+def _words_text(words, text_of):
+    """How many fields have words of a kind, and the most frequent of them."""
+    return _listed(sum(one["count"] for one in words), (
+        "%s in %s" % (text_of(one), counted(one["count"], "field"))
+        for one in _largest_first(words, lambda one: one["count"])))

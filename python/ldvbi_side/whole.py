@@ -97,9 +97,10 @@ def _other_format(answer):
 
 
 def _lines(answer):
-    """A line that shows no word at all, beside one that shows some."""
-    words = {line: answer["lines"][line]["pass1"] + answer["lines"][line]["pass2"] for line in ("17", "18")}
-    silent = [line for line, count in words.items() if not count]
+    """A line without any code, beside one that shows some."""
+    unknown = Counter(str(one["line"]) for one in answer["unknown"])
+    silent = [line for line in ("17", "18")
+              if answer["lines"][line]["pass1"] + answer["lines"][line]["pass2"] == unknown[line]]
     return ("line", "line %s shows no code" % silent[0]) if len(silent) == 1 else None
 
 

@@ -63,17 +63,17 @@ cat > cav_words << 'END'
 - 801DDD 801DDD
 - 80EEEE 80EEEE
 END
-cav_csv='field,frame,format,picture,chapter,time,stop,doubt
-1,1,neither,,,,,
-3,2,cav,1,,,,
-4,2,neither,,0,,,
-5,3,cav,2,,,stop,
-6,3,neither,,0,,,
-7,4,cav,3,,,,"picture 79999 on line 18, pass 1: lines"
-8,4,cav,,1,,stop,
-9,5,cav,4,,,,
-10,5,neither,,1,,,
-11,6,neither,,,,,'
+cav_csv='field,frame,format,picture,chapter,time,stop,doubt,status,users,unknown
+1,1,neither,,,,,,,,
+3,2,cav,1,,,,,,,
+4,2,neither,,0,,,,,,
+5,3,cav,2,,,stop,,,,
+6,3,neither,,0,,,,,,
+7,4,cav,3,,,,"picture 79999 on line 18, pass 1: lines",,,
+8,4,cav,,1,,stop,,,,
+9,5,cav,4,,,,,,,
+10,5,neither,,1,,,,,,
+11,6,neither,,,,,,,,'
 side_of "$ntsc" < cav_words
 tells 'fields of a document' 0 "$cav_csv" side.vbi.json
 tells 'fields of a document, asked for' 0 "$cav_csv" side.vbi.json --csv
@@ -102,6 +102,8 @@ lines 17 and 18 differ: 1 (field 7: picture 3 and 79999, 3 taken)
 chapters: 2 (chapter 0 in field 4, chapter 1 in field 8)
 picture stops: 2 (picture 2 in field 5, picture 3 in field 8)
 lead-in: 1 (field 1), lead-out: 1 (field 11)
+unknown words: none
+programme status: none, users'\'' codes: none
 stray codes: none' $source --summary
 done
 cp side.vbi.json document
@@ -173,15 +175,15 @@ cat > clv_words << 'END'
 END
 side_of "$pal" < clv_words
 for source in side.vbi.json "side.tbc $pal"; do
-    tells "times of $source" 0 'field,frame,format,picture,chapter,time,stop,doubt
-1,1,clv,,,0:00:59.23,,
-2,1,clv,,0,,,
-3,2,clv,,,0:00:59.24,,
-4,2,clv,,0,,,
-5,3,clv,,,0:01:00.00,,
-6,3,clv,,1,,,
-7,4,clv,,,0:01:00.01,,
-8,4,clv,,1,,,' $source
+    tells "times of $source" 0 'field,frame,format,picture,chapter,time,stop,doubt,status,users,unknown
+1,1,clv,,,0:00:59.23,,,,,
+2,1,clv,,0,,,,cx on 0A1,,
+3,2,clv,,,0:00:59.24,,,,,
+4,2,clv,,0,,,,cx on 0A1,,
+5,3,clv,,,0:01:00.00,,,,,
+6,3,clv,,1,,,,cx on 0A1,,
+7,4,clv,,,0:01:00.01,,,,,
+8,4,clv,,1,,,,cx on 0A1,,' $source
     tells "a time of $source" 0 'field 3, frame 2' $source --seek 0:00:59.24
     tells "a minute of $source" 0 'field 5, frame 3' $source --seek 0:01
     tells "a second of $source" 0 'field 1, frame 1' $source --seek 0:00:59
@@ -210,6 +212,8 @@ lines 17 and 18 differ: none
 chapters: none
 picture stops: 1 (field 1)
 lead-in: none, lead-out: none
+unknown words: none
+programme status: none, users'\'' codes: none
 stray codes: none' $source --summary
     told $source --bad-lines
     printf '%s\n' field,line,cause,offset 2,16,unfinished,505960 '2,17,change 170,507780' '2,18,hold 200,509600' \

@@ -104,7 +104,9 @@ class Tables(unittest.TestCase):
         rows[4] = "82CFFF 82CFFF F00002"
         rows[6] = "- F00003 F79999"
         rows[8] = "8DC0A1 - -"
-        self.assertEqual(list(field_rows(side(rows))), [
+        table = list(field_rows(side(rows)))
+        self.assertEqual([row[8:] for row in table], [["", "", ""]] * 7 + [["cx on 0A1", "", ""], ["", "", ""]])
+        self.assertEqual([row[:8] for row in table], [
             [1, 1, "neither", "", "", "", "", ""],
             [3, 2, "cav", 1, "", "", "", ""], [4, 2, "neither", "", 0, "", "", ""],
             [5, 3, "cav", 2, "", "", "stop", ""], [6, 3, "neither", "", 0, "", "", ""],
@@ -119,11 +121,18 @@ class Tables(unittest.TestCase):
         rows[31] = "- 807DDD 807DDD"
         table = list(field_rows(side(rows)))
         self.assertEqual(table[31][:7], [32, 16, "neither", "", "", "", ""])
-        self.assertEqual(table[20], [21, 11, "cav", "", "", "", "",
-                                     "picture 70000 on line 17, pass 2: neighbours; "
-                                     "picture 70000 on line 18, pass 2: neighbours"])
-        self.assertEqual(table[22], [23, 12, "both", 12, "", "", "", "clv picture on line 16, pass 1: format; "
-                                     "clv on line 17, pass 1: format"])
+        self.assertEqual(table[20][:8], [21, 11, "cav", "", "", "", "",
+                                         "picture 70000 on line 17, pass 2: neighbours; "
+                                         "picture 70000 on line 18, pass 2: neighbours"])
+        self.assertEqual(table[22][:8], [23, 12, "both", 12, "", "", "", "clv picture on line 16, pass 1: format; "
+                                         "clv on line 17, pass 1: format"])
+
+    def test_status_users_codes_and_unknown_words(self):
+        rows = ["8BAFFF F00001 F00001", "- 88FFFB F00E81*", "87D00A F00002 -", "A00000 - -", BLANK, "- 8DC000 80D000",
+                "8DC0A1 - -"]
+        self.assertEqual([[row[0]] + row[8:] for row in field_rows(side(rows))], [
+            [1, "cx off FFF", "", ""], [2, "", "", "88FFFB on line 17; F00E81 on line 18"], [3, "", "7 00A", ""],
+            [4, "", "", "A00000 on line 16"], [6, "", "", ""], [7, "cx on 0A1", "", ""]])
 
     def test_times(self):
         rows = times(range(1498, 1502))
@@ -181,6 +190,8 @@ class Summaries(unittest.TestCase):
             "chapters: 1 (chapter 0 in field 4)",
             "picture stops: 1 (picture 12 in field 25)",
             "lead-in: 2 (fields 1 to 2), lead-out: 2 (fields 61 to 62)",
+            "unknown words: none",
+            "programme status: none, users' codes: none",
             "stray codes: none"])
 
     def test_jumps_stills_and_more_than_are_listed(self):
@@ -207,12 +218,29 @@ class Summaries(unittest.TestCase):
                      "stills: 2 (picture 54 in fields 103 to 113, picture 3 in fields 5 to 9)"):
             self.assertIn(line, lines)
 
+    def test_status_users_codes_and_unknown_words(self):
+        rows = pictures(range(1, 31))
+        rows[1::2] = ["8DC0A1" + row[1:] for row in rows[1::2]]
+        rows[3], rows[5] = "8BA0A1 88FFFB 800DDD", "83D00F 800DDD F00E81*"
+        self.assertEqual(lines_of(side(rows))[-3:-1], [
+            "unknown words: 2 (88FFFB in field 4 line 17, F00E81 in field 6 line 18)",
+            "programme status: 29 (CX on 0A1 in 28 fields, CX off 0A1 in 1 field), users' codes: 1 (3 00F in 1 field)"])
+        known = side(rows).answer
+        self.assertEqual(known["unknown"], [{"field": 4, "line": 17, "word": "88FFFB", "pass": 1},
+                                            {"field": 6, "line": 18, "word": "F00E81", "pass": 2}])
+        self.assertEqual(known["programmeStatus"], [
+            {"cx": True, "digits": "0A1", "count": 28, "first": 2, "last": 60},
+            {"cx": False, "digits": "0A1", "count": 1, "first": 4, "last": 4}])
+        self.assertEqual(known["users"], [{"digit": 3, "digits": "00F", "count": 1, "first": 6, "last": 6}])
+        self.assertEqual([known["whole"], known["stray"]], [True, []])
+
     def test_a_side_without_numbers(self):
         lines = lines_of(side([LEAD_IN]))
         self.assertEqual(lines[:1] + lines[6:], [
             "whole: no: no picture number and no time",
             "pictures: none", "doubtful, set aside: none", "lines 17 and 18 differ: none", "chapters: none",
-            "picture stops: none", "lead-in: 1 (field 1), lead-out: none", "stray codes: none"])
+            "picture stops: none", "lead-in: 1 (field 1), lead-out: none", "unknown words: none",
+            "programme status: none, users' codes: none", "stray codes: none"])
 
     def test_film_and_clv(self):
         self.assertEqual(lines_of(side(film(range(1, 31)), "NTSC"))[:2],

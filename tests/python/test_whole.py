@@ -56,6 +56,8 @@ class Sides(unittest.TestCase):
         self.assertEqual(said(rows)[-1:], ["numbers set aside in 30 of 30 fields"])
         self.assertEqual(said(["- - %s" % row.split(" ")[2] for row in pictures(range(1, 31))]),
                          ["line 17 shows no code"])
+        self.assertEqual(said(["- 88FFFB %s" % row.split(" ")[2] for row in pictures(range(1, 31))]),
+                         ["line 17 shows no code"])
 
     def test_clv_fast_and_backwards(self):
         for numbers in (range(0, 600, 3), range(199, -1, -1)):
