@@ -10,6 +10,7 @@ import sys
 from ldvbi import Stream, System, field_bytes
 from .document import is_document, side_of_document
 from .extraction import write_document
+from .map import COLUMNS as MAP_COLUMNS, map_rows
 from .metadata import beside, read_metadata, settings_of
 from .outputs import drop_standard_output, refuse_inputs, whole_file
 from .plot import plot_command
@@ -59,6 +60,8 @@ def _parser():
                         "is whole")
     parser.add_argument("--svg", metavar="FILE", help="draw the side into this file; with one of the others, that is "
                         "printed too")
+    parser.add_argument("--map", metavar="FILE", help="write where each number, chapter and picture stop is into this "
+                        "file, by which a player seeks; with one of the others, that is printed too")
     return parser
 
 
@@ -111,8 +114,8 @@ def _note(text):
     print("ldvbi: " + text, file=sys.stderr)
 
 
-def _print_table(columns, rows):
-    table = csv.writer(sys.stdout, lineterminator="\n")
+def _print_table(columns, rows, file=None):
+    table = csv.writer(file or sys.stdout, lineterminator="\n")
     table.writerow(columns)
     table.writerows(rows)
 
@@ -125,10 +128,20 @@ def _cut_status(cut, system):
     return 3
 
 
-def _draw(side, options):
-    from .drawing import drawing_of
-    with whole_file(options.svg) as file:
-        file.write(drawing_of(side, os.path.basename(options.side)))
+def _write_files(side, options):
+    """Writes each file that the options name beside what is printed."""
+    if options.svg:
+        from .drawing import drawing_of
+        with whole_file(options.svg) as file:
+            file.write(drawing_of(side, os.path.basename(options.side)))
+    if options.map:
+        with whole_file(options.map) as file:
+            _print_table(MAP_COLUMNS, map_rows(side.answer), file)
+
+
+def _files(options):
+    """The files that are written beside what is printed; None for one that isn't asked for."""
+    return [options.svg, options.map]
 
 
 def _run(options):
@@ -137,7 +150,7 @@ def _run(options):
     if not options.meta and is_open and options.side.endswith(".tbc"):
         options.meta = beside(options.side)
     inputs = [0 if options.side == "-" else options.side, options.meta]
-    refuse_inputs([1 if options.output is None else options.output, options.svg], inputs)
+    refuse_inputs([1 if options.output is None else options.output, *_files(options)], inputs)
     if options.output is None:
         return _answer(options)
     with whole_file(options.output) as file, contextlib.redirect_stdout(file):
@@ -151,14 +164,13 @@ def _answer(options):
         if isinstance(source, Side):
             raise ValueError("--document is of a TBC file, and this is a document")
         _print_document(source)
-        if not options.svg:
+        if not any(_files(options)):
             return _cut_status(cut_of(source), source.system)
     side = _side_of(source)
     side.is_strict = options.strict
     if metadata:
         _add_fields(side, metadata, isinstance(source, Side))
-    if options.svg:
-        _draw(side, options)
+    _write_files(side, options)
     if options.seek:
         found = seek(side.answer, options.seek)
         print(text_of(found))
@@ -171,7 +183,7 @@ def _answer(options):
         print()
     elif options.bad_lines:
         _print_table(BAD_LINE_COLUMNS, bad_line_rows(side.answer))
-    elif options.csv or not options.svg:
+    elif options.csv or not any(_files(options)):
         _print_table(FIELD_COLUMNS, field_rows(side))
     return _cut_status(side.cut, side.system)
 

@@ -187,6 +187,17 @@ class Files(Runs):
                 self.assertEqual(self.read("out"), printed[1])
                 os.unlink(self.path("out"))
 
+    def test_a_map(self):
+        status, text, said = self.run_command("side.vbi.json", "--map", "side.map")
+        self.assertEqual((status, text, said), (0, b"", ""))
+        rows = self.read("side.map").split(b"\n")
+        self.assertEqual([rows[0], rows[5], rows[-1]], [b"kind,number,field,frame,how", b"picture,4,5,3,read", b""])
+        self.assertEqual(self.run_command("side.tbc", *LEVELS, "--map", "two", "--seek", "4")[1], b"field 5, frame 3\n")
+        self.assertEqual(self.run_command("side.tbc", *LEVELS, "--map", "three", "--document")[1], self.document)
+        self.assertEqual([self.read("two"), self.read("three")], [self.read("side.map")] * 2)
+        self.refused("new would be written in the place of an input or of another output",
+                     "side.vbi.json", "--svg", "new", "--map", "new")
+
     def test_nothing_is_left_of_what_fails(self):
         before = sorted(os.listdir(self.folder))
         self.refused("black is not below white", "side.tbc", *LEVELS, "--black", "51200", "--document", "-o", "out")
