@@ -8,6 +8,7 @@ import os
 import sys
 
 from ldvbi import Stream, System, field_bytes
+from .compare import compare, comparison_text
 from .document import is_document, side_of_document
 from .extraction import write_document
 from .map import COLUMNS as MAP_COLUMNS, map_rows
@@ -22,7 +23,10 @@ from .tables import BAD_LINE_COLUMNS, FIELD_COLUMNS, bad_line_rows, field_rows
 
 DESCRIPTION = """Reads a side from a TBC file, or from a document that `ldvbi extract` wrote, and says what its words
 mean. A file is taken for a document where its name ends with .json or its text begins as a document's does. Statuses: 0
-done, 1 a fault, 2 the command line was refused, 3 done and the last field is cut, 130 ended by Ctrl-C."""
+done, 1 a fault, 2 the command line was refused, 3 done and the last field is cut, 130 ended by Ctrl-C. With the word
+compare and two sides behind it, it compares these."""
+COMPARISON = """Compares two captures of one side by their numbers: which are in one alone, and which of those in both
+are shown there by more lines, or by lines of pass 1 for pass 2."""
 LEVELS = "the sample of %s, 0 to 65535, and black below white"
 
 
@@ -96,6 +100,15 @@ def _side_of(source):
         return side_of_stream(source, progress)
 
 
+def _loaded(source, metadata, options):
+    """The side of a source, with what the metadata has of its fields."""
+    side = _side_of(source)
+    side.is_strict = options.strict
+    if metadata:
+        _add_fields(side, metadata, isinstance(source, Side))
+    return side
+
+
 def _add_fields(side, metadata, is_all):
     """Adds what the metadata has of the fields to the side. `is_all` says that nothing else is wanted of it."""
     count, side.expected = len(side.readings), metadata.fields
@@ -144,11 +157,33 @@ def _files(options):
     return [options.svg, options.map]
 
 
-def _run(options):
-    """What the options ask for. The answer is the exit status."""
+def _options(words):
+    """The options of these words, with the metadata beside the TBC file where they leave something open."""
+    options = _parser().parse_args(words)
     is_open = None in (options.system, options.black, options.white)
     if not options.meta and is_open and options.side.endswith(".tbc"):
         options.meta = beside(options.side)
+    return options
+
+
+def _compare(words):
+    """Prints what two sides have of each other's numbers."""
+    parser = argparse.ArgumentParser(prog="python3 -m ldvbi compare", description=COMPARISON)
+    parser.add_argument("sides", nargs=2, metavar="SIDE", help="a document, or a TBC file with its metadata beside it")
+    parser.add_argument("--json", action="store_true", help="print all stretches, as JSON")
+    options = parser.parse_args(words)
+    refuse_inputs([1], options.sides)
+    sides = []
+    for path in options.sides:
+        settings = _options(["--", path])
+        sides.append(_loaded(*_source(settings), settings))
+    found = compare(*sides)
+    print(json.dumps(found) if options.json else "\n".join(comparison_text(found, options.sides)))
+    return 0
+
+
+def _run(options):
+    """What the options ask for. The answer is the exit status."""
     inputs = [0 if options.side == "-" else options.side, options.meta]
     refuse_inputs([1 if options.output is None else options.output, *_files(options)], inputs)
     if options.output is None:
@@ -166,10 +201,7 @@ def _answer(options):
         _print_document(source)
         if not any(_files(options)):
             return _cut_status(cut_of(source), source.system)
-    side = _side_of(source)
-    side.is_strict = options.strict
-    if metadata:
-        _add_fields(side, metadata, isinstance(source, Side))
+    side = _loaded(source, metadata, options)
     _write_files(side, options)
     if options.seek:
         found = seek(side.answer, options.seek)
@@ -189,9 +221,9 @@ def _answer(options):
 
 
 def main(words=None):
-    options = _parser().parse_args(words)
+    words = sys.argv[1:] if words is None else words
     try:
-        status = _run(options)
+        status = _compare(words[1:]) if words[:1] == ["compare"] else _run(_options(words))
         sys.stdout.flush()
         return status
     except BrokenPipeError:

@@ -1,5 +1,6 @@
 """ld-decode's metadata in SQLite, as newer versions keep it: table `capture` with the columns `system`, `black_16b_ire`
-and `white_16b_ire`, and perhaps with the fields' size and count. No file of ld-decode's own was at hand to try it on."""
+and `white_16b_ire`, and perhaps with the fields' size and count. No file of ld-decode's own was at hand to try it
+on."""
 
 import contextlib
 import pathlib

@@ -50,7 +50,7 @@ def _levels_text(answer, plot_command):
         levels["words"], levels["bad"], levels["blank"], why, plot_command(levels["field"], levels["line"]))
 
 
-def _listed(count, texts):
+def listed(count, texts):
     """How many there are, and the first ones of them."""
     texts = list(texts)
     more = len(texts) - MOST_LISTED
@@ -58,12 +58,12 @@ def _listed(count, texts):
     return "%d (%s)" % (count, shown) if count else "none"
 
 
-def _named(unit, first, last):
+def named(unit, first, last):
     """A number with what it counts, or the first and the last one of several."""
     return "%s %s" % (unit, first) if first == last else "%s %s to %s" % (UNITS[unit], first, last)
 
 
-def _largest_first(ones, size):
+def largest_first(ones, size):
     """The ones of a list with the largest at the front: where they are as large, as they stand on the side."""
     return sorted(ones, key=lambda one: -size(one))
 
@@ -74,18 +74,18 @@ def _number_lines(answer):
     yield "missing: " + _missing_text(answer["missing"], unit)
     if answer["leftOut"]:
         yield "left out by the disc's clock: %d" % sum(one["count"] for one in answer["leftOut"])
-    lost = _largest_first(answer["lost"], lambda one: one["fields"] or 1)
-    yield "lost fields: " + _listed(sum(one["fields"] or 1 for one in lost), (
+    lost = largest_first(answer["lost"], lambda one: one["fields"] or 1)
+    yield "lost fields: " + listed(sum(one["fields"] or 1 for one in lost), (
         "%s after field %d" % (one["fields"] or "1 or more", one["after"]) for one in lost))
-    jumps = _largest_first((one for one in answer["breaks"] if one["kind"] != "lost"), lambda one: one["fields"])
-    yield "jumps: " + _listed(len(jumps), (
+    jumps = largest_first((one for one in answer["breaks"] if one["kind"] != "lost"), lambda one: one["fields"])
+    yield "jumps: " + listed(len(jumps), (
         "%s %s to %s in field %d" % (unit, one["from"], one["to"], one["before"]) for one in jumps))
-    stills = _largest_first(answer["stills"], lambda one: one["last"] - one["first"])
-    yield "stills: " + _listed(len(stills), (
+    stills = largest_first(answer["stills"], lambda one: one["last"] - one["first"])
+    yield "stills: " + listed(len(stills), (
         "%s %s in fields %d to %d" % (unit, one["number"], one["first"], one["last"]) for one in stills))
-    repeated = _largest_first(answer["repeated"], lambda one: one["lastField"] - one["field"])
-    yield "shown again: " + _listed(len(repeated), (
-        "%s in field %d" % (_named(unit, one["first"], one["last"]), one["field"]) for one in repeated))
+    repeated = largest_first(answer["repeated"], lambda one: one["lastField"] - one["field"])
+    yield "shown again: " + listed(len(repeated), (
+        "%s in field %d" % (named(unit, one["first"], one["last"]), one["field"]) for one in repeated))
 
 
 def _missing_text(missing, unit):
@@ -93,9 +93,9 @@ def _missing_text(missing, unit):
     for one in missing:
         counts[one["why"]] += one["count"]
     whys = ", ".join("%s %d" % (why, counts[why]) for why in ("damaged", "lost", "undecided") if counts[why])
-    places = _listed(sum(counts.values()), (
-        "%s after field %d" % (_named(unit, one["first"], one["last"]), one["after"])
-        for one in _largest_first(missing, lambda one: one["count"])))
+    places = listed(sum(counts.values()), (
+        "%s after field %d" % (named(unit, one["first"], one["last"]), one["after"])
+        for one in largest_first(missing, lambda one: one["count"])))
     return places.replace("(", "(%s: " % whys, 1)
 
 
@@ -105,10 +105,10 @@ def _doubt_lines(answer):
     conflicts = [dict(one, unit=unit) for one in answer["conflicts"]]
     conflicts += [dict(one, unit="chapter") for one in answer["chapterConflicts"]]
     conflicts.sort(key=lambda one: one["field"])
-    yield "doubtful, set aside: " + _listed(len(doubtful), (
+    yield "doubtful, set aside: " + listed(len(doubtful), (
         "%s %s in field %d line %d" % (one["kind"], one["word"] if one["number"] is None else one["number"],
                                        one["field"], one["line"]) for one in doubtful))
-    yield "lines 17 and 18 differ: " + _listed(len(conflicts), (
+    yield "lines 17 and 18 differ: " + listed(len(conflicts), (
         "field %d: %s %s and %s, %s taken" % (one["field"], one["unit"], one["line17"], one["line18"],
                                               "none" if one["taken"] is None else one["taken"]) for one in conflicts))
     for one in answer["secondRows"]:
@@ -117,23 +117,23 @@ def _doubt_lines(answer):
 
 def _part_lines(answer):
     chapters, stops, stray = answer["chapters"], answer["stops"], answer["stray"]
-    yield "chapters: " + _listed(len(chapters), ("chapter %(chapter)d in field %(field)d" % one for one in chapters))
-    yield "picture stops: " + _listed(len(stops), (
+    yield "chapters: " + listed(len(chapters), ("chapter %(chapter)d in field %(field)d" % one for one in chapters))
+    yield "picture stops: " + listed(len(stops), (
         "field %(field)d" % one if one["number"] is None else "picture %(number)s in field %(field)d" % one
         for one in stops))
-    yield ", ".join("%s: %s" % (name, _listed(sum(one["count"] for one in stretches), (
+    yield ", ".join("%s: %s" % (name, listed(sum(one["count"] for one in stretches), (
         fields_text(one["first"], one["last"]) for one in stretches)))
         for name, stretches in (("lead-in", answer["leadIn"]), ("lead-out", answer["leadOut"])))
-    yield "unknown words: " + _listed(len(answer["unknown"]), (
+    yield "unknown words: " + listed(len(answer["unknown"]), (
         "%(word)s in field %(field)d line %(line)d" % one for one in answer["unknown"]))
     yield "programme status: %s, users' codes: %s" % (
         _words_text(answer["programmeStatus"], lambda one: "CX %s %s" % ("on" if one["cx"] else "off", one["digits"])),
         _words_text(answer["users"], lambda one: "%(digit)d %(digits)s" % one))
-    yield "stray codes: " + _listed(len(stray), ("%(kind)s in field %(field)d line %(line)d" % one for one in stray))
+    yield "stray codes: " + listed(len(stray), ("%(kind)s in field %(field)d line %(line)d" % one for one in stray))
 
 
 def _words_text(words, text_of):
     """How many fields have words of a kind, and the most frequent of them."""
-    return _listed(sum(one["count"] for one in words), (
+    return listed(sum(one["count"] for one in words), (
         "%s in %s" % (text_of(one), counted(one["count"], "field"))
-        for one in _largest_first(words, lambda one: one["count"])))
+        for one in largest_first(words, lambda one: one["count"])))

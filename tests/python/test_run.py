@@ -176,6 +176,28 @@ class Metadata(Runs):
         self.assertEqual((status, text.split(b"\n")[0]), (1, b"whole: no: no lead-in; no lead-out"))
 
 
+class Comparisons(Runs):
+    def test_two_captures(self):
+        write_stream(self.path("other.tbc"), NTSC, pictures(16)[4:])
+        self.write("other.tbc.json", json.dumps({"videoParameters": {
+            "system": "NTSC", "black16bIre": 16384, "white16bIre": 51200}}).encode())
+        self.assertEqual(self.run_command("compare", "side.vbi.json", "other.tbc"), (
+            0, b"pictures: 12 in side.vbi.json, 12 in other.tbc, 8 in both\n"
+            b"in side.vbi.json alone: 4 (pictures 0 to 3)\nin other.tbc alone: 4 (pictures 12 to 15)\nbetter in side.vbi.json: none\nbetter in other.tbc: none\n"
+            b"alike in both: 8 (pictures 4 to 11)\n", ""))
+        status, text, said = self.run_command("compare", "--json", "other.tbc", "side.vbi.json")
+        self.assertEqual((status, said), (0, ""))
+        self.assertEqual(json.loads(text), {"version": 1, "unit": "picture", "counts": [12, 12],
+                                            "a": [{"first": 12, "last": 15, "count": 4}],
+                                            "b": [{"first": 0, "last": 3, "count": 4}], "betterA": [], "betterB": [],
+                                            "same": [{"first": 4, "last": 11, "count": 8}]})
+
+    def test_refused(self):
+        self.refused("[Errno 2] No such file or directory: 'absent'", "compare", "side.vbi.json", "absent")
+        self.refused("no system given", "compare", "side.vbi.json", "side.tbc")
+        self.assertEqual(self.run_command("compare", "side.vbi.json")[0], 2)
+
+
 class Files(Runs):
     def test_outputs_into_a_file(self):
         for words, status, option in ((["--document"], 0, "-o"), ([], 0, "--output"), (["--summary"], 1, "-o"),
