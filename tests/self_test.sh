@@ -130,7 +130,7 @@ manual|out|  draw     Turns|  draw     Terns
 manual|share/man/ldvbi.1|s/1000000/1000001/
 manual|share/completions/ldvbi.bash|s/extract/extrakt/
 manual|share/completions/_ldvbi|s/extract/extrakt/
-manual|share/man/ldvbi-side.1|s/at most 20 lines/at most 30 lines/
+manual|share/man/ldvbi-side.1|s/at most 24 lines/at most 30 lines/
 manual|share/completions/ldvbi-side.bash|s/--svg/--svgs/
 plots|out|change 170|change 171
 plots|hangs

@@ -2,10 +2,11 @@
 
 A place is named as in `.chapters[].number`, with `[]` for the first item of a list. Of each kind of value that it has
 it is tried once, in the smallest document. An object has just its members. The table has a row for each place that is
-neither an object nor a list, with what may stand there: `null`, numbers, one from here to there (`0..79`, whose
-neighbours may not; `1..` has no end), and texts, in quotation marks where they have a space or look like a number.
-`!60` may not stand there. An object or a list has a row where it may be `null`, or where a list has `3 items`, which
-then have places of their own (`[0]`). A row that begins without a dot gives a name to what its words allow.
+neither an object nor a list, with what may stand there: `null`, `true`, `false`, numbers, one from here to there
+(`0..79`, whose neighbours may not; `1..` has no end), and texts, in quotation marks where they have a space or look
+like a number. `!60` may not stand there. An object or a list has a row where it may be `null`, or where a list has
+`3 items`, which then have places of their own (`[0]`). A row that begins without a dot gives a name to what its words
+allow.
 
 usage: python3 tests/validate_parts.py SCHEMA TABLE DOCUMENT..
 """
@@ -54,7 +55,7 @@ def values_of(words):
             refused += [int(ends[1]) - 1] + ([int(ends[2]) + 1] if ends[2] else [])
         else:
             text = word.lstrip("!")
-            value = json.loads(text) if re.fullmatch(r'null|\[\]|[0-9]+|".*"', text) else text
+            value = json.loads(text) if re.fullmatch(r'null|true|false|\[\]|[0-9]+|".*"', text) else text
             (refused if word.startswith("!") else allowed).append(value)
     return allowed, [value for value in refused if not is_in(value, allowed)]
 

@@ -12,6 +12,7 @@ from .numbers import no_numbers, pictures_of
 from .said import Said
 from .steps import Steps
 from .times import times_of
+from .whole import reasons_of
 
 VERSION = 1  # of the answer's form
 
@@ -37,9 +38,13 @@ def analyse(fields):
         "doubtful": sorted(doubts.doubtful, key=_place), "conflicts": sorted(doubts.conflicts, key=_place),
         "chapterConflicts": sorted(doubts.chapter_conflicts, key=_place), "secondRows": doubts.second_rows,
         "chapters": chapters, "stops": _stops(said, steps, begin), **ends,
-        "stray": sorted(said.stray, key=_place)})
+        "stray": sorted(said.stray, key=_place), "unknown": said.unknown, "programmeStatus": _status(said),
+        "users": _users(said)})
     bad, rates = bad_lines_of(fields), rates_of(fields)
-    answer.update({"badLines": bad, "lines": rates, "levels": levels_of(rates, bad, said.count)})
+    answer.update({"badLines": bad, "lines": rates, "levels": levels_of(rates, bad, said.count),
+                   "metadataFields": fields.expected})
+    reasons = reasons_of(answer, fields.is_strict)
+    answer.update({"whole": not reasons, "reasons": reasons})
     return answer
 
 
@@ -67,6 +72,18 @@ def _of_numbers(steps, doubts):
         "breaks": [dict(one, **{"from": text_of(one["from"]), "to": text_of(one["to"])}) for one in steps.breaks],
         "stills": [dict(one, number=text_of(one["number"])) for one in steps.stills],
         "repeated": repeated_of(steps)}
+
+
+def _status(said):
+    """The programme status codes that differ: whether CX is on, and the three digits behind that as they are."""
+    return [{"cx": word >> 12 == 0x8DC, "digits": "%03X" % (word & 0xFFF), **fields}
+            for word, fields in said.words_of((Kind.cx_on, Kind.cx_off))]
+
+
+def _users(said):
+    """The users' codes that differ."""
+    return [{"digit": word >> 16 & 7, "digits": "%03X" % (word & 0xFFF), **fields}
+            for word, fields in said.words_of((Kind.users,))]
 
 
 def _stops(said, steps, begin):

@@ -8,22 +8,26 @@ import os
 import sys
 
 from ldvbi import Stream, System, field_bytes
+from .compare import compare, comparison_text
 from .document import is_document, side_of_document
 from .extraction import write_document
-from .metadata import settings_of
+from .map import COLUMNS as MAP_COLUMNS, map_rows
+from .metadata import beside, read_metadata, settings_of
 from .outputs import drop_standard_output, refuse_inputs, whole_file
-from .parity import first_fields_of
 from .plot import plot_command
 from .progress import Progress
 from .seek import seek, text_of, wanted_of
 from .side import Side, cut_of, side_of_stream
-from .summary import is_whole, summary
+from .summary import summary
 from .tables import BAD_LINE_COLUMNS, FIELD_COLUMNS, bad_line_rows, field_rows
 
 NAME = "ldvbi-side"
 DESCRIPTION = """Reads a side from a TBC file, or from a document that `ldvbi extract` wrote, and says what its words
 mean. A file is taken for a document where its name ends with .json or its text begins as a document's does. Statuses: 0
-done, 1 a fault, 2 the command line was refused, 3 done and the last field is cut, 130 ended by Ctrl-C."""
+done, 1 a fault, 2 the command line was refused, 3 done and the last field is cut, 130 ended by Ctrl-C. With the word
+compare and two sides behind it, it compares these."""
+COMPARISON = """Compares two captures of one side by their numbers: which are in one alone, and which of those in both
+are shown there by more lines, or by lines of pass 1 for pass 2."""
 LEVELS = "the sample of %s, 0 to 65535, and black below white"
 
 
@@ -38,43 +42,49 @@ def _parser():
     parser = argparse.ArgumentParser(prog=NAME, description=DESCRIPTION)
     parser.add_argument("side", help="the TBC file, or the document; - is standard input, for a document")
     parser.add_argument("--meta", metavar="FILE", help="system and levels of a TBC file from ld-decode's .tbc.json or "
-                        ".tbc.db; levels with decimals are rounded to the next whole number; the .tbc.json's "
-                        "isFirstField, which is used of a document, too, shows single lost fields")
+                        ".tbc.db, where it isn't the one beside the file; levels with decimals are rounded to the next "
+                        "whole number; its count of fields is compared; the .tbc.json's isFirstField, which is used of "
+                        "a document, too, shows single lost fields")
     parser.add_argument("--system", choices=list(System.__members__))
     parser.add_argument("--black", type=int, help=LEVELS % "black")
     parser.add_argument("--white", type=int, help=LEVELS % "white")
     output = parser.add_mutually_exclusive_group()
-    output.add_argument("--csv", action="store_true", help="print a row for each field with any code (the default)")
+    output.add_argument("--csv", action="store_true", help="print a row for each field with any word (the default)")
     output.add_argument("--json", action="store_true", help="print all that is known of the side, every list in full")
     output.add_argument("--bad-lines", action="store_true", help="print a row for each line that shows no word and "
                         "isn't blank, with its cause and its offset in the TBC file")
     output.add_argument("--seek", metavar="WANTED", type=_wanted, help="print the first field of a picture, which is "
                         "given by its number or as a CLV time h:mm:ss.pp, of a minute h:mm, of a second h:mm:ss, or of "
                         "a chapter, as 'chapter 3'; status 1 where there is none")
-    output.add_argument("--summary", action="store_true", help="print what to look at first, in at most 20 lines; "
-                        "status 1 where a picture is missing, none is there, or the last field is cut")
+    output.add_argument("--summary", action="store_true", help="print whether the side is whole, and what to look at "
+                        "first, in at most 24 lines; status 0 where it is whole, else 1")
     output.add_argument("--document", action="store_true", help="print the document that `ldvbi extract` writes of the "
                         "TBC file, the same byte for byte")
+    parser.add_argument("--strict", action="store_true", help="take a side without lead-in or lead-out for not whole")
     parser.add_argument("-o", "--output", metavar="FILE", help="print into this file, which gets its name only when it "
                         "is whole")
     parser.add_argument("--svg", metavar="FILE", help="draw the side into this file; with one of the others, that is "
                         "printed too")
+    parser.add_argument("--map", metavar="FILE", help="write where each number, chapter and picture stop is into this "
+                        "file, by which a player seeks; with one of the others, that is printed too")
     return parser
 
 
 def _source(options):
-    """The side of the document that the options name, or the stream of the TBC file."""
+    """The side of the document that the options name, or the stream of the TBC file; and the metadata, or None."""
     given = [options.system, options.black, options.white]
     is_standard_input = options.side == "-"
     with open(0 if is_standard_input else options.side, "rb", closefd=not is_standard_input) as file:
         if is_standard_input or is_document(options.side, file.peek(64)):
             if any(value is not None for value in given):
                 raise ValueError("a document has its system and levels; they are options of a TBC file")
-            return side_of_document(file.read())
-    settings = settings_of(options.meta, *given)
+            side = side_of_document(file.read())
+            return side, options.meta and read_metadata(options.meta)
+    metadata = options.meta and read_metadata(options.meta)
+    settings = settings_of(metadata, *given)
     for note in settings.notes:
         _note(note)
-    return Stream(options.side, settings.system, settings.black, settings.white)
+    return Stream(options.side, settings.system, settings.black, settings.white), metadata
 
 
 def _print_document(stream):
@@ -91,19 +101,35 @@ def _side_of(source):
         return side_of_stream(source, progress)
 
 
-def _add_parity(side, path, is_all):
-    """Adds the metadata's isFirstField to the side. `is_all` says that nothing else is wanted of this metadata."""
-    side.first, note = first_fields_of(path, len(side.readings))
-    if note or is_all and side.first is None:
-        _note(note or "%s has no isFirstField of each field" % path)
+def _loaded(source, metadata, options):
+    """The side of a source, with what the metadata has of its fields."""
+    side = _side_of(source)
+    side.is_strict = options.strict
+    if metadata:
+        _add_fields(side, metadata, isinstance(source, Side))
+    return side
+
+
+def _add_fields(side, metadata, is_all):
+    """Adds what the metadata has of the fields to the side. `is_all` says that nothing else is wanted of it."""
+    count, side.expected = len(side.readings), metadata.fields
+    if metadata.fields is not None and metadata.fields != count:
+        rest = " and %d bytes" % side.cut.bytes if side.cut else ""
+        unused = ", so its isFirstField isn't used" if metadata.first else ""
+        _note("%d fields%s, %s says %d%s: another system, or another file's metadata?" % (
+            count, rest, metadata.path, metadata.fields, unused))
+        return
+    side.first = metadata.first
+    if is_all and side.first is None:
+        _note("%s has no isFirstField of each field" % metadata.path)
 
 
 def _note(text):
     print("%s: %s" % (NAME, text), file=sys.stderr)
 
 
-def _print_table(columns, rows):
-    table = csv.writer(sys.stdout, lineterminator="\n")
+def _print_table(columns, rows, file=None):
+    table = csv.writer(file or sys.stdout, lineterminator="\n")
     table.writerow(columns)
     table.writerows(rows)
 
@@ -116,16 +142,51 @@ def _cut_status(cut, system):
     return 3
 
 
-def _draw(side, options):
-    from .drawing import drawing_of
-    with whole_file(options.svg) as file:
-        file.write(drawing_of(side, os.path.basename(options.side)))
+def _write_files(side, options):
+    """Writes each file that the options name beside what is printed."""
+    if options.svg:
+        from .drawing import drawing_of
+        with whole_file(options.svg) as file:
+            file.write(drawing_of(side, os.path.basename(options.side)))
+    if options.map:
+        with whole_file(options.map) as file:
+            _print_table(MAP_COLUMNS, map_rows(side.answer), file)
+
+
+def _files(options):
+    """The files that are written beside what is printed; None for one that isn't asked for."""
+    return [options.svg, options.map]
+
+
+def _options(words):
+    """The options of these words, with the metadata beside the TBC file where they leave something open."""
+    options = _parser().parse_args(words)
+    is_open = None in (options.system, options.black, options.white)
+    if not options.meta and is_open and options.side.endswith(".tbc"):
+        options.meta = beside(options.side)
+    return options
+
+
+def _compare(words):
+    """Prints what two sides have of each other's numbers."""
+    parser = argparse.ArgumentParser(prog=NAME + " compare", description=COMPARISON)
+    parser.add_argument("sides", nargs=2, metavar="SIDE", help="a document, or a TBC file with its metadata beside it")
+    parser.add_argument("--json", action="store_true", help="print all stretches, as JSON")
+    options = parser.parse_args(words)
+    refuse_inputs([1], options.sides)
+    sides = []
+    for path in options.sides:
+        settings = _options(["--", path])
+        sides.append(_loaded(*_source(settings), settings))
+    found = compare(*sides)
+    print(json.dumps(found) if options.json else "\n".join(comparison_text(found, options.sides)))
+    return 0
 
 
 def _run(options):
     """What the options ask for. The answer is the exit status."""
     inputs = [0 if options.side == "-" else options.side, options.meta]
-    refuse_inputs([1 if options.output is None else options.output, options.svg], inputs)
+    refuse_inputs([1 if options.output is None else options.output, *_files(options)], inputs)
     if options.output is None:
         return _answer(options)
     with whole_file(options.output) as file, contextlib.redirect_stdout(file):
@@ -134,39 +195,36 @@ def _run(options):
 
 def _answer(options):
     """Prints and draws what the options ask for."""
-    source = _source(options)
+    source, metadata = _source(options)
     if options.document:
         if isinstance(source, Side):
             raise ValueError("--document is of a TBC file, and this is a document")
         _print_document(source)
-        if not options.svg:
+        if not any(_files(options)):
             return _cut_status(cut_of(source), source.system)
-    side = _side_of(source)
-    if options.meta:
-        _add_parity(side, options.meta, isinstance(source, Side))
-    if options.svg:
-        _draw(side, options)
+    side = _loaded(source, metadata, options)
+    _write_files(side, options)
     if options.seek:
         found = seek(side.answer, options.seek)
         print(text_of(found))
         return int(found is None)
     if options.summary:
         print(*summary(side.answer, lambda *line: plot_command(side, options.side, *line)), sep="\n")
-        return 0 if is_whole(side.answer) else 1
+        return 0 if side.answer["whole"] else 1
     if options.json:
         json.dump(side.answer, sys.stdout)
         print()
     elif options.bad_lines:
         _print_table(BAD_LINE_COLUMNS, bad_line_rows(side.answer))
-    elif options.csv or not options.svg:
+    elif options.csv or not any(_files(options)):
         _print_table(FIELD_COLUMNS, field_rows(side))
     return _cut_status(side.cut, side.system)
 
 
 def main(words=None):
-    options = _parser().parse_args(words)
+    words = sys.argv[1:] if words is None else words
     try:
-        status = _run(options)
+        status = _compare(words[1:]) if words[:1] == ["compare"] else _run(_options(words))
         sys.stdout.flush()
         return status
     except BrokenPipeError:

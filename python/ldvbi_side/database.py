@@ -1,5 +1,6 @@
 """ld-decode's metadata in SQLite, as newer versions keep it: table `capture` with the columns `system`, `black_16b_ire`
-and `white_16b_ire`. No file of ld-decode's own was at hand to try it on."""
+and `white_16b_ire`, and perhaps with the fields' size and count. No file of ld-decode's own was at hand to try it
+on."""
 
 import contextlib
 import pathlib
@@ -7,6 +8,8 @@ import sqlite3
 
 # The columns that are read, and the members of the JSON metadata that they stand for
 _COLUMNS = {"system": "system", "black_16b_ire": "black16bIre", "white_16b_ire": "white16bIre"}
+_OPTIONAL = {"field_width": "fieldWidth", "field_height": "fieldHeight",
+             "number_of_sequential_fields": "numberOfSequentialFields"}
 
 
 def parameters_of_database(path):
@@ -28,10 +31,13 @@ def _parameters(database):
     missing = [column for column in _COLUMNS if column not in columns]
     if missing:
         raise ValueError("table capture has no column %s; there are: %s" % (missing[0], _listed(columns)))
-    rows = database.execute("SELECT %s FROM capture LIMIT 2" % ", ".join(_COLUMNS)).fetchall()
+    known = dict(_COLUMNS, **{column: name for column, name in _OPTIONAL.items() if column in columns})
+    rows = database.execute("SELECT %s FROM capture LIMIT 2" % ", ".join(known)).fetchall()
     if len(rows) != 1:
         raise ValueError("table capture has %s, not one" % ("more rows" if rows else "no row"))
-    return dict(zip(_COLUMNS.values(), rows[0]))
+    # a column that isn't filled is as good as one that isn't there, but for the three that are needed
+    return {name: value for name, value in zip(known.values(), rows[0])
+            if value is not None or name in _COLUMNS.values()}
 
 
 def _listed(names):

@@ -5,6 +5,7 @@ answer of `analysis`, and each mark has a title that says its fields and why it 
 from . import bands, curve
 from .marks import LANES, Mark, counts_of, fields_text, marks_of
 from .svg import Svg, shortened, text_width
+from .whole import other_file
 
 # The drawing's own measures, in pixels
 LEFT, WIDTH, RIGHT = 150, 960, 30
@@ -93,8 +94,8 @@ def _draw_no_numbers(svg, answer):
     texts = ["no picture number and no time" + (" is believed" if answer["unit"] else "")]
     levels = answer["levels"]
     if levels:
-        texts.append("lines 17 and 18 have %(words)d words, %(bad)d are bad, %(blank)d blank: "
-                     "are black and white right?" % levels)
+        asked = "is it this system, and this file's metadata?" if other_file(answer) else "are black and white right?"
+        texts.append("lines 17 and 18 have %(words)d words, %(bad)d are bad, %(blank)d blank: " % levels + asked)
     y = CURVE_TOP + CURVE_HEIGHT / 2
     for place, text in enumerate(texts):
         svg.text(LEFT + WIDTH / 2, y + 24 * place, text, text_anchor="middle", class_="empty")

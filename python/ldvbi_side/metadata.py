@@ -1,12 +1,23 @@
-"""System, black and white of a run, from ld-decode's metadata, JSON or SQLite. JSON is read as `ldvbi` reads it, but
-for this: levels with decimals are rounded here to the next whole number, a half upwards."""
+"""System, black and white of a run, how many fields there are and which of them begin a frame, from ld-decode's
+metadata, JSON or SQLite. JSON is read as `ldvbi` reads it, but for this: levels with decimals are rounded here to the
+next whole number, a half upwards."""
 
 import json
 import math
-from typing import NamedTuple
+import os
+from typing import List, NamedTuple, Optional
 
 from ldvbi import System
 from .side import size_of
+
+
+class Metadata(NamedTuple):
+    """What a file has: the videoParameters, how many fields there are, and of each `isFirstField`, which databases are
+    not asked for. Each is None where the file doesn't have it."""
+    path: str
+    parameters: Optional[dict]
+    fields: Optional[int]
+    first: Optional[List[bool]]
 
 
 class Settings(NamedTuple):
@@ -17,9 +28,45 @@ class Settings(NamedTuple):
     notes: tuple
 
 
-def settings_of(path, system=None, black=None, white=None):
-    """The settings from this metadata file, or from none. What is given here replaces the file's member."""
-    parameters = _parameters(path) if path else {}
+def beside(path):
+    """The metadata that lies beside a TBC file: NAME.tbc.json, else NAME.tbc.db; None where neither does."""
+    return next((name for name in (path + ".json", path + ".db") if os.path.exists(name)), None)
+
+
+def read_metadata(path):
+    """The `Metadata` of a file, which is read once, since it may be a pipe. A database of another form is a ValueError;
+    a text that isn't metadata has none of the three."""
+    with open(path, "rb") as file:
+        # A pipe begins with less, perhaps, and is no database.
+        if file.peek(16).startswith(b"SQLite format 3\0"):
+            from .database import parameters_of_database  # sqlite3 is no part of the smallest Pythons
+            parameters = parameters_of_database(path)
+            return Metadata(path, parameters, _count(parameters), None)
+        try:
+            text = json.loads(file.read().decode("utf-8"))
+        except (ValueError, RecursionError):
+            text = None
+    members = text if isinstance(text, dict) else {}
+    parameters = members.get("videoParameters")
+    parameters = parameters if isinstance(parameters, dict) else None
+    fields = members.get("fields")
+    if not isinstance(fields, list) or not fields:
+        return Metadata(path, parameters, _count(parameters or {}), None)
+    first = [field.get("isFirstField") if isinstance(field, dict) else None for field in fields]
+    return Metadata(path, parameters, len(fields), first if all(isinstance(one, bool) for one in first) else None)
+
+
+def _count(parameters):
+    """The number of fields that the metadata's head has."""
+    count = parameters.get("numberOfSequentialFields")
+    return count if type(count) is int and count >= 0 else None
+
+
+def settings_of(metadata, system=None, black=None, white=None):
+    """The settings from this metadata, or from none. What is given here replaces the file's member."""
+    parameters = {} if metadata is None else metadata.parameters
+    if parameters is None:
+        raise ValueError("%s is no metadata with videoParameters" % metadata.path)
     system = system or _system(parameters)
     width, height = size_of(system)
     for member, wanted in (("fieldWidth", width), ("fieldHeight", height)):
@@ -29,21 +76,6 @@ def settings_of(path, system=None, black=None, white=None):
     black = _level(parameters, "black", notes) if black is None else black
     white = _level(parameters, "white", notes) if white is None else white
     return Settings(system, black, white, tuple(notes))
-
-
-def _parameters(path):
-    with open(path, "rb") as file:
-        # A pipe begins with less, perhaps, and is no database.
-        if file.peek(16).startswith(b"SQLite format 3\0"):
-            from .database import parameters_of_database  # sqlite3 is no part of the smallest Pythons
-            return parameters_of_database(path)
-        try:
-            parameters = json.loads(file.read().decode("utf-8"))["videoParameters"]
-        except (KeyError, TypeError, ValueError, RecursionError):
-            parameters = None
-    if not isinstance(parameters, dict):
-        raise ValueError("%s is no metadata with videoParameters" % path)
-    return parameters
 
 
 def _system(parameters):

@@ -12,13 +12,17 @@ WEIGHTS = (0, 2, 1)  # of a line without a word, with one of pass 1, with one of
 class Fields(NamedTuple):
     """The whole fields of a side as plain data: of each field the words, passes and causes of lines 16, 17 and 18, as
     the document of `ldvbi extract` has them. `cut` is the document's `cutField`. `first` says of each field whether it
-    is the first one of its frame (`isFirstField` of ld-decode's metadata), or is None where that isn't known."""
+    is the first one of its frame (`isFirstField` of ld-decode's metadata), or is None where that isn't known.
+    `expected` is the number of fields that the metadata has, or None; `is_strict` says that a side without lead-in or
+    lead-out isn't whole."""
     system: str
     words: List[Tuple[int, int, int]]
     passes: List[Tuple[int, int, int]]
     causes: List[Tuple[str, str, str]]
     cut: Optional[dict] = None
     first: Optional[List[bool]] = None
+    expected: Optional[int] = None
+    is_strict: bool = False
 
 
 class Reading(NamedTuple):
@@ -33,13 +37,14 @@ class Reading(NamedTuple):
 
 class Said:
     """The codes of a side. `kinds` has for each kind its fields, and for each of these the values with their lines;
-    `format` is `cav`, `clv` or `neither`; `stray` are the codes that stand where no disc has them."""
+    `format` is `cav`, `clv` or `neither`; `stray` are the codes that stand where no disc has them, `unknown` the words
+    that are no code."""
 
     def __init__(self, fields):
         self.fields = fields
         self.count = len(fields.words)
         self.kinds = {kind: {} for kind in STANDARD_LINES}
-        self.stray = []
+        self.stray, self.unknown = [], []
         self._collect()
         self.format = self._settle_format()
 
@@ -56,8 +61,9 @@ class Said:
                     known[word] = self.kinds.get(code.kind), value_of(code), STANDARD_LINES.get(code.kind)
                 fields, value, lines = known[word]
                 if lines is None:
-                    continue
-                if line not in lines:
+                    one = self.entry(field, line, "code")
+                    self.unknown.append({name: one[name] for name in ("field", "line", "word", "pass")})
+                elif line not in lines:
                     self.add_stray(field, line, "line")
                 elif field not in fields:
                     fields[field] = {value: (line,)}
@@ -106,6 +112,17 @@ class Said:
         """The values of a kind as readings, by field."""
         return [Reading(field, value, self.weight(field, lines), lines)
                 for field, values in self.kinds[kind].items() for value, lines in values.items()]
+
+    def words_of(self, kinds):
+        """The different words of kinds that have a line to themselves: of each the word, its fields' count, the first
+        and the last of them, by the first field."""
+        found = {}
+        for kind in kinds:
+            place = STANDARD_LINES[kind][0] - LINES[0]
+            for field in self.kinds[kind]:
+                one = found.setdefault(self.fields.words[field - 1][place], {"count": 0, "first": field})
+                one.update(count=one["count"] + 1, last=field)
+        return sorted(found.items(), key=lambda pair: pair[1]["first"])
 
     def minutes(self):
         """The minutes of CLV times: for each field the values with their lines. Those that no clock shows are left

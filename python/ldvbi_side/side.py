@@ -34,7 +34,8 @@ class Levels(NamedTuple):
 
 class Side:
     """The whole fields of a side in their order, and the field in which it was cut. `first` says of each field whether
-    it is the first one of its frame, or is None where that isn't known.
+    it is the first one of its frame, or is None where that isn't known. `expected` is the number of fields that the
+    metadata has, or None; with `is_strict` a side without lead-in or lead-out isn't whole.
 
     `answer` is what the words mean, as docs/SIDES.md describes it; `pictures`, `times`, `chapters`, `stops` and
     `format` are parts of it. `codes` is what each field says, judged by nothing."""
@@ -46,6 +47,8 @@ class Side:
         self.cut = cut
         self.levels = levels
         self.first = first
+        self.expected: Optional[int] = None
+        self.is_strict = False
 
     def numbered(self):
         """Each field's number and readings."""
@@ -59,7 +62,7 @@ class Side:
             passes.append((one.pass_, two.pass_, three.pass_))
             causes.append((cause_text(one), cause_text(two), cause_text(three)))
         cut = self.cut and {"seqNo": self.cut.field, "bytes": self.cut.bytes}
-        return Fields(self.system.name, words, passes, causes, cut, self.first)
+        return Fields(self.system.name, words, passes, causes, cut, self.first, self.expected, self.is_strict)
 
     @functools.cached_property
     def answer(self):

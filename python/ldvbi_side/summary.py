@@ -1,21 +1,17 @@
-"""A side at a glance: what to look at first, in at most 20 lines."""
+"""A side at a glance: whether it is whole, and what to look at first, in at most 24 lines."""
 
 from collections import Counter
 
 from .codes import LINES
+from .marks import fields_text
+from .whole import UNITS, counted, other_file
 
 MOST_LISTED = 4  # places in a line
-UNITS = {"picture": "pictures", "time": "times", "minute": "minutes"}
-
-
-def is_whole(answer):
-    """Whether nothing of the side is missing: it has a number, none is missing between the least and the greatest, and
-    the last field isn't cut."""
-    return answer["numbers"]["count"] > 0 and not answer["missing"] and answer["cutField"] is None
 
 
 def summary(answer, plot_command):
     """The lines of the summary. `plot_command` makes the command that draws a line, of its field and its number."""
+    yield "whole: " + ("yes" if answer["whole"] else "no: " + "; ".join(one["text"] for one in answer["reasons"]))
     cut = answer["cutField"]
     film = ", film (2 and 3 fields a picture)" if answer["pace"] == "film" else ""
     yield "system: %s, %s%s" % (answer["system"], _FORMATS[answer["format"]], film)
@@ -23,7 +19,7 @@ def summary(answer, plot_command):
     for line in LINES:
         yield _line_text(line, answer["lines"][str(line)])
     if answer["levels"]:
-        yield _levels_text(answer["levels"], plot_command)
+        yield _levels_text(answer, plot_command)
     if answer["numbers"]["count"]:
         yield from _number_lines(answer)
     else:
@@ -42,8 +38,11 @@ def _line_text(line, rates):
         line, words, rates["pass2"], bad, share, rates["blank"])
 
 
-def _levels_text(levels, plot_command):
-    if levels["shows"] == "blank":
+def _levels_text(answer, plot_command):
+    levels = answer["levels"]
+    if other_file(answer):
+        why = "perhaps another system, or another file's metadata"
+    elif levels["shows"] == "blank":
         why = "black and white may be too high, or the side has no codes"
     else:
         why = "black and white may be wrong, or the signal is noise"
@@ -51,7 +50,7 @@ def _levels_text(levels, plot_command):
         levels["words"], levels["bad"], levels["blank"], why, plot_command(levels["field"], levels["line"]))
 
 
-def _listed(count, texts):
+def listed(count, texts):
     """How many there are, and the first ones of them."""
     texts = list(texts)
     more = len(texts) - MOST_LISTED
@@ -59,55 +58,82 @@ def _listed(count, texts):
     return "%d (%s)" % (count, shown) if count else "none"
 
 
-def _span(first, last):
-    return str(first) if first == last else "%s to %s" % (first, last)
+def named(unit, first, last):
+    """A number with what it counts, or the first and the last one of several."""
+    return "%s %s" % (unit, first) if first == last else "%s %s to %s" % (UNITS[unit], first, last)
+
+
+def largest_first(ones, size):
+    """The ones of a list with the largest at the front: where they are as large, as they stand on the side."""
+    return sorted(ones, key=lambda one: -size(one))
 
 
 def _number_lines(answer):
-    yield "%s: %d, from %s to %s" % ((UNITS[answer["unit"]],) + tuple(answer["numbers"].values()))
-    yield "missing: " + _missing_text(answer["missing"])
+    unit = answer["unit"]
+    yield "%s: %d, from %s to %s" % ((UNITS[unit],) + tuple(answer["numbers"].values()))
+    yield "missing: " + _missing_text(answer["missing"], unit)
     if answer["leftOut"]:
         yield "left out by the disc's clock: %d" % sum(one["count"] for one in answer["leftOut"])
-    lost = answer["lost"]
-    yield "lost fields: " + _listed(sum(one["fields"] or 1 for one in lost), (
+    lost = largest_first(answer["lost"], lambda one: one["fields"] or 1)
+    yield "lost fields: " + listed(sum(one["fields"] or 1 for one in lost), (
         "%s after field %d" % (one["fields"] or "1 or more", one["after"]) for one in lost))
-    jumps = [one for one in answer["breaks"] if one["kind"] != "lost"]
-    yield "jumps: " + _listed(len(jumps), ("%(from)s to %(to)s in field %(before)d" % one for one in jumps))
-    stills, repeated = answer["stills"], answer["repeated"]
-    yield "stills: " + _listed(len(stills), ("%(number)s in fields %(first)d to %(last)d" % one for one in stills))
-    yield "shown again: " + _listed(len(repeated), (
-        "%s in field %d" % (_span(one["first"], one["last"]), one["field"]) for one in repeated))
+    jumps = largest_first((one for one in answer["breaks"] if one["kind"] != "lost"), lambda one: one["fields"])
+    yield "jumps: " + listed(len(jumps), (
+        "%s %s to %s in field %d" % (unit, one["from"], one["to"], one["before"]) for one in jumps))
+    stills = largest_first(answer["stills"], lambda one: one["last"] - one["first"])
+    yield "stills: " + listed(len(stills), (
+        "%s %s in fields %d to %d" % (unit, one["number"], one["first"], one["last"]) for one in stills))
+    repeated = largest_first(answer["repeated"], lambda one: one["lastField"] - one["field"])
+    yield "shown again: " + listed(len(repeated), (
+        "%s in field %d" % (named(unit, one["first"], one["last"]), one["field"]) for one in repeated))
 
 
-def _missing_text(missing):
+def _missing_text(missing, unit):
     counts = Counter()
     for one in missing:
         counts[one["why"]] += one["count"]
     whys = ", ".join("%s %d" % (why, counts[why]) for why in ("damaged", "lost", "undecided") if counts[why])
-    places = _listed(sum(counts.values()), (
-        "%s after field %d" % (_span(one["first"], one["last"]), one["after"]) for one in missing))
+    places = listed(sum(counts.values()), (
+        "%s after field %d" % (named(unit, one["first"], one["last"]), one["after"])
+        for one in largest_first(missing, lambda one: one["count"])))
     return places.replace("(", "(%s: " % whys, 1)
 
 
 def _doubt_lines(answer):
     doubtful = answer["doubtful"]
-    conflicts = sorted(answer["conflicts"] + answer["chapterConflicts"], key=lambda one: one["field"])
-    yield "doubtful, set aside: " + _listed(len(doubtful), (
+    unit = "picture" if answer["unit"] == "picture" else "time"
+    conflicts = [dict(one, unit=unit) for one in answer["conflicts"]]
+    conflicts += [dict(one, unit="chapter") for one in answer["chapterConflicts"]]
+    conflicts.sort(key=lambda one: one["field"])
+    yield "doubtful, set aside: " + listed(len(doubtful), (
         "%s %s in field %d line %d" % (one["kind"], one["word"] if one["number"] is None else one["number"],
                                        one["field"], one["line"]) for one in doubtful))
-    yield "lines 17 and 18 differ: " + _listed(len(conflicts), (
-        "field %d: %s and %s, %s taken" % (one["field"], one["line17"], one["line18"],
-                                           "none" if one["taken"] is None else one["taken"]) for one in conflicts))
+    yield "lines 17 and 18 differ: " + listed(len(conflicts), (
+        "field %d: %s %s and %s, %s taken" % (one["field"], one["unit"], one["line17"], one["line18"],
+                                              "none" if one["taken"] is None else one["taken"]) for one in conflicts))
     for one in answer["secondRows"]:
         yield "a second row of numbers, not taken: %(first)s to %(last)s in fields %(field)d to %(lastField)d" % one
 
 
 def _part_lines(answer):
     chapters, stops, stray = answer["chapters"], answer["stops"], answer["stray"]
-    yield "chapters: " + _listed(len(chapters), ("%(chapter)d in field %(field)d" % one for one in chapters))
-    yield "picture stops: " + _listed(len(stops), (
-        "field %d" % one["field"] if one["number"] is None else "%(number)s in field %(field)d" % one for one in stops))
-    yield ", ".join("%s: %s" % (name, _listed(sum(one["count"] for one in stretches), (
-        "fields " + _span(one["first"], one["last"]) for one in stretches)))
+    yield "chapters: " + listed(len(chapters), ("chapter %(chapter)d in field %(field)d" % one for one in chapters))
+    yield "picture stops: " + listed(len(stops), (
+        "field %(field)d" % one if one["number"] is None else "picture %(number)s in field %(field)d" % one
+        for one in stops))
+    yield ", ".join("%s: %s" % (name, listed(sum(one["count"] for one in stretches), (
+        fields_text(one["first"], one["last"]) for one in stretches)))
         for name, stretches in (("lead-in", answer["leadIn"]), ("lead-out", answer["leadOut"])))
-    yield "stray codes: " + _listed(len(stray), ("%(kind)s in field %(field)d line %(line)d" % one for one in stray))
+    yield "unknown words: " + listed(len(answer["unknown"]), (
+        "%(word)s in field %(field)d line %(line)d" % one for one in answer["unknown"]))
+    yield "programme status: %s, users' codes: %s" % (
+        _words_text(answer["programmeStatus"], lambda one: "CX %s %s" % ("on" if one["cx"] else "off", one["digits"])),
+        _words_text(answer["users"], lambda one: "%(digit)d %(digits)s" % one))
+    yield "stray codes: " + listed(len(stray), ("%(kind)s in field %(field)d line %(line)d" % one for one in stray))
+
+
+def _words_text(words, text_of):
+    """How many fields have words of a kind, and the most frequent of them."""
+    return listed(sum(one["count"] for one in words), (
+        "%s in %s" % (text_of(one), counted(one["count"], "field"))
+        for one in largest_first(words, lambda one: one["count"])))

@@ -2,15 +2,17 @@
 
 from ldvbi import Kind, format_of
 from .analysis import frame_of
-from .codes import LINES, STANDARD_LINES, code_of, value_of
+from .codes import LINES, code_of, name_of, value_of
 from .numbers import minute_text
 
-FIELD_COLUMNS = ("field", "frame", "format", "picture", "chapter", "time", "stop", "doubt")
+FIELD_COLUMNS = ("field", "frame", "format", "picture", "chapter", "time", "stop", "doubt", "status", "users",
+                 "unknown")
 BAD_LINE_COLUMNS = ("field", "line", "cause", "offset")
 
 
 def field_rows(side):
-    """A row for each field with any code: what is believed of it, and in the last column what isn't."""
+    """A row for each field with any word: what is believed of it, in the column `doubt` what isn't, and in the last one
+    the words that are no code."""
     answer = side.answer
     numbers = _numbers_by_field(answer)
     doubts = _doubts_by_field(answer)
@@ -18,7 +20,7 @@ def field_rows(side):
     for field, readings in side.numbered():
         words = [reading.word for reading in readings]
         codes = [code_of(word) for word in words]
-        if not any(code and code.kind in STANDARD_LINES for code in codes):
+        if not any(words):
             continue
         doubtful = doubts.get(field, {})
         said = {code.kind: value_of(code) for line, code in zip(LINES, codes) if code and line not in doubtful}
@@ -26,7 +28,23 @@ def field_rows(side):
         yield [field, frame_of(field, answer["frameBegin"]), format_of(*words).name,
                number if answer["unit"] == "picture" else "", said.get(Kind.chapter, ""),
                "" if answer["unit"] == "picture" else number or _minute_of(said), "stop" if field in stops else "",
-               "; ".join(doubtful.values())]
+               "; ".join(doubtful.values()), _status_of(codes[0]), _users_of(codes[0]), _unknown_of(codes, words)]
+
+
+def _status_of(code):
+    """The programme status of line 16's code, as `show` has it."""
+    if not code or code.kind not in (Kind.cx_on, Kind.cx_off):
+        return ""
+    return "%s %03X" % (name_of(code.kind), code.first)
+
+
+def _users_of(code):
+    return "%d %03X" % (code.first, code.second) if code and code.kind == Kind.users else ""
+
+
+def _unknown_of(codes, words):
+    return "; ".join("%06X on line %d" % (word, line) for line, code, word in zip(LINES, codes, words)
+                     if code and code.kind == Kind.other)
 
 
 def _numbers_by_field(answer):

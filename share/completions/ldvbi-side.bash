@@ -14,12 +14,12 @@ _ldvbi_side() {
     case $before in
         --system) answers='NTSC PAL' ;;
         --black | --white | --seek) return ;;
-        --meta | --svg | --output | -o) compopt -o default ;;
+        --meta | --svg | --map | --output | -o) compopt -o default ;;
         *)
             case $word in
                 -*)
                     answers='--help --meta --system --black --white --csv --json --bad-lines --seek --summary'
-                    answers="$answers --document --output --svg"
+                    answers="$answers --document --strict --output --svg --map"
                     ;;
                 *) compopt -o default ;;
             esac

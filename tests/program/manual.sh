@@ -138,7 +138,7 @@ grep -o '^ *-[^ ].*' side.help | sed 's/^ *//; s/   .*//' | grep -o -e '--[a-z-]
 check 'ldvbi-side has options' grep -q -e '--summary' side.options
 cat > offers << END
 ldvbi-side --|$(cat side.options)
-ldvbi-side side.tbc --s|--seek --summary --svg --system
+ldvbi-side side.tbc --s|--seek --strict --summary --svg --system
 ldvbi-side --system |NTSC PAL
 ldvbi-side --system=P|PAL
 ldvbi-side --seek |

@@ -22,6 +22,7 @@ def hand_made():
     yield "lead-in", answer([LEAD_IN, "88FFFF - -"])
     yield "cut", answer(pictures([1, 2]), cut={"seqNo": 5, "bytes": 7}, first=[False, True, True, False])
     yield "stop", answer([STOP + " - -"])
+    yield "line 16", answer(["83D0A1 88FFFB -", "8DC0A1 - -", "8BAFFF - -"])
     yield "conflict", answer(["- %s %s" % (picture(4), picture(5)), "- 800DDD 801DDD"])
     yield "tie", answer(["- %s %s" % (picture(3), picture(5))])
     yield "second", answer(["%s - -" % second(7, number) for number in range(3)])

@@ -63,17 +63,17 @@ cat > cav_words << 'END'
 - 801DDD 801DDD
 - 80EEEE 80EEEE
 END
-cav_csv='field,frame,format,picture,chapter,time,stop,doubt
-1,1,neither,,,,,
-3,2,cav,1,,,,
-4,2,neither,,0,,,
-5,3,cav,2,,,stop,
-6,3,neither,,0,,,
-7,4,cav,3,,,,"picture 79999 on line 18, pass 1: lines"
-8,4,cav,,1,,stop,
-9,5,cav,4,,,,
-10,5,neither,,1,,,
-11,6,neither,,,,,'
+cav_csv='field,frame,format,picture,chapter,time,stop,doubt,status,users,unknown
+1,1,neither,,,,,,,,
+3,2,cav,1,,,,,,,
+4,2,neither,,0,,,,,,
+5,3,cav,2,,,stop,,,,
+6,3,neither,,0,,,,,,
+7,4,cav,3,,,,"picture 79999 on line 18, pass 1: lines",,,
+8,4,cav,,1,,stop,,,,
+9,5,cav,4,,,,,,,
+10,5,neither,,1,,,,,,
+11,6,neither,,,,,,,,'
 side_of "$ntsc" < cav_words
 tells 'fields of a document' 0 "$cav_csv" side.vbi.json
 tells 'fields of a document, asked for' 0 "$cav_csv" side.vbi.json --csv
@@ -85,7 +85,8 @@ for source in side.vbi.json "side.tbc $ntsc"; do
     tells "a time that $source doesn't have" 1 'not found' $source --seek 0:00:00.00
     tells "no line of $source is bad" 0 'field,line,cause,offset' $source --bad-lines
     tells "a chapter of $source" 0 'field 8, frame 4' $source --seek 'chapter 1'
-    tells "the summary of $source" 0 'system: NTSC, CAV
+    tells "the summary of $source" 1 'whole: no: numbers set aside in 1 of 4 fields
+system: NTSC, CAV
 fields: 11, cut: none
 line 16: 2 words, 0 of them of pass 2; 0 bad (0.00 %), 9 blank
 line 17: 10 words, 0 of them of pass 2; 0 bad (0.00 %), 1 blank
@@ -97,10 +98,12 @@ jumps: none
 stills: none
 shown again: none
 doubtful, set aside: 1 (picture 79999 in field 7 line 18)
-lines 17 and 18 differ: 1 (field 7: 3 and 79999, 3 taken)
-chapters: 2 (0 in field 4, 1 in field 8)
-picture stops: 2 (2 in field 5, 3 in field 8)
-lead-in: 1 (fields 1), lead-out: 1 (fields 11)
+lines 17 and 18 differ: 1 (field 7: picture 3 and 79999, 3 taken)
+chapters: 2 (chapter 0 in field 4, chapter 1 in field 8)
+picture stops: 2 (picture 2 in field 5, picture 3 in field 8)
+lead-in: 1 (field 1), lead-out: 1 (field 11)
+unknown words: none
+programme status: none, users'\'' codes: none
 stray codes: none' $source --summary
 done
 cp side.vbi.json document
@@ -138,7 +141,7 @@ jq -c '.fields |= .[1:]' meta.json > shorter.json
 told side.vbi.json --meta shorter.json --seek 3
 echo 'field 7, frame 4' > wanted_text
 judge 'metadata of another count of fields' 0 wanted_text \
-    "ldvbi-side: shorter.json has 10 fields, not 11: its isFirstField isn't used"
+    "ldvbi-side: 11 fields, shorter.json says 10, so its isFirstField isn't used: another system, or another file's metadata?"
 jq -c '.fields |= map({seqNo})' meta.json > without.json
 told side.vbi.json --meta without.json --seek 3
 echo 'field 7, frame 4' > wanted_text
@@ -172,15 +175,15 @@ cat > clv_words << 'END'
 END
 side_of "$pal" < clv_words
 for source in side.vbi.json "side.tbc $pal"; do
-    tells "times of $source" 0 'field,frame,format,picture,chapter,time,stop,doubt
-1,1,clv,,,0:00:59.23,,
-2,1,clv,,0,,,
-3,2,clv,,,0:00:59.24,,
-4,2,clv,,0,,,
-5,3,clv,,,0:01:00.00,,
-6,3,clv,,1,,,
-7,4,clv,,,0:01:00.01,,
-8,4,clv,,1,,,' $source
+    tells "times of $source" 0 'field,frame,format,picture,chapter,time,stop,doubt,status,users,unknown
+1,1,clv,,,0:00:59.23,,,,,
+2,1,clv,,0,,,,cx on 0A1,,
+3,2,clv,,,0:00:59.24,,,,,
+4,2,clv,,0,,,,cx on 0A1,,
+5,3,clv,,,0:01:00.00,,,,,
+6,3,clv,,1,,,,cx on 0A1,,
+7,4,clv,,,0:01:00.01,,,,,
+8,4,clv,,1,,,,cx on 0A1,,' $source
     tells "a time of $source" 0 'field 3, frame 2' $source --seek 0:00:59.24
     tells "a minute of $source" 0 'field 5, frame 3' $source --seek 0:01
     tells "a second of $source" 0 'field 1, frame 1' $source --seek 0:00:59
@@ -196,7 +199,9 @@ WORDS
 printf '12345' >> side.tbc
 output_of extract $ntsc side.tbc > side.vbi.json
 for source in side.vbi.json "side.tbc $ntsc"; do
-    tells "the summary of a cut stream with each cause, $source" 1 'system: NTSC, CAV
+    tells "the summary of a cut stream with each cause, $source" 1 'whole: no: no picture number and no time; '\
+'line 18 shows no code; field 3 is cut
+system: NTSC, CAV
 fields: 2, cut: field 3, of 5 bytes
 line 16: 1 words, 0 of them of pass 2; 1 bad (50.00 %), 0 blank
 line 17: 1 words, 1 of them of pass 2; 1 bad (50.00 %), 0 blank
@@ -207,6 +212,8 @@ lines 17 and 18 differ: none
 chapters: none
 picture stops: 1 (field 1)
 lead-in: none, lead-out: none
+unknown words: none
+programme status: none, users'\'' codes: none
 stray codes: none' $source --summary
     told $source --bad-lines
     printf '%s\n' field,line,cause,offset 2,16,unfinished,505960 '2,17,change 170,507780' '2,18,hold 200,509600' \

@@ -8,11 +8,16 @@ import tempfile
 import threading
 import unittest
 
-from ldvbi_side.metadata import settings_of
+from ldvbi_side import metadata
+from ldvbi_side.metadata import beside, read_metadata
 
 CAPTURE = "CREATE TABLE capture (capture_id INTEGER PRIMARY KEY, system TEXT, field_width INTEGER, " \
           "black_16b_ire NUMERIC, white_16b_ire NUMERIC)"
 INSERT = "INSERT INTO capture (system, black_16b_ire, white_16b_ire) VALUES (?, ?, ?)"
+
+
+def settings_of(path, *given):
+    return metadata.settings_of(path and read_metadata(path), *given)
 
 
 class Metadata(unittest.TestCase):
@@ -121,6 +126,41 @@ class Json(Metadata):
         writer.join()
 
 
+class Fields(Metadata):
+    """How many fields there are, and which of them begin a frame."""
+
+    def fields(self, text):
+        path = self.path("meta.json")
+        with open(path, "w", encoding="utf-8") as file:
+            file.write(text)
+        return read_metadata(path)[2:]
+
+    def test_is_first_field(self):
+        members = [{"seqNo": 1, "isFirstField": False}, {"seqNo": 2, "isFirstField": True}]
+        self.assertEqual(self.fields(json.dumps({"fields": members})), (2, [False, True]))
+        for one in ("{}", "5", '{"isFirstField":1}', '{"isFirstField":null}'):
+            self.assertEqual(self.fields('{"fields":[{"isFirstField":true},%s]}' % one), (2, None))
+
+    def test_without_a_list_the_head_has_the_count(self):
+        for count, known in (("12", 12), ("0", 0), ("-1", None), ("1.5", None), ("true", None), ("null", None)):
+            text = '{"videoParameters":{"numberOfSequentialFields":%s}%s}'
+            self.assertEqual(self.fields(text % (count, "")), (known, None))
+            self.assertEqual(self.fields(text % (count, ',"fields":[]')), (known, None))
+            self.assertEqual(self.fields(text % (count, ',"fields":[{},{}]')), (2, None))
+
+    def test_neither(self):
+        for text in ("{}", "[]", '{"fields":5}', "x", "[" * 100000, '{"videoParameters":5}'):
+            self.assertEqual(self.fields(text), (None, None))
+
+    def test_what_lies_beside_a_file(self):
+        side = self.path("side.tbc")
+        self.assertIsNone(beside(side))
+        for end in (".db", ".json"):
+            with open(side + end, "wb"):
+                pass
+            self.assertEqual(beside(side), side + end)
+
+
 class Database(Metadata):
     def write(self, *statements, name="side.tbc.db"):
         path = self.path(name)
@@ -138,6 +178,17 @@ class Database(Metadata):
         self.assertEqual(settings_of(path, "NTSC", 1, 0), ("NTSC", 1, 0, ()))
         path = self.write(CAPTURE, (INSERT, ("NTSC", 16383.6, 51200.0)))
         self.assertEqual(settings_of(path), ("NTSC", 16384, 51200, ("black16bIre is 16383.6, rounded to 16384",)))
+
+    def test_size_and_count_where_they_are_there(self):
+        more = CAPTURE[:-1] + ", field_height INTEGER, number_of_sequential_fields INTEGER)"
+        insert = "INSERT INTO capture (system, black_16b_ire, white_16b_ire, field_width, field_height, " \
+                 "number_of_sequential_fields) VALUES ('PAL', 1, 2, ?, ?, ?)"
+        path = self.write(more, (insert, (1135, 313, 640)))
+        self.assertEqual([settings_of(path), read_metadata(path)[2:]], [("PAL", 1, 2, ()), (640, None)])
+        path = self.write(more, (insert, (None, None, None)))
+        self.assertEqual([settings_of(path), read_metadata(path)[2:]], [("PAL", 1, 2, ()), (None, None)])
+        self.refused("fieldHeight is not 313", self.write(more, (insert, (1135, 263, 640))))
+        self.assertIsNone(read_metadata(self.write(CAPTURE, (INSERT, ("PAL", 1, 2)))).fields)
 
     def test_names_of_files(self):
         for name in ("side?mode=rw#1 %41.db", "side.tbc.json", "ü.db"):

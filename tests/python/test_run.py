@@ -69,7 +69,8 @@ class WithoutLibrary(Runs):
         for words in (["--summary"], ["--json"], ["--seek", "3"], ["--svg", "svg"], []):
             with self.subTest(words):
                 status, text, said = self.run_command("side.vbi.json", *words, env=self.absent)
-                self.assertEqual((status, said), (0, ""))
+                # a number in each field is no whole side
+                self.assertEqual((status, said), (int(words == ["--summary"]), ""))
                 self.assertEqual(self.run_command("side.vbi.json", *words), (status, text, said))
         status, text, said = self.run_command("--help", env=self.absent)
         self.assertEqual((status, text[:18], said), (0, b"usage: ldvbi-side ", ""))
@@ -121,9 +122,85 @@ class Documents(Runs):
             self.assertEqual(self.run_command("side.tbc", *LEVELS, "--document", other)[0], 2)
 
 
+class Metadata(Runs):
+    """The metadata beside the TBC file, which is taken where options leave something open."""
+
+    def add(self, name, count, **parameters):
+        parameters = {"system": "NTSC", "black16bIre": 16384, "white16bIre": 51200, **parameters}
+        fields = [{"isFirstField": place % 2 == 1} for place in range(count)]
+        self.write(name, json.dumps({"videoParameters": parameters, "fields": fields}).encode())
+
+    def test_it_is_taken(self):
+        self.add("side.tbc.json", 12)
+        # isFirstField of field 1 is false
+        self.assertEqual(self.run_command("side.tbc", "--seek", "4"), (0, b"field 5, frame 2\n", ""))
+        self.assertEqual(self.run_command("side.tbc", "--white", "51200", "--document"), (0, self.document, ""))
+        self.assertEqual(self.run_command("side.tbc", *LEVELS, "--seek", "4"), (0, b"field 5, frame 3\n", ""))
+        self.add("other.json", 12, black16bIre=60000, white16bIre=60001)
+        self.assertEqual(self.run_command("side.tbc", "--meta", "other.json", "--seek", "4")[1], b"not found\n")
+        os.rename(self.path("side.tbc.json"), self.path("side.tbc.db"))
+        self.assertEqual(self.run_command("side.tbc", "--document"), (0, self.document, ""))
+        os.rename(self.path("side.tbc"), self.path("side"))
+        os.rename(self.path("side.tbc.db"), self.path("side.json"))
+        self.refused("no system given", "side")
+
+    def test_it_is_no_output(self):
+        self.add("side.tbc.json", 12)
+        self.refused("side.tbc.json would be written in the place of an input or of another output",
+                     "side.tbc", "-o", "side.tbc.json")
+
+    def test_counts_are_compared(self):
+        self.add("side.tbc.json", 14)
+        text = "ldvbi-side: 12 fields, side.tbc.json says 14, so its isFirstField isn't used: another system, " \
+               "or another file's metadata?\n"
+        status, printed, said = self.run_command("side.tbc", "--json")
+        known = json.loads(printed)
+        self.assertEqual((status, said, known["metadataFields"], known["frameBegin"]), (0, text, 14, 1))
+        self.assertIn({"why": "metadata", "text": "12 fields of 14 that the metadata has"}, known["reasons"])
+        self.assertEqual(self.run_command("side.vbi.json", "--meta", "side.tbc.json", "--seek", "3"),
+                         (0, b"field 4, frame 2\n", text))
+        self.write("side.tbc", self.read("side.tbc") + b"x" * 7)
+        self.write("side.tbc.json", json.dumps({"videoParameters": {
+            "system": "NTSC", "black16bIre": 16384, "white16bIre": 51200, "numberOfSequentialFields": 11}}).encode())
+        said = self.run_command("side.tbc", "--json")[2].split("\n")[0]
+        self.assertEqual(said, "ldvbi-side: 12 fields and 7 bytes, side.tbc.json says 11: another system, or another file's "
+                         "metadata?")
+
+    def test_strict(self):
+        words = [[0, 0xF00001 + place // 2, 0xF00001 + place // 2] if place % 2 == 0 else [0, 0x800DDD, 0x800DDD]
+                 for place in range(8)]
+        write_stream(self.path("side.tbc"), NTSC, words)
+        status, text, _ = self.run_command("side.tbc", *LEVELS, "--summary")
+        self.assertEqual((status, text.split(b"\n")[0]), (0, b"whole: yes"))
+        status, text, _ = self.run_command("side.tbc", *LEVELS, "--summary", "--strict")
+        self.assertEqual((status, text.split(b"\n")[0]), (1, b"whole: no: no lead-in; no lead-out"))
+
+
+class Comparisons(Runs):
+    def test_two_captures(self):
+        write_stream(self.path("other.tbc"), NTSC, pictures(16)[4:])
+        self.write("other.tbc.json", json.dumps({"videoParameters": {
+            "system": "NTSC", "black16bIre": 16384, "white16bIre": 51200}}).encode())
+        self.assertEqual(self.run_command("compare", "side.vbi.json", "other.tbc"), (
+            0, b"pictures: 12 in side.vbi.json, 12 in other.tbc, 8 in both\n"
+            b"in side.vbi.json alone: 4 (pictures 0 to 3)\nin other.tbc alone: 4 (pictures 12 to 15)\nbetter in side.vbi.json: none\nbetter in other.tbc: none\n"
+            b"alike in both: 8 (pictures 4 to 11)\n", ""))
+        status, text, said = self.run_command("compare", "--json", "other.tbc", "side.vbi.json")
+        self.assertEqual((status, said), (0, ""))
+        self.assertEqual(json.loads(text), {"version": 1, "unit": "picture", "counts": [12, 12],
+                                            "a": [{"first": 12, "last": 15, "count": 4}],
+                                            "b": [{"first": 0, "last": 3, "count": 4}], "betterA": [], "betterB": [],
+                                            "same": [{"first": 4, "last": 11, "count": 8}]})
+
+    def test_refused(self):
+        self.refused("[Errno 2] No such file or directory: 'absent'", "compare", "side.vbi.json", "absent")
+        self.refused("no system given", "compare", "side.vbi.json", "side.tbc")
+        self.assertEqual(self.run_command("compare", "side.vbi.json")[0], 2)
+
+
 class Files(Runs):
     def test_outputs_into_a_file(self):
-        for words, status, option in ((["--document"], 0, "-o"), ([], 0, "--output"), (["--summary"], 0, "-o"),
+        for words, status, option in ((["--document"], 0, "-o"), ([], 0, "--output"), (["--summary"], 1, "-o"),
                                       (["--seek", "99"], 1, "--output")):
             with self.subTest((words, option)):
                 printed = self.run_command("side.tbc", *LEVELS, *words)
@@ -131,6 +208,17 @@ class Files(Runs):
                 self.assertEqual(self.run_command("side.tbc", *LEVELS, *words, option, "out"), (status, b"", ""))
                 self.assertEqual(self.read("out"), printed[1])
                 os.unlink(self.path("out"))
+
+    def test_a_map(self):
+        status, text, said = self.run_command("side.vbi.json", "--map", "side.map")
+        self.assertEqual((status, text, said), (0, b"", ""))
+        rows = self.read("side.map").split(b"\n")
+        self.assertEqual([rows[0], rows[5], rows[-1]], [b"kind,number,field,frame,how", b"picture,4,5,3,read", b""])
+        self.assertEqual(self.run_command("side.tbc", *LEVELS, "--map", "two", "--seek", "4")[1], b"field 5, frame 3\n")
+        self.assertEqual(self.run_command("side.tbc", *LEVELS, "--map", "three", "--document")[1], self.document)
+        self.assertEqual([self.read("two"), self.read("three")], [self.read("side.map")] * 2)
+        self.refused("new would be written in the place of an input or of another output",
+                     "side.vbi.json", "--svg", "new", "--map", "new")
 
     def test_nothing_is_left_of_what_fails(self):
         before = sorted(os.listdir(self.folder))
@@ -222,7 +310,7 @@ class Terminals(Runs):
         os.close(ours)
         if process.stdout:
             process.stdout.close()
-        self.assertEqual(process.wait(DEADLINE), 0)
+        self.assertEqual(process.wait(DEADLINE), int("--summary" in words))
         return shown.decode(), text
 
     def test_progress(self):

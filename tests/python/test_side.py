@@ -10,11 +10,10 @@ import unittest.mock
 
 from discs import (BLANK, LEAD_IN, LEAD_OUT, STOP, answer, film, minutes, picture, pictures, plain, side, times)
 from ldvbi_side.lines import SIZES
-from ldvbi_side.parity import first_fields_of
 from ldvbi_side.plot import plot_command, tbc_name
 from ldvbi_side.seek import seek, text_of, wanted_of
 from ldvbi_side.side import Cut
-from ldvbi_side.summary import is_whole, summary
+from ldvbi_side.summary import summary
 from ldvbi_side.tables import bad_line_rows, field_rows
 
 
@@ -105,7 +104,9 @@ class Tables(unittest.TestCase):
         rows[4] = "82CFFF 82CFFF F00002"
         rows[6] = "- F00003 F79999"
         rows[8] = "8DC0A1 - -"
-        self.assertEqual(list(field_rows(side(rows))), [
+        table = list(field_rows(side(rows)))
+        self.assertEqual([row[8:] for row in table], [["", "", ""]] * 7 + [["cx on 0A1", "", ""], ["", "", ""]])
+        self.assertEqual([row[:8] for row in table], [
             [1, 1, "neither", "", "", "", "", ""],
             [3, 2, "cav", 1, "", "", "", ""], [4, 2, "neither", "", 0, "", "", ""],
             [5, 3, "cav", 2, "", "", "stop", ""], [6, 3, "neither", "", 0, "", "", ""],
@@ -120,11 +121,18 @@ class Tables(unittest.TestCase):
         rows[31] = "- 807DDD 807DDD"
         table = list(field_rows(side(rows)))
         self.assertEqual(table[31][:7], [32, 16, "neither", "", "", "", ""])
-        self.assertEqual(table[20], [21, 11, "cav", "", "", "", "",
-                                     "picture 70000 on line 17, pass 2: neighbours; "
-                                     "picture 70000 on line 18, pass 2: neighbours"])
-        self.assertEqual(table[22], [23, 12, "both", 12, "", "", "", "clv picture on line 16, pass 1: format; "
-                                     "clv on line 17, pass 1: format"])
+        self.assertEqual(table[20][:8], [21, 11, "cav", "", "", "", "",
+                                         "picture 70000 on line 17, pass 2: neighbours; "
+                                         "picture 70000 on line 18, pass 2: neighbours"])
+        self.assertEqual(table[22][:8], [23, 12, "both", 12, "", "", "", "clv picture on line 16, pass 1: format; "
+                                         "clv on line 17, pass 1: format"])
+
+    def test_status_users_codes_and_unknown_words(self):
+        rows = ["8BAFFF F00001 F00001", "- 88FFFB F00E81*", "87D00A F00002 -", "A00000 - -", BLANK, "- 8DC000 80D000",
+                "8DC0A1 - -"]
+        self.assertEqual([[row[0]] + row[8:] for row in field_rows(side(rows))], [
+            [1, "cx off FFF", "", ""], [2, "", "", "88FFFB on line 17; F00E81 on line 18"], [3, "", "7 00A", ""],
+            [4, "", "", "A00000 on line 16"], [6, "", "", ""], [7, "cx on 0A1", "", ""]])
 
     def test_times(self):
         rows = times(range(1498, 1502))
@@ -164,67 +172,111 @@ class Summaries(unittest.TestCase):
         rows[26] = "- F00013 F00003"
         rows[44:46] = []  # picture 22
         self.assertEqual(lines_of(side(rows)), [
+            "whole: no: 2 fields lost; 3 pictures missing",
             "system: PAL, CAV",
             "fields: 62, cut: none",
             "line 16: 1 words, 0 of them of pass 2; 1 bad (50.00 %), 60 blank",
             "line 17: 61 words, 0 of them of pass 2; 1 bad (1.61 %), 0 blank",
             "line 18: 61 words, 0 of them of pass 2; 1 bad (1.61 %), 0 blank",
             "pictures: 27, from 1 to 30",
-            "missing: 3 (damaged 2, lost 1: 10 to 11 after field 19, 22 after field 43)",
+            "missing: 3 (damaged 2, lost 1: pictures 10 to 11 after field 19, picture 22 after field 43)",
             "lost fields: 2 (2 after field 43)",
             "jumps: none",
             "stills: none",
             "shown again: none",
             "doubtful, set aside: 3 (picture 79999 in field 21 line 17, picture 79999 in field 21 line 18, "
             "picture 3 in field 27 line 18)",
-            "lines 17 and 18 differ: 1 (field 27: 13 and 3, 13 taken)",
-            "chapters: 1 (0 in field 4)",
-            "picture stops: 1 (12 in field 25)",
+            "lines 17 and 18 differ: 1 (field 27: picture 13 and 3, 13 taken)",
+            "chapters: 1 (chapter 0 in field 4)",
+            "picture stops: 1 (picture 12 in field 25)",
             "lead-in: 2 (fields 1 to 2), lead-out: 2 (fields 61 to 62)",
+            "unknown words: none",
+            "programme status: none, users' codes: none",
             "stray codes: none"])
-        self.assertFalse(is_whole(side(rows).answer))
 
     def test_jumps_stills_and_more_than_are_listed(self):
         rows = pictures(list(range(1, 11)) + [10] * 3 + list(range(11, 31)) + list(range(21, 31)))
         for field in (2, 6, 10, 14, 40):  # pictures 2, 4, 6, 8 and 18
             rows[field] = "- ? ?"
         lines = lines_of(side(rows))
-        for line in ("missing: 5 (damaged 5: 2 after field 1, 4 after field 5, 6 after field 9, 8 after field 13 and 1 "
-                     "more)",
-                     "jumps: 1 (30 to 21 in field 67)", "stills: 1 (10 in fields 19 to 25)",
-                     "shown again: 2 (10 in field 21, 21 to 30 in field 67)"):
+        for line in ("missing: 5 (damaged 5: picture 2 after field 1, picture 4 after field 5, "
+                     "picture 6 after field 9, picture 8 after field 13 and 1 more)",
+                     "jumps: 1 (picture 30 to 21 in field 67)", "stills: 1 (picture 10 in fields 19 to 25)",
+                     "shown again: 2 (pictures 21 to 30 in field 67, picture 10 in field 21)"):
             self.assertIn(line, lines)
 
+    def test_the_largest_stand_first(self):
+        numbers = [number for number in range(1, 101) if number not in (10, 31, 32, 33, 61, 62)]
+        numbers[50:50] = [numbers[49]] * 5
+        rows = pictures(numbers + list(range(91, 96)) + list(range(71, 101)))
+        rows[6:6] = pictures([3, 3])
+        lines = lines_of(side(rows))
+        for line in ("missing: 6 (lost 6: pictures 31 to 33 after field 61, pictures 61 to 62 after field 125, "
+                     "picture 10 after field 21)",
+                     "lost fields: 12 (6 after field 61, 4 after field 125, 2 after field 21)",
+                     "jumps: 2 (picture 95 to 71 in field 213, picture 100 to 91 in field 203)",
+                     "stills: 2 (picture 54 in fields 103 to 113, picture 3 in fields 5 to 9)"):
+            self.assertIn(line, lines)
+
+    def test_status_users_codes_and_unknown_words(self):
+        rows = pictures(range(1, 31))
+        rows[1::2] = ["8DC0A1" + row[1:] for row in rows[1::2]]
+        rows[3], rows[5] = "8BA0A1 88FFFB 800DDD", "83D00F 800DDD F00E81*"
+        self.assertEqual(lines_of(side(rows))[-3:-1], [
+            "unknown words: 2 (88FFFB in field 4 line 17, F00E81 in field 6 line 18)",
+            "programme status: 29 (CX on 0A1 in 28 fields, CX off 0A1 in 1 field), users' codes: 1 (3 00F in 1 field)"])
+        known = side(rows).answer
+        self.assertEqual(known["unknown"], [{"field": 4, "line": 17, "word": "88FFFB", "pass": 1},
+                                            {"field": 6, "line": 18, "word": "F00E81", "pass": 2}])
+        self.assertEqual(known["programmeStatus"], [
+            {"cx": True, "digits": "0A1", "count": 28, "first": 2, "last": 60},
+            {"cx": False, "digits": "0A1", "count": 1, "first": 4, "last": 4}])
+        self.assertEqual(known["users"], [{"digit": 3, "digits": "00F", "count": 1, "first": 6, "last": 6}])
+        self.assertEqual([known["whole"], known["stray"]], [True, []])
+
     def test_a_side_without_numbers(self):
-        self.assertEqual(lines_of(side([LEAD_IN]))[5:], [
+        lines = lines_of(side([LEAD_IN]))
+        self.assertEqual(lines[:1] + lines[6:], [
+            "whole: no: no picture number and no time",
             "pictures: none", "doubtful, set aside: none", "lines 17 and 18 differ: none", "chapters: none",
-            "picture stops: none", "lead-in: 1 (fields 1), lead-out: none", "stray codes: none"])
+            "picture stops: none", "lead-in: 1 (field 1), lead-out: none", "unknown words: none",
+            "programme status: none, users' codes: none", "stray codes: none"])
 
     def test_film_and_clv(self):
-        self.assertEqual(lines_of(side(film(range(1, 31)), "NTSC"))[0],
-                         "system: NTSC, CAV, film (2 and 3 fields a picture)")
+        self.assertEqual(lines_of(side(film(range(1, 31)), "NTSC"))[:2],
+                         ["whole: yes", "system: NTSC, CAV, film (2 and 3 fields a picture)"])
         lines = lines_of(side(times([0, 1, 3, 4], 30), "NTSC"))
-        self.assertEqual([lines[0], lines[5], lines[6]], [
+        self.assertEqual([lines[1], lines[6], lines[7]], [
             "system: NTSC, CLV", "times: 4, from 0:00:00.00 to 0:00:00.04",
-            "missing: 1 (undecided 1: 0:00:00.02 after field 3)"])
+            "missing: 1 (undecided 1: time 0:00:00.02 after field 3)"])
         left_out = times([number for number in range(6000) if number % 1001 != 400], 30)
         self.assertIn("left out by the disc's clock: 6", lines_of(side(left_out, "NTSC")))
 
     def test_levels(self):
         blank, bad = lines_of(side([BLANK] * 4, "NTSC")), lines_of(side(["- ? !"] * 4))
         script = "contrib/plot_line.py"
-        self.assertRegex(blank[5], r"^levels: lines 17 and 18 have 0 words, 0 are bad, 8 blank: black and white may be "
+        self.assertRegex(blank[6], r"^levels: lines 17 and 18 have 0 words, 0 are bad, 8 blank: black and white may be "
                          r"too high, or the side has no codes\. Look at one: dd if=side\.tbc bs=1820 skip=542 count=1 "
                          r"status=none \| python3 \S*%s --system NTSC --black 16384 --white 51200 --title "
                          r"'side\.tbc, field 3, line 17' > line\.svg$" % re.escape(script))
-        self.assertRegex(bad[5], r"^levels: lines 17 and 18 have 0 words, 8 are bad, 0 blank: black and white may be "
+        self.assertRegex(bad[6], r"^levels: lines 17 and 18 have 0 words, 8 are bad, 0 blank: black and white may be "
                          r"wrong, or the signal is noise\. Look at one: dd ")
+
+    def test_levels_are_blamed_of_the_right_file_alone(self):
+        text = "perhaps another system, or another file's metadata. Look at one: dd "
+        for rows in ([BLANK] * 4, ["- ? !"] * 4):
+            for expected, cut, is_other in ((4, None, False), (None, None, False), (5, None, True), (3, None, True),
+                                            (4, Cut(5, 7), True), (None, Cut(5, 7), True)):
+                one = side(rows, cut=cut)
+                one.expected = expected
+                self.assertEqual(text in lines_of(one)[6], is_other, (rows[0], expected, cut))
+                self.assertEqual("black and white may be" in lines_of(one)[6], not is_other)
 
     def test_levels_where_the_script_is_not_beside_the_package(self):
         with unittest.mock.patch("ldvbi_side.plot._PLACES", ("nowhere/plot_line.py",)):
-            self.assertIn("| python3 plot_line.py --system NTSC ", lines_of(side([BLANK] * 4, "NTSC"))[5])
+            self.assertIn("| python3 plot_line.py --system NTSC ", lines_of(side([BLANK] * 4, "NTSC"))[6])
 
-    def test_at_most_20_lines(self):
+    def test_at_most_24_lines(self):
         rows = times([number for number in range(9000) if number % 1001 != 400], 30)
         rows[100:110] = []
         for field in range(0, len(rows), 2):  # a second row of numbers on line 17
@@ -236,14 +288,8 @@ class Summaries(unittest.TestCase):
                                                        "lastField": 9, "count": 9, "weight": 9, "against": 9}]
         lines = list(summary(known, lambda *line: "dd"))
         self.assertTrue(known["leftOut"])
-        self.assertLessEqual(len(lines), 20)
+        self.assertLessEqual(len(lines), 24)
         self.assertTrue([line for line in lines if line.startswith("a second row of numbers, not taken: 2:20:")])
-
-    def test_what_is_whole(self):
-        self.assertTrue(is_whole(answer(pictures([7, 8, 9]))))
-        self.assertFalse(is_whole(answer(pictures([7, 9]))))
-        self.assertFalse(is_whole(answer([LEAD_IN])))
-        self.assertFalse(is_whole(answer(pictures([7, 8, 9]), cut={"seqNo": 7, "bytes": 5})))
 
 
 class Plotting(unittest.TestCase):
@@ -302,32 +348,6 @@ class Sides(unittest.TestCase):
         self.assertEqual(one.plain(), plain(rows, "NTSC", [True, False], {"seqNo": 3, "bytes": 99}))
         self.assertEqual(one.answer["cutField"], {"seqNo": 3, "bytes": 99})
         self.assertIs(one.answer, one.answer)
-
-
-class FirstFields(unittest.TestCase):
-    def first_fields(self, text, count=2):
-        with tempfile.TemporaryDirectory() as folder:
-            path = os.path.join(folder, "meta.json")
-            with open(path, "w", encoding="utf-8") as file:
-                file.write(text)
-            first, note = first_fields_of(path, count)
-            return first, note and note.replace(path, "meta.json")
-
-    def test_is_first_field(self):
-        fields = [{"seqNo": 1, "isFirstField": False}, {"seqNo": 2, "isFirstField": True}]
-        self.assertEqual(self.first_fields(json.dumps({"fields": fields})), ([False, True], None))
-
-    def test_another_count_of_fields_is_said(self):
-        self.assertEqual(self.first_fields('{"fields":[{"isFirstField":true}]}'),
-                         (None, "meta.json has 1 fields, not 2: its isFirstField isn't used"))
-
-    def test_of_a_database_it_is_not_read(self):
-        self.assertEqual(self.first_fields("SQLite format 3\0" + 100 * "x"), (None, None))
-
-    def test_without_it_nothing_is_said(self):
-        for text in ('{}', '[]', '{"fields":[]}', '{"fields":5}', '{"fields":[{},{}]}',
-                     '{"fields":[{"isFirstField":1},5]}', 'x', '[' * 100000):
-            self.assertEqual(self.first_fields(text), (None, None))
 
 
 class Sizes(unittest.TestCase):
