@@ -1,6 +1,6 @@
 #!/usr/bin/env python3
-"""Times the Rust build (`make rust`) beside the proved one, in turn: the commands `extract` and `show` on a drawn stream
-in memory, and the library on the lines of its fields, drawn and damaged.
+"""Times the Rust build (`make rust`) beside the proved one, in turn: the commands `extract` and `show` on a drawn
+stream in memory, and the library on the lines of its fields, drawn and damaged.
 usage: python3 bench/rust.py PROVED RUST    (the two folders that have program and library)
 
 Prints for each the median times and the median of the ratios, Rust to proved."""
@@ -49,7 +49,8 @@ def reader(folder, stream):
 def main(proved, rust):
     folders = [pathlib.Path(proved).resolve(), pathlib.Path(rust).resolve()]
     rows = "".join(f"82CFFF F{number:05} F{number:05}\n" for number in range(FIELDS)).encode()
-    drawn = subprocess.run([folders[0] / "ldvbi", "draw", *OPTIONS], input=rows, stdout=subprocess.PIPE, check=True).stdout
+    draw = [folders[0] / "ldvbi", "draw", *OPTIONS]
+    drawn = subprocess.run(draw, input=rows, stdout=subprocess.PIPE, check=True).stdout
     # A change of level at a third of each line, which leaves it without a word
     damaged = bytearray(drawn)
     for start in range(0, len(damaged), 1820):

@@ -3,10 +3,10 @@
 usage: erase.py CRATES HAND CRATE
 
 CRATES is the folder of the project's crates, HAND has the files that are written by hand, and CRATE is made anew. What
-goes: ghost lines, requires and ensures, models, tactics, modules of laws. What is written otherwise: paths of crates,
-which are modules here; `let .. else`, which compilers before 1.65 don't know; what the toolchain's library has otherwise
-than Rust's own (an allocator that is handed on, the type of fmt's writer). At a form that it doesn't know it stops with
-file and line, so that nothing slips through which rustc would take for something else."""
+goes: ghost lines, requires and ensures, models, tactics, modules of laws. What is written otherwise: paths of
+crates, which are modules here; `let .. else`, which compilers before 1.65 don't know; what the toolchain's library has
+otherwise than Rust's own (an allocator that is handed on, the type of fmt's writer). At a form that it doesn't know it
+stops with file and line, so that nothing slips through which rustc would take for something else."""
 import pathlib
 import re
 import shutil

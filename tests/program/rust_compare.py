@@ -16,9 +16,11 @@ SYSTEMS = {"NTSC": (1, 910, 263), "PAL": (2, 1135, 313)}
 COMMANDS = ["line", "extract", "show", "draw"]
 OPTIONS = ["--meta", "--system", "--black", "--white", "--max-fields", "--help", "--version", "-h", "-V"]
 VALUES = ["", "-", "0", "1", "5", "-1", "+5", "65535", "65536", "8224", "16448", "1000001", "4294967296", "1e3", " 5",
-          "99999999999999999999", "-99999999999999999999", "NTSC", "PAL", "NTS", "PALS", "ntsc", "line.raw", "absent", ".",
+          "99999999999999999999", "-99999999999999999999", "NTSC", "PAL", "NTS", "PALS", "ntsc", "line.raw", "absent",
+          ".",
           "meta.json", "bad.json", "\u00e4\u20ac\U0001f4bf"]
-STRAY = ["--", "-x", "-xh", "-hx", "-5", "--met", "--blac", "--maxfields", "--syste", "--helq", "--vers", "--zzz", "---",
+STRAY = ["--", "-x", "-xh", "-hx", "-5", "--met", "--blac", "--maxfields", "--syste", "--helq", "--vers", "--zzz",
+         "---",
          "lines", "extra", "lineextract", "sho", "help", "helps", "--=5", "-=", "--help=x", "--black=x=y", "\u00fc"]
 
 
@@ -114,7 +116,8 @@ def random_line(choose, system, black, white):
 
 
 def random_levels(choose):
-    black, white = sorted(choose.sample([0, 1, 8224, 16384, 16448, 51200, 54016, 65534, 65535, choose.randrange(65536)], 2))
+    levels = [0, 1, 8224, 16384, 16448, 51200, 54016, 65534, 65535, choose.randrange(65536)]
+    black, white = sorted(choose.sample(levels, 2))
     return (black, white) if choose.random() < 0.97 else (white, black)
 
 
@@ -175,7 +178,10 @@ def random_metadata(choose):
     names = choose.sample(list(MEMBERS)[:-1], choose.randrange(2, 7))
     names += ["other"] if choose.random() < 0.15 else []
     names += [choose.choice(names)] if choose.random() < 0.1 else []
-    members = [f'"{name}":{choose.choice(MEMBERS[name][:2] if choose.random() < 0.7 else MEMBERS[name])}' for name in names]
+    members = []
+    for name in names:
+        value = choose.choice(MEMBERS[name][:2] if choose.random() < 0.7 else MEMBERS[name])
+        members.append(f'"{name}":{value}')
     text = '{"videoParameters":{' + ",".join(members) + choose.choice(["}}", "}}", "}}\n ", '},"fields":[]}'])
     data = bytearray(text.encode())
     if choose.random() < 0.2:
@@ -192,7 +198,7 @@ def compare_metadata(programs, choose, count):
         (programs.folder / "random.json").write_bytes(data)
         words = ["extract", "--meta", "random.json"]
         if choose.random() < 0.3:
-            words += choose.choice([["--system", "NTSC"], ["--black", "5"], ["--white", "60000"], ["--max-fields", "0"]])
+            words += choose.choice(["--system NTSC", "--black 5", "--white 60000", "--max-fields 0"]).split()
         yield words + [data], programs.run(words)
 
 
@@ -202,7 +208,7 @@ class Reading(ctypes.Structure):
 
 
 def compare_library(paths, choose, count):
-    """Each call, with arguments of which most fit: what is answered, and what is written into memory that had a pattern."""
+    """Each call, with arguments of which most fit: what is answered, and what is written over a pattern."""
     libraries = [ctypes.CDLL(path) for path in paths]
 
     def call(name, *arguments, room=0):

@@ -2,8 +2,8 @@
 # Compares the Rust program and library with the proved ones, on the same drawn, damaged and random input: words of the
 # command line, streams and lines, rows of words, metadata, and calls of the library; and sees that a difference is
 # found. COMPARE_RUNS is how many times the usual number of runs it makes, COMPARE_SEED where they begin (1 and 1 where
-# the environment doesn't say); COMPARE_RUNNER runs the program, as wine64 or qemu-aarch64 do, and then the library, which
-# is of another machine, is left out.
+# the environment doesn't say); COMPARE_RUNNER runs the program, as wine64 or qemu-aarch64 do, and then the library,
+# which is of another machine, is left out.
 # usage: sh tests/program/rust_compare.sh PROGRAM
 # shellcheck disable=SC2086
 

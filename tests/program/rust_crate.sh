@@ -47,7 +47,8 @@ line=$(($(wc -l < "$top/crates/$levels") + 1))
 check 'a function without a body' stops "$levels:$line" 'a function has no body' $levels '$apub fn levels_differ();'
 check 'an unknown macro' stops "$levels:$line" "'print' is no macro that is known" $levels \
     '$aconst PRINTED: () = print!("");'
-check 'an unknown attribute' stops "$levels:$line" "'ensures' is no attribute that is known" $levels '$a#[ensures(true)]'
+check 'an unknown attribute' stops "$levels:$line" "'ensures' is no attribute that is known" $levels \
+    '$a#[ensures(true)]'
 
 check 'the version of the crate is that of make' \
     [ "$(sed -n 's/^version = "\(.*\)"$/\1/p' "$top/rust/hand/Cargo.toml")" = \

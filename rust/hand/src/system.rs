@@ -4,8 +4,8 @@ use std::fs::File;
 use std::io::{self, Read, Write};
 use std::mem::ManuallyDrop;
 
-/// The program begins here and not in Rust's own `main`, which opens what is closed of the three streams: a closed input
-/// would be read as an empty one, and what is written to a closed output would count as written.
+/// The program begins here and not in Rust's own `main`, which opens what is closed of the three streams: a closed
+/// input would be read as an empty one, and what is written to a closed output would count as written.
 #[no_mangle]
 pub extern "C" fn main(_count: i32, _words: *const *const u8) -> i32 {
     ignore_closed_pipes();

@@ -1,5 +1,5 @@
-//! As much of the crate clap as the program's command line needs, with its names and its texts. The texts of clap itself
-//! differ from version to version, and those of the program are fixed; so the source's calls of clap come here.
+//! As much of the crate clap as the program's command line needs, with its names and its texts. The texts of clap
+//! itself differ from version to version, and those of the program are fixed; so the source's calls of clap come here.
 mod help;
 mod similar;
 mod words;
