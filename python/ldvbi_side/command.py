@@ -25,7 +25,7 @@ NAME = "ldvbi-side"
 DESCRIPTION = """Reads a side from a TBC file, or from a document that `ldvbi extract` wrote, and says what its words
 mean. A file is taken for a document where its name ends with .json or its text begins as a document's does. Statuses: 0
 done, 1 a fault, 2 the command line was refused, 3 done and the last field is cut, 130 ended by Ctrl-C. With the word
-compare and two sides behind it, it compares these."""
+compare and two sides behind it, it compares these; with index, a file and pages that --html wrote, it links these."""
 COMPARISON = """Compares two captures of one side by their numbers: which are in one alone, and which of those in both
 are shown there by more lines, or by lines of pass 1 for pass 2."""
 LEVELS = "the sample of %s, 0 to 65535, and black below white"
@@ -64,6 +64,9 @@ def _parser():
     parser.add_argument("-o", "--output", metavar="FILE", help="print into this file, which gets its name only when it "
                         "is whole")
     parser.add_argument("--svg", metavar="FILE", help="draw the side into this file; with one of the others, that is "
+                        "printed too")
+    parser.add_argument("--html", metavar="FILE", help="write all that is known of the side into this file as one "
+                        "page, with its bad lines drawn where the side is a TBC file; with one of the others, that is "
                         "printed too")
     parser.add_argument("--map", metavar="FILE", help="write where each number, chapter and picture stop is into this "
                         "file, by which a player seeks; with one of the others, that is printed too")
@@ -142,7 +145,7 @@ def _cut_status(cut, system):
     return 3
 
 
-def _write_files(side, options):
+def _write_files(side, options, is_tbc):
     """Writes each file that the options name beside what is printed."""
     if options.svg:
         from .drawing import drawing_of
@@ -151,11 +154,22 @@ def _write_files(side, options):
     if options.map:
         with whole_file(options.map) as file:
             _print_table(MAP_COLUMNS, map_rows(side.answer), file)
+    if options.html:
+        from .line_plots import plotter
+        from .page import page_of
+        with whole_file(options.html) as file:
+            file.write(page_of(side, os.path.basename(options.side), _plot_command(side, options),
+                               plotter(side, options.side) if is_tbc else None))
+
+
+def _plot_command(side, options):
+    """What makes the command that draws a line of this side, of its field and its number."""
+    return lambda *line: plot_command(side, options.side, *line)
 
 
 def _files(options):
     """The files that are written beside what is printed; None for one that isn't asked for."""
-    return [options.svg, options.map]
+    return [options.svg, options.map, options.html]
 
 
 def _options(words):
@@ -183,6 +197,20 @@ def _compare(words):
     return 0
 
 
+def _index(words):
+    """Writes a page that links those of many sides."""
+    parser = argparse.ArgumentParser(prog=NAME + " index", description="Writes a page that links these pages.")
+    parser.add_argument("index", metavar="FILE", help="the page to write")
+    parser.add_argument("pages", nargs="+", metavar="PAGE", help="a page that --html wrote")
+    options = parser.parse_args(words)
+    refuse_inputs([options.index], options.pages)
+    from .index import index_of
+    text = index_of(options.index, options.pages)
+    with whole_file(options.index) as file:
+        file.write(text)
+    return 0
+
+
 def _run(options):
     """What the options ask for. The answer is the exit status."""
     inputs = [0 if options.side == "-" else options.side, options.meta]
@@ -203,13 +231,13 @@ def _answer(options):
         if not any(_files(options)):
             return _cut_status(cut_of(source), source.system)
     side = _loaded(source, metadata, options)
-    _write_files(side, options)
+    _write_files(side, options, not isinstance(source, Side))
     if options.seek:
         found = seek(side.answer, options.seek)
         print(text_of(found))
         return int(found is None)
     if options.summary:
-        print(*summary(side.answer, lambda *line: plot_command(side, options.side, *line)), sep="\n")
+        print(*summary(side.answer, _plot_command(side, options)), sep="\n")
         return 0 if side.answer["whole"] else 1
     if options.json:
         json.dump(side.answer, sys.stdout)
@@ -224,7 +252,8 @@ def _answer(options):
 def main(words=None):
     words = sys.argv[1:] if words is None else words
     try:
-        status = _compare(words[1:]) if words[:1] == ["compare"] else _run(_options(words))
+        of_many = {"compare": _compare, "index": _index}.get(words[0] if words else None)
+        status = of_many(words[1:]) if of_many else _run(_options(words))
         sys.stdout.flush()
         return status
     except BrokenPipeError:

@@ -10,7 +10,7 @@ _HERE = os.path.dirname(os.path.abspath(__file__))
 _PLACES = ("contrib/plot_line.py", "../../contrib/plot_line.py", "../../plot_line.py")
 
 
-def _script():
+def script():
     """The path of plot_line.py, below the folder in which the command is run where it is there."""
     for place in _PLACES:
         path = os.path.normpath(os.path.join(_HERE, place))
@@ -34,5 +34,5 @@ def plot_command(side, path, field, line):
     size, height = SIZES[side.system.name]
     levels = ("--black %d --white %d" % side.levels) if side.levels else "--black BLACK --white WHITE"
     return "dd if=%s bs=%d skip=%d count=1 status=none | python3 %s --system %s %s --title %s > line.svg" % (
-        shlex.quote(tbc), size, (field - 1) * height + line - 1, shlex.quote(_script()), side.system.name, levels,
+        shlex.quote(tbc), size, (field - 1) * height + line - 1, shlex.quote(script()), side.system.name, levels,
         shlex.quote("%s, field %d, line %d" % (os.path.basename(tbc), field, line)))

@@ -14,12 +14,12 @@ _ldvbi_side() {
     case $before in
         --system) answers='NTSC PAL' ;;
         --black | --white | --seek) return ;;
-        --meta | --svg | --map | --output | -o) compopt -o default ;;
+        --meta | --svg | --html | --map | --output | -o) compopt -o default ;;
         *)
             case $word in
                 -*)
                     answers='--help --meta --system --black --white --csv --json --bad-lines --seek --summary'
-                    answers="$answers --document --strict --output --svg --map"
+                    answers="$answers --document --strict --output --svg --html --map"
                     ;;
                 *) compopt -o default ;;
             esac

@@ -183,7 +183,8 @@ class Comparisons(Runs):
             "system": "NTSC", "black16bIre": 16384, "white16bIre": 51200}}).encode())
         self.assertEqual(self.run_command("compare", "side.vbi.json", "other.tbc"), (
             0, b"pictures: 12 in side.vbi.json, 12 in other.tbc, 8 in both\n"
-            b"in side.vbi.json alone: 4 (pictures 0 to 3)\nin other.tbc alone: 4 (pictures 12 to 15)\nbetter in side.vbi.json: none\nbetter in other.tbc: none\n"
+            b"in side.vbi.json alone: 4 (pictures 0 to 3)\nin other.tbc alone: 4 (pictures 12 to 15)\n"
+            b"better in side.vbi.json: none\nbetter in other.tbc: none\n"
             b"alike in both: 8 (pictures 4 to 11)\n", ""))
         status, text, said = self.run_command("compare", "--json", "other.tbc", "side.vbi.json")
         self.assertEqual((status, said), (0, ""))
@@ -219,6 +220,23 @@ class Files(Runs):
         self.assertEqual([self.read("two"), self.read("three")], [self.read("side.map")] * 2)
         self.refused("new would be written in the place of an input or of another output",
                      "side.vbi.json", "--svg", "new", "--map", "new")
+
+    def test_pages_and_their_index(self):
+        columns = bytearray(self.read("side.tbc"))
+        begin = 2 * ((2 * 263 + 16) * 910 + 170)
+        columns[begin:begin + 10] = columns[:10]  # five black columns in line 17 of field 3
+        self.write("side.tbc", bytes(columns))
+        self.assertEqual(self.run_command("side.tbc", *LEVELS, "--html", "side.html"), (0, b"", ""))
+        text = self.read("side.html").decode()
+        self.assertIn("<summary>field 3, line 17: change ", text)
+        self.assertIn("side.tbc, field 3, line 17</text>", text)
+        self.write("side.vbi.json", self.extracted("side.tbc"))
+        self.assertEqual(self.run_command("side.vbi.json", "--html", "two.html"), (0, b"", ""))
+        self.assertNotIn("Bad lines,", self.read("two.html").decode())
+        self.assertEqual(self.run_command("index", "index.html", "side.html", "two.html"), (0, b"", ""))
+        self.assertIn('<a href="two.html">side.vbi.json</a>', self.read("index.html").decode())
+        self.refused("side.html would be written in the place of an input or of another output",
+                     "index", "side.html", "side.html")
 
     def test_nothing_is_left_of_what_fails(self):
         before = sorted(os.listdir(self.folder))

@@ -1,0 +1,165 @@
+"""The page of a side, and the index of many: parsed, and compared with the answer."""
+
+import os
+import re
+import tempfile
+import unittest
+import unittest.mock
+from html.parser import HTMLParser
+
+from discs import BLANK, LEAD_IN, STOP, minutes, pictures, side, times
+from ldvbi_side.index import index_of
+from ldvbi_side.line_plots import plotter
+from ldvbi_side.page import LISTS, MOST_PLOTS, page_of
+
+VOID = ("meta", "br")
+
+
+class Page(HTMLParser):
+    """The parts of a page: its tags, well nested; the rows of each list; the texts of its folds, terms and items."""
+
+    def __init__(self, text):
+        super().__init__()
+        self.open, self.tags, self.rows, self.links, self.texts = [], [], {}, [], {}
+        self.list = None
+        self.feed(text)
+        self.close()
+        assert not self.open, self.open
+
+    def handle_starttag(self, tag, attrs):
+        known = dict(attrs)
+        self.tags.append((tag, known))
+        if tag == "details":
+            self.list = known.get("id")
+            self.rows.setdefault(self.list, [])
+        if tag == "tr" and self.list:
+            self.rows[self.list].append([])
+        if tag == "td" and self.list:
+            self.rows[self.list][-1].append("")
+        if tag not in VOID:
+            self.open.append(tag)
+            self.texts.setdefault(tag, []).append("")
+
+    def handle_startendtag(self, tag, attrs):
+        self.tags.append((tag, dict(attrs)))
+
+    def handle_endtag(self, tag):
+        assert self.open.pop() == tag, tag
+        if tag == "details":
+            self.list = None
+
+    def handle_data(self, data):
+        if self.open:
+            self.texts[self.open[-1]][-1] += data
+            if self.open[-1] == "td" and self.list:
+                self.rows[self.list][-1][-1] += data
+
+
+def page(one, plot=None, title="side.tbc"):
+    return page_of(one, title, lambda *line: "dd", plot)
+
+
+def damaged():
+    """A side that has something in each list that CAV has."""
+    rows = [LEAD_IN] * 2 + pictures(range(1, 41)) + pictures(range(21, 41)) + [LEAD_IN]
+    rows[6] = "83D0A1 ? 88FFFB"
+    rows[8] = "8DC0A1 F79999 F00004"
+    rows[10] = "8AE000 %s F00005" % STOP
+    del rows[40:44]
+    return side(rows)
+
+
+class Pages(unittest.TestCase):
+    def test_each_list_is_there_in_full(self):
+        for one in (damaged(), side(times([0, 1, 2, 4, 5] * 4), "NTSC"), side([]), side([BLANK] * 3),
+                    side(["- 87FFFF %s" % minutes(0, 9)] * 9)):
+            read = Page(page(one))
+            for name in LISTS:
+                # the first row is that of the columns' names
+                self.assertEqual(max(len(read.rows.get(name, [])) - 1, 0), len(one.answer[name]), name)
+            self.assertEqual({name for name, value in one.answer.items() if isinstance(value, list)},
+                             set(LISTS) | {"reasons"})
+
+    def test_numbers_are_those_of_the_answer(self):
+        one = damaged()
+        read = Page(page(one))
+        self.assertEqual(read.rows["showings"][1:], [list(map(str, row)) for row in one.answer["showings"]])
+        self.assertEqual(read.rows["missing"][1:], [
+            [str(cell) for cell in row.values()] for row in one.answer["missing"]])
+        self.assertEqual(read.rows["badLines"][1:], [
+            [str(cell) for cell in row.values()] for row in one.answer["badLines"]])
+        doubtful = read.rows["doubtful"][1]
+        self.assertIn("picture", doubtful)
+        self.assertIn("2 in field 5", doubtful)
+        self.assertEqual(read.texts["li"], [reason["text"] for reason in one.answer["reasons"]])
+        self.assertIn("missing: %d" % len(one.answer["missing"]), read.texts["summary"])
+        self.assertIn("%(count)d, from %(least)d to %(greatest)d" % one.answer["numbers"], read.texts["dd"])
+
+    def test_a_list_of_a_later_answer(self):
+        one = side(pictures([1, 2]))
+        one.answer["swapped"] = [{"first": 77777, "near": None, "is": True, "places": [1, 2]}]
+        self.assertEqual(Page(page(one)).rows["swapped"][1], ["77777", "", "yes", "1, 2"])
+        one.answer["swapped"][0]["is"] = False
+        self.assertEqual(Page(page(one)).rows["swapped"][1], ["77777", "", "no", "1, 2"])
+
+    def test_whole_or_not(self):
+        self.assertIn('<p class="yes">whole: yes</p>', page(side(pictures([1, 2]))))
+        self.assertIn('<div class="no">whole: no<ul><li>begins at 7, ends at 8</li></ul></div>',
+                      page(side(pictures([7, 8]))))
+
+    def test_it_needs_nothing_else(self):
+        text = page(damaged(), lambda one: "<svg></svg>")
+        for tag, known in Page(text).tags:
+            self.assertNotIn(tag, ("script", "link", "img", "iframe", "object", "base"))
+            self.assertFalse({"src", "href", "style", "onclick"} & set(known), (tag, known))
+        self.assertNotRegex(text, r"url\(|@import")
+        self.assertEqual(set(re.findall("https?://[^\"' ]*", text)), {"http://www.w3.org/2000/svg"})
+
+    def test_names_are_escaped(self):
+        read = Page(page(side([BLANK]), title='<b>"&\u00fc</b>.tbc'))
+        self.assertEqual(read.texts["h1"], ['<b>"&\u00fc</b>.tbc'])
+        self.assertNotIn("b", [tag for tag, _ in read.tags])
+
+    def test_bad_lines_are_drawn_up_to_a_count(self):
+        one = side(["? ? ?"] * 67 + ["- ? -"])  # 202 bad lines
+        drawn = []
+
+        def plot(bad):
+            drawn.append((bad["field"], bad["line"]))
+            return "<svg></svg>"
+        self.assertIn("<h2>Bad lines, the first 200 of 202, drawn</h2>", page(one, plot))
+        self.assertEqual([drawn[0], drawn[-1], len(drawn), MOST_PLOTS], [(1, 16), (67, 17), 200, 200])
+        self.assertIn("<h2>Bad lines, drawn</h2>", page(side(["? - -"]), plot))
+        for text in (page(one), page(side(pictures([1])), plot)):
+            self.assertNotIn("<h2>", text)
+
+
+    def test_nothing_is_drawn_without_the_script(self):
+        with unittest.mock.patch("ldvbi_side.plot._PLACES", ()):
+            self.assertIsNone(plotter(side(["? - -"]), "side.tbc"))
+
+
+class Indexes(unittest.TestCase):
+    def test_an_index(self):
+        with tempfile.TemporaryDirectory() as folder:
+            names = []
+            for title, one in (("one & two.tbc", side(pictures([1, 2]))), ("other", side(pictures([7, 8]))),
+                               ("none", side([]))):
+                names.append(os.path.join(folder, title + " #1.html"))
+                with open(names[-1], "w", encoding="utf-8") as file:
+                    file.write(page(one, title=title))
+            read = Page(index_of(os.path.join(folder, "index.html"), names))
+            self.assertEqual(read.texts["h1"], ["3 sides, 1 whole"])
+            self.assertEqual(read.texts["a"], ["other", "none", "one & two.tbc"])
+            self.assertEqual([known["href"] for tag, known in read.tags if tag == "a"],
+                             ["other%20%231.html", "none%20%231.html", "one%20%26%20two.tbc%20%231.html"])
+            self.assertEqual(read.texts["td"][1:5], ["no", "4", "2, 7 to 8", "begins at 7, ends at 8"])
+            other = os.path.join(folder, "other.html")
+            with open(other, "w", encoding="utf-8") as file:
+                file.write("<html><head><meta name=x></head></html>")
+            with self.assertRaisesRegex(ValueError, "other.html is no page that --html wrote"):
+                index_of("index.html", [other])
+
+
+if __name__ == "__main__":
+    unittest.main()
