@@ -155,7 +155,7 @@ def _write_files(side, options, is_tbc):
         with whole_file(options.map) as file:
             _print_table(MAP_COLUMNS, map_rows(side.answer), file)
     if options.html:
-        from .line_plots import plotter
+        from .plotting import plotter
         from .page import page_of
         with whole_file(options.html) as file:
             file.write(page_of(side, os.path.basename(options.side), _plot_command(side, options),

@@ -9,7 +9,7 @@ from html.parser import HTMLParser
 
 from discs import BLANK, LEAD_IN, STOP, minutes, pictures, side, times
 from ldvbi_side.index import index_of
-from ldvbi_side.line_plots import plotter
+from ldvbi_side.plotting import plotter
 from ldvbi_side.page import LISTS, MOST_PLOTS, page_of
 
 VOID = ("meta", "br")
