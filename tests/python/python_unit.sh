@@ -11,6 +11,8 @@
 
 LDVBI_PROGRAM=$program
 export LDVBI_PROGRAM
+# A file has the runs of many tests, and may run beside other scripts on a machine with few processors.
+seconds=$((5 * seconds))
 for test in "$here"/test_*.py; do
     name=$(basename "$test" .py)
     lines=${LDVBI_LINES:-}
