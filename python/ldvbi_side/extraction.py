@@ -2,7 +2,7 @@
 it are those of the library, which is proved; that the text is the program's is shown by tests alone."""
 
 from ldvbi import BLOCK, PACKED_FIELD
-from .side import cut_of, size_of
+from .side import cut_of, size_of, unknown_cause
 
 MAX_FIELDS = 1000000  # the program has the same limit
 
@@ -33,4 +33,6 @@ def _records(block, number):
     """The records of a block of fields, as the library writes their readings, behind so many others."""
     for a, b, c, d, e, f, g, h, i, j, k, l in PACKED_FIELD.iter_unpack(block):
         number += 1
+        if max(a, e, i) >= len(_CAUSES):
+            raise unknown_cause(max(a, e, i))
         yield _RECORD % (number, d, h, l, _CAUSES[a][c], _CAUSES[e][g], _CAUSES[i][k], b, f, j)

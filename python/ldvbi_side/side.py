@@ -118,8 +118,15 @@ def _firsts(pairs):
 
 def cause_text(reading):
     """What a line shows, as the document of `ldvbi extract` has it: `word`, `blank`, `change 170`."""
+    if reading.cause >= len(_CAUSES):
+        raise unknown_cause(reading.cause)
     name = _CAUSES[reading.cause]
     return "%s %d" % (name, reading.column) if reading.cause >= _FIRST_WITH_COLUMN else name
+
+
+def unknown_cause(number):
+    """What is raised for a cause of a later library, which no text is known for."""
+    return ValueError("the library's cause %d is not known here" % number)
 
 
 def cut_of(stream):

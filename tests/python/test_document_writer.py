@@ -9,6 +9,7 @@ import unittest
 import ldvbi
 from ldvbi_side.extraction import write_document
 from ldvbi_side.progress import Progress
+from ldvbi_side.side import cause_text
 from streams import NTSC, PAL, PROGRAM, line_with, pictures, write_stream
 
 
@@ -53,6 +54,18 @@ class Many:
     def packed(self, begin, end):
         assert (begin, end) == (0, self._count)
         return iter(())
+
+
+class Later:
+    """A stream of one field, whose last line has the first cause that isn't known."""
+    system, black, white, cut_bytes = ldvbi.System.NTSC, 16384, 51200, 0
+
+    def __len__(self):
+        return 1
+
+    def packed(self, begin, end):
+        assert (begin, end) == (0, 1)
+        return iter([ldvbi.PACKED_FIELD.pack(1, 0, 0, 0, 1, 0, 0, 0, len(ldvbi.Cause), 0, 0, 0)])
 
 
 class Documents(unittest.TestCase):
@@ -115,6 +128,13 @@ class Documents(unittest.TestCase):
                     with self.assertRaisesRegex(ValueError, "^too many fields$"):
                         write_document(many, text, Progress(0, is_wanted=False))
                     self.assertEqual(text.getvalue(), "")
+
+    def test_a_cause_of_a_later_library(self):
+        text = "^the library's cause 5 is not known here$"
+        with self.assertRaisesRegex(ValueError, text):
+            write_document(Later(), io.StringIO(), Progress(0, is_wanted=False))
+        with self.assertRaisesRegex(ValueError, text):
+            cause_text(ldvbi.Reading(5, 0, 0, 0))
 
 
 if __name__ == "__main__":

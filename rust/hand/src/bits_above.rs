@@ -6,13 +6,14 @@
 #[inline(always)]
 pub(crate) fn bits_above(samples: [u16; 16], low: u16) -> u64 {
     use std::arch::x86_64::*;
-    // Each x86-64 processor has SSE2, and the loads need no alignment.
+    // Each x86-64 processor has SSE2, and the loads need no alignment. SSE2 compares only numbers with a sign, so the
+    // top bit is turned in all of them, which keeps their order.
     unsafe {
         let halves = samples.as_ptr() as *const __m128i;
-        let (low, zero) = (_mm_set1_epi16(low as i16), _mm_setzero_si128());
-        let first = _mm_cmpeq_epi16(_mm_subs_epu16(_mm_loadu_si128(halves), low), zero);
-        let second = _mm_cmpeq_epi16(_mm_subs_epu16(_mm_loadu_si128(halves.add(1)), low), zero);
-        u64::from(!(_mm_movemask_epi8(_mm_packs_epi16(first, second)) as u16))
+        let (low, turn) = (_mm_set1_epi16((low ^ 0x8000) as i16), _mm_set1_epi16(i16::MIN));
+        let first = _mm_cmpgt_epi16(_mm_xor_si128(_mm_loadu_si128(halves), turn), low);
+        let second = _mm_cmpgt_epi16(_mm_xor_si128(_mm_loadu_si128(halves.add(1)), turn), low);
+        u64::from(_mm_movemask_epi8(_mm_packs_epi16(first, second)) as u16)
     }
 }
 
