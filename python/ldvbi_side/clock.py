@@ -11,11 +11,11 @@ MINUTE, TENTH_MINUTE = 1800, 18000
 
 
 class Stretch:
-    """Numbers from one wide jump to the next: how many were played, and the `gaps` of one or two numbers among them,
-    triples of the believed readings before and behind, and how many numbers are too few."""
+    """Numbers from one wide jump to the next: how many were played, from the first to the last, and the `gaps` of one
+    or two numbers among them, triples of the believed readings before and behind, and how many numbers are too few."""
 
     def __init__(self):
-        self.numbers, self.gaps = 0, []
+        self.numbers, self.gaps = 1, []
 
 
 class Clock:
