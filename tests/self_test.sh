@@ -78,7 +78,7 @@ docs|docs/FORMATS.md|s/174 black \(. 0 . `\)change 170/174 black \1change 171/
 docs|docs/FORMATS.md|s/or 1135 and 313/or 1135 and 312/
 docs|docs/SIDES.md|s/weighs 2, one of pass 2/weighs 3, one of pass 2/
 docs|docs/SIDES.md|s/one picture in ten/one picture in nine/
-docs|docs/SIDES.md|s/the price of the smallest break/the price of 30 breaks/
+docs|docs/SIDES.md|s/price of the smallest break/price of 30 breaks/
 docs|python/ldvbi_side/chain.py|s/^REACH = 40/REACH = 50/
 docs|tests/side_sentences.py|/chain.REACH/d
 docs|docs/SIGNAL.md|s/^2. `blank`/2. `black`/
