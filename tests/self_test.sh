@@ -25,7 +25,7 @@ python_unit|tests/python/test_cav.py|s/"after": 39, "before": 42/"after": 38, "b
 python_side|out|"vbiPass"|"vbiPaSS"
 python_side|hangs
 python_side|python/ldvbi_side/codes.py|s/("lead-in",)/("lead-out",)/
-python_side|python/ldvbi_side/summary.py|s/"missing: "/"mizzing: "/
+python_side|python/ldvbi_side/tables.py|s/"field", "frame", /"frame", "field", /
 side_schema|share/schema/ldvbi-side.schema.json|s/"damaged", //
 side_schema|share/schema/ldvbi-side.schema.json|s/"enum": \[1820, 2270\]/"type": "integer"/
 side_schema|tests/python/answers.py|/yield "clock"/d
