@@ -10,6 +10,7 @@ faults  the fault texts of FORMATS.md are those of the source, in its order, and
 causes  the names of causes in FORMATS.md, SIGNAL.md and the manual page are those of the source
 sizes   the sizes in README.md, FORMATS.md, RECIPES.md, SIGNAL.md, ldvbi.h and the manual page are those of the source,
         each in its sentence
+rules   the numbers in the rules of SIDES.md are those of the Python package, each in its sentence
 
 usage: python3 tests/documents.py CHECK..     (at the top of the repository)
 """
@@ -19,10 +20,11 @@ import re
 import sys
 
 import source_names
+from side_sentences import sentences_of
 from source_names import read
 
 # The least that each check has to look at. A check that finds less no longer understands the documents.
-LEAST = {"links": 40, "paths": 95, "names": 680, "faults": 28, "causes": 20, "sizes": 28}
+LEAST = {"links": 40, "paths": 95, "names": 680, "faults": 28, "causes": 20, "sizes": 28, "rules": 25}
 # The links to the net, of which nothing else is looked at
 NET = ["https://github.com/happycube/ld-decode"]
 PAGE = "share/man/ldvbi.1"
@@ -279,6 +281,28 @@ def whole_numbers(text, wanted):
             if int(number.replace(",", "")) in wanted]
 
 
+# ---- rules
+
+RULES = "## Which numbers are believed"
+LAST_LINE = 18  # numbers up to here are lines of a field, or counts that the formats fix
+
+
+def rules(faults):
+    text = one_line(prose("docs/SIDES.md"))
+    sentences = sentences_of()
+    for sentence in sentences:
+        if text.count(sentence) != 1:
+            faults.append(f"docs/SIDES.md hasn't, or not once: {sentence}")
+    in_rules = one_line(section("docs/SIDES.md", RULES))
+    found, named = (sorted(number for text in texts for number in re.findall(r"(?<![\w.])\d[\d,.]*\d\b", text)
+                           if float(number.replace(",", "")) > LAST_LINE)
+                    for texts in ([in_rules], [sentence for sentence in sentences if sentence in in_rules]))
+    if found != named:
+        faults.append(f"docs/SIDES.md has {', '.join(found)} in its rules, and {', '.join(named)} are looked at")
+    print(f"rules: {len(sentences)} sentences of docs/SIDES.md, {len(found)} numbers in its rules")
+    return len(sentences)
+
+
 # ---- names
 
 # Documents whose prose names what is in the source, and the form of such a name: a path, a name with its crate or type,
@@ -318,7 +342,7 @@ def names(faults):
 
 
 CHECKS = {"links": links, "paths": paths, "names": names, "faults": faults_of_documents, "causes": causes,
-          "sizes": sizes}
+          "sizes": sizes, "rules": rules}
 
 
 def main():

@@ -25,7 +25,7 @@ python_unit|tests/python/test_cav.py|s/"after": 39, "before": 42/"after": 38, "b
 python_side|out|"vbiPass"|"vbiPaSS"
 python_side|hangs
 python_side|python/ldvbi_side/codes.py|s/("lead-in",)/("lead-out",)/
-python_side|python/ldvbi_side/summary.py|s/"missing: "/"mizzing: "/
+python_side|python/ldvbi_side/tables.py|s/"field", "frame", /"frame", "field", /
 side_schema|share/schema/ldvbi-side.schema.json|s/"damaged", //
 side_schema|share/schema/ldvbi-side.schema.json|s/"enum": \[1820, 2270\]/"type": "integer"/
 side_schema|tests/python/answers.py|/yield "clock"/d
@@ -76,6 +76,11 @@ docs|docs/FORMATS.md|s/ done, or help / done, or no help /
 docs|docs/FORMATS.md|s/`hold 200` (the same/`holds 200` (the same/
 docs|docs/FORMATS.md|s/174 black \(. 0 . `\)change 170/174 black \1change 171/
 docs|docs/FORMATS.md|s/or 1135 and 313/or 1135 and 312/
+docs|docs/SIDES.md|s/weighs 2, one of pass 2/weighs 3, one of pass 2/
+docs|docs/SIDES.md|s/one picture in ten/one picture in nine/
+docs|docs/SIDES.md|s/price of the smallest break/price of 30 breaks/
+docs|python/ldvbi_side/chain.py|s/^REACH = 40/REACH = 50/
+docs|tests/side_sentences.py|/chain.REACH/d
 docs|docs/SIGNAL.md|s/^2. `blank`/2. `black`/
 docs|docs/SIGNAL.md|s/1,135/1,125/
 docs|docs/SIGNAL.md|s/`users 3 0A1`/`user 3 0A1`/

@@ -31,7 +31,7 @@ def analyse(fields):
               "pace": numbers.pace.kind if numbers.pace else None}
     answer.update(_of_numbers(steps, doubts))
     answer["missing"], answer["leftOut"] = missing_of(steps, said.count)
-    answer["lost"] = lost_fields(steps, fields.first)
+    answer["lost"] = lost_fields(steps, (fields.first or ())[:said.count])
     chapters = [dict(one, frame=frame_of(one["field"], begin)) for one in chapters_of(said, steps, doubts)]
     ends = {"leadIn": stretches_of(said, Kind.lead_in, numbers), "leadOut": stretches_of(said, Kind.lead_out, numbers)}
     answer.update({

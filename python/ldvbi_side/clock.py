@@ -4,18 +4,21 @@
 from collections import Counter
 
 SPACINGS = (1000, 1001)  # numbers from one that is left out evenly to the next
+OFF = 2  # numbers more or less than a whole multiple: a clock is never further off
 LEAST_PLACES = 3  # of numbers left out evenly, for the clock to be believed
+KEPT = (2, 3)  # the numbers left out evenly, at least, of so many that are due
 SHORT = 4000  # numbers too few to show that many places
 WIDE = 2000  # fields of a jump behind which another stretch begins: those of 1,000 numbers
-MINUTE, TENTH_MINUTE = 1800, 18000
+MINUTE = 1800
+TENTH_MINUTE = 10 * MINUTE
 
 
 class Stretch:
-    """Numbers from one wide jump to the next: how many were played, and the `gaps` of one or two numbers among them,
-    triples of the believed readings before and behind, and how many numbers are too few."""
+    """Numbers from one wide jump to the next: how many were played, from the first to the last, and the `gaps` of one
+    or two numbers among them, triples of the believed readings before and behind, and how many numbers are too few."""
 
     def __init__(self):
-        self.numbers, self.gaps = 0, []
+        self.numbers, self.gaps = 1, []
 
 
 class Clock:
@@ -94,12 +97,13 @@ class _Rule:
     def has(self, one):
         """Whether a gap is one of these."""
         before, after = one
-        return (before.number - self.anchor.number + 2) % self.spacing <= 2 + after.number - before.number
+        more = after.number - before.number - 2  # numbers in the gap beside the one
+        return (before.number - self.anchor.number + OFF) % self.spacing <= 2 * OFF + more
 
     def is_kept(self, singles, numbers, least):
         """Whether enough of so many numbers are left out, and at least so many."""
         count = sum(map(self.has, singles))
-        return count >= least and 3 * 1000 * count >= 2 * numbers
+        return count >= least and KEPT[1] * SPACINGS[0] * count >= KEPT[0] * numbers
 
 
 def _rule_of(singles, numbers):

@@ -18,7 +18,7 @@ from .plot import plot_command
 from .progress import Progress
 from .seek import seek, text_of, wanted_of
 from .side import Side, cut_of, side_of_stream
-from .summary import summary
+from .summary import MOST_LINES, summary
 from .tables import BAD_LINE_COLUMNS, FIELD_COLUMNS, bad_line_rows, field_rows
 
 NAME = "ldvbi-side"
@@ -57,7 +57,7 @@ def _parser():
                         "given by its number or as a CLV time h:mm:ss.pp, of a minute h:mm, of a second h:mm:ss, or of "
                         "a chapter, as 'chapter 3'; status 1 where there is none")
     output.add_argument("--summary", action="store_true", help="print whether the side is whole, and what to look at "
-                        "first, in at most 24 lines; status 0 where it is whole, else 1")
+                        "first, in at most %d lines; status 0 where it is whole, else 1" % MOST_LINES)
     output.add_argument("--document", action="store_true", help="print the document that `ldvbi extract` writes of the "
                         "TBC file, the same byte for byte")
     parser.add_argument("--strict", action="store_true", help="take a side without lead-in or lead-out for not whole")

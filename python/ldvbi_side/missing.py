@@ -52,7 +52,7 @@ def lost_fields(steps, first):
         for one in lost:
             if one["fields"] == 1:
                 _widen(one, steps.numbers)
-    for field in range(2, len(first or ()) + 1):
+    for field in range(2, len(first) + 1):
         if first[field - 1] == first[field - 2]:
             _add_parity(lost, field)
     return sorted(lost, key=lambda one: one["after"])

@@ -9,6 +9,7 @@ from .chain import chain
 from .paces import Pace
 
 RATES = {"NTSC": 30, "PAL": 25}  # numbers of a second
+FILM = 10  # pictures to one of 3 fields, at most
 
 
 class Unit(NamedTuple):
@@ -89,4 +90,4 @@ def pace_of(readings, may_be_film):
     steps = Counter((other.field - one.field, other.number - one.number) for one, other in zip(readings, readings[1:]))
     if 10 * steps[1, 0] > len(readings):
         return Pace("both")
-    return Pace("film" if may_be_film and 9 * steps[3, 1] > steps[2, 1] else "video")
+    return Pace("film" if may_be_film and FILM * steps[3, 1] >= max(steps[2, 1] + steps[3, 1], 1) else "video")

@@ -1,4 +1,4 @@
-"""A side at a glance: whether it is whole, and what to look at first, in at most 24 lines."""
+"""A side at a glance: whether it is whole, and what to look at first, in at most MOST_LINES lines."""
 
 from collections import Counter
 
@@ -6,6 +6,7 @@ from .codes import LINES
 from .marks import fields_text
 from .whole import UNITS, counted, other_file
 
+MOST_LINES = 24
 MOST_LISTED = 4  # places in a line
 
 

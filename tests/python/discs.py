@@ -3,6 +3,8 @@
 A row has the items of lines 16, 17 and 18: six hexadecimal digits (with * behind them for a word of pass 2), or a line
 without a word: - (blank), ~ (unfinished), ? (change 170), ! (hold 200)."""
 
+import functools
+
 from ldvbi import Cause, FieldReadings, Reading, System
 from ldvbi_side.analysis import analyse
 from ldvbi_side.said import Fields
@@ -58,6 +60,7 @@ def times(numbers, rate=25):
     return rows
 
 
+@functools.lru_cache(maxsize=None)  # many lines of a long side show the same
 def item(text):
     """The word, the pass and the cause of a line."""
     if text in CAUSES:

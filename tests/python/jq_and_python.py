@@ -2,10 +2,10 @@
 """Prints of a document what the Python package says of it, in the form in which tests/python/jq_and_python.sh has
 contrib/ldvbi.jq say it.
 
-usage: jq_and_python.py lines|tables|conflicts DOCUMENT
+usage: jq_and_python.py lines|tables DOCUMENT
 
 lines: of each field the codes that stand on a line of their kind; tables: the first fields of its numbers, the stops
-and the format; conflicts: the fields whose lines 17 and 18 have two numbers."""
+and the format."""
 
 import json
 import sys
@@ -38,15 +38,11 @@ def tables(side):
     return [side.pictures(), side.times(), minutes, side.chapters(), side.stops(), side.format()]
 
 
-def conflicts(side):
-    return [[one["field"], one["line17"], one["line18"]] for one in side.answer["conflicts"]]
-
-
 def main():
     what, path = sys.argv[1:]
     with open(path, "rb") as file:
         side = side_of_document(file.read())
-    for answer in {"lines": own_lines, "tables": tables, "conflicts": conflicts}[what](side):
+    for answer in {"lines": own_lines, "tables": tables}[what](side):
         print(json.dumps(answer, separators=(",", ":")))
 
 

@@ -10,6 +10,11 @@
 # shellcheck source=tests/python/python_helpers.sh
 . "$here/python_helpers.sh"
 
+# document_of OPTIONS < WORDS: makes side.vbi.json of these words
+document_of() {
+    cat > words
+    output_of draw $1 words | bounded "$program" extract $1 > side.vbi.json
+}
 # alike NAME WHAT PROGRAM: checks that jq prints of side.vbi.json by this program what Python prints of it
 alike() {
     status=0
@@ -35,7 +40,7 @@ awk -f "$tests/code_words.awk" patterns |
 check 'there are 2,000 fields of them' [ "$(wc -l < all_words)" -gt 2000 ]
 split -l 700 all_words part.
 for part in part.*; do
-    side_of "$ntsc" < $part
+    document_of "$ntsc" < $part
     alike "the words of $part" lines "$lines_of_kinds"
 done
 
@@ -83,7 +88,7 @@ minutes() {
 tables='pictures, times, (if times == {} then minutes else {} end), chapters, stops, format'
 # sound NAME OPTIONS < WORDS: compares the tables of a sound side
 sound() {
-    side_of "$2"
+    document_of "$2"
     alike "$1" tables "$tables"
     check "$1: numbers are found" [ "$(head -n 3 out | grep -cv '^{}$')" = 1 ]
 }
@@ -104,21 +109,4 @@ lost 9 < words_of_side > words_with_losses
 sound 'CLV with lines lost' "$pal" < words_with_losses
 minutes > words_of_side
 sound 'CLV without seconds' "$pal" < words_of_side
-echo '82CFFF F00009 F00009' > words_of_side
-sound 'one field' "$pal" < words_of_side
-side_of "$ntsc" < empty
-alike 'no field' tables "$tables"
-printf -- '- F00009 F00009\n- 87FFFF -\n' > words_of_side
-sound 'as many fields of CAV as of CLV' "$ntsc" < words_of_side
-
-# Lines that differ, in a picture and in the minutes of a time
-differing='conflicts | .[] | [.field, .line17, .line18]'
-cav 2 2 | sed 's/F00040 F00040/F00040 F00048/; s/F00060 F00060/F00062 F00060/' > words_of_side
-side_of "$ntsc" < words_of_side
-alike 'pictures that differ' conflicts "$differing"
-check 'two of them' [ "$(wc -l < out)" = 2 ]
-clv 25 0 | sed '5s/F0DD59 F0DD59/F0DD59 F0DD58/; 205s/F1DD00 F1DD00/F3DD00 F1DD00/' > words_of_side
-side_of "$pal" < words_of_side
-alike 'minutes that differ' conflicts "$differing"
-check 'two of these' [ "$(wc -l < out)" = 2 ]
 finish

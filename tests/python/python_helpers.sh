@@ -5,8 +5,10 @@
 
 LDVBI_LIBRARY=$top/libldvbi.so.1
 PYTHONPATH=$top/python${LDVBI_LINES:+:$here/site}
-PYTHONDONTWRITEBYTECODE=1
-export LDVBI_LIBRARY PYTHONPATH PYTHONDONTWRITEBYTECODE
+# What is compiled once serves all runs of a script, and nothing is written beside the package.
+PYTHONPYCACHEPREFIX=$work/compiled
+export LDVBI_LIBRARY PYTHONPATH PYTHONPYCACHEPREFIX
+unset PYTHONDONTWRITEBYTECODE
 
 # told OPTION..: what the command prints
 told() {

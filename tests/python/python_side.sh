@@ -76,86 +76,32 @@ cav_csv='field,frame,format,picture,chapter,time,stop,doubt,status,users,unknown
 11,6,neither,,,,,,,,'
 side_of "$ntsc" < cav_words
 tells 'fields of a document' 0 "$cav_csv" side.vbi.json
-tells 'fields of a document, asked for' 0 "$cav_csv" side.vbi.json --csv
 tells 'fields of a TBC file' 0 "$cav_csv" side.tbc $ntsc --csv
 for source in side.vbi.json "side.tbc $ntsc"; do
     tells "a picture of $source" 0 'field 7, frame 4' $source --seek 3
     tells "a picture that $source doesn't have" 1 'not found' $source --seek 5
-    tells "the wrong number of $source" 1 'not found' $source --seek 79999
-    tells "a time that $source doesn't have" 1 'not found' $source --seek 0:00:00.00
-    tells "no line of $source is bad" 0 'field,line,cause,offset' $source --bad-lines
-    tells "a chapter of $source" 0 'field 8, frame 4' $source --seek 'chapter 1'
-    tells "the summary of $source" 1 'whole: no: numbers set aside in 1 of 4 fields
-system: NTSC, CAV
-fields: 11, cut: none
-line 16: 2 words, 0 of them of pass 2; 0 bad (0.00 %), 9 blank
-line 17: 10 words, 0 of them of pass 2; 0 bad (0.00 %), 1 blank
-line 18: 10 words, 0 of them of pass 2; 0 bad (0.00 %), 1 blank
-pictures: 4, from 1 to 4
-missing: none
-lost fields: none
-jumps: none
-stills: none
-shown again: none
-doubtful, set aside: 1 (picture 79999 in field 7 line 18)
-lines 17 and 18 differ: 1 (field 7: picture 3 and 79999, 3 taken)
-chapters: 2 (chapter 0 in field 4, chapter 1 in field 8)
-picture stops: 2 (picture 2 in field 5, picture 3 in field 8)
-lead-in: 1 (field 1), lead-out: 1 (field 11)
-unknown words: none
-programme status: none, users'\'' codes: none
-stray codes: none' $source --summary
 done
 cp side.vbi.json document
 tells 'a document under another name' 0 'field 7, frame 4' document --seek 3
-jq . side.vbi.json > document
-tells 'a document in another layout' 0 'field 7, frame 4' document --seek 00003
 status=0
 bounded python3 -m ldvbi - --seek 3 < side.vbi.json > out 2> err || status=$?
 echo 'field 7, frame 4' > wanted_text
 judge 'a document on standard input' 0 wanted_text ''
 echo '{"videoParameters":{"system":"NTSC","black16bIre":16384.0,"white16bIre":51200,"fieldWidth":910.0}}' > meta.json
-tells 'levels from metadata' 0 'field 7, frame 4' side.tbc --meta meta.json --seek 3
 tells 'an option instead of metadata' 1 'not found' side.tbc --meta meta.json --white 65535 --black 65534 --seek 3
-while IFS='|' read -r option parameters; do
-    echo "{\"videoParameters\":{$parameters}}" > meta.json
-    tells "$option instead of metadata" 0 'field 7, frame 4' side.tbc --meta meta.json $option --seek 3
-done << 'END'
---system NTSC|"system":"PAL","black16bIre":16384,"white16bIre":51200
---system NTSC|"isSourcePal":true,"black16bIre":16384,"white16bIre":51200,"fieldWidth":910,"fieldHeight":263
---black 16384|"system":"NTSC","black16bIre":51200,"white16bIre":51200
---white 51200|"system":"NTSC","black16bIre":16384,"white16bIre":16384
---black 16384 --white 51200|"system":"NTSC","black16bIre":0,"white16bIre":1
---system NTSC --black 16384 --white 51200|"system":"PAL","black16bIre":60000,"white16bIre":"65535"
-END
-echo '{"videoParameters":{"isSourcePal":false,"black16bIre":16383.5,"white16bIre":51200}}' > meta.json
-told side.tbc --meta meta.json --seek 3
-echo 'field 7, frame 4' > wanted_text
-judge 'levels that are rounded' 0 wanted_text 'ldvbi-side: black16bIre is 16383.5, rounded to 16384'
 
-# isFirstField of the metadata, with a document as with a TBC file: frame 1 begins with field 2
+# isFirstField of the metadata, with a document: frame 1 begins with field 2
 jq -c '{videoParameters, fields: [.fields[] | {seqNo, isFirstField: (.seqNo % 2 == 0)}]}' side.vbi.json > meta.json
-tells 'frames of a TBC file by isFirstField' 0 'field 7, frame 3' side.tbc --meta meta.json --seek 3
 tells 'frames of a document by isFirstField' 0 'field 7, frame 3' side.vbi.json --meta meta.json --seek 3
-jq -c '.fields |= .[1:]' meta.json > shorter.json
-told side.vbi.json --meta shorter.json --seek 3
-echo 'field 7, frame 4' > wanted_text
-judge 'metadata of another count of fields' 0 wanted_text \
-    "ldvbi-side: 11 fields, shorter.json says 10, so its isFirstField isn't used: another system, or another file's metadata?"
 jq -c '.fields |= map({seqNo})' meta.json > without.json
 told side.vbi.json --meta without.json --seek 3
 echo 'field 7, frame 4' > wanted_text
 judge 'metadata without isFirstField' 0 wanted_text 'ldvbi-side: without.json has no isFirstField of each field'
 
 # Levels that can't be right are recognised, and the command that looks at a line is printed
-# levels_said NAME TEXT LEVELS: checks how the line of the summary that speaks of levels begins
-levels_said() {
-    told side.tbc --system NTSC $3 --summary
-    grep "^levels: lines 17 and 18 have 0 words, $2: " out > found
-    check "$1" [ "$status $(wc -l < found)" = '1 1' ]
-}
-levels_said 'levels that are too high' '0 are bad, 22 blank' '--black 60000 --white 65535'
-levels_said 'levels that are too low' '22 are bad, 0 blank' '--black 1 --white 2'
+told side.tbc --system NTSC --black 1 --white 2 --summary
+grep '^levels: lines 17 and 18 have 0 words, 22 are bad, 0 blank: ' out > found
+check 'levels that are too low' [ "$status $(wc -l < found)" = '1 1' ]
 sed -n 's/^levels: .* Look at one: //p' out > look.sh
 ln -s "$program" ldvbi
 status=0
@@ -174,8 +120,7 @@ cat > clv_words << 'END'
 8DC0A1 87FFFF 801DDD
 END
 side_of "$pal" < clv_words
-for source in side.vbi.json "side.tbc $pal"; do
-    tells "times of $source" 0 'field,frame,format,picture,chapter,time,stop,doubt,status,users,unknown
+tells 'times of a TBC file' 0 'field,frame,format,picture,chapter,time,stop,doubt,status,users,unknown
 1,1,clv,,,0:00:59.23,,,,,
 2,1,clv,,0,,,,cx on 0A1,,
 3,2,clv,,,0:00:59.24,,,,,
@@ -183,13 +128,8 @@ for source in side.vbi.json "side.tbc $pal"; do
 5,3,clv,,,0:01:00.00,,,,,
 6,3,clv,,1,,,,cx on 0A1,,
 7,4,clv,,,0:01:00.01,,,,,
-8,4,clv,,1,,,,cx on 0A1,,' $source
-    tells "a time of $source" 0 'field 3, frame 2' $source --seek 0:00:59.24
-    tells "a minute of $source" 0 'field 5, frame 3' $source --seek 0:01
-    tells "a second of $source" 0 'field 1, frame 1' $source --seek 0:00:59
-    tells "a time that $source doesn't have" 1 'not found' $source --seek 0:01:00.02
-    tells "a picture that $source doesn't have" 1 'not found' $source --seek 0
-done
+8,4,clv,,1,,,,cx on 0A1,,' side.tbc $pal
+tells 'a time of a TBC file' 0 'field 3, frame 2' side.tbc $pal --seek 0:00:59.24
 
 # Each cause, and a word of the second reading, in a stream that is cut
 signal NTSC 1 << 'WORDS' | ntsc_samples > side.tbc
@@ -199,22 +139,6 @@ WORDS
 printf '12345' >> side.tbc
 output_of extract $ntsc side.tbc > side.vbi.json
 for source in side.vbi.json "side.tbc $ntsc"; do
-    tells "the summary of a cut stream with each cause, $source" 1 'whole: no: no picture number and no time; '\
-'line 18 shows no code; field 3 is cut
-system: NTSC, CAV
-fields: 2, cut: field 3, of 5 bytes
-line 16: 1 words, 0 of them of pass 2; 1 bad (50.00 %), 0 blank
-line 17: 1 words, 1 of them of pass 2; 1 bad (50.00 %), 0 blank
-line 18: 0 words, 0 of them of pass 2; 1 bad (100.00 %), 1 blank
-pictures: none
-doubtful, set aside: none
-lines 17 and 18 differ: none
-chapters: none
-picture stops: 1 (field 1)
-lead-in: none, lead-out: none
-unknown words: none
-programme status: none, users'\'' codes: none
-stray codes: none' $source --summary
     told $source --bad-lines
     printf '%s\n' field,line,cause,offset 2,16,unfinished,505960 '2,17,change 170,507780' '2,18,hold 200,509600' \
         > wanted_text
@@ -228,45 +152,13 @@ done
 tail -c +505961 side.tbc | head -c 1820 | bounded "$program" line $ntsc > found
 check 'the offset is that of the line' [ "$(cat found)" = unfinished ]
 
-# What is refused: with status 1 and a line on standard error
-# refused TEXT OPTION..
-refused() {
-    text=$1
-    shift
-    told "$@"
-    judge "refused: $*" 1 empty "ldvbi-side: $text"
-}
+# What is refused: with status 1 and a line on standard error, or with status 2 where it is the command line
 side_of "$ntsc" < cav_words
-refused "[Errno 2] No such file or directory: 'absent'" absent
-refused 'no system given' side.tbc
-refused 'no black level given' side.tbc --system PAL --white 54016
-refused 'black is not below white' side.tbc --system PAL --black 5 --white 5
-refused 'white is not from 0 to 65535' side.tbc --system PAL --black 5 --white 65536
-refused '/dev/zero is no file that can be mapped' /dev/zero $pal
-refused 'a document has its system and levels; they are options of a TBC file' side.vbi.json --system PAL
-while IFS='|' read -r text metadata; do
-    echo "$metadata" > meta.json
-    refused "$text" side.tbc --meta meta.json
-done << 'END'
-meta.json is no metadata with videoParameters|{"videoParameters":[]}
-meta.json is no metadata with videoParameters|[
-unknown system|{"videoParameters":{"system":"SECAM","black16bIre":1,"white16bIre":2}}
-unknown system|{"videoParameters":{"isSourcePal":1,"black16bIre":1,"white16bIre":2}}
-system and isSourcePal disagree|{"videoParameters":{"system":"NTSC","isSourcePal":true,"black16bIre":1}}
-fieldWidth is not 1135|{"videoParameters":{"system":"PAL","fieldWidth":910,"black16bIre":1,"white16bIre":2}}
-no white level given|{"videoParameters":{"system":"PAL","black16bIre":1}}
-black level is no number|{"videoParameters":{"system":"PAL","black16bIre":"1","white16bIre":2}}
-black level is no number|{"videoParameters":{"system":"PAL","black16bIre":NaN,"white16bIre":2}}
-white is not from 0 to 65535|{"videoParameters":{"system":"PAL","black16bIre":1,"white16bIre":1e99}}
-END
-for wrong in '--seek x' '--seek -1' '--seek 1:2' '--seek chapter' '--csv --seek 1' '--json --bad-lines' \
-    '--system SECAM' '--black 1.0'; do
+told side.vbi.json --system PAL
+judge 'refused: --system of a document' 1 empty \
+    'ldvbi-side: a document has its system and levels; they are options of a TBC file'
+for wrong in '--seek x' '--seek -1' '--csv --seek 1' '--system SECAM' '--black 1.0'; do
     told side.tbc $wrong
     check "refused: $wrong" [ $status = 2 ]
 done
-jq -c '.fields[2].vbiPass[1] = 3' side.vbi.json > broken.json
-refused 'field 3: 3 is no pass' broken.json
-head -c -3 side.vbi.json > broken.json
-told broken.json
-check 'a document without an end' [ "$status $(wc -l < err) $(cut -c 1-22 err)" = "1 1 ldvbi-side: not JSON: " ]
 finish

@@ -64,6 +64,14 @@ class Sound(unittest.TestCase):
             self.assertEqual(found["numbers"]["count"], 60)
             self.assertEqual(found["missing"] + found["breaks"] + found["stills"] + found["lost"], [])
 
+    def test_film_has_a_picture_of_3_fields_in_ten_at_least(self):
+        for every, pace in ((10, "film"), (11, "video"), (15, "video")):
+            rows = []
+            for number in range(1, 6 * every + 2):  # the last picture's fields don't count: none comes behind it
+                rows += pictures([number]) + ["- 800DDD 800DDD"] * (number % every == 0)
+            self.assertEqual(answer(rows, "NTSC")["pace"], pace, every)
+        self.assertEqual(answer(pictures([1]), "NTSC")["pace"], "video")
+
     def test_film_of_pal_is_no_such_thing(self):
         self.assertEqual(answer(film(range(1, 61)))["pace"], "video")
 
@@ -260,6 +268,11 @@ class Parity(unittest.TestCase):
     def test_parity_where_a_clock_may_leave_out_a_number(self):
         found = answer(times([0, 1, 3, 4], 30), "NTSC", first=[True, False, True, False] + [False, True] * 2)
         self.assertEqual(found["lost"], [{"after": 3, "before": 5, "fields": 2, "by": "undecided"}])
+
+    def test_parity_of_fields_that_were_not_read(self):
+        """Metadata of more fields than the side has: two of one parity behind its end, and at its end."""
+        for more in ([True, True], [False, True]):
+            self.assertEqual(answer(pictures(range(1, 31)), first=[True, False] * 30 + more)["lost"], [])
 
     def test_parity_alone_where_no_number_is_near(self):
         found = answer([LEAD_IN] * 9, first=[True, False, True, True] + [False, True] * 2 + [False])

@@ -88,11 +88,22 @@ class Chains(unittest.TestCase):
         self.assertEqual(believed(readings(*range(1, 20), 40000))[-1], (37, 19))
 
     def test_a_long_row_of_wrong_numbers_that_do_not_fit(self):
-        numbers = list(range(1, 101))
-        for place in range(30, 60):  # beyond the reach of 40 with those behind
-            numbers[place] = (place * 7919) % 79999
-        ones = believed(readings(*numbers))
-        self.assertEqual([number for _, number in ones], list(range(1, 31)) + list(range(61, 101)))
+        for count in (30, 39, 40, 41):  # as far as the search goes back, and beyond
+            numbers = list(range(1, 121))
+            for place in range(30, 30 + count):
+                numbers[place] = (place * 7919) % 79999
+            ones = believed(readings(*numbers))
+            self.assertEqual([number for _, number in ones], list(range(1, 31)) + list(range(31 + count, 121)), count)
+
+    def test_the_search_goes_back_over_40_numbers_set_aside(self):
+        """The first of the wrong numbers weighs more than its break, so that the chain which ends there is the best one
+        so far; the jump back behind it costs more than it brings. Beyond 40 the right chain is no longer looked at."""
+        for count, is_astray in ((39, False), (40, False), (41, True)):
+            wrong = [Reading(40, 21, 3, (17,))]  # one field too late
+            wrong += [Reading(41 + place, (place * 7919 + 30000) % 79999, 1, (18,)) for place in range(count - 1)]
+            ones = believed(readings(*range(1, 21)) + wrong + readings(*range(60, 80), first=119))
+            self.assertEqual([number for _, number in ones],
+                             list(range(1, 21)) + [21] * is_astray + list(range(60, 80)), count)
 
     def test_wrong_numbers_that_fit_one_another_for_long(self):
         # they weigh 14, and the jumps there and back cost 8 each; the best of all chains goes astray before the end

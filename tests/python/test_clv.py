@@ -57,6 +57,24 @@ class Sound(unittest.TestCase):
             self.assertEqual(found["numbers"], {"count": 20, "least": "0:09:07.00", "greatest": "0:09:07.19"})
             self.assertEqual(found["doubtful"], [])
 
+    def test_a_turn_of_minutes_whose_neighbours_differ(self):
+        """The time stands on the second field of its picture, or on the first, and its minute was read in the other
+        fields alone: the field before says the last minute, the field behind the next one."""
+        for system, rate in (("PAL", 25), ("NTSC", 30)):
+            turn = 60 * rate
+            for number, is_second in ((turn - 1, True), (turn, False)):
+                rows = []
+                for one in range(turn - 10, turn + 10):
+                    said = minutes(0, one // turn)
+                    time = second(one // rate % 60, one % rate)
+                    own = "-" if one == number else said
+                    pair = ["%s 87FFFF %s" % (time, own), "- 87FFFF %s" % said]
+                    rows += pair[::-1] if is_second else pair
+                found = answer(rows, system)
+                self.assertEqual([showing[0] for showing in found["showings"]][8:12], [
+                    "0:00:59.%d" % (rate - 2), "0:00:59.%d" % (rate - 1), "0:01:00.00", "0:01:00.01"])
+                self.assertEqual(found["completed"], [20 if is_second else 21])
+                self.assertEqual(missing(found) + found["doubtful"], [])
 
     def test_one_time_alone(self):
         for rows in (["8AE007 87FFFF F0DD09"], ["8AE007 - -", "- F0DD09 -"], ["- F0DD09 -", "8AE007 - -"]):
@@ -224,6 +242,21 @@ class Clock(unittest.TestCase):
         found = answer(times([0, 1, 3, 4], 30), "NTSC")
         self.assertEqual(missing(found), [("0:00:00.02", "0:00:00.02", "undecided")])
         self.assertEqual(found["lost"], [{"after": 3, "before": 5, "fields": 2, "by": "undecided"}])
+
+    def test_one_gap_in_less_than_4000_numbers_does_not_say(self):
+        for count, why in ((3500, "undecided"), (3999, "undecided"), (4000, "lost")):
+            found = answer(times(self.numbers(count, lambda number: number == 400), 30), "NTSC")
+            self.assertEqual(missing(found), [("0:00:13.10", "0:00:13.10", why)], count)
+
+    def test_another_stretch_decides_which_gap_of_a_short_one_is_the_clocks(self):
+        numbers = self.numbers(8000, lambda number: number % 1001 == 400 or number == 7000)
+        short = numbers[numbers.index(6500):]
+        both = [("0:03:53.10", "0:03:53.10"), ("0:04:06.27", "0:04:06.27")]  # 7000, which is lost, and 7407
+        found = answer(times(short, 30), "NTSC")
+        self.assertEqual(missing(found), [one + ("undecided",) for one in both])
+        found = answer(times(numbers[:5000] + short, 30), "NTSC")
+        self.assertEqual(missing(found)[1:], [both[0] + ("lost",)])
+        self.assertEqual([(one["first"], one["last"]) for one in found["leftOut"]][5:], both[1:])
 
     def test_three_places_are_enough_and_two_are_not(self):
         for count, whys in ((3400, {"clock"}), (2400, {"undecided"})):

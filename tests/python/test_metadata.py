@@ -55,8 +55,9 @@ class Json(Metadata):
         path = self.write(system="PAL", black16bIre=16383.5, white16bIre=54016.25)
         self.assertEqual(settings_of(path), ("PAL", 16384, 54016, (
             "black16bIre is 16383.5, rounded to 16384", "white16bIre is 54016.25, rounded to 54016")))
-        path = self.write(system="PAL", black16bIre=16384.0, white16bIre=54016)
-        self.assertEqual(settings_of(path), ("PAL", 16384, 54016, ()))
+        for white in (54016, 1e99):  # whether it fits into a sample isn't asked here
+            path = self.write(system="PAL", black16bIre=16384.0, white16bIre=white)
+            self.assertEqual(settings_of(path), ("PAL", 16384, int(white), ()))
         # a half goes upwards, also from an even number
         for value, rounded in ((16384.5, 16385), (16384.49, 16384), (16383.51, 16384), (-0.5, 0), (-0.51, -1),
                                (65535.5, 65536)):
@@ -93,6 +94,8 @@ class Json(Metadata):
                 ("fieldHeight is not 263", {"system": "NTSC", "fieldHeight": 313}),
                 ("no black level given", {"system": "PAL"}),
                 ("black level is no number", {"system": "PAL", "black16bIre": True}),
+                ("black level is no number", {"system": "PAL", "black16bIre": "1"}),
+                ("black level is no number", {"system": "PAL", "black16bIre": float("nan")}),
                 ("no white level given", {"system": "PAL", "black16bIre": 1}),
                 ("white level is no number", {"system": "PAL", "black16bIre": 1, "white16bIre": float("inf")})]
         for text, parameters in rows:

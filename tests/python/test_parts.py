@@ -172,6 +172,13 @@ class Levels(unittest.TestCase):
         self.assertEqual(answer(rows)["levels"]["words"], 2)
         self.assertEqual(answer(rows)["levels"]["shows"], "bad")
 
+    def test_a_word_in_one_of_20_lines_is_enough(self):
+        for words, shows in ((3, "bad"), (4, None)):  # on 80 lines
+            rows = ["- %s !" % picture(place // 2) if place < 2 * words and place % 2 == 0 else "- ! !"
+                    for place in range(40)]
+            levels = answer(rows)["levels"]
+            self.assertEqual(levels and levels["shows"], shows)
+
     def test_damage_is_no_matter_of_levels(self):
         rows = ["- ? ?", "- ! !", BLANK] * 20 + pictures(range(1, 11))
         self.assertIsNone(answer(rows)["levels"])
