@@ -1,9 +1,10 @@
 #!/usr/bin/env python3
 """The table of docs/SIDES.md: simulated sides, analysed, and the answers beside the truth.
 
-usage: measure.py FROM TO [--parity] [--show N]     the seeds FROM to TO - 1
+usage: measure.py FROM TO [--kind KIND]... [--parity] [--show N]     the seeds FROM to TO - 1
 
---parity hands over isFirstField of each field, too; --show prints the first N differences."""
+Without --kind each seed has a kind of KINDS. --parity hands over isFirstField of each field, too; --show prints the
+first N differences."""
 
 import argparse
 import time
@@ -11,7 +12,7 @@ from collections import Counter, defaultdict
 
 from ldvbi_side.analysis import analyse
 from ldvbi_side.said import Fields
-from simulate import simulated
+from simulate import KINDS, PLAYED, simulated
 from sound import faults_of
 from truth import Comparison, Truth
 
@@ -29,9 +30,9 @@ def fields_of(side, parity=False):
                   side.first if parity else None)
 
 
-def measured(seed, parity=False, tell=lambda text: None):
+def measured(seed, kind=None, parity=False, tell=lambda text: None):
     """The kind of the side of this seed, and the counts of what is found of it."""
-    side = simulated(seed)
+    side = simulated(seed, kind)
     fields = fields_of(side, parity)
     begin = time.process_time()
     answer = analyse(fields)
@@ -42,7 +43,7 @@ def measured(seed, parity=False, tell=lambda text: None):
     if seed % SOUND == 0:
         for fault in faults_of(fields, answer):
             counts["faults"] += 1
-            tell("seed %d, %s: %s" % (seed, side.kind, fault))
+            tell("seed %d, %s, %s: %s" % (seed, side.kind, side.settings, fault))
     return side.kind, counts
 
 
@@ -59,14 +60,16 @@ def main():
     parser = argparse.ArgumentParser()
     parser.add_argument("begin", type=int)
     parser.add_argument("end", type=int)
+    parser.add_argument("--kind", choices=KINDS + tuple(PLAYED), action="append")
     parser.add_argument("--parity", action="store_true")
     parser.add_argument("--show", type=int, default=0)
     options = parser.parse_args()
     totals, told = defaultdict(Counter), []
-    for seed in range(options.begin, options.end):
-        kind, counts = measured(seed, options.parity, told.append)
-        for key in (kind, "all"):
-            totals[key].update(counts)
+    for asked in options.kind or [None]:
+        for seed in range(options.begin, options.end):
+            kind, counts = measured(seed, asked, options.parity, told.append)
+            for key in (kind, "all"):
+                totals[key].update(counts)
     for text in told[:options.show]:
         print(text)
     print_table(totals)

@@ -20,7 +20,7 @@ class Bounds(unittest.TestCase):
     def setUpClass(cls):
         cls.totals, cls.told = {kind: Counter() for kind in KINDS}, []
         for seed in SEEDS:
-            kind, counts = measured(seed, False, cls.told.append)
+            kind, counts = measured(seed, tell=cls.told.append)
             cls.totals[kind].update(counts)
         cls.all = sum(cls.totals.values(), Counter())
 

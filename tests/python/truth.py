@@ -62,7 +62,7 @@ class Truth:
         number = self.side.numbers[field - 1]
         if number is None or not kinds & set(NUMBER_KINDS):
             return False
-        if Kind.picture in kinds or Kind.clv_picture in kinds or self.side.kind == "clv-minutes":
+        if Kind.picture in kinds or Kind.clv_picture in kinds or self.side.layout == "clv-minutes":
             self.read.setdefault(number, field)
         return True
 
@@ -77,7 +77,7 @@ class Truth:
     def _find_lost(self, numbered):
         """Losses and jumps back that numbers can show: those between two fields whose numbers can be read."""
         self.lost, self.backs = {}, []
-        if not numbered or self.side.kind == "clv-minutes":
+        if not numbered or self.side.layout == "clv-minutes":
             return
         order = self.side.order
         for place, (before, after) in enumerate(zip(order, order[1:]), 1):
