@@ -10,16 +10,17 @@ import argparse
 import time
 from collections import Counter, defaultdict
 
+from comparison import Comparison
 from ldvbi_side.analysis import analyse
 from ldvbi_side.said import Fields
 from simulate import KINDS, PLAYED, simulated
 from sound import faults_of
-from truth import Comparison, Truth
+from truth import Truth
 
 SHARES = ("wrong", "right", "wrong chapters", "right chapters", "numbers", "due", "lost", "lost places", "backs",
-          "damaged numbers", "lost numbers")
+          "damaged numbers", "lost numbers", "damaged fields", "swaps", "speeds")
 SOUND = 4  # each so many sides are looked at for what holds of every answer
-EXACT = ("missing", "left out", "first fields", "stops", "chapter table")
+EXACT = ("missing", "left out", "first fields", "stops", "chapter table", "whole", "reasons")
 
 
 def fields_of(side, parity=False):
@@ -51,8 +52,9 @@ def print_table(totals):
     for kind, counts in sorted(totals.items()):
         exact = ", ".join("%s %d" % (name, counts[name]) for name in EXACT)
         shares = ", ".join("%s %d of %d" % (name, counts[name + " found"], counts[name]) for name in SHARES)
-        print("%s: %d sides; exact: %s; undecided %d; faults %d" % (
-            kind, counts["sides"], exact, counts["undecided"], counts["faults"]))
+        print("%s: %d sides; exact: %s; undecided %d (damaged %d, lost %d); faults %d" % (
+            kind, counts["sides"], exact, counts["undecided"], counts["undecided, damaged"],
+            counts["undecided, lost"], counts["faults"]))
         print("    found: %s; %.1f us a field" % (shares, counts["microseconds"] / counts["fields"]))
 
 

@@ -1,5 +1,5 @@
-"""How sides of other kinds were played: with skips, at other speeds, from the start again, joined, with fields swapped or
-lost, or from a worn disc."""
+"""How sides of other kinds were played: with skips, at other speeds, from the start again, joined, with fields swapped
+or lost, or from a worn disc."""
 
 from typing import NamedTuple, Optional
 
@@ -16,10 +16,10 @@ PAIRS = (("cav-pal", "cav-pal"), ("clv-ntsc", "clv-ntsc"), ("cav-ntsc", "clv-nts
 
 class Playing(NamedTuple):
     """How a disc was played: the fields of the disc (or of two joined ones), and of the capture the place of each of
-    its fields. `lost` says of each line in how many fields it shows no word, where the kind has that, and `swapped` how
-    many pairs of fields are swapped. `at_speed` are the first and the last field of the capture and the numbers a picture of
-    stretches at another speed. `second` is the place of the second disc's first field, `other` are the places of the
-    disc that has the other format."""
+    its fields. `lost` says of each line in how many fields it shows no word, where the kind has that; `swapped` is how
+    many pairs of fields are swapped. `at_speed` are the first and the last field of the capture, from 0, and the
+    numbers a picture of each stretch at another speed. `second` is the place of the second disc's first field, `other`
+    are the places of the disc that has the other format."""
     rows: list
     order: list
     lost: Optional[dict] = None

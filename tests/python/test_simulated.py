@@ -5,12 +5,13 @@ import random
 import unittest
 from collections import Counter
 
+from comparison import Comparison
 from discs import BLANK, LEAD_IN, LEAD_OUT, answer, film, picture, pictures, plain, times
 from ldvbi_side.analysis import analyse
 from measure import fields_of, measured
 from simulate import KINDS, simulated
 from sound import faults_of
-from truth import Comparison, Truth
+from truth import Truth
 
 SEEDS = range(2000, 2070)
 
