@@ -6,7 +6,7 @@ import unittest
 from collections import Counter
 
 from comparison import Comparison
-from discs import BLANK, LEAD_IN, LEAD_OUT, answer, film, picture, pictures, plain, times
+from discs import BLANK, CLV_MARK, LEAD_IN, LEAD_OUT, answer, film, picture, pictures, plain, times
 from ldvbi_side.analysis import analyse
 from measure import fields_of, measured
 from simulate import KINDS, simulated
@@ -127,37 +127,84 @@ class Comparing(unittest.TestCase):
         counts, told = self.counts(change)
         self.assertEqual(counts["lost"] - counts["lost found"], 1 + before["lost"] - before["lost found"])
         self.assertEqual(counts["due"] - counts["due found"], 1)
-        self.assertEqual([name for name, _ in told], ["lost"])
+        self.assertEqual([name for name, _ in told], ["due in the wrong field", "lost"])
 
 
 class Soundness(unittest.TestCase):
     """What holds of every answer is found to be broken in one that is changed."""
 
-    def faults(self, kind, change):
-        fields = fields_of(simulated(2000, kind, 0.02, 300))
+    TORN = "believed and set aside, or neither"
+
+    def faults(self, fields, change):
         known = analyse(fields)
         self.assertEqual(faults_of(fields, known), [])
         change(known)
         return faults_of(fields, known)
 
-    def test_changed_answers(self):
-        def due_in_a_chapter(one):
-            one["damaged"].append({"number": 1, "field": one["chapters"][0]["field"], "read": None})
+    def check(self, cases, **asked):
+        for place, (kind, change, text) in enumerate(cases):
+            found = self.faults(fields_of(simulated(2000, kind, **asked)), change)
+            self.assertTrue([one for one in found if text in one], (place, text, found))
+
+    def test_each_word_once(self):
+        def chapter_beside(one):
+            one["chapters"][1]["chapter"] += 1
 
         def other_minutes(one):
             one["doubtful"] = [entry for entry in one["doubtful"] if entry["kind"] != "time"]
 
+        cases = [(kind, lambda one: one["doubtful"].clear(), self.TORN) for kind in KINDS]
+        cases += [(kind, lambda one: one["showings"].pop(), self.TORN) for kind in KINDS]
+        cases += [("cav-pal", lambda one: one["doubtful"].append(one["doubtful"][0]), "set aside twice"),
+                  ("clv-pal", other_minutes, self.TORN), ("cav-pal", chapter_beside, self.TORN),
+                  ("joined", lambda one: one["stray"].clear(), self.TORN)]
+        self.check(cases, wrong=0.02, count=300)
+
+    def test_lines_that_differ(self):
+        def none_taken(one):
+            one["conflicts"][0]["taken"] = None
+
+        cav, clv = pictures(range(1, 30)), times(range(1000, 1030))
+        cav[18] = "- F00010 F00077"
+        clv[18] = clv[18].replace(CLV_MARK, "F0DD09")
+        for rows in (cav, clv):
+            for change in (none_taken, lambda one: one["conflicts"].pop()):
+                self.assertIn("field 19: lines that differ", self.faults(plain(rows), change))
+
+    def test_due_where_another_code_stands(self):
+        def due_in_a_chapter(one):
+            one["damaged"].append({"number": 1, "field": one["chapters"][0]["field"], "read": None})
+
+        self.check([(kind, due_in_a_chapter, "which has another code") for kind in ("cav-ntsc", "cav-film", "clv-pal")],
+                   wrong=0.02, count=300)
+
+    def test_numbers_around_a_doubtful_one(self):
+        def others(one):
+            next(entry for entry in one["doubtful"] if entry["why"] == "neighbours")["after"] = None
+
+        self.check([(kind, others, "has other numbers around") for kind in ("cav-pal", "cav-film", "clv-pal")],
+                   wrong=0.02, count=600)
+
+    def test_numbers_lost_without_fields(self):
+        def many(one):
+            lost = next(entry for entry in one["missing"] if entry["why"] == "lost")
+            lost["count"] = 10 ** 6
+
+        self.check([(kind, change, "too few fields") for kind in ("losses", "skips")
+                    for change in (many, lambda one: one["lost"].clear())], wrong=0)
+
+    def test_minutes(self):
         def completed_from_afar(one):
             number, field, last = one["showings"][0]
             one["showings"][0] = ["7" + number[1:], field, last]
-            one["completed"].insert(0, field)
+        self.assertIn("field 1 has a minute that no field near it says",
+                      self.faults(plain(times(range(1000, 1100))), completed_from_afar))
 
-        cases = (("cav-pal", due_in_a_chapter),
-                 ("cav-pal", lambda one: one["doubtful"].append(one["doubtful"][0])),
-                 ("cav-pal", lambda one: one["doubtful"].clear()), ("cav-pal", lambda one: one["showings"].pop()),
-                 ("clv-pal", due_in_a_chapter), ("clv-pal", other_minutes), ("clv-pal", completed_from_afar))
-        for place, (kind, change) in enumerate(cases):
-            self.assertGreater(len(self.faults(kind, change)), 0, place)
+        def minute_behind(one):
+            # its minute is said 50 pictures on, where by this number the next one would have begun
+            one["showings"][0][0] = "0:01:59.20"
+        self.assertIn("field 1 says another minute, and no field near it outweighs that",
+                      self.faults(plain(times(range(1450, 1550))), minute_behind))
 
     def test_a_number_that_fits_and_one_that_was_read(self):
         rows = pictures(range(1, 30))

@@ -124,14 +124,22 @@ class Reasons:
         self.truth, self.side = truth, truth.side
         least = min(truth.read, default=0)
         self.of_why = {
-            "numbers": not truth.read, "lost": self._beside_a_join(bool(truth.lost)), "jumps": self._jumps(),
-            "missing": bool(truth.missing), "begins": least > (0 if self.side.layout == "clv-minutes" else 1),
+            "numbers": not truth.read, "lost": self._lost(), "jumps": self._jumps(),
+            "missing": self._or_clock(bool(truth.missing)),
+            "begins": least > (0 if self.side.layout == "clv-minutes" else 1),
             "joined": self._joined(), "format": self._format(), "line": False, "doubtful": self._doubtful(),
             "metadata": False, "cut": False, "swapped": bool(truth.swaps), "speed": bool(truth.speeds)}
 
+    def _or_clock(self, is_so):
+        """In a short stretch a number that the clock leaves out is undecided."""
+        return is_so or (None if self.truth.left_out else False)
+
+    def _lost(self):
+        return self._beside_a_join(self._or_clock(bool(self.truth.lost)))
+
     def _beside_a_join(self, is_so):
         """Two discs that are joined look like a jump or a loss, too."""
-        return is_so or (None if self.side.second and not self.side.other else False)
+        return is_so or (None if self.side.second and not self.side.other else is_so)
 
     def _jumps(self):
         """A still is none, but where most of it can't be read it looks like one."""
