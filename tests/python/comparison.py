@@ -12,6 +12,7 @@ class Comparison:
         self.truth, self.answer, self.tell = truth, answer, tell
         self.counts = Counter(sides=1, fields=answer["fields"])
         self._compare_doubts()
+        self._compare_missing()
         self._compare_numbers()
         self._compare_lost()
         self._compare_backs()
@@ -48,7 +49,8 @@ class Comparison:
         for place in sorted(truth.right & aside):
             self.tell("right, and set aside", place)
 
-    def _compare_numbers(self):
+    def _compare_missing(self):
+        """Which numbers are missing and why; of those that are undecided, how many there are of each."""
         answer, truth = self.answer, self.truth
         missing = {why: self._numbers_in(one for one in answer["missing"] if one["why"] == why)
                    for why in ("damaged", "lost", "undecided")}
@@ -56,21 +58,28 @@ class Comparison:
         self.counts["undecided"] = len(undecided)
         for why in ("damaged", "lost"):
             self.counts["undecided, " + why] = sum(truth.missing.get(number) == why for number in undecided)
-        for why in ("damaged", "lost"):
             self.counts[why + " numbers"] = len(missing[why])
             self.counts[why + " numbers found"] = sum(truth.missing.get(number) == why for number in missing[why])
             for number in sorted(missing[why]):
                 if truth.missing.get(number, why) != why:
                     self.tell("not " + why, number)
         # of a number that is undecided the clock may have left it out
-        self._exact("missing", set().union(*missing.values()) - (undecided & truth.left_out), set(truth.missing))
-        self._exact("left out", self._numbers_in(answer["leftOut"]) - undecided, truth.left_out - undecided)
-        showings = [(self._number_of(number), field) for number, field, _ in answer["showings"]]
-        numbers = truth.side.numbers
+        found = set().union(*missing.values()) - (undecided & truth.left_out)
+        left_out, hidden = self._numbers_in(answer["leftOut"]), set().union(*truth.hidden.values())
+        self.counts["missing but for hidden"] = int(found - hidden == set(truth.missing))
+        self.counts["left out but for hidden"] = int(left_out - undecided - hidden ==
+                                                     truth.left_out - undecided - hidden)
+        self._exact("missing", found, set(truth.missing))
+        self._exact("left out", left_out - undecided, truth.left_out - undecided)
+
+    def _compare_numbers(self):
+        """The numbers of fields, those that are read and those that are due."""
+        truth, numbers = self.truth, self.truth.side.numbers
+        showings = [(self._number_of(number), field) for number, field, _ in self.answer["showings"]]
         self.counts["numbers"] = len(showings)
         self.counts["numbers found"] = sum(numbers[field - 1] == number for number, field in showings)
         self._exact("first fields", _firsts(showings), truth.read)
-        due = {(self._number_of(one["number"]), one["field"]) for one in answer["damaged"]}
+        due = {(self._number_of(one["number"]), one["field"]) for one in self.answer["damaged"]}
         self.counts["due"] = len(due)
         self.counts["due found"] = sum(numbers[field - 1] == number for number, field in due)
         self._share("damaged fields", due, truth.due)
@@ -88,8 +97,12 @@ class Comparison:
             if one["by"] == "undecided" or one["by"] == "parity" and inside:
                 continue
             self.counts["lost"] += 1
-            if sum(truth.lost[after] for after in inside) == one["fields"]:
+            count, hidden = (sum(find(after) for after in inside)
+                             for find in (truth.lost.get, lambda after: len(truth.hidden[after])))
+            if count == one["fields"]:
                 self.counts["lost found"] += 1
+            elif count + 2 * hidden == one["fields"]:
+                self.counts["lost and hidden"] += 1
             else:
                 self.tell("lost", "%s, and lost are %s" % (one, {after: truth.lost[after] for after in inside}))
         places = {after for after in truth.lost for one in answer["lost"] + answer["breaks"]

@@ -30,9 +30,10 @@ def fields_of(side, parity=False):
                   side.first if parity else None)
 
 
-def measured(seed, kind=None, parity=False, tell=lambda text: None):
-    """The kind of the side of this seed, and the counts of what is found of it."""
-    side = simulated(seed, kind)
+def measured(seed, kind=None, parity=False, tell=lambda text: None, count=None):
+    """The kind of the side of this seed, and the counts of what is found of it. Its kind and the count of its pictures
+    can be asked for."""
+    side = simulated(seed, kind, count=count)
     fields = fields_of(side, parity)
     begin = time.process_time()
     answer = analyse(fields)
@@ -49,11 +50,13 @@ def measured(seed, kind=None, parity=False, tell=lambda text: None):
 def print_table(totals):
     for kind, counts in sorted(totals.items()):
         exact = ", ".join("%s %d" % (name, counts[name]) for name in EXACT)
-        shares = ", ".join("%s %d of %d" % (name, counts[name + " found"], counts[name]) for name in SHARES)
-        print("%s: %d sides; exact: %s; undecided %d (damaged %d, lost %d); faults %d" % (
-            kind, counts["sides"], exact, counts["undecided"], counts["undecided, damaged"],
-            counts["undecided, lost"], counts["faults"]))
+        shares = ", ".join("%s %d of %d" % (name, counts[name + " found"], counts[name])
+                           for name in SHARES if counts[name])
+        print("%s: %d sides; exact: %s; faults %d" % (kind, counts["sides"], exact, counts["faults"]))
         print("    found: %s; %.1f us a field" % (shares, counts["microseconds"] / counts["fields"]))
+        print("    undecided %(undecided)d, of these damaged %(undecided, damaged)d and lost %(undecided, lost)d; but "
+              "for the clock's numbers inside a loss: missing exact %(missing but for hidden)d, left out exact "
+              "%(left out but for hidden)d, lost %(lost and hidden)d more" % counts)
 
 
 def main():

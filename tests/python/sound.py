@@ -3,12 +3,13 @@
 import bisect
 
 from ldvbi import Kind
-from ldvbi_side.codes import LINES, STANDARD_LINES, code_of, value_of
-from truth import number_of
+from ldvbi_side.codes import LINES
+from truth import NUMBER_KINDS, number_of, said_by
 
-OTHERS = {"picture": (Kind.chapter,), "time": (Kind.chapter, Kind.cx_on, Kind.cx_off)}
 OWN = {"cav": (Kind.picture,), "clv": (Kind.time, Kind.clv_picture)}
-NUMBERS = (Kind.picture, Kind.time, Kind.clv_picture)
+CX = (Kind.cx_on, Kind.cx_off)
+OTHERS = {"picture": (Kind.chapter,), "time": (Kind.chapter,) + CX}
+COUNTED = {Kind.chapter, *NUMBER_KINDS, *CX}
 PASS_WEIGHTS = (0, 2, 1)  # of no word, of one of pass 1 and of one of pass 2
 MINUTE_FIELDS = 3600
 
@@ -27,6 +28,7 @@ class Sound:
         self.believed = {field: self.number_of(number) for number, first, last in answer["showings"]
                          for field in range(first, last + 1)}
         self.numbered = sorted(self.believed)
+        self.codes, self.misplaced = self._codes()
         if len(self.aside) < len(places):
             self.faults.append("a word is set aside twice")
         self._look_at_words()
@@ -38,12 +40,21 @@ class Sound:
         if self.unit == "time":
             self._look_at_minutes()
 
-    def codes(self, field):
-        """The codes of a field that stand on a line of their kind: the kind, the value, the line and the pass."""
-        for line, word, of_pass in zip(LINES, self.fields.words[field - 1], self.fields.passes[field - 1]):
-            code = code_of(word)
-            if code and line in STANDARD_LINES.get(code.kind, ()):
-                yield code.kind, value_of(code), line, of_pass
+    def _codes(self):
+        """The codes with a number, by field: the kind, the value, the line and the pass. Those that stand on a line of
+        another kind are for themselves."""
+        codes, misplaced = {}, []
+        for field, words in enumerate(self.fields.words, 1):
+            codes[field] = []
+            for line, word in zip(LINES, words):
+                kind, value, lines = said_by(word)
+                if kind not in COUNTED:
+                    continue
+                if line in lines:
+                    codes[field].append((kind, value, line, self.fields.passes[field - 1][line - LINES[0]]))
+                else:
+                    misplaced.append((field, line))
+        return codes, misplaced
 
     def around(self, field):
         """The believed fields before and behind a field."""
@@ -55,20 +66,20 @@ class Sound:
         chapters = {field: one["chapter"] for one in self.answer["chapters"]
                     for field in range(one["field"], one["last"] + 1)}
         torn = {one["field"] for one in self.answer["chapterConflicts"] if one["taken"] is None}
-        for field, words in enumerate(self.fields.words, 1):
-            for line, word in zip(LINES, words):
-                code = code_of(word)
-                if not code or code.kind not in NUMBERS + (Kind.chapter,):
-                    continue
-                value = value_of(code)
-                if line not in STANDARD_LINES[code.kind]:
-                    is_so = False
-                elif code.kind == Kind.chapter:
+        own = OWN.get(self.answer["format"], ())
+        found = []
+        for field, codes in self.codes.items():
+            for kind, value, line, _ in codes:
+                if kind == Kind.chapter:
                     is_so = chapters.get(field) == value and field not in torn
+                elif kind in CX:
+                    continue
                 else:
-                    is_so = code.kind in OWN.get(self.answer["format"], ()) and self._says(field, code.kind, value)
+                    is_so = kind in own and self._says(field, kind, value)
                 if is_so == ((field, line) in self.aside):
-                    self.faults.append("field %d, line %d: believed and set aside, or neither" % (field, line))
+                    found.append((field, line))
+        found += [place for place in self.misplaced if place not in self.aside]
+        self.faults += ["field %d, line %d: believed and set aside, or neither" % place for place in found]
 
     def _says(self, field, kind, value):
         """Whether a number of a field is what is believed of it. Of a field without a believed time the minute is the
@@ -87,9 +98,9 @@ class Sound:
         """Each field whose lines 17 and 18 have two numbers is named as that, with the one that is believed."""
         kinds = {"cav": Kind.picture, "clv": Kind.time}
         wanted = []
-        for field in range(1, self.answer["fields"] + 1):
-            values = [value for kind, value, _, _ in self.codes(field)
-                      if value is not None and kind == kinds.get(self.answer["format"])]
+        own = kinds.get(self.answer["format"])
+        for field, codes in self.codes.items():
+            values = [value for kind, value, _, _ in codes if kind == own and value is not None]
             if len(set(values)) == 2:
                 number = self.believed.get(field)
                 taken = number // self.minute if self.unit == "time" and number is not None else number
@@ -105,7 +116,7 @@ class Sound:
         own = Kind.picture if self.unit == "picture" else Kind.clv_picture
         for one in self.answer["damaged"]:
             weight = 0
-            for kind, _, line, of_pass in self.codes(one["field"]):
+            for kind, _, _, of_pass in self.codes[one["field"]]:
                 weight += PASS_WEIGHTS[of_pass] if kind in OTHERS[self.unit] else 0
                 if kind == own and one["read"] is None:
                     self.faults.append("a number was read in field %d" % one["field"])
@@ -146,41 +157,42 @@ class Sound:
                 found[place] = found.get(place, 0) + least
         lost = [(one["after"], one["before"], one["fields"]) for one in self.answer["lost"]]
         jumps = [(one["after"], one["before"]) for one in self.answer["breaks"] if one["kind"] != "lost"]
+        jumps += [(one["first"], one["last"]) for one in self.answer.get("speeds", ())]
         for (begin, end), least in found.items():
             if any(begin < before and after < end for after, before in jumps):
-                continue
+                continue  # more may be passed over there
             there = [count for after, before, count in lost if begin < before and after < end]
             if None not in there and sum(there) < least:
                 self.faults.append("numbers are lost between fields %d and %d, and too few fields" % (begin, end))
 
     def _look_at_minutes(self):
-        """The minute of each time was said within a minute; where its own field says another one, others outweigh
-        it."""
+        """The minute of each time was said within a minute, or the minutes that were are those which this time has
+        there; where its own field says another one, these outweigh it."""
         said, weights = {}, {}
-        for field in range(1, self.answer["fields"] + 1):
-            for kind, value, line, of_pass in self.codes(field):
+        for field, codes in self.codes.items():
+            for kind, value, _, of_pass in codes:
                 if kind == Kind.time and value is not None:
                     said.setdefault(value, []).append(field)
                     weights.setdefault(field, {}).setdefault(value, 0)
                     weights[field][value] += PASS_WEIGHTS[of_pass]
         for field, number in self.believed.items():
-            minute = number // self.minute
+            minute, own = number // self.minute, weights.get(field, {})
             fields = said.get(minute, ())
             place = bisect.bisect_left(fields, field - MINUTE_FIELDS)
-            if place == len(fields) or fields[place] > field + MINUTE_FIELDS:
+            is_said = place < len(fields) and fields[place] <= field + MINUTE_FIELDS
+            if not is_said and not self._is_outweighed(field, number, weights, 0):
                 self.faults.append("field %d has a minute that no field near it says" % field)
-            denied = weights.get(field)
-            if denied and minute not in denied and not self._is_outweighed(field, number, weights):
+            if own and minute not in own and not self._is_outweighed(field, number, weights, max(own.values())):
                 self.faults.append("field %d says another minute, and no field near it outweighs that" % field)
 
-    def _is_outweighed(self, field, number, weights):
-        """Whether the minutes that stand around, where this time has them, weigh more than what the field itself
-        says."""
-        own, weight = max(weights[field].values()), 0
+    def _is_outweighed(self, field, number, weights, least):
+        """Whether the minutes that stand around, where this time has them, weigh more than that."""
+        weight = 0
         for near in range(field - MINUTE_FIELDS, field + MINUTE_FIELDS + 1):
-            weight += weights.get(near, {}).get((number + (near - field) // 2) // self.minute, 0)
-            if weight > own:
-                return True
+            if near in weights:
+                weight += weights[near].get((number + (near - field) // 2) // self.minute, 0)
+                if weight > least:
+                    return True
         return False
 
 

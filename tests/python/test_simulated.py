@@ -1,6 +1,7 @@
 """Simulated sides beside their truth: bounds for the seeds 2000 to 2069, ten sides of each kind, and for damage of
 other kinds on sides whose truth is known."""
 
+import copy
 import random
 import unittest
 from collections import Counter
@@ -9,7 +10,7 @@ from comparison import Comparison
 from discs import BLANK, CLV_MARK, LEAD_IN, LEAD_OUT, answer, film, picture, pictures, plain, times
 from ldvbi_side.analysis import analyse
 from measure import fields_of, measured
-from simulate import KINDS, simulated
+from simulate import KINDS, PLAYED, simulated
 from sound import faults_of
 from truth import Truth
 
@@ -75,6 +76,24 @@ class Bounds(unittest.TestCase):
                 self.assertGreater(counts[name], 0, kind)
 
 
+class Played(unittest.TestCase):
+    """Sides that were played in other ways, and worn ones: three of each kind, with few pictures where the kind lets
+    them be few."""
+
+    PICTURES = {"skips": None, "worn": 300, "swapped": 200, "speeds": 1100, "joined": 150, "losses": 600,
+                "restarts": 150}
+
+    @classmethod
+    def setUpClass(cls):
+        cls.totals, cls.told = {kind: Counter() for kind in PLAYED}, []
+        for kind, count in cls.PICTURES.items():
+            for seed in range(3):
+                cls.totals[kind].update(measured(seed, kind, tell=cls.told.append, count=count)[1])
+        cls.all = sum(cls.totals.values(), Counter())
+
+    def test_no_answer_contradicts_the_words_of_its_side(self):
+        self.assertEqual([self.all["sides"], self.all["faults"]], [21, 0], self.told)
+
 class Parity(unittest.TestCase):
     def test_parity_loses_nothing(self):
         for seed in range(2000, 2007):
@@ -135,16 +154,20 @@ class Soundness(unittest.TestCase):
 
     TORN = "believed and set aside, or neither"
 
-    def faults(self, fields, change):
+    def faults(self, fields, *changes):
+        """What is found in the answer after each of these changes of it."""
         known = analyse(fields)
         self.assertEqual(faults_of(fields, known), [])
-        change(known)
-        return faults_of(fields, known)
+        for change in changes:
+            changed = copy.deepcopy(known)
+            change(changed)
+            yield faults_of(fields, changed)
 
-    def check(self, cases, **asked):
-        for place, (kind, change, text) in enumerate(cases):
-            found = self.faults(fields_of(simulated(2000, kind, **asked)), change)
-            self.assertTrue([one for one in found if text in one], (place, text, found))
+    def check(self, kind, cases, wrong=0.02, count=200):
+        """Each change makes a fault with this text."""
+        fields = fields_of(simulated(2000, kind, wrong, count))
+        for place, found in enumerate(self.faults(fields, *(change for change, _ in cases))):
+            self.assertTrue([one for one in found if cases[place][1] in one], (kind, place, found))
 
     def test_each_word_once(self):
         def chapter_beside(one):
@@ -153,12 +176,13 @@ class Soundness(unittest.TestCase):
         def other_minutes(one):
             one["doubtful"] = [entry for entry in one["doubtful"] if entry["kind"] != "time"]
 
-        cases = [(kind, lambda one: one["doubtful"].clear(), self.TORN) for kind in KINDS]
-        cases += [(kind, lambda one: one["showings"].pop(), self.TORN) for kind in KINDS]
-        cases += [("cav-pal", lambda one: one["doubtful"].append(one["doubtful"][0]), "set aside twice"),
-                  ("clv-pal", other_minutes, self.TORN), ("cav-pal", chapter_beside, self.TORN),
-                  ("joined", lambda one: one["stray"].clear(), self.TORN)]
-        self.check(cases, wrong=0.02, count=300)
+        cases = [(lambda one: one["doubtful"].clear(), self.TORN), (lambda one: one["showings"].pop(), self.TORN),
+                 (lambda one: one["doubtful"].append(one["doubtful"][0]), "set aside twice")]
+        for kind in KINDS:
+            self.check(kind, cases)
+        self.check("cav-pal", [(chapter_beside, self.TORN)])
+        self.check("clv-pal", [(other_minutes, self.TORN)])
+        self.check("joined", [(lambda one: one["stray"].clear(), self.TORN)])
 
     def test_lines_that_differ(self):
         def none_taken(one):
@@ -168,56 +192,61 @@ class Soundness(unittest.TestCase):
         cav[18] = "- F00010 F00077"
         clv[18] = clv[18].replace(CLV_MARK, "F0DD09")
         for rows in (cav, clv):
-            for change in (none_taken, lambda one: one["conflicts"].pop()):
-                self.assertIn("field 19: lines that differ", self.faults(plain(rows), change))
+            for found in self.faults(plain(rows), none_taken, lambda one: one["conflicts"].pop()):
+                self.assertIn("field 19: lines that differ", found)
 
     def test_due_where_another_code_stands(self):
         def due_in_a_chapter(one):
             one["damaged"].append({"number": 1, "field": one["chapters"][0]["field"], "read": None})
 
-        self.check([(kind, due_in_a_chapter, "which has another code") for kind in ("cav-ntsc", "cav-film", "clv-pal")],
-                   wrong=0.02, count=300)
+        for kind in ("cav-ntsc", "cav-film", "clv-pal"):
+            self.check(kind, [(due_in_a_chapter, "which has another code")])
 
     def test_numbers_around_a_doubtful_one(self):
         def others(one):
-            next(entry for entry in one["doubtful"] if entry["why"] == "neighbours")["after"] = None
+            next(entry for entry in one["doubtful"] if entry["why"] == "neighbours" and entry["kind"] != "time")[
+                "after"] = None
 
-        self.check([(kind, others, "has other numbers around") for kind in ("cav-pal", "cav-film", "clv-pal")],
-                   wrong=0.02, count=600)
+        for kind in ("cav-pal", "cav-film", "clv-pal"):
+            self.check(kind, [(others, "has other numbers around")])
 
     def test_numbers_lost_without_fields(self):
-        def many(one):
-            lost = next(entry for entry in one["missing"] if entry["why"] == "lost")
-            lost["count"] = 10 ** 6
+        def more(one):
+            next(entry for entry in one["missing"] if entry["why"] == "lost")["count"] += 10
 
-        self.check([(kind, change, "too few fields") for kind in ("losses", "skips")
-                    for change in (many, lambda one: one["lost"].clear())], wrong=0)
+        self.check("losses", [(more, "too few fields"), (lambda one: one["lost"].clear(), "too few fields")], 0, 600)
 
     def test_minutes(self):
         def completed_from_afar(one):
             number, field, last = one["showings"][0]
             one["showings"][0] = ["7" + number[1:], field, last]
-        self.assertIn("field 1 has a minute that no field near it says",
-                      self.faults(plain(times(range(1000, 1100))), completed_from_afar))
+        found, = self.faults(plain(times(range(1000, 1100))), completed_from_afar)
+        self.assertIn("field 1 has a minute that no field near it says", found)
 
         def minute_behind(one):
             # its minute is said 50 pictures on, where by this number the next one would have begun
             one["showings"][0][0] = "0:01:59.20"
-        self.assertIn("field 1 says another minute, and no field near it outweighs that",
-                      self.faults(plain(times(range(1450, 1550))), minute_behind))
+        found, = self.faults(plain(times(range(1450, 1550))), minute_behind)
+        self.assertIn("field 1 says another minute, and no field near it outweighs that", found)
 
     def test_a_number_that_fits_and_one_that_was_read(self):
-        rows = pictures(range(1, 30))
-        rows[18] = "- F70000 F70000"
-        fields = plain(rows)
-        known = analyse(fields)
-        self.assertEqual(faults_of(fields, known), [])
-        for one in known["doubtful"]:
-            one["number"] = 10
-        self.assertEqual(faults_of(fields, known), ["field 19 fits and is doubtful"] * 2)
-        known = analyse(fields)
-        known["damaged"][0]["read"] = None
-        self.assertEqual(faults_of(fields, known), ["a number was read in field 19"] * 2)
+        def none_read(one):
+            for entry in one["damaged"]:
+                entry["read"] = None
+
+        # on film a number is sure to fit where the pictures beside it aren't read
+        wrong, scratched = "- F70000 F70000", damaged(film(range(1, 30)), range(22, 30), lambda row: BLANK)
+        sides = ((pictures(range(1, 30)), 18, wrong, "PAL", 10), (scratched, 25, wrong, "NTSC", 11),
+                 (times(range(1000, 1030)), 18, "8AE017 87FFFF F0DD00", "PAL", "40.09"))
+        for rows, place, row, system, right in sides:
+            rows[place] = row
+
+            def fitting(one):
+                for entry in one["doubtful"]:
+                    entry["number"] = right
+            fits, read = self.faults(plain(rows, system), fitting, none_read)
+            self.assertIn("field %d fits and is doubtful" % (place + 1), fits)
+            self.assertIn("a number was read in field %d" % (place + 1), read)
 
 
 def damaged(rows, places, change):

@@ -1,9 +1,11 @@
 """What is to be answered of a simulated side: made from its truth, and from what can still be read of it."""
 
+import functools
+
 from ldvbi import Kind
 from ldvbi_side.codes import CAV_KINDS, CLV_KINDS, LINES, STANDARD_LINES, code_of, value_of
 
-NUMBER_KINDS = (Kind.picture, Kind.time, Kind.clv_picture)
+NUMBER_KINDS = {Kind.picture, Kind.time, Kind.clv_picture}
 
 
 def number_of(text, rate, unit):
@@ -18,12 +20,20 @@ def number_of(text, rate, unit):
     return ((60 * int(hours) + int(minutes)) * 60 + int(seconds)) * rate + int(picture)
 
 
+@functools.lru_cache(maxsize=None)
+def said_by(word):
+    """The kind of a word, its value, and the lines on which it counts."""
+    code = code_of(word)
+    return (code.kind, value_of(code), STANDARD_LINES.get(code.kind, ())) if code else (None, None, ())
+
+
 class Truth:
     """`read` is the first field in which each number can be read, `chapters` that of each chapter; `right` and
     `right_chapters` are the lines whose word says a number or a chapter rightly, `wrong` and `wrong_chapters` those
     that say one wrongly; `missing` the numbers of the disc that can't be read, each with why (`damaged` where a field
     has it, else `lost`), `left_out` those that the disc hasn't; `due` are pairs of a number and the field that has it
     where it can't be read, between two fields whose numbers can; `lost` how many fields are lost behind which field,
+    `hidden` the numbers that the disc hasn't inside such a loss, where no field shows that, by its field;
     `backs` the fields behind which the disc's order is broken, `swaps` and `speeds` as far as numbers show them."""
 
     def __init__(self, side):
@@ -45,23 +55,23 @@ class Truth:
         """Takes in a field; answers whether its number can be read."""
         kinds = self.kinds[field] = set()
         for line, word in zip(LINES, words):
-            code = code_of(word)
-            if not code or line not in STANDARD_LINES.get(code.kind, ()):
+            kind, value, lines = said_by(word)
+            if line not in lines:
                 continue
             is_wrong = (field, line) in self.misread
-            if code.kind in NUMBER_KINDS and field not in self.side.other:
+            if kind in NUMBER_KINDS and field not in self.side.other:
                 (self.wrong if is_wrong else self.right).add((field, line))
-            if code.kind == Kind.chapter:
+            if kind == Kind.chapter:
                 (self.wrong_chapters if is_wrong else self.right_chapters).add((field, line))
             if is_wrong:
                 continue
-            kinds.add(code.kind)
-            if code.kind == Kind.chapter:
-                self.chapters.setdefault(value_of(code), field)
+            kinds.add(kind)
+            if kind == Kind.chapter:
+                self.chapters.setdefault(value, field)
         if Kind.picture_stop in kinds and field not in self.side.other:
             self.stops.append(field)
         number = self.side.numbers[field - 1]
-        if number is None or not kinds & set(NUMBER_KINDS):
+        if number is None or not kinds & NUMBER_KINDS:
             return False
         if self._is_read(field):
             self.read.setdefault(number, field)
@@ -94,7 +104,7 @@ class Truth:
     def _find_lost(self):
         """Losses and jumps back that numbers can show: those between two fields whose numbers can be read. Where two
         discs are joined, and at another speed, no field is lost."""
-        self.lost, self.backs = {}, []
+        self.lost, self.hidden, self.backs = {}, {}, []
         side, order = self.side, list(self.side.order)
         if not self.numbered or side.layout == "clv-minutes":
             return
@@ -107,8 +117,15 @@ class Truth:
                 continue
             if after - before > 1:
                 self.lost[place] = after - before - 1
+                self.hidden[place] = self.left_out & set(self._passed_over(place))
             elif after <= before:
                 self.backs.append(place)
+
+    def _passed_over(self, place):
+        """The numbers between the field of this place and the next one."""
+        numbers = self.side.numbers
+        before = next(number for number in numbers[place - 1::-1] if number is not None)
+        return range(before + 1, next(number for number in numbers[place:] if number is not None))
 
     def _is_seen(self, field):
         """Whether the numbers can show that this field and the next one are swapped."""
@@ -142,8 +159,10 @@ class Reasons:
         return is_so or (None if self.side.second and not self.side.other else is_so)
 
     def _jumps(self):
-        """A still is none, but where most of it can't be read it looks like one."""
+        """A still is none, but where most of it can't be read it looks like one. Minutes show few jumps."""
         order = self.side.order
+        if self.side.layout == "clv-minutes" and any(after <= before for before, after in zip(order, order[1:])):
+            return None
         if any(abs(order[place] - order[place - 1]) > 2 for place in self.truth.backs):
             return True
         return None if self.truth.backs else self._beside_a_join(False)
