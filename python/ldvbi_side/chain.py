@@ -2,138 +2,159 @@
 price of its breaks. A number that stays (a still) is one break however long it does.
 
 For each reading the best chain that ends with it is looked for among those that end with a reading before it: one in
-each state, which is a variant, moving or (from `variants` on) still."""
+each state, which is a variant, moving or still."""
+
+import operator
 
 from .paces import price
+from .said import Reading
 
 REACH = 40  # readings back: setting aside more than these costs more than two of the widest breaks
 NEVER = -10 ** 9  # the value of a state that no chain has
 MOST_PRICES = 1 << 14  # to remember: a side has few different ones, and noise has any
+_BEFORE = object()  # the reading before, whichever it is
+_ON = ((_BEFORE, 0), None)
 
 
 def chain(readings, pace):
     """The readings that are believed, each with its variant. They ascend by field, those of one field side by side."""
     chains = _Chains(readings, pace)
-    for index in range(len(readings)):
-        chains.add(index)
+    index = 0
+    while index < len(readings):
+        index = chains.go_on(index)
+        if index < len(readings):
+            chains.add(index)
+            index += 1
     return _without_ties(readings, chains.best(), pace)
 
 
 class _Chains:
-    """The best chains that end with each reading so far."""
+    """The best chains that end with each reading so far. A state is twice the variant, and 1 more where it is still."""
 
     def __init__(self, readings, pace):
-        self.readings, self.pace, self.variants = readings, pace, pace.variants
-        self.pairs = [(v, w) for v in range(self.variants) for w in range(self.variants)]
-        self.nowhere = [0] * self.variants + [NEVER] * self.variants
-        self.values, self.origins = [], []  # of each reading, by state
-        self.prices = {}
-        self.greatest = []  # of all readings up to each the best value and its reading
+        self.readings, self.pace = readings, pace
+        self.states = 2 * pace.variants
+        self.values, self.origins = [], []  # of each reading, by state; _ON where it just goes on
+        self.columns = {}
+        self.tops, self.top_at = [], []  # of all readings up to each the best value, and its reading
+
+    def go_on(self, index):
+        """Takes in the readings from this one on with which the best chain of all goes on without a break, where
+        nothing can be better, and returns the first other one."""
+        if not index or self.states > 2 or self.values[-1][0] != self.tops[-1]:
+            return index
+        readings, off = self.readings, self.pace.off
+        value, before = self.tops[-1], readings[index - 1]
+        for place in range(index, len(readings)):
+            reading = readings[place]
+            apart = reading.field - before.field
+            if not apart or off(apart, before.number, reading.number - before.number) != 0:
+                return place
+            value += reading.weight
+            self.values.append((value, NEVER))
+            self.origins.append(_ON)
+            self.tops.append(value)
+            self.top_at.append(place)
+            before = reading
+        return len(readings)
 
     def add(self, index):
         """Finds the best chains that end with this reading, the next one."""
-        if self._goes_on(index):
-            return
         best, origin = self._best_before(index)
         weight = self.readings[index].weight
-        value = [worth + weight for worth in best]
+        value = tuple([worth + weight for worth in best])
         self.values.append(value)
         self.origins.append(origin)
         top = max(value)
-        self.greatest.append((top, index) if not index or top > self.greatest[-1][0] else self.greatest[-1])
-
-    def _goes_on(self, index):
-        """Whether the best chain of all goes on here without a break, where nothing can be better."""
-        if not index or self.variants > 1 or self.values[-1][0] != self.greatest[-1][0]:
-            return False
-        before, reading = self.readings[index - 1], self.readings[index]
-        apart = reading.field - before.field
-        if not apart or self.pace.off(apart, before.number, reading.number - before.number) != 0:
-            return False
-        value = self.values[-1][0] + reading.weight
-        self.values.append([value, NEVER])
-        self.origins.append(((index - 1, 0), None))
-        self.greatest.append((value, index))
-        return True
+        is_best = not index or top > self.tops[-1]
+        self.tops.append(top if is_best else self.tops[-1])
+        self.top_at.append(index if is_best else self.top_at[-1])
 
     def _best_before(self, index):
         """For each state the greatest value of a chain before this reading less the price of going on from it, and
-        where that chain ends."""
-        best, origin = list(self.nowhere), [None] * (2 * self.variants)
+        the reading and the state in which that chain ends."""
+        best, origin = [0, NEVER] * (self.states // 2), [None] * self.states
         limit = max(index - REACH, 0)
         before = index - 1
         while before >= 0:
             self._join(before, self.readings[index], best, origin)
-            if before == 0 or self.greatest[before - 1][0] <= min(best[:self.variants]):  # no state can get better
+            if before == 0 or self.tops[before - 1] <= min(best[::2]):  # no state can get better
                 break
             # beyond the reach only the best chain of all before is asked
-            before = before - 1 if before > limit else self.greatest[before - 1][1] if before == limit else -1
+            before = before - 1 if before > limit else self.top_at[before - 1] if before == limit else -1
         return best, origin
 
     def _join(self, before, reading, best, origin):
         """Goes on to a reading from the chains that end with an earlier one, where that is better."""
-        other, value, variants = self.readings[before], self.values[before], self.variants
-        apart = reading.field - other.field
+        other, value = self.readings[before], self.values[before]
+        apart, step = reading.field - other.field, reading.number - other.number
         if not apart:
             return
-        prices = self._prices(apart, other.number, reading.number - other.number)
-        for v, moving_price, still_price, moving, still in prices:
-            worth = value[v] - moving_price
-            if worth > best[moving]:  # of equals the one with more readings
-                best[moving], origin[moving] = worth, (before, v)
-            worth = value[variants + v] - still_price
-            if worth > best[still]:
-                best[still], origin[still] = worth, (before, variants + v)
+        columns = self.columns.get((apart, step, other.number % self.pace.period))
+        if columns is None:
+            if step and max(value) - price(self.pace.least_off(apart, other.number, step)) <= min(best[::2]):
+                return  # no state can get better
+            columns = self._add_columns(apart, other.number, step)
+        for state, column in columns:
+            worths = list(map(operator.sub, value, column))
+            worth = max(worths)
+            if worth > best[state]:  # of equals the one with more readings
+                best[state], origin[state] = worth, (before, worths.index(worth))
 
-    def _prices(self, apart, number, step):
-        """What it costs to go on from this number by so many fields and numbers, for each pair of variants: the variant
-        from which, the price from moving and from still, and the states to which these go."""
-        key = apart, step, number % self.pace.period
-        if key not in self.prices:
-            if len(self.prices) == MOST_PRICES:
-                self.prices.clear()
-            self.prices[key] = [self._price(apart, number, step, v, w) for v, w in self.pairs]
-        return self.prices[key]
-
-    def _price(self, apart, number, step, v, w):
-        off = self.pace.off(apart, number, step, v, w)
-        turn = self.pace.change if v != w else 0
-        still = self.variants + w
-        if off is None:  # it stays: a break, or nothing where it stayed before
-            return v, price(apart) + turn, turn, still, still
-        cost = price(off) + turn
-        return v, cost, cost, w, w if step else still
+    def _add_columns(self, apart, number, step):
+        """What it costs to go on from this number by so many fields and numbers: of each state that can be reached the
+        price from each state."""
+        columns = {}
+        for place in range(0, self.states * self.states // 4):
+            v, w = divmod(place, self.states // 2)
+            off = self.pace.off(apart, number, step, v, w)
+            turn = self.pace.change if v != w else 0
+            if off is None:  # it stays: a break, or nothing where it stayed before
+                costs = (2 * w + 1, 2 * v, price(apart) + turn), (2 * w + 1, 2 * v + 1, turn)
+            else:
+                cost = price(off) + turn
+                costs = (2 * w, 2 * v, cost), (2 * w if step else 2 * w + 1, 2 * v + 1, cost)
+            for state, origin, cost in costs:
+                columns.setdefault(state, [-NEVER] * self.states)[origin] = cost
+        if len(self.columns) == MOST_PRICES:
+            self.columns.clear()
+        return self.columns.setdefault((apart, step, number % self.pace.period), list(columns.items()))
 
     def best(self):
         """The readings of the best chain of all by their places, each with its variant."""
         if not self.readings:
             return []
-        index = self.greatest[-1][1]
-        state = self.values[index].index(max(self.values[index]))
-        found = [(index, state % self.variants)]
+        index = self.top_at[-1]
+        state = self.values[index].index(self.tops[-1])
+        found = [(index, state // 2)]
         while self.origins[index][state] is not None:
-            index, state = self.origins[index][state]
-            found.append((index, state % self.variants))
+            before, state = self.origins[index][state]
+            index = index - 1 if before is _BEFORE else before
+            found.append((index, state // 2))
         return found[::-1]
 
 
 def _without_ties(readings, found, pace):
     """The readings found, each with its variant; where two of a field fit equally well, neither."""
+    crowded = {one.field for one, other in zip(readings, readings[1:]) if one.field == other.field}
     kept = []
     for place, (index, variant) in enumerate(found):
         reading = readings[index]
         if variant:
-            reading = reading._replace(variant=variant)
-        rivals = [readings[near] for near in (index - 1, index + 1)
-                  if 0 <= near < len(readings) and readings[near].field == reading.field]
-        if rivals:
-            around = [(readings[found[near][0]], found[near][1]) for near in (place - 1, place + 1)
-                      if 0 <= near < len(found)]
-            worth = _worth(reading, variant, around, pace)
-            if any(_worth(rival, variant, around, pace) >= worth for rival in rivals):
-                continue
-        kept.append(reading)
+            reading = Reading(*reading[:4], variant)
+        if reading.field not in crowded or not _is_tied(readings, found, place, reading, pace):
+            kept.append(reading)
     return kept
+
+
+def _is_tied(readings, found, place, reading, pace):
+    """Whether a rival is worth as much as the reading that was found."""
+    index, variant = found[place]
+    rivals = [readings[near] for near in (index - 1, index + 1)
+              if 0 <= near < len(readings) and readings[near].field == reading.field]
+    around = [(readings[found[near][0]], found[near][1]) for near in (place - 1, place + 1) if 0 <= near < len(found)]
+    worth = _worth(reading, variant, around, pace)
+    return any(_worth(rival, variant, around, pace) >= worth for rival in rivals)
 
 
 def _worth(reading, variant, around, pace):

@@ -5,6 +5,7 @@ import bisect
 from ldvbi import Kind
 from .chain import chain
 from .paces import ChapterPace
+from .said import Reading
 
 LEAST_SHARE = 200  # fields to a chapter code at most: of a disc with chapters each picture has one
 
@@ -14,8 +15,8 @@ def chapters_of(said, steps, doubts):
     # a field between the two numbers of a break may belong to either side
     breaks = sorted([one["after"] + 1 for one in steps.breaks] + [one["before"] for one in steps.breaks])
     # at each break any chapter may follow, so the breaks up to its field are part of a reading's number
-    readings = [reading._replace(number=100 * bisect.bisect(breaks, reading.field) + reading.number)
-                for reading in said.readings(Kind.chapter)]
+    readings = [Reading(field, 100 * bisect.bisect(breaks, field) + chapter, weight, lines)
+                for field, chapter, weight, lines, _ in said.readings(Kind.chapter)]
     believed = chain(readings, ChapterPace())
     if LEAST_SHARE * len(believed) < said.count:
         believed = []

@@ -44,7 +44,10 @@ class Doubts:
         """Names the chapters that aren't believed, and the fields whose lines differ. `taken` are the believed ones by
         field."""
         said = {}
+        aside = {reading.field for reading in readings if taken.get(reading.field) != reading.number % 100}
         for reading in readings:
+            if reading.field not in aside:
+                continue
             chapter = reading.number % 100
             said.setdefault(reading.field, {})[chapter] = reading.lines
             if taken.get(reading.field) != chapter:
@@ -57,11 +60,11 @@ class Doubts:
         text_of = numbers.unit.text_of
         taken = {reading.field: reading.number for reading in numbers.believed}
         said = {}
+        aside = {reading.field for reading in readings if taken.get(reading.field) != reading.number}
         for reading in readings:
-            said.setdefault(reading.field, []).append(reading)
+            if reading.field in aside:
+                said.setdefault(reading.field, []).append(reading)
         for field, ones in said.items():
-            if len(ones) == 1 and field in taken:
-                continue
             around = numbers.around(field)
             why = "lines" if len(ones) > 1 else numbers.why(around)
             for one in ones:

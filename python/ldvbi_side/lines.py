@@ -1,11 +1,13 @@
 """What the lines of a side show where they show no word, and what that says of the levels they were read with."""
 
+import operator
 from collections import Counter
 
 from .codes import LINES
 
 SIZES = {"NTSC": (1820, 263), "PAL": (2270, 313)}  # bytes of a line, lines of a field
 BAD = ("change", "hold", "unfinished")
+_GOOD = frozenset(["word", "blank"])
 FEW = 20  # lines to a word: of the lines 17 and 18 of a disc half have one, or a fifth at least
 
 
@@ -14,8 +16,10 @@ def bad_lines_of(fields):
     size, height = SIZES[fields.system]
     bad = []
     for field, causes in enumerate(fields.causes, 1):
+        if _GOOD.issuperset(causes):
+            continue
         for line, cause in zip(LINES, causes):
-            if cause != "word" and cause != "blank":
+            if cause not in _GOOD:
                 _, _, column = cause.partition(" ")
                 bad.append({"field": field, "line": line, "cause": cause, "column": int(column) if column else None,
                             "offset": ((field - 1) * height + line - 1) * size, "bytes": size})
@@ -26,9 +30,9 @@ def rates_of(fields):
     """Of each line how many fields show what."""
     rates = {}
     for place, line in enumerate(LINES):
-        passes = Counter(passes[place] for passes in fields.passes)
+        passes = Counter(map(operator.itemgetter(place), fields.passes))
         counts = {"pass1": passes[1], "pass2": passes[2], "blank": 0, "unfinished": 0, "change": 0, "hold": 0}
-        for cause, count in Counter(causes[place] for causes in fields.causes).items():
+        for cause, count in Counter(map(operator.itemgetter(place), fields.causes)).items():
             if cause != "word":
                 counts[cause.partition(" ")[0]] += count
         rates[str(line)] = counts

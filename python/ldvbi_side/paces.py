@@ -33,6 +33,14 @@ class Pace:
             return 0 if self.kind == "both" and fields == other - variant else None
         return fields - self.between(number, step, variant, other)
 
+    def least_off(self, fields, number, step):
+        """The fields that are too many or too few at least, whatever the variants are, where the number doesn't stay.
+        """
+        off = abs(fields - 2 * step)
+        if self.kind == "film":
+            return min(off, abs(2 * fields - 5 * step) // 2)
+        return max(off - 1, 0) if self.kind == "both" else off
+
     def numbers_in(self, fields):
         """How many numbers as many fields have at least, one after the other."""
         return (2 * fields + 1) // 5 if self.kind == "film" else fields // 2
@@ -44,6 +52,10 @@ class MinutePace:
 
     def __init__(self, fields):
         self.fields = fields
+
+    def least_off(self, fields, number, step):
+        """As `Pace` has it."""
+        return self.off(fields, number, step)
 
     def off(self, fields, number, step, variant=0, other=0):
         apart = fields - step * self.fields
@@ -63,6 +75,10 @@ class ChapterPace:
     kind, variants, change, period = "chapter", 1, 0, 100
     ALL = 80  # chapters, 0 to 79
     MANY = 18  # fields
+
+    def least_off(self, fields, number, step):
+        """As `Pace` has it."""
+        return self.off(fields, number, step)
 
     def off(self, fields, number, step, variant=0, other=0):
         chapters = (number + step) % 100 - number % 100

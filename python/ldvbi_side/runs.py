@@ -34,14 +34,15 @@ class Run:
 
 class Runs:
     """The runs of a side. `parts` has of each field the picture of the minute, of which there are `whole`; `minutes`
-    has of each field the minutes read, each with its weight. A misread word of line 16 is a run of its own, between two
-    parts of another."""
+    has of each field the minutes read, each with its lines, and `weight_of` says what these weigh. A misread word of
+    line 16 is a run of its own, between two parts of another."""
 
-    def __init__(self, parts, minutes, whole):
+    def __init__(self, parts, minutes, whole, weight_of):
         self.of_field = {}
-        runs = []
+        runs, run = [], None
         for field in sorted(parts):
-            run = next((run for run in runs[-2:][::-1] if run.fits(field, parts[field])), None)
+            if run is None or not run.fits(field, parts[field]):
+                run = next((run for run in runs[-2:][::-1] if run.fits(field, parts[field])), None)
             if run is None:
                 run = Run(field, parts[field], whole)
                 runs.append(run)
@@ -50,8 +51,8 @@ class Runs:
         fields = sorted(self.of_field)
         for field, said in minutes.items():
             for run in self._runs_at(field, fields):
-                for minute, weight in said.items():
-                    run.vote(field, minute, weight)
+                for minute, lines in said.items():
+                    run.vote(field, minute, weight_of(field, lines))
 
     def _runs_at(self, field, fields):
         """The run of a field: its own, or that of the fields on both sides, or of the one beside it."""

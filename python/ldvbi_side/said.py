@@ -35,6 +35,22 @@ class Reading(NamedTuple):
     variant: int = 0
 
 
+class _Known(dict):
+    """Of each word on these lines the fields of its kind, what such a field says by it, and the lines: many fields say
+    the same. Where a disc has no such word, nothing is said."""
+
+    def __init__(self, kinds, lines):
+        super().__init__()
+        self.kinds, self.lines = kinds, lines
+
+    def __missing__(self, word):
+        code = code_of(word)
+        is_there = self.lines[0] in STANDARD_LINES.get(code.kind, ())
+        said = {value_of(code): self.lines} if is_there else None
+        self[word] = known = self.kinds.get(code.kind), said, self.lines
+        return known
+
+
 class Said:
     """The codes of a side. `kinds` has for each kind its fields, and for each of these the values with their lines;
     `format` is `cav`, `clv` or `neither`; `stray` are the codes that stand where no disc has them, `unknown` the words
@@ -49,26 +65,38 @@ class Said:
         self.format = self._settle_format()
 
     def _collect(self):
-        known = {}  # of a word its kind's fields, its value, its kind's lines
+        first, second, third, both = [_Known(self.kinds, lines) for lines in ((16,), (17,), (18,), (17, 18))]
         for field, words in enumerate(self.fields.words, 1):
-            line = 15
-            for word in words:
-                line += 1
-                if not word:
-                    continue
-                if word not in known:
-                    code = code_of(word)
-                    known[word] = self.kinds.get(code.kind), value_of(code), STANDARD_LINES.get(code.kind)
-                fields, value, lines = known[word]
-                if lines is None:
-                    one = self.entry(field, line, "code")
-                    self.unknown.append({name: one[name] for name in ("field", "line", "word", "pass")})
-                elif line not in lines:
-                    self.add_stray(field, line, "line")
-                elif field not in fields:
-                    fields[field] = {value: (line,)}
-                else:
-                    fields[field][value] = fields[field].get(value, ()) + (line,)
+            one, two, three = words
+            if one:
+                self._take(field, first[one])
+            if two and two == three:
+                self._take(field, both[two])
+            else:
+                if two:
+                    self._take(field, second[two])
+                if three:
+                    self._take(field, third[three])
+
+    def _take(self, field, known):
+        """Takes in a word of a field."""
+        fields, said, lines = known
+        if said is None:
+            self._set_aside(field, lines, fields is not None)
+        elif field not in fields:
+            fields[field] = said
+        else:
+            fields[field] = merged = dict(fields[field])
+            for value in said:
+                merged[value] = merged.get(value, ()) + lines
+
+    def _set_aside(self, field, lines, is_code):
+        for line in lines:
+            if is_code:
+                self.add_stray(field, line, "line")
+            else:
+                one = self.entry(field, line, "code")
+                self.unknown.append({name: one[name] for name in ("field", "line", "word", "pass")})
 
     def _settle_format(self):
         """The format of which more fields have codes; the codes of the other one are stray."""
@@ -101,12 +129,15 @@ class Said:
         """What the words of these lines of a field weigh together: a word of the line itself more than one of its
         smoothed levels, many of which are wrong."""
         passes = self.fields.passes[field - 1]
-        return sum(WEIGHTS[passes[line - LINES[0]]] for line in lines)
+        weight = 0
+        for line in lines:
+            weight += WEIGHTS[passes[line - 16]]
+        return weight
 
     def sure_fields(self, kind):
         """The fields that have a code of this kind on a line of pass 1, or on two lines."""
         return {field for field, values in self.kinds[kind].items()
-                if sum(self.weight(field, lines) for lines in values.values()) >= WEIGHTS[1]}
+                if self.weight(field, [line for lines in values.values() for line in lines]) >= WEIGHTS[1]}
 
     def readings(self, kind):
         """The values of a kind as readings, by field."""
@@ -129,7 +160,8 @@ class Said:
         out."""
         found = {}
         for field, values in self.kinds[Kind.time].items():
-            shown = {value: lines for value, lines in values.items() if value is not None}
-            if shown:
-                found[field] = shown
+            if None in values:
+                values = {value: lines for value, lines in values.items() if value is not None}
+            if values:
+                found[field] = values
         return found

@@ -6,7 +6,7 @@ from .chain import chain
 from .numbers import RATES, Numbers, Unit, minute_text, no_numbers, pace_of
 from .paces import MinutePace
 from .runs import Runs
-from .said import Reading
+from .said import WEIGHTS, Reading
 
 # Fields of a minute. NTSC has 59.94 fields in a second, of which a minute has 3,596 or 3,597.
 MINUTE_FIELDS = {"NTSC": 3596, "PAL": 3000}
@@ -57,14 +57,16 @@ class _Times:
 
     def joined(self):
         """Each second and picture with the minutes of its field, or else of the one behind or before it."""
-        readings = []
-        for field in sorted(self.parts):
-            near = next((near for near in (field, field + 1, field - 1) if near in self.minutes), None)
+        readings, passes, known = [], self.said.fields.passes, {}
+        for field, part in sorted(self.parts.items()):
+            near = field
+            if field not in self.minutes:
+                near = field + 1 if field + 1 in self.minutes else field - 1
             for value, lines in self.minutes.get(near, {}).items():
                 # a number that is joined of two is as sure as the less sure one
-                weight = min(self.said.weight(near, lines), self.said.weight(field, (16,)))
-                readings.append(Reading(field, value * self.whole + self.parts[field], weight,
-                                        (16,) + lines if near == field else (16,)))
+                weight = min(self.said.weight(near, lines), WEIGHTS[passes[field - 1][0]])
+                joined = known.setdefault(lines, (16,) + lines) if near == field else (16,)
+                readings.append(Reading(field, value * self.whole + part, weight, joined))
         return readings
 
     def believed(self, readings):
@@ -89,8 +91,7 @@ class _Times:
         if not wanted:
             return []
         said = {(reading.field, reading.number) for reading in readings if reading.field not in taken}
-        runs = Runs(self.parts, {field: {minute: self.said.weight(field, lines) for minute, lines in values.items()}
-                                 for field, values in self.minutes.items()}, self.whole)
+        runs = Runs(self.parts, self.minutes, self.whole, self.said.weight)
         more = []
         for field in wanted:
             run = runs.of_field[field]
@@ -124,7 +125,7 @@ class _Times:
         taken = {reading.field: reading.number for reading in numbers.believed}
         for field in sorted(self.parts.keys() | self.minutes.keys()):
             said, number = self.minutes.get(field, {}), taken.get(field)
-            if number is not None and len(said) < 2 and said.keys() <= {number // self.whole}:
+            if number is not None and (not said or len(said) == 1 and number // self.whole in said):
                 continue
             self._set_aside_of(field, said, number, numbers)
 

@@ -37,6 +37,15 @@ class Paces(unittest.TestCase):
         # none: video in between
         self.assertEqual([pace.between(1, 1, 2, 2), pace.between(1, 3, 2, 2)], [2, 6])
 
+    def test_no_variant_is_nearer_than_the_least_off(self):
+        for kind in ("video", "both", "film"):
+            pace = Pace(kind)
+            ways = [(number, step, v, w) for number in (6, 7) for step in (-3, -1, 1, 2, 5)
+                    for v in range(pace.variants) for w in range(pace.variants)]
+            for fields in range(1, 16):
+                self.assertEqual([way for way in ways if abs(pace.off(fields, *way)) < pace.least_off(
+                    fields, way[0], way[1])], [])
+
     def test_minutes_fit_within_one_minute(self):
         pace = MinutePace(3000)
         self.assertEqual([pace.off(10, 4, 0), pace.off(2999, 4, 0), pace.off(1, 4, 1), pace.off(5999, 4, 1)], [0] * 4)
@@ -101,12 +110,14 @@ class Chains(unittest.TestCase):
         self.assertEqual([number for _, number in believed(ones)], list(range(1, 21)) + list(range(35, 61)))
 
     def test_noise_asks_for_no_more_prices_than_are_remembered(self):
-        with unittest.mock.patch.object(chains, "MOST_PRICES", 50):
-            noise = chains._Chains(readings(*((place * 7919) % 79999 for place in range(200))), Pace("video"))
-            for index in range(200):
-                noise.add(index)
-            self.assertLessEqual(len(noise.prices), 50)
-            self.assertEqual(len(believed(readings(*range(1, 20), *range(40000, 40020)))), 39)
+        numbers = list(range(1, 101)) + [(place * 7919) % 79999 for place in range(100)]
+        for most, is_within in ((chains.MOST_PRICES, False), (50, True)):
+            with unittest.mock.patch.object(chains, "MOST_PRICES", most):
+                noise = chains._Chains(readings(*numbers), Pace("video"))
+                for index in range(200):
+                    noise.add(index)
+                self.assertEqual(len(noise.columns) <= 50, is_within)
+                self.assertEqual(len(believed(readings(*range(1, 20), *range(40000, 40020)))), 39)
 
     def test_a_still_is_one_break_however_long(self):
         ones = believed(readings(1, 2, 3, *[4] * 50, 5, 6, 7))
