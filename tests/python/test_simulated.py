@@ -1,5 +1,5 @@
-"""Simulated sides beside their truth: bounds for the seeds 2000 to 2069, ten sides of each kind, and for damage of
-other kinds on sides whose truth is known."""
+"""Simulated sides beside their truth: bounds for the seeds 2000 to 2041, six sides of each kind, for sides that were
+played in other ways, and for damage of other kinds on sides whose truth is known."""
 
 import copy
 import random
@@ -14,7 +14,8 @@ from simulate import KINDS, PLAYED, simulated
 from sound import faults_of
 from truth import Truth
 
-SEEDS = range(2000, 2070)
+SEEDS = range(2000, 2042)
+SAMPLE = 3  # each so many of these sides are looked at for what holds of every answer
 
 
 class Bounds(unittest.TestCase):
@@ -22,7 +23,7 @@ class Bounds(unittest.TestCase):
     def setUpClass(cls):
         cls.totals, cls.told = {kind: Counter() for kind in KINDS}, []
         for seed in SEEDS:
-            kind, counts = measured(seed, tell=cls.told.append)
+            kind, counts = measured(seed, tell=cls.told.append, sound=seed % SAMPLE == 0)
             cls.totals[kind].update(counts)
         cls.all = sum(cls.totals.values(), Counter())
 
@@ -31,43 +32,43 @@ class Bounds(unittest.TestCase):
         self.assertEqual(self.all[name], count, name)
         self.assertGreaterEqual(self.all[name + " found"], count - most_not_found, self.told)
 
-    def test_ten_sides_of_each_kind(self):
-        self.assertEqual({kind: counts["sides"] for kind, counts in self.totals.items()}, dict.fromkeys(KINDS, 10))
+    def test_six_sides_of_each_kind(self):
+        self.assertEqual({kind: counts["sides"] for kind, counts in self.totals.items()}, dict.fromkeys(KINDS, 6))
 
     def test_no_answer_contradicts_the_words_of_its_side(self):
         self.assertEqual(self.all["faults"], 0, self.told)
 
     def test_wrong_numbers_are_set_aside(self):
-        self.share("wrong", 1184)
-        self.share("wrong chapters", 947, 2)
+        self.share("wrong", 474)
+        self.share("wrong chapters", 478)
 
     def test_right_numbers_are_not(self):
-        self.assertEqual([self.all["right"], self.all["right chapters"]], [184114, 130401])
+        self.assertEqual([self.all["right"], self.all["right chapters"]], [102912, 76765])
         self.assertLessEqual(self.all["right found"], 1, self.told)
-        self.assertLessEqual(self.all["right chapters found"], 1, self.told)
+        self.assertEqual(self.all["right chapters found"], 0, self.told)
 
     def test_no_field_has_another_number_than_on_the_disc(self):
-        self.assertGreater(self.all["numbers"], 78900)
-        self.assertGreater(self.all["due"], 4300)
+        self.assertGreater(self.all["numbers"], 45600)
+        self.assertGreater(self.all["due"], 2800)
         for name in ("numbers", "due"):
             self.assertEqual(self.all[name + " found"], self.all[name], self.told)
 
     def test_lost_fields_and_jumps_back(self):
-        self.share("lost places", 507)
-        self.share("backs", 366)
+        self.share("lost places", 330)
+        self.share("backs", 189)
         self.assertEqual(self.all["lost found"], self.all["lost"], self.told)
-        self.assertGreater(self.all["lost"], 460)
+        self.assertGreater(self.all["lost"], 300)
 
     def test_why_numbers_are_missing(self):
         self.assertEqual(self.all["damaged numbers found"], self.all["damaged numbers"], self.told)
-        self.assertGreater(self.all["damaged numbers"], 4200)
-        self.assertGreaterEqual(self.all["lost numbers found"], self.all["lost numbers"] - 4, self.told)
+        self.assertGreater(self.all["damaged numbers"], 2700)
+        self.assertGreaterEqual(self.all["lost numbers found"], self.all["lost numbers"] - 3, self.told)
         self.assertGreater(self.all["lost numbers"], 1400)
-        self.assertLess(self.all["undecided"], 300)
+        self.assertLess(self.all["undecided"], 200)
 
     def test_lists_that_are_exact(self):
-        for name, least in (("stops", 70), ("missing", 69), ("left out", 70), ("first fields", 69),
-                            ("chapter table", 69)):
+        for name, least in (("stops", 42), ("missing", 41), ("left out", 42), ("first fields", 41),
+                            ("chapter table", 42), ("whole", 42), ("reasons", 42)):
             self.assertGreaterEqual(self.all[name], least, self.told)
 
     def test_each_kind_has_something_to_find(self):
@@ -82,6 +83,10 @@ class Played(unittest.TestCase):
 
     PICTURES = {"skips": None, "worn": 300, "swapped": 200, "speeds": 1100, "joined": 150, "losses": 600,
                 "restarts": 150}
+    # of these three sides at least so many have exact missing numbers, exact first fields, and just the reasons why
+    # they aren't whole
+    EXACT = {"skips": (2, 2, 3), "worn": (3, 3, 3), "swapped": (2, 2, 0), "speeds": (2, 2, 0), "joined": (3, 3, 3),
+             "losses": (1, 1, 3), "restarts": (3, 3, 3)}
 
     @classmethod
     def setUpClass(cls):
@@ -93,6 +98,26 @@ class Played(unittest.TestCase):
 
     def test_no_answer_contradicts_the_words_of_its_side(self):
         self.assertEqual([self.all["sides"], self.all["faults"]], [21, 0], self.told)
+
+    def test_exact_sides(self):
+        for kind, least in self.EXACT.items():
+            for name, count in zip(("missing", "first fields", "reasons"), least):
+                self.assertGreaterEqual(self.totals[kind][name], count, (kind, name, self.told))
+
+    def test_numbers(self):
+        self.assertEqual([self.all["wrong"], self.all["wrong found"]], [72, 72], self.told)
+        self.assertGreater(self.all["right"], 23000)
+        self.assertLessEqual(self.all["right found"], 10, self.told)
+        for name, least in (("numbers", 13700), ("due", 840), ("damaged numbers", 800)):
+            self.assertGreater(self.all[name], least)
+            self.assertGreaterEqual(self.all[name + " found"], self.all[name] - 1, (name, self.told))
+
+    def test_lost_fields_and_jumps_back(self):
+        for name, count in (("lost places", 96), ("backs", 27)):
+            self.assertEqual([self.all[name], self.all[name + " found"]], [count] * 2, (name, self.told))
+        for kind in ("skips", "losses", "worn", "restarts"):
+            counts = self.totals[kind]
+            self.assertGreaterEqual(counts["lost found"] + counts["lost and hidden"], counts["lost"] - 1, self.told)
 
 class Parity(unittest.TestCase):
     def test_parity_loses_nothing(self):
@@ -178,7 +203,7 @@ class Soundness(unittest.TestCase):
 
         cases = [(lambda one: one["doubtful"].clear(), self.TORN), (lambda one: one["showings"].pop(), self.TORN),
                  (lambda one: one["doubtful"].append(one["doubtful"][0]), "set aside twice")]
-        for kind in KINDS:
+        for kind in ("cav-both", "cav-film", "clv-ntsc", "clv-minutes"):
             self.check(kind, cases)
         self.check("cav-pal", [(chapter_beside, self.TORN)])
         self.check("clv-pal", [(other_minutes, self.TORN)])
