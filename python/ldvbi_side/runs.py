@@ -39,13 +39,12 @@ class Runs:
 
     def __init__(self, parts, minutes, whole, weight_of):
         self.of_field = {}
-        runs, run = [], None
+        run, other = None, None  # the two that were seen last
         for field in sorted(parts):
             if run is None or not run.fits(field, parts[field]):
-                run = next((run for run in runs[-2:][::-1] if run.fits(field, parts[field])), None)
-            if run is None:
+                run, other = other, run
+            if run is None or not run.fits(field, parts[field]):
                 run = Run(field, parts[field], whole)
-                runs.append(run)
             run.last = field
             self.of_field[field] = run
         fields = sorted(self.of_field)

@@ -1,24 +1,25 @@
 #!/usr/bin/env python3
 """The table of docs/SIDES.md: simulated sides, analysed, and the answers beside the truth.
 
-usage: measure.py FROM TO [--parity] [--show N]     the seeds FROM to TO - 1
+usage: measure.py FROM TO [--kind KIND]... [--parity] [--show N]     the seeds FROM to TO - 1
 
---parity hands over isFirstField of each field, too; --show prints the first N differences."""
+Without --kind each seed has a kind of KINDS. --parity hands over isFirstField of each field, too; --show prints the
+first N differences."""
 
 import argparse
 import time
 from collections import Counter, defaultdict
 
+from comparison import Comparison
 from ldvbi_side.analysis import analyse
 from ldvbi_side.said import Fields
-from simulate import simulated
+from simulate import KINDS, PLAYED, simulated
 from sound import faults_of
-from truth import Comparison, Truth
+from truth import Truth
 
 SHARES = ("wrong", "right", "wrong chapters", "right chapters", "numbers", "due", "lost", "lost places", "backs",
-          "damaged numbers", "lost numbers")
-SOUND = 4  # each so many sides are looked at for what holds of every answer
-EXACT = ("missing", "left out", "first fields", "stops", "chapter table")
+          "damaged numbers", "lost numbers", "damaged fields", "swaps", "speeds")
+EXACT = ("missing", "left out", "first fields", "stops", "chapter table", "whole", "reasons")
 
 
 def fields_of(side, parity=False):
@@ -29,9 +30,10 @@ def fields_of(side, parity=False):
                   side.first if parity else None)
 
 
-def measured(seed, parity=False, tell=lambda text: None):
-    """The kind of the side of this seed, and the counts of what is found of it."""
-    side = simulated(seed)
+def measured(seed, kind=None, parity=False, tell=lambda text: None, count=None, sound=True):
+    """The kind of the side of this seed, and the counts of what is found of it. Its kind and the count of its pictures
+    can be asked for, and what holds of every answer can be left out."""
+    side = simulated(seed, kind, count=count)
     fields = fields_of(side, parity)
     begin = time.process_time()
     answer = analyse(fields)
@@ -39,34 +41,38 @@ def measured(seed, parity=False, tell=lambda text: None):
     counts = Comparison(Truth(side), answer, lambda name, text: tell(
         "seed %d, %s, %s: %s: %s" % (seed, side.kind, side.settings, name, text))).counts
     counts["microseconds"] = round(1e6 * spent)
-    if seed % SOUND == 0:
-        for fault in faults_of(fields, answer):
-            counts["faults"] += 1
-            tell("seed %d, %s: %s" % (seed, side.kind, fault))
+    for fault in faults_of(fields, answer) if sound else ():
+        counts["faults"] += 1
+        tell("seed %d, %s, %s: %s" % (seed, side.kind, side.settings, fault))
     return side.kind, counts
 
 
 def print_table(totals):
     for kind, counts in sorted(totals.items()):
         exact = ", ".join("%s %d" % (name, counts[name]) for name in EXACT)
-        shares = ", ".join("%s %d of %d" % (name, counts[name + " found"], counts[name]) for name in SHARES)
-        print("%s: %d sides; exact: %s; undecided %d; faults %d" % (
-            kind, counts["sides"], exact, counts["undecided"], counts["faults"]))
+        shares = ", ".join("%s %d of %d" % (name, counts[name + " found"], counts[name])
+                           for name in SHARES if counts[name])
+        print("%s: %d sides; exact: %s; faults %d" % (kind, counts["sides"], exact, counts["faults"]))
         print("    found: %s; %.1f us a field" % (shares, counts["microseconds"] / counts["fields"]))
+        print("    undecided %(undecided)d, of these damaged %(undecided, damaged)d and lost %(undecided, lost)d; but "
+              "for the clock's numbers inside a loss: missing exact %(missing but for hidden)d, left out exact "
+              "%(left out but for hidden)d, lost %(lost and hidden)d more" % counts)
 
 
 def main():
     parser = argparse.ArgumentParser()
     parser.add_argument("begin", type=int)
     parser.add_argument("end", type=int)
+    parser.add_argument("--kind", choices=KINDS + tuple(PLAYED), action="append")
     parser.add_argument("--parity", action="store_true")
     parser.add_argument("--show", type=int, default=0)
     options = parser.parse_args()
     totals, told = defaultdict(Counter), []
-    for seed in range(options.begin, options.end):
-        kind, counts = measured(seed, options.parity, told.append)
-        for key in (kind, "all"):
-            totals[key].update(counts)
+    for asked in options.kind or [None]:
+        for seed in range(options.begin, options.end):
+            kind, counts = measured(seed, asked, options.parity, told.append)
+            for key in (kind, "all"):
+                totals[key].update(counts)
     for text in told[:options.show]:
         print(text)
     print_table(totals)

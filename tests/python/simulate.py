@@ -4,24 +4,30 @@ misread. The same seed makes the same side.
 
 usage: simulate.py SEED [KIND [WRONG [PICTURES]]] > side.vbi.json
 
-KIND is one of KINDS, WRONG the share of misread words. What is printed is the document alone."""
+KIND is one of KINDS or of PLAYED, WRONG the share of misread words. What is printed is the document alone."""
 
+import bisect
 import json
 import random
 import sys
-from typing import NamedTuple
+from typing import NamedTuple, Optional
 
-KINDS = ("cav-pal", "cav-ntsc", "cav-film", "cav-both", "clv-pal", "clv-ntsc", "clv-minutes")
-STOP, CLV_MARK, LEAD_IN, LEAD_OUT = 0x82CFFF, 0x87FFFF, 0x88FFFF, 0x80EEEE
-CX_ON, CX_OFF = 0x8DC0A1, 0x8BA0A1
+from simulated_captures import Damage, kept_of, played
+from simulated_discs import disc
+from simulated_kinds import ALL, PLAYED, playing
+
+KINDS = ALL
 
 
 class Simulated(NamedTuple):
     """A side. `document` is what `ldvbi extract` writes of it, `first` says of each field whether it is the first one
     of its frame. Of the truth: `numbers` has the number of each field, or None; `on_disc` are all numbers of the disc;
     `order` has the place on the disc of each field; `misread` are the field, the line and the true word of each word
-    that was misread."""
+    that was misread. `swaps` are the first fields of pairs that stand in each other's place, `speeds` the first and the
+    last field and the numbers a picture of each stretch at another speed. Where two discs are joined, `second` is the
+    first field of the second one, and `other` are the fields of a disc whose format is the other one."""
     kind: str
+    layout: str
     settings: str
     document: dict
     first: list
@@ -29,197 +35,73 @@ class Simulated(NamedTuple):
     on_disc: list
     order: list
     misread: list
-
-
-# ---- Words
-
-def picture(number):
-    return 0xF00000 | (number // 10000) << 16 | int("%04d" % (number % 10000), 16)
-
-
-def chapter(number):
-    return 0x800DDD | (number // 10) << 16 | (number % 10) << 12
-
-
-def minutes(minute):
-    return 0xF0DD00 | (minute // 60) << 16 | int("%02d" % (minute % 60), 16)
-
-
-def clv_picture(second, number):
-    return 0x80E000 | (10 + second // 10) << 16 | (second % 10) << 8 | int("%02d" % number, 16)
-
-
-# ---- The disc
-
-def disc(rng, kind, count):
-    """The fields of a disc from lead-in to lead-out: (number or None, words, whether it is a first field)."""
-    rows = [(None, [0, LEAD_IN, LEAD_IN])] * (2 * rng.randrange(0, 20))
-    step = rng.choice((20, 77, 300))  # pictures of a chapter
-    stops, users = rng.random() < 0.5, rng.random() < 0.5
-    rows += _cav(rng, kind, count, step, stops, users) if kind.startswith("cav") else _clv(rng, kind, count, step)
-    rows += [(None, [0, LEAD_OUT, LEAD_OUT])] * (2 * rng.randrange(0, 20))
-    return [(number, words, place % 2 == 0) for place, (number, words) in enumerate(rows)]
-
-
-def _cav(rng, kind, count, step, stops, users):
-    start = rng.choice((1, 1, 1, rng.randrange(2, 50000)))
-    cadence = rng.randrange(2)
-    rows = []
-    for number in range(start, start + count):
-        word, chapter_word = picture(number), chapter(number // step % 80)
-        fields = 2 if kind != "cav-film" else (2, 3)[(number + cadence) % 2]
-        of_picture = [[0, word, word]] + [[0, chapter_word, chapter_word] for _ in range(fields - 1)]
-        if kind == "cav-both":
-            of_picture[1] = [0, word, word]
-        if stops and rng.random() < 0.02:
-            where = rng.randrange(2)
-            of_picture[where][0] = of_picture[where][1] = STOP
-        elif users:
-            of_picture[-1][0] = 0x80D000 | 0x30000 | number % 4096
-        rows += [(number if word in words else None, words) for words in of_picture]
-    return rows
-
-
-def _clv(rng, kind, count, step):
-    rate = 25 if kind.endswith("pal") else 30
-    layout = rng.randrange(3)
-    start = rng.choice((0, 0, rng.randrange(0, 60000)))
-    clock = rng.choice(("none", "even", "minutes")) if kind == "clv-ntsc" else "none"
-    phase = rng.randrange(1000)
-    rows, number = [], start
-    for _ in range(count):
-        seconds, part = divmod(number, rate)
-        minute, second = divmod(seconds, 60)
-        chapter_word, time = chapter(number // step % 80), minutes(minute)
-        own = clv_picture(second, part) if kind != "clv-minutes" else 0
-        rows.append((number if own else minute, [own, time if layout == 0 else CLV_MARK, time]))
-        rows.append((None, [CX_ON if layout < 2 else CX_OFF, CLV_MARK if layout < 2 else chapter_word, chapter_word]))
-        number += 1
-        if clock == "even" and number % 1000 == phase:
-            number += 1
-        if clock == "minutes" and number % 1800 == 0 and number % 18000:
-            number += 2
-    return rows
-
-
-# ---- The capture
-
-def played(rng, rows, kind, lost_rate):
-    """The places on the disc of the fields in the order in which a capture has them."""
-    order = list(range(len(rows)))
-    if rng.random() < 0.4 and kind.startswith("cav"):  # a still
-        at = 2 * rng.randrange(len(order) // 2)
-        order[at:at] = order[at:at + 2] * rng.randrange(2, 40)
-    if rng.random() < 0.3:  # the player went back
-        at, back = 2 * rng.randrange(len(order) // 4, len(order) // 2), 2 * rng.randrange(5, 120)
-        back = min(back, at)
-        order[at:at] = order[at - back:at]
-    if rng.random() < 0.3:  # the player skipped
-        at, over = 2 * rng.randrange(len(order) // 8, len(order) // 2 - 1), 2 * rng.randrange(3, 200)
-        del order[at:at + min(over, len(order) // 4 * 2)]
-    kept, drop = [], 0
-    for place in order:
-        if not drop and rng.random() < lost_rate:
-            drop = rng.choice((1, 1, 2, 2, 6))
-        if drop and kept:
-            drop -= 1
-        else:
-            kept.append(place)
-    return kept
-
-
-def _changeable(text):
-    """The places of the digits of a word that may be misread."""
-    if text[0] == "F":
-        return [1, 4, 5] if text[2] == "D" else [1, 2, 3, 4, 5]
-    if text[2] == "E":
-        return [1, 3, 4, 5]
-    return [1, 2] if text[3:] == "DDD" else [1, 2, 3, 4, 5]
-
-
-def misread(rng, word):
-    """Another word of the same kind where it has a number: one or two digits have a wrong bit."""
-    text = list("%06X" % word)
-    places = _changeable("%06X" % word)
-    for place in rng.sample(places, rng.choice((1, 1, 1, 2))):
-        digit = int(text[place], 16)
-        for _ in range(20):
-            flipped = digit ^ rng.choice((1, 2, 4, 8))
-            if place == 1 and text[2] == "E":
-                is_of_kind = 10 <= flipped <= 15
-            else:
-                is_of_kind = flipped <= (9 if place > 1 else 7)
-            if is_of_kind:
-                break
-        text[place] = "%X" % flipped
-    return int("".join(text), 16)
-
-
-class _Damage:
-    """What a capture reads of its fields: `wrong` of the words are misread, `lost` of the lines show none, `second` of
-    the words are of pass 2, many of which are wrong; in bursts most lines show none."""
-
-    def __init__(self, rng, wrong, lost, second):
-        self.rng, self.wrong, self.lost, self.second = rng, wrong, lost, second
-        self.burst = 0
-        self.records, self.misread = [], []
-
-    def read(self, field, true_words):
-        rng = self.rng
-        if self.burst == 0 and rng.random() < 0.0006:
-            self.burst = rng.randrange(4, 60)
-        self.burst = max(self.burst - 1, 0)
-        both = None  # of line 17, where line 18 is misread as it is
-        lines = []
-        for line, true in zip((16, 17, 18), true_words):
-            word, of_pass, cause, both = self._line(line, true, both)
-            if word and word != true:
-                self.misread.append((field, line, true))
-            lines.append((word, of_pass if word else 0, cause))
-        words, passes, causes = map(list, zip(*lines))
-        self.records.append({"seqNo": field, "vbi": {"vbiData": words}, "vbiCause": causes, "vbiPass": passes})
-
-    def _line(self, line, true, both):
-        rng = self.rng
-        lost, wrong = (0.7, max(self.wrong, 0.05)) if self.burst else (self.lost, self.wrong)
-        of_pass = 2 if rng.random() < self.second else 1
-        if not true:
-            return 0, 0, "blank", both
-        if rng.random() < lost:
-            cause = rng.choice(("change %d" % rng.randrange(150, 800), "hold %d" % rng.randrange(190, 800),
-                                "unfinished", "blank"))
-            return 0, 0, cause, both
-        if line == 18 and both and true == both[0]:
-            return both[1], both[2], "word", both
-        if rng.random() < wrong * (8 if of_pass == 2 else 1):
-            of_pass = 2 if rng.random() < 0.6 else of_pass
-            word = misread(rng, true)
-            if line == 17 and rng.random() < 0.2:
-                both = (true, word, of_pass)
-            return word, of_pass, "word", both
-        return true, of_pass, "word", both
+    swaps: list = []
+    speeds: list = []
+    second: Optional[int] = None
+    other: frozenset = frozenset()
 
 
 def simulated(seed, kind=None, wrong=None, count=None):
-    """The side of this seed. Its kind, the share of misread words and the count of pictures can be asked for."""
+    """The side of this seed. Its kind, the share of misread words and the count of pictures can be asked for. The kinds
+    of PLAYED have to be asked for; `skips` has as many pictures as it needs."""
+    if kind in PLAYED:
+        return _played(seed, kind, wrong, count)
     rng = random.Random(seed)
     kind = kind or KINDS[seed % len(KINDS)]
     wrong = wrong if wrong is not None else rng.choice((0, 0.0001, 0.001, 0.005, 0.02))
     rows = disc(rng, kind, count or rng.randrange(200, 6000 if kind == "clv-ntsc" else 1500))
     lost_rate = rng.choice((0, 0, 0.0005, 0.002, 0.01))
     order = played(rng, rows, kind, lost_rate)
-    lost_lines = rng.choice((0, 0.001, 0.02, 0.1, 0.3))
-    damage = _Damage(rng, wrong, lost_lines, rng.choice((0, 0.01, 0.1)))
+    lost = dict.fromkeys((16, 17, 18), rng.choice((0, 0.001, 0.02, 0.1, 0.3)))
+    return _side(kind, kind, Damage(rng, wrong, lost, rng.choice((0, 0.01, 0.1))), rows, order, _numbers_in(rows))
+
+
+def _played(seed, kind, wrong, count):
+    """The side of a kind of PLAYED. The capture loses few fields besides."""
+    rng = random.Random("%s %d" % (kind, seed))
+    layout, play = playing(rng, kind, seed, count)
+    rows = play.rows
+    wrong = wrong if wrong is not None else rng.choice((0, 0.0001, 0.001, 0.005))
+    lost = play.lost or dict.fromkeys((16, 17, 18), rng.choice((0, 0.001, 0.02, 0.1)))
+    damage = Damage(rng, wrong, lost, rng.choice((0, 0.01, 0.1)))
+    kept = kept_of(rng, range(len(play.order)), rng.choice((0, 0, 0.0005, 0.002)))
+    order = [play.order[at] for at in kept]
+    swaps = sorted(rng.sample(range(0, len(order) - 1, 5), play.swapped))
+    for at in swaps:
+        order[at:at + 2] = order[at + 1], order[at]
+    on_disc = _numbers_in(rows)
+    if play.second is not None and not play.other:
+        on_disc = _of_two(_numbers_in(rows[:play.second]), _numbers_in(rows[play.second:]))
+    second = play.second and bisect.bisect_left(order, play.second) + 1
+    return _side(kind, layout, damage, rows, order, on_disc)._replace(
+        swaps=[at + 1 for at in swaps], second=second,
+        other=frozenset(field for field, place in enumerate(order, 1) if place in play.other),
+        speeds=[(bisect.bisect_left(kept, begin) + 1, bisect.bisect(kept, end), speed)
+                for begin, end, speed in play.at_speed])
+
+
+def _numbers_in(rows):
+    return sorted({number for number, _, _ in rows if number is not None})
+
+
+def _of_two(one, other):
+    """The numbers of two joined discs. What lies between the two can't be told from numbers that are missing."""
+    between = range(min(one[-1], other[-1]) + 1, max(one[0], other[0]))
+    return sorted({*one, *other, *between})
+
+
+def _side(kind, layout, damage, rows, order, on_disc):
+    """The side of which this damage reads the fields in this order."""
     for field, place in enumerate(order, 1):
         damage.read(field, rows[place][1])
-    system = "PAL" if kind.endswith("pal") else "NTSC"
+    system = "PAL" if layout.endswith("pal") else "NTSC"
     width, height = (1135, 313) if system == "PAL" else (910, 263)
     document = {"version": 2, "videoParameters": {"system": system, "fieldWidth": width, "fieldHeight": height,
                                                   "black16bIre": 16384, "white16bIre": 51200},
                 "fields": damage.records, "cutField": None}
-    return Simulated(kind, "wrong %s, lost lines %s" % (wrong, lost_lines), document,
-                     [rows[place][2] for place in order], [rows[place][0] for place in order],
-                     sorted({number for number, _, _ in rows if number is not None}), order, damage.misread)
+    settings = "%s, wrong %s, lost lines %s" % (layout, damage.wrong, damage.lost[17])
+    return Simulated(kind, layout, settings, document, [rows[place][2] for place in order],
+                     [rows[place][0] for place in order], on_disc, order, damage.misread)
 
 
 def main():

@@ -1,10 +1,17 @@
 """What holds of every answer, by the words of its side alone, whatever the truth is."""
 
-from ldvbi import Kind
-from ldvbi_side.codes import LINES, STANDARD_LINES, code_of, value_of
-from truth import number_of
+import bisect
 
-OTHERS = {"picture": (Kind.chapter,), "time": (Kind.chapter, Kind.cx_on, Kind.cx_off)}
+from ldvbi import Kind
+from ldvbi_side.codes import LINES
+from truth import NUMBER_KINDS, number_of, said_by
+
+OWN = {"cav": (Kind.picture,), "clv": (Kind.time, Kind.clv_picture)}
+CX = (Kind.cx_on, Kind.cx_off)
+OTHERS = {"picture": (Kind.chapter,), "time": (Kind.chapter,) + CX}
+COUNTED = {Kind.chapter, *NUMBER_KINDS, *CX}
+PASS_WEIGHTS = (0, 2, 1)  # of no word, of one of pass 1 and of one of pass 2
+MINUTE_FIELDS = 3600
 
 
 class Sound:
@@ -16,63 +23,177 @@ class Sound:
         self.minute = 60 * rate
         self.number_of = lambda text: number_of(text, rate, self.unit)
         self.faults = []
-        self.aside = [(one["field"], one["line"]) for one in answer["doubtful"] + answer["stray"]]
+        places = [(one["field"], one["line"]) for one in answer["doubtful"] + answer["stray"]]
+        self.aside = set(places)
         self.believed = {field: self.number_of(number) for number, first, last in answer["showings"]
                          for field in range(first, last + 1)}
-        if len(set(self.aside)) < len(self.aside):
+        self.numbered = sorted(self.believed)
+        self.codes, self.misplaced = self._codes()
+        if len(self.aside) < len(places):
             self.faults.append("a word is set aside twice")
+        self._look_at_words()
+        self._look_at_conflicts()
         if self.unit in OTHERS:
             self._look_at_damaged()
-            self._look_at_words()
             self._look_at_doubtful()
+            self._look_at_lost()
+        if self.unit == "time":
+            self._look_at_minutes()
 
-    def codes(self, field):
-        """The codes of a field that stand on a line of their kind: the kind, the value, the line and the pass."""
-        for line, word, of_pass in zip(LINES, self.fields.words[field - 1], self.fields.passes[field - 1]):
-            code = code_of(word)
-            if code and line in STANDARD_LINES.get(code.kind, ()):
-                yield code.kind, value_of(code), line, of_pass
+    def _codes(self):
+        """The codes with a number, by field: the kind, the value, the line and the pass. Those that stand on a line of
+        another kind are for themselves."""
+        codes, misplaced = {}, []
+        for field, words in enumerate(self.fields.words, 1):
+            codes[field] = []
+            for line, word in zip(LINES, words):
+                kind, value, lines = said_by(word)
+                if kind not in COUNTED:
+                    continue
+                if line in lines:
+                    codes[field].append((kind, value, line, self.fields.passes[field - 1][line - LINES[0]]))
+                else:
+                    misplaced.append((field, line))
+        return codes, misplaced
+
+    def around(self, field):
+        """The believed fields before and behind a field."""
+        before, after = bisect.bisect_left(self.numbered, field), bisect.bisect(self.numbered, field)
+        return self.numbered[max(before - 1, 0):before] + self.numbered[after:after + 1]
+
+    def _look_at_words(self):
+        """Each number and each chapter is believed or set aside, and not both."""
+        chapters = {field: one["chapter"] for one in self.answer["chapters"]
+                    for field in range(one["field"], one["last"] + 1)}
+        torn = {one["field"] for one in self.answer["chapterConflicts"] if one["taken"] is None}
+        own = OWN.get(self.answer["format"], ())
+        found = []
+        for field, codes in self.codes.items():
+            for kind, value, line, _ in codes:
+                if kind == Kind.chapter:
+                    is_so = chapters.get(field) == value and field not in torn
+                elif kind in CX:
+                    continue
+                else:
+                    is_so = kind in own and self._says(field, kind, value)
+                if is_so == ((field, line) in self.aside):
+                    found.append((field, line))
+        found += [place for place in self.misplaced if place not in self.aside]
+        self.faults += ["field %d, line %d: believed and set aside, or neither" % place for place in found]
+
+    def _says(self, field, kind, value):
+        """Whether a number of a field is what is believed of it. Of a field without a believed time the minute is the
+        one that the times around it have there."""
+        number = self.believed.get(field)
+        if kind == Kind.time and self.unit == "time":
+            due = [number] if number is not None else [
+                self.believed[near] + (field - near) // 2 + more for near in self.around(field) for more in (-1, 0, 1)]
+            return value in [one // self.minute for one in due]
+        if kind == Kind.clv_picture:
+            return self.unit == "time" and number is not None and (
+                value == divmod(number % self.minute, self.minute // 60))
+        return number is not None and value == number
+
+    def _look_at_conflicts(self):
+        """Each field whose lines 17 and 18 have two numbers is named as that, with the one that is believed."""
+        kinds = {"cav": Kind.picture, "clv": Kind.time}
+        wanted = []
+        own = kinds.get(self.answer["format"])
+        for field, codes in self.codes.items():
+            values = [value for kind, value, _, _ in codes if kind == own and value is not None]
+            if len(set(values)) == 2:
+                number = self.believed.get(field)
+                taken = number // self.minute if self.unit == "time" and number is not None else number
+                wanted.append((field, values, taken if taken in values else None))
+        as_number = self.number_of if self.unit == "picture" else lambda text: text and number_of(text, 0, "minute")
+        found = [(one["field"], [as_number(one["line17"]), as_number(one["line18"])], as_number(one["taken"]))
+                 for one in self.answer["conflicts"]]
+        self.faults += ["field %d: lines that differ" % one[0] for one in wanted + found
+                        if one not in wanted or one not in found]
 
     def _look_at_damaged(self):
         """No number is due where another code stands, and 'none was read there' is said only where none was."""
         own = Kind.picture if self.unit == "picture" else Kind.clv_picture
         for one in self.answer["damaged"]:
-            for kind, _, line, of_pass in self.codes(one["field"]):
-                if kind in OTHERS[self.unit] and of_pass == 1 and self.answer["pace"] != "both":
-                    self.faults.append("due in field %d, which has another code" % one["field"])
+            weight = 0
+            for kind, _, _, of_pass in self.codes[one["field"]]:
+                weight += PASS_WEIGHTS[of_pass] if kind in OTHERS[self.unit] else 0
                 if kind == own and one["read"] is None:
                     self.faults.append("a number was read in field %d" % one["field"])
-
-    def _look_at_words(self):
-        """Each word is set aside, or says what is believed of its field."""
-        aside, said = set(self.aside), {}
-        for field in range(1, self.answer["fields"] + 1):
-            number = self.believed.get(field)
-            for kind, value, line, _ in self.codes(field):
-                if kind == Kind.time and (field, line) not in aside:
-                    said.setdefault(value, []).append(field)
-                    is_so = number is None or value == number // self.minute
-                elif kind == Kind.clv_picture and self.unit == "time":
-                    is_so = number is not None and value == divmod(number % self.minute, self.minute // 60)
-                elif kind == Kind.picture and self.unit == "picture":
-                    is_so = value == number
-                else:
-                    continue
-                if is_so == ((field, line) in aside):
-                    self.faults.append("field %d, line %d: believed and set aside, or neither" % (field, line))
-        for field in self.answer["completed"]:
-            fields = said.get(self.believed[field] // self.minute, ())
-            if not any(abs(field - near) <= 3600 for near in fields):
-                self.faults.append("field %d has a minute that no field near it says" % field)
+            if weight > 1:
+                self.faults.append("due in field %d, which has another code" % one["field"])
 
     def _look_at_doubtful(self):
-        """No picture fits the believed ones on both sides of it and is set aside."""
+        """No number fits the believed ones on both sides of it and is set aside."""
         for one in self.answer["doubtful"]:
-            if one["kind"] == "picture" and self.answer["pace"] == "video" and one["field"] not in self.believed:
-                around = [near for near in (one["before"], one["after"]) if near]
-                if len(around) == 2 and all(one["field"] - near["field"] == 2 * (one["number"] - near["number"])
-                                            for near in around) and one["why"] != "lines":
-                    self.faults.append("field %d fits and is doubtful" % one["field"])
+            if one["kind"] not in ("picture", "clv picture") or one["number"] is None or one["field"] in self.believed:
+                continue
+            around = [near for near in (one["before"], one["after"]) if near]
+            if [near["field"] for near in around] != self.around(one["field"]):
+                self.faults.append("field %d has other numbers around" % one["field"])
+            if len(around) == 2 and all(self._fits(one, near) for near in around):
+                self.faults.append("field %d fits and is doubtful" % one["field"])
+
+    def _fits(self, one, near):
+        """Whether a doubtful number is as far from a believed one on the disc as in the capture. Of film this is sure
+        where an even count of pictures lies between."""
+        fields, number = one["field"] - near["field"], self.number_of(near["number"])
+        if one["kind"] == "clv picture":
+            due = number + fields // 2
+            return fields % 2 == 0 and one["number"] == "%02d.%02d" % divmod(due % self.minute, self.minute // 60)
+        pictures = one["number"] - number
+        if self.answer["pace"] == "film":
+            return pictures % 2 == 0 and 2 * fields == 5 * pictures
+        return fields == 2 * pictures
+
+    def _look_at_lost(self):
+        """No more numbers are lost between two fields than fields are lost there: each lost number had a field to
+        itself, and what was between two of them is lost, or stands there."""
+        found = {}
+        for one in self.answer["missing"]:
+            if one["why"] == "lost" and one["after"] < one["before"]:
+                place = one["after"], one["before"]
+                least = max(one["count"], 2 * one["count"] - one["before"] + one["after"])
+                found[place] = found.get(place, 0) + least
+        lost = [(one["after"], one["before"], one["fields"]) for one in self.answer["lost"]]
+        jumps = [(one["after"], one["before"]) for one in self.answer["breaks"] if one["kind"] != "lost"]
+        jumps += [(one["first"], one["last"]) for one in self.answer.get("speeds", ())]
+        for (begin, end), least in found.items():
+            if any(begin < before and after < end for after, before in jumps):
+                continue  # more may be passed over there
+            there = [count for after, before, count in lost if begin < before and after < end]
+            if None not in there and sum(there) < least:
+                self.faults.append("numbers are lost between fields %d and %d, and too few fields" % (begin, end))
+
+    def _look_at_minutes(self):
+        """The minute of each time was said within a minute, or the minutes that were are those which this time has
+        there; where its own field says another one, these outweigh it."""
+        said, weights = {}, {}
+        for field, codes in self.codes.items():
+            for kind, value, _, of_pass in codes:
+                if kind == Kind.time and value is not None:
+                    said.setdefault(value, []).append(field)
+                    weights.setdefault(field, {}).setdefault(value, 0)
+                    weights[field][value] += PASS_WEIGHTS[of_pass]
+        for field, number in self.believed.items():
+            minute, own = number // self.minute, weights.get(field, {})
+            fields = said.get(minute, ())
+            place = bisect.bisect_left(fields, field - MINUTE_FIELDS)
+            is_said = place < len(fields) and fields[place] <= field + MINUTE_FIELDS
+            if not is_said and not self._is_outweighed(field, number, weights, 0):
+                self.faults.append("field %d has a minute that no field near it says" % field)
+            if own and minute not in own and not self._is_outweighed(field, number, weights, max(own.values())):
+                self.faults.append("field %d says another minute, and no field near it outweighs that" % field)
+
+    def _is_outweighed(self, field, number, weights, least):
+        """Whether the minutes that stand around, where this time has them, weigh more than that."""
+        weight = 0
+        for near in range(field - MINUTE_FIELDS, field + MINUTE_FIELDS + 1):
+            if near in weights:
+                weight += weights[near].get((number + (near - field) // 2) // self.minute, 0)
+                if weight > least:
+                    return True
+        return False
 
 
 def faults_of(fields, answer):

@@ -48,6 +48,14 @@ class MinutesBehindASkip(unittest.TestCase):
         self.assertEqual([one["to"] for one in found["breaks"]], ["0:20:54.10"])
         self.assertEqual(doubtful(found), [])
 
+    def test_two_misread_seconds_do_not_end_the_run(self):
+        rows = times(range(1200, 1210)) + seconds_of(times(range(2210, 2240)))
+        rows[24] = "%s %s %s" % (second(28, 12), minutes(0, 1), minutes(0, 1))
+        rows[32] = rows[52] = second(3, 3) + " - -"
+        found = answer(rows)
+        self.assertEqual(breaks(found), [("lost", 19, 21, "0:00:48.09", "0:01:28.10", 2000)])
+        self.assertEqual([one["field"] for one in found["doubtful"]], [33, 53])
+
     def test_a_minute_in_a_field_of_its_own(self):
         rows = times(range(1200, 1210)) + seconds_of(times(range(2210, 2222)))
         rows[33] = "- %s %s" % (minutes(0, 1), minutes(0, 1))

@@ -116,6 +116,17 @@ class Ends(unittest.TestCase):
                          [(12, 18, "lead-out", "place"), (21, 17, "lead-in", "place")])
         self.assertEqual(found["leadIn"] + found["leadOut"], [])
 
+    def test_within_a_minute_a_single_one_is_stray(self):
+        # a minute stands on half of its fields for 60 seconds, so minutes that fit don't say that nothing is between
+        rows = ["- F0DD00 F0DD00", "- 800DDD 800DDD"] * 30
+        found = answer(rows + [LEAD_IN] * 4 + rows)
+        self.assertEqual([found["unit"], found["leadIn"], found["stray"]],
+                         ["minute", [{"first": 61, "last": 64, "count": 4}], []])
+        self.assertEqual([one["why"] for one in found["reasons"]], ["joined"])
+        found = answer(rows + [LEAD_IN] + rows)
+        self.assertEqual([found["leadIn"], [(one["field"], one["line"]) for one in found["stray"]]],
+                         [[], [(61, 17), (61, 18)]])
+
     def test_in_a_field_with_a_number_they_are_stray(self):
         found = answer(["- 88FFFF %s" % picture(1), BLANK, "- - %s" % picture(2)])
         self.assertEqual([(one["field"], one["why"]) for one in found["stray"]], [(1, "place")])
