@@ -118,18 +118,29 @@ def _lines(loose, is_both):
     found = []
     for step in STEPS if len(loose) >= LEAST else ():
         for phase in (0, 1):
-            known = {}
-            for one in loose:
-                # where both fields of a picture have its number, it begins with an odd one or with an even one
-                if is_both or one.field % 2 == phase:
-                    picture = (one.field - phase) // 2
-                    ones = known.get(one.number - step * picture)
-                    if ones is None or one.field - ones[-1].field > APART:
-                        known[one.number - step * picture] = ones = []
-                        found.append((Line(step, 2, 2 * picture + phase, one.number), ones))
-                    ones.append(one)
-    return [(line, ones) for line, ones in found
-            if len(ones) >= LEAST and len({one.number for one in ones}) >= FEWEST]
+            # where both fields of a picture have its number, it begins with an odd one or with an even one
+            near = loose if is_both else [one for one in loose if one.field % 2 == phase]
+            for ones in _groups(near, step, phase):
+                begin = ones[0].field - (ones[0].field - phase) % 2
+                found.append((Line(step, 2, begin, ones[0].number), ones))
+    return found
+
+
+def _groups(readings, step, phase):
+    """The readings that are on a line with this step, in groups that are large enough."""
+    last, groups = {}, []
+    for one in readings:
+        key = one.number - step * ((one.field - phase) // 2)
+        ones = last.get(key)
+        if ones is None or one.field - ones[-1].field > APART:
+            last[key] = ones = []
+            groups.append(ones)
+        ones.append(one)
+    return [ones for ones in groups if _is_enough(ones)]
+
+
+def _is_enough(ones):
+    return len(ones) >= LEAST and len({one.number for one in ones}) >= FEWEST
 
 
 def _slow_lines(stays):
@@ -145,7 +156,7 @@ def _slow_lines(stays):
             found.append([one])
     lines = []
     for ones in found:
-        if len(ones) > LEAST and len({one.number for one in ones}) >= FEWEST:
+        if _is_enough(ones):
             begin = min(one.field - one.variant - SLOW * one.number for one in ones)
             lines.append((Line(1, SLOW, begin + SLOW * ones[0].number, ones[0].number), ones))
     return lines
