@@ -11,6 +11,7 @@ from .missing import lost_fields, missing_of, repeated_of
 from .numbers import no_numbers, pictures_of
 from .said import Said
 from .steps import Steps
+from .swaps import pairs_of
 from .times import times_of
 from .whole import reasons_of
 
@@ -32,6 +33,9 @@ def analyse(fields):
     answer.update(_of_numbers(steps, doubts))
     answer["missing"], answer["leftOut"] = missing_of(steps, said.count)
     answer["lost"] = lost_fields(steps, fields.first)
+    answer["speeds"] = [{"first": one.first, "last": one.last, "numbers": one.line.name()} for one in numbers.speeds]
+    answer["swapped"] = [{"field": begin, "number": steps.number_at(field)}
+                         for begin, field in pairs_of(numbers.swapped).items()]
     chapters = [dict(one, frame=frame_of(one["field"], begin)) for one in chapters_of(said, steps, doubts)]
     ends = {"leadIn": stretches_of(said, Kind.lead_in, numbers), "leadOut": stretches_of(said, Kind.lead_out, numbers)}
     answer.update({

@@ -12,8 +12,8 @@ from .said import Reading
 REACH = 40  # readings back: setting aside more than these costs more than two of the widest breaks
 NEVER = -10 ** 9  # the value of a state that no chain has
 MOST_PRICES = 1 << 14  # to remember: a side has few different ones, and noise has any
-_BEFORE = object()  # the reading before, whichever it is
-_ON = ((_BEFORE, 0), None)
+SURE = 100  # a value that is greater than each price
+_MOVING, _ON = (0, NEVER), ((1, 0), None)
 
 
 def chain(readings, pace):
@@ -34,14 +34,15 @@ class _Chains:
     def __init__(self, readings, pace):
         self.readings, self.pace = readings, pace
         self.states = 2 * pace.variants
-        self.values, self.origins = [], []  # of each reading, by state; _ON where it just goes on
-        self.columns = {}
+        # of each reading its best value, what each state has less, and whence: how many readings back, in which state
+        self.values, self.less, self.origins = [], [], []
+        self.columns, self.known = {}, {}
         self.tops, self.top_at = [], []  # of all readings up to each the best value, and its reading
 
     def go_on(self, index):
         """Takes in the readings from this one on with which the best chain of all goes on without a break, where
         nothing can be better, and returns the first other one."""
-        if not index or self.states > 2 or self.values[-1][0] != self.tops[-1]:
+        if not index or self.states > 2 or self.less[-1][0] or self.values[-1] != self.tops[-1]:
             return index
         readings, off = self.readings, self.pace.off
         value, before = self.tops[-1], readings[index - 1]
@@ -51,7 +52,8 @@ class _Chains:
             if not apart or off(apart, before.number, reading.number - before.number) != 0:
                 return place
             value += reading.weight
-            self.values.append((value, NEVER))
+            self.values.append(value)
+            self.less.append(_MOVING)
             self.origins.append(_ON)
             self.tops.append(value)
             self.top_at.append(place)
@@ -60,46 +62,68 @@ class _Chains:
 
     def add(self, index):
         """Finds the best chains that end with this reading, the next one."""
-        best, origin = self._best_before(index)
-        weight = self.readings[index].weight
-        value = tuple([worth + weight for worth in best])
+        key = self._situation(index)
+        found = self.known.get(key) if key else None
+        if found is None:
+            best, origin, joined = self._best_before(index)
+            top = max(best)
+            less = tuple([max(worth - top, NEVER) for worth in best])
+            found = top - self.values[-1] if index else top, less, tuple(origin)
+            if key and joined <= 2:
+                if len(self.known) == MOST_PRICES:
+                    self.known.clear()
+                self.known[key] = found
+        more, less, origin = found
+        value = more + self.readings[index].weight + (self.values[-1] if index else 0)
+        is_best = not index or value > self.tops[-1]
         self.values.append(value)
+        self.less.append(less)
         self.origins.append(origin)
-        top = max(value)
-        is_best = not index or top > self.tops[-1]
-        self.tops.append(top if is_best else self.tops[-1])
+        self.tops.append(value if is_best else self.tops[-1])
         self.top_at.append(index if is_best else self.top_at[-1])
+
+    def _situation(self, index):
+        """All that the best chains before a reading depend on, where they end with one of the two readings before it;
+        None at the start of a side, where a chain may begin here."""
+        if index < 3 or self.states == 2 or self.tops[index - 3] < SURE:
+            return None
+        other, one, reading = self.readings[index - 2:index + 1]
+        value = self.values[-1]
+        return (reading.field - one.field, reading.number - one.number, one.field - other.field,
+                one.number - other.number, reading.number % self.pace.period, value - self.values[-2],
+                value - self.tops[-2], value - self.tops[-3], self.less[-1], self.less[-2])
 
     def _best_before(self, index):
         """For each state the greatest value of a chain before this reading less the price of going on from it, and
-        the reading and the state in which that chain ends."""
+        how many readings back and in which state that chain ends; and how many readings were looked at."""
         best, origin = [0, NEVER] * (self.states // 2), [None] * self.states
         limit = max(index - REACH, 0)
-        before = index - 1
+        before, joined = index - 1, 0
         while before >= 0:
-            self._join(before, self.readings[index], best, origin)
+            self._join(before, index, best, origin)
+            joined += 1
             if before == 0 or self.tops[before - 1] <= min(best[::2]):  # no state can get better
                 break
             # beyond the reach only the best chain of all before is asked
             before = before - 1 if before > limit else self.top_at[before - 1] if before == limit else -1
-        return best, origin
+        return best, origin, joined
 
-    def _join(self, before, reading, best, origin):
+    def _join(self, before, index, best, origin):
         """Goes on to a reading from the chains that end with an earlier one, where that is better."""
-        other, value = self.readings[before], self.values[before]
+        other, reading, value = self.readings[before], self.readings[index], self.values[before]
         apart, step = reading.field - other.field, reading.number - other.number
         if not apart:
             return
         columns = self.columns.get((apart, step, other.number % self.pace.period))
         if columns is None:
-            if step and max(value) - price(self.pace.least_off(apart, other.number, step)) <= min(best[::2]):
+            if step and value - price(self.pace.least_off(apart, other.number, step)) <= min(best[::2]):
                 return  # no state can get better
             columns = self._add_columns(apart, other.number, step)
         for state, column in columns:
-            worths = list(map(operator.sub, value, column))
+            worths = list(map(operator.sub, self.less[before], column))
             worth = max(worths)
-            if worth > best[state]:  # of equals the one with more readings
-                best[state], origin[state] = worth, (before, worths.index(worth))
+            if value + worth > best[state]:  # of equals the one with more readings
+                best[state], origin[state] = value + worth, (index - before, worths.index(worth))
 
     def _add_columns(self, apart, number, step):
         """What it costs to go on from this number by so many fields and numbers: of each state that can be reached the
@@ -125,11 +149,11 @@ class _Chains:
         if not self.readings:
             return []
         index = self.top_at[-1]
-        state = self.values[index].index(self.tops[-1])
+        state = self.less[index].index(0)
         found = [(index, state // 2)]
         while self.origins[index][state] is not None:
-            before, state = self.origins[index][state]
-            index = index - 1 if before is _BEFORE else before
+            back, state = self.origins[index][state]
+            index -= back
             found.append((index, state // 2))
         return found[::-1]
 

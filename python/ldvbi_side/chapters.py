@@ -13,7 +13,11 @@ LEAST_SHARE = 200  # fields to a chapter code at most: of a disc with chapters e
 def chapters_of(said, steps, doubts):
     """The stretches of chapters, in the form of the answer but for the frame."""
     # a field between the two numbers of a break may belong to either side
-    breaks = sorted([one["after"] + 1 for one in steps.breaks] + [one["before"] for one in steps.breaks])
+    breaks = [field for one in steps.breaks for field in (one["after"] + 1, one["before"])]
+    # backwards there is one at each end: of a chapter there one picture may be shown
+    breaks += [field for one in steps.numbers.speeds if one.line.step < 0
+               for field in (one.first + 1, one.first + 2, one.last, one.last + 2)]
+    breaks.sort()
     # at each break any chapter may follow, so the breaks up to its field are part of a reading's number
     readings = [Reading(field, 100 * bisect.bisect(breaks, field) + chapter, weight, lines)
                 for field, chapter, weight, lines, _ in said.readings(Kind.chapter)]

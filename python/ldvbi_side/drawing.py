@@ -3,7 +3,7 @@ picture stops, the numbers as a curve, and below it a lane for each kind of what
 answer of `analysis`, and each mark has a title that says its fields and why it is there."""
 
 from . import bands, curve
-from .marks import LANES, Mark, counts_of, fields_text, marks_of
+from .marks import LANES, Mark, counts_of, fields_text, lanes_of, marks_of
 from .svg import Svg, shortened, text_width
 from .whole import other_file
 
@@ -15,15 +15,15 @@ DISC_TOP, DISC_HEIGHT = 200, 18
 STOPS_TOP, STOPS_HEIGHT = 224, 12
 CURVE_TOP, CURVE_HEIGHT = 248, 240
 LANES_TOP, LANE_STEP, LANE_HEIGHT = 502, 18, 12
-AXIS_TOP = LANES_TOP + LANE_STEP * len(LANES) + 4
 MOST_UPRIGHTS = 60  # of a lane, or of chapters: with more of them the curve couldn't be seen
 END_COLOUR, CHAPTER_COLOURS = "#94a3b8", ("#e0e7ff", "#c7d2fe")
 
 
 def drawing_of(side, title):
     """The text of the SVG of a `ldvbi_side.side.Side`."""
-    svg = Svg(LEFT + WIDTH + RIGHT, AXIS_TOP + 56)
     answer, fields = side.answer, side.plain()
+    axis_top = LANES_TOP + LANE_STEP * len(lanes_of(marks_of(answer))) + 4
+    svg = Svg(LEFT + WIDTH + RIGHT, axis_top + 56)
     axis = Axis(answer["fields"])
     _draw_head(svg, answer, title)
     bands.draw_bands(svg, fields, axis, BANDS_TOP)
@@ -39,7 +39,7 @@ def drawing_of(side, title):
     else:
         _draw_lanes(svg, axis, answer)
         _draw_no_numbers(svg, answer)
-    _draw_fields_axis(svg, axis, answer["fields"])
+    _draw_fields_axis(svg, axis, answer["fields"], axis_top)
     return svg.render()
 
 
@@ -153,9 +153,9 @@ def _draw_lanes(svg, axis, answer):
     """A lane for each kind of mark, with how many there are; marks that fall together are one. Where the curve breaks,
     faint uprights cross it, as long as they are few."""
     counts, marks = counts_of(answer), marks_of(answer)
-    for place, (lane, colour) in enumerate(LANES.items()):
+    for place, lane in enumerate(lanes_of(marks)):
         y = LANES_TOP + LANE_STEP * place
-        count = counts[lane]
+        count, colour = counts[lane], LANES[lane]
         svg.text(LEFT - 10, y + 11, "%s: %d" % (lane, count), text_anchor="end", class_="count",
                  fill=colour if count else "#64748b", font_weight="bold" if count else None)
         svg.box(LEFT, y, WIDTH, LANE_HEIGHT, "#f8fafc")
@@ -184,10 +184,10 @@ def _joined(axis, marks):
         yield begin, end, Mark(ones[0].first, max(one.last for one in ones), ones[0].text + more)
 
 
-def _draw_fields_axis(svg, axis, count):
-    svg.line(LEFT, AXIS_TOP, LEFT + WIDTH, AXIS_TOP, "#475569")
+def _draw_fields_axis(svg, axis, count, top):
+    svg.line(LEFT, top, LEFT + WIDTH, top, "#475569")
     for field in curve.ticks(1, count, 10, curve.round_steps()):
         x = axis.x(field + 0.5)
-        svg.line(x, AXIS_TOP, x, AXIS_TOP + 5, "#475569")
-        svg.text(x, AXIS_TOP + 20, str(field), text_anchor="middle")
-    svg.text(LEFT + WIDTH / 2, AXIS_TOP + 42, "field", text_anchor="middle", class_="axis")
+        svg.line(x, top, x, top + 5, "#475569")
+        svg.text(x, top + 20, str(field), text_anchor="middle")
+    svg.text(LEFT + WIDTH / 2, top + 42, "field", text_anchor="middle", class_="axis")

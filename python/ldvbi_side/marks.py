@@ -3,16 +3,19 @@ a lane of the drawing."""
 
 from typing import Dict, List, NamedTuple
 
-# The lanes with their colours
+# The lanes with their colours, and those that few sides have
 LANES = {
     "missing": "#dc2626",
     "lost fields": "#ea580c",
     "jumps": "#0f766e",
+    "swapped fields": "#7c3aed",
+    "other speeds": "#a16207",
     "stills": "#0284c7",
     "shown again": "#6366f1",
     "doubtful": "#be185d",
     "stray codes": "#64748b",
 }
+_RARE = ("swapped fields", "other speeds")
 _MISSING = {
     "damaged": "fields are there for it, and none shows it",
     "lost": "no field is there for it",
@@ -61,6 +64,10 @@ def marks_of(answer) -> Dict[str, List[Mark]]:
         "missing": [_missing(one) for one in answer["missing"]],
         "lost fields": [_lost(one) for one in answer["lost"]],
         "jumps": [_jump(one) for one in answer["breaks"] if one["kind"] != "lost"],
+        "swapped fields": [Mark(one["field"], one["field"] + 1, "fields %d and %d are swapped: %s" % (
+            one["field"], one["field"] + 1, one["number"])) for one in answer["swapped"]],
+        "other speeds": [Mark(one["first"], one["last"], "%s numbers a picture in %s" % (
+            one["numbers"], fields_text(one["first"], one["last"]))) for one in answer["speeds"]],
         "stills": [Mark(one["first"], one["last"], "%s stands still in %s" % (
             one["number"], fields_text(one["first"], one["last"]))) for one in answer["stills"]],
         "shown again": [Mark(one["field"], one["lastField"], "%s again in %s; first shown in field %d" % (
@@ -70,6 +77,11 @@ def marks_of(answer) -> Dict[str, List[Mark]]:
         "stray codes": [Mark(one["field"], one["field"], _stray(one)) for one in answer["stray"]],
     }
     return {lane: sorted(marks) for lane, marks in found.items()}
+
+
+def lanes_of(marks):
+    """The lanes that are drawn of these marks."""
+    return [lane for lane in LANES if marks[lane] or lane not in _RARE]
 
 
 def counts_of(answer):

@@ -3,6 +3,8 @@
 import bisect
 
 from .fates import Fates
+from .speeds import stretch_at
+from .swaps import pairs_of
 
 
 def missing_of(steps, count):
@@ -52,8 +54,9 @@ def lost_fields(steps, first):
         for one in lost:
             if one["fields"] == 1:
                 _widen(one, steps.numbers)
+    swapped = _swapped_parity(steps.numbers, first or ())
     for field in range(2, len(first or ()) + 1):
-        if first[field - 1] == first[field - 2]:
+        if first[field - 1] == first[field - 2] and field not in swapped:
             _add_parity(lost, field)
     return sorted(lost, key=lambda one: one["after"])
 
@@ -67,6 +70,16 @@ def _widen(one, numbers):
     while place > 0 and believed[place].variant == 0 and numbers.off(believed[place - 1], believed[place]) == 0:
         place -= 1
     one["after"] = fields[place]
+
+
+def _swapped_parity(numbers, first):
+    """The fields that have the parity of the one before since two are swapped: the first of these, and the one behind
+    both."""
+    found = set()
+    for begin in pairs_of(numbers.swapped):
+        if 1 < begin < len(first) - 1 and first[begin - 1] == first[begin - 2] and first[begin] == first[begin + 1]:
+            found |= {begin, begin + 2}
+    return found
 
 
 def _add_parity(lost, field):
@@ -84,17 +97,22 @@ def repeated_of(steps):
     """Numbers that are shown again, in stretches. A number that is due in a damaged field counts as shown there, so
     that damage doesn't break a stretch."""
     shown = steps.showings + [[number, field, field] for number, field in steps.due]
+    if steps.numbers.pace and steps.numbers.pace.kind == "both":  # of a swapped pair the pictures' other fields count
+        shown = [one for one in shown if one[1] not in steps.numbers.swapped]
     seen, stretches = {}, []
-    is_open = False  # whether the last stretch may go on
+    # the last stretch, if it may go on with greater numbers, or with any at the other speed at which it was played
+    goes_on = speed = None
+    speeds = steps.numbers.speeds
     for number, first, last in sorted(shown, key=lambda showing: showing[1]):
+        played = stretch_at(speeds, first) if speeds else None
         if number not in seen:
             seen[number] = first
-            is_open = False
-        elif is_open and number >= stretches[-1]["last"]:
-            stretches[-1].update({"last": number, "lastField": last})
+            goes_on = goes_on if played else None
+        elif goes_on and played == speed and (played or number >= goes_on["last"]):
+            goes_on.update({"last": number, "lastField": last})
         else:
-            stretches.append({"first": number, "last": number, "field": first, "lastField": last,
-                              "before": seen[number]})
-            is_open = True
+            goes_on = {"first": number, "last": number, "field": first, "lastField": last, "before": seen[number]}
+            speed = played
+            stretches.append(goes_on)
     text_of = steps.numbers.unit.text_of
     return [dict(one, first=text_of(one["first"]), last=text_of(one["last"])) for one in stretches]

@@ -7,6 +7,8 @@ from typing import NamedTuple
 from ldvbi import Kind
 from .chain import chain
 from .paces import Pace
+from .speeds import find_speeds, off_at_speed
+from .swaps import find_swaps
 
 RATES = {"NTSC": 30, "PAL": 25}  # numbers of a second
 
@@ -32,16 +34,28 @@ def minute_text(minutes):
 class Numbers:
     """The believed readings of a side by field, what they count, and the pace at which they go on. `completed` are the
     fields whose minute is another field's; `others` those in which no number is due, since their lines show a code that
-    stands there instead of one."""
+    stands there instead of one; `swapped` are the fields with a number that a capture has written one field off, each
+    with the field in which that is due, and `speeds` the stretches at another speed."""
 
     def __init__(self, unit, pace, readings):
         self.unit, self.pace = unit, pace
-        self.completed, self.others = set(), set()
+        self.completed, self.others, self.speeds = set(), set(), []
         self.believe(chain(readings, pace) if pace else [])
 
-    def believe(self, readings):
+    def believe(self, readings, swapped=None):
+        self.swapped = swapped or {}
         self.believed = readings
         self.fields = [reading.field for reading in readings]
+
+    def believed_in(self, first, last):
+        """The believed readings of these fields."""
+        return self.believed[bisect.bisect_left(self.fields, first):bisect.bisect(self.fields, last)]
+
+    def believe_in(self, first, last, readings):
+        """Believes these readings and no others in the fields from the first to the last."""
+        place = slice(bisect.bisect_left(self.fields, first), bisect.bisect(self.fields, last))
+        self.believed[place] = readings
+        self.fields[place] = [reading.field for reading in readings]
 
     def around(self, field):
         """The believed readings before and behind a field, or None."""
@@ -51,8 +65,18 @@ class Numbers:
 
     def off(self, before, after):
         """The fields that are too many (or, negative, too few) between two readings; None where the number stays."""
-        return self.pace.off(after.field - before.field, before.number, after.number - before.number, before.variant,
-                             after.variant)
+        if self.speeds:
+            off = off_at_speed(self, before, after)
+            if off is not None:
+                return off
+        apart = after.field - before.field
+        if self.swapped:
+            apart = self.place_of(after) - self.place_of(before)
+        return self.pace.off(apart, before.number, after.number - before.number, before.variant, after.variant)
+
+    def place_of(self, reading):
+        """The field in which a reading is due."""
+        return self.swapped.get(reading.field, reading.field)
 
     def fit(self, around):
         """Whether there is a reading before and behind, and these two fit each other."""
@@ -77,6 +101,8 @@ def pictures_of(said, doubts):
     numbers = Numbers(Unit("picture", RATES[system]), pace_of(readings, system == "NTSC"), readings)
     if numbers.pace.kind != "both":
         numbers.others = said.sure_fields(Kind.chapter)
+    find_speeds(numbers, readings)
+    find_swaps(numbers, readings, {reading.field for reading in readings})
     doubts.set_aside(numbers, readings)
     doubts.find_second_row(numbers, readings)
     return numbers

@@ -18,7 +18,8 @@ summary{cursor:pointer;padding:4px 0}details svg{max-width:100%;height:auto}"""
 # The lists of the answer, and how a page names them
 LISTS = {
     "missing": "missing", "leftOut": "left out by the disc's clock", "damaged": "damaged", "lost": "lost fields",
-    "breaks": "breaks", "stills": "stills", "repeated": "shown again", "doubtful": "doubtful, set aside",
+    "breaks": "breaks", "stills": "stills", "repeated": "shown again",
+    "swapped": "swapped fields", "speeds": "other speeds", "doubtful": "doubtful, set aside",
     "conflicts": "lines 17 and 18 differ", "chapterConflicts": "chapters of lines 17 and 18 differ",
     "secondRows": "second rows of numbers", "chapters": "chapters", "stops": "picture stops", "leadIn": "lead-in",
     "leadOut": "lead-out", "stray": "stray codes", "unknown": "unknown words", "programmeStatus": "programme status",

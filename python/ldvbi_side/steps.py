@@ -1,6 +1,7 @@
 """What lies between each believed number and the next: nothing, fields in which a number is due, or a break."""
 
 from .clock import WIDE, Clock, Stretch
+from .speeds import off_at_speed, passed_between
 
 
 class Steps:
@@ -17,8 +18,12 @@ class Steps:
         stretches = [Stretch()]  # with the gaps of one or two numbers, which a clock may have left out
         before = None
         for reading in numbers.believed:
+            passed = passed_between(numbers, before, reading) if before and numbers.speeds else None
             if before is None:
                 self._show(reading)
+            elif passed is not None and not _is_second(before, reading):
+                self._show(reading)
+                self._add_due(passed)
             elif reading.number == before.number:
                 self._stay(before, reading)
             else:
@@ -42,8 +47,7 @@ class Steps:
         is_still = bool(self.stills) and self.stills[-1]["last"] == before.field
         if is_still:
             self.stills[-1]["last"] = reading.field
-        if kind == "minute" or kind == "both" and reading.variant > before.variant and (
-                reading.field == before.field + 1):
+        if kind == "minute" or kind == "both" and _is_second(before, reading):
             showing[2] = reading.field
             return
         if not is_still:
@@ -64,7 +68,9 @@ class Steps:
         stretches[-1].numbers += reading.number - before.number
 
     def _add_break(self, before, reading, off):
-        kind = "back" if reading.number < before.number else "lost" if off < 0 else "held"
+        kind = "lost" if off < 0 else "held"
+        if reading.number < before.number and off_at_speed(self.numbers, before, reading) is None:
+            kind = "back"
         self.breaks.append({"kind": kind, "after": before.field, "before": reading.field,
                             "from": before.number, "to": reading.number, "fields": abs(off)})
 
@@ -77,11 +83,16 @@ class Steps:
         for step in range(1, reading.number - before.number):
             # of a picture with its number on both fields the first one is meant
             variant = 0 if pace.kind == "both" else reading.variant
-            field = before.field + pace.between(before.number, step, before.variant, variant)
+            field = self.numbers.place_of(before) + pace.between(before.number, step, before.variant, variant)
+            self._add_due([(before.number + step, field)])
+
+    def _add_due(self, found):
+        """Takes in numbers that aren't there, each with its field."""
+        for number, field in found:
             if field in self.numbers.others:
-                self.without_field.add(before.number + step)
+                self.without_field.add(number)
             else:
-                self.due.append((before.number + step, field))
+                self.due.append((number, field))
 
     def number_at(self, field):
         """The number of the picture that a field belongs to, read or due: its own, or that of a field just before it;
@@ -91,3 +102,8 @@ class Steps:
             if near in self.number_of:
                 return self.numbers.unit.text_of(self.number_of[near])
         return None
+
+
+def _is_second(before, reading):
+    """Whether a reading is that of the second field of the same picture."""
+    return reading.variant > before.variant and (reading.field, reading.number) == (before.field + 1, before.number)

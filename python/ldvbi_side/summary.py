@@ -80,12 +80,24 @@ def _number_lines(answer):
     jumps = largest_first((one for one in answer["breaks"] if one["kind"] != "lost"), lambda one: one["fields"])
     yield "jumps: " + listed(len(jumps), (
         "%s %s to %s in field %d" % (unit, one["from"], one["to"], one["before"]) for one in jumps))
+    if answer["swapped"] or answer["speeds"]:
+        yield _order_text(answer)
     stills = largest_first(answer["stills"], lambda one: one["last"] - one["first"])
     yield "stills: " + listed(len(stills), (
         "%s %s in fields %d to %d" % (unit, one["number"], one["first"], one["last"]) for one in stills))
     repeated = largest_first(answer["repeated"], lambda one: one["lastField"] - one["field"])
     yield "shown again: " + listed(len(repeated), (
         "%s in field %d" % (named(unit, one["first"], one["last"]), one["field"]) for one in repeated))
+
+
+def _order_text(answer):
+    """Fields in another order than the disc's: swapped ones, and those that were played at another speed."""
+    speeds = largest_first(answer["speeds"], lambda one: one["last"] - one["first"])
+    return "swapped fields: %s, other speeds: %s" % (
+        listed(len(answer["swapped"]), (
+            "%s in field %d or %d" % (named(answer["unit"], one["number"], one["number"]), one["field"],
+                                      one["field"] + 1) for one in answer["swapped"])),
+        listed(len(speeds), ("%(numbers)s numbers a picture in fields %(first)d to %(last)d" % one for one in speeds)))
 
 
 def _missing_text(missing, unit):

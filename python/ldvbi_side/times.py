@@ -7,6 +7,8 @@ from .numbers import RATES, Numbers, Unit, minute_text, no_numbers, pace_of
 from .paces import MinutePace
 from .runs import Runs
 from .said import WEIGHTS, Reading
+from .speeds import find_speeds
+from .swaps import find_swaps
 
 # Fields of a minute. NTSC has 59.94 fields in a second, of which a minute has 3,596 or 3,597.
 MINUTE_FIELDS = {"NTSC": 3596, "PAL": 3000}
@@ -77,6 +79,8 @@ class _Times:
         more = self._completions(numbers, readings)
         if more:
             numbers.believe(chain(sorted(readings + more, key=lambda one: one.field), numbers.pace))
+        find_speeds(numbers, readings, self._of_line)
+        find_swaps(numbers, readings, self.parts)
         numbers.completed = {reading.field for reading in numbers.believed if reading.lines == (16,)}
         self._set_aside(numbers)
         self.doubts.find_second_row(numbers, readings)
@@ -107,6 +111,11 @@ class _Times:
             if near:
                 number = self._nearest(near, field)
                 yield number, abs(number - near.number - (field - near.field) // 2)
+
+    def _of_line(self, line, fields):
+        """The times of these fields of a line, where the second and the picture alone were read."""
+        return [Reading(field, line.number_at(field), self.said.weight(field, (16,)), (16,)) for field in fields
+                if field not in self.minutes and self.parts.get(field) == line.number_at(field) % self.whole]
 
     def _weight_of_completed(self, field, number):
         """The weight of line 16, less that of another minute which the field itself says."""

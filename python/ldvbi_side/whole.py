@@ -14,7 +14,8 @@ SHARE = 10  # numbers to one that is set aside, at most, where a side isn't whol
 def reasons_of(answer, is_strict=False):
     """Why a side with this answer isn't whole, in order of weight: `why` is a word for programs, `text` says it. There
     is none where it is whole. Without lead-in or lead-out a side is whole nevertheless, unless `is_strict`."""
-    found = [_no_numbers(answer), _lost(answer), _jumps(answer), _missing(answer), _begin(answer)]
+    found = [_no_numbers(answer), _lost(answer), _jumps(answer), _speed(answer), _missing(answer), _swapped(answer),
+             _begin(answer)]
     found += _ends(answer) if is_strict else []
     found += [_joined(answer), _other_format(answer), _lines(answer), _doubtful(answer), _fewer(answer), _cut(answer)]
     return [{"why": why, "text": text} for why, text in filter(None, found)]
@@ -59,6 +60,19 @@ def _jumps(answer):
 def _missing(answer):
     count = sum(one["count"] for one in answer["missing"])
     return ("missing", "%s missing" % counted(count, answer["unit"])) if count else None
+
+
+def _speed(answer):
+    speeds = answer["speeds"]
+    if not speeds:
+        return None
+    where = "fields %(first)d to %(last)d" % speeds[0] if len(speeds) == 1 else "%d stretches" % len(speeds)
+    return "speed", "played at another speed in " + where
+
+
+def _swapped(answer):
+    count = len(answer["swapped"])
+    return ("swapped", "%s of fields swapped" % counted(count, "pair")) if count else None
 
 
 def _begin(answer):

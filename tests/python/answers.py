@@ -32,6 +32,10 @@ def hand_made():
     yield "wrong", answer(times(range(30)) + ["%s - %s" % (second(44, 7), minutes(9, 59))])
     yield "second row", answer([row for number in range(60)
                                 for row in ("- %s %s" % (picture(number), picture(number + 1000)), BLANK)])
+    swapped = pictures(range(1, 9))
+    swapped[6:8] = swapped[7], swapped[6]
+    yield "swapped", answer(swapped)
+    yield "speed", answer(times(range(0, 60, 3)))
     yield "far", answer(pictures(range(1, 31)) + pictures(range(60001, 60031)) + pictures([60030] * 9))
 
 

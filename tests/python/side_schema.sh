@@ -13,9 +13,9 @@ schema=$top/share/schema/ldvbi-side.schema.json
 mkdir answers
 status=0
 bounded python3 "$here/answers.py" answers < empty 2> err || status=$?
-check 'there are 23 answers' [ "$status $(find answers -name '*.json' | wc -l)" = '0 23' ]
+check 'there are 25 answers' [ "$status $(find answers -name '*.json' | wc -l)" = '0 25' ]
 validates "$schema" answers/*.json > said 2> err || status=$?
-check 'all of them are valid' [ "$status $(grep -c '^valid ' said)" = '0 23' ]
+check 'all of them are valid' [ "$status $(grep -c '^valid ' said)" = '0 25' ]
 # each list of the schema has an item in one of them, so that its form was looked at
 bounded jq -s -r '[.[] | to_entries[] | select(.value | type == "array" and length > 0) | .key] | unique[]' \
     answers/*.json < empty > full
@@ -27,5 +27,5 @@ status=0
 bounded "$(with_jsonschema)" "$tests/validate_parts.py" "$schema" "$here/side_schema.txt" answers/*.json \
     < empty > said 2> err || status=$?
 cat said >> err
-check 'what may stand at each place, and what may not' [ "$status $(cat said)" = '0 201 places, 3493 documents' ]
+check 'what may stand at each place, and what may not' [ "$status $(cat said)" = '0 210 places, 3612 documents' ]
 finish

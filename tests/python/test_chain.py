@@ -119,6 +119,21 @@ class Chains(unittest.TestCase):
                 self.assertEqual(len(noise.columns) <= 50, is_within)
                 self.assertEqual(len(believed(readings(*range(1, 20), *range(40000, 40020)))), 39)
 
+    def test_what_was_found_of_like_readings_is_found_again(self):
+        # with a wild number, a lost word and a lost field in each tenth picture, over and over
+        for kind, count in (("both", 480), ("film", 240)):  # of 300 pictures those that aren't wild or lost
+            pace, ones = Pace(kind), []
+            for number in range(1, 301):
+                for variant in (0, 1) if kind == "both" else (0,):
+                    field = pace.between(0, number, 0, variant) + number // 10
+                    if number % 10 != 3:
+                        ones.append(Reading(field, 70000 if number % 10 == 7 else number, 4 - variant, (17, 18)))
+            found = chain(ones, pace)
+            with unittest.mock.patch.object(chains, "SURE", 1 << 40):
+                self.assertEqual(found, chain(ones, pace))
+            self.assertNotIn(70000, {one.number for one in found})
+            self.assertEqual(len(found), count)
+
     def test_a_still_is_one_break_however_long(self):
         ones = believed(readings(1, 2, 3, *[4] * 50, 5, 6, 7))
         self.assertEqual(len(ones), 56)

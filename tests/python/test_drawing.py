@@ -12,7 +12,7 @@ from ldvbi_side.side import Cut
 from ldvbi_side.svg import Svg, shortened
 
 SPACE = "{http://www.w3.org/2000/svg}"
-LISTS = ("missing", "lost", "breaks", "stills", "repeated", "doubtful", "stray")
+LISTS = ("missing", "lost", "breaks", "swapped", "speeds", "stills", "repeated", "doubtful", "stray")
 
 
 def answer_with(**lists):
@@ -85,6 +85,11 @@ class Marks(unittest.TestCase):
         for why, text in (("line", "no disc has it on this line"), ("format", "a code of the other format"),
                           ("place", "it stands between two numbers that fit each other")):
             self.check("stray codes", "stray", stray(why), 7, 7, "stray: clv in field 7, line 16, pass 1: " + text)
+
+    def test_swapped_fields_and_other_speeds(self):
+        self.check("swapped fields", "swapped", {"field": 9, "number": 5}, 9, 10, "fields 9 and 10 are swapped: 5")
+        self.check("other speeds", "speeds", {"first": 9, "last": 49, "numbers": "1/3"}, 9, 49,
+                   "1/3 numbers a picture in fields 9 to 49")
 
     def test_stills_and_what_is_shown_again(self):
         self.check("stills", "stills", {"number": 5, "first": 9, "last": 15}, 9, 15, "5 stands still in fields 9 to 15")
@@ -221,6 +226,11 @@ class Drawings(unittest.TestCase):
         self.assertIn("stops: 3", of_class(found, "count"))
         self.assertEqual(of_class(found, "stop"), ["picture stop of 501 in field 1001, line 16",
                                                    "picture stop of 1001 in field 2001, line 16"])
+
+    def test_lanes_that_few_sides_have(self):
+        found = of_class(drawn(discs.times(range(0, 60, 3))), "count")
+        self.assertIn("other speeds: 1", found)
+        self.assertNotIn("swapped fields: 0", found)
 
     def test_more_marks_than_can_cross_the_curve(self):
         rows = discs.pictures(range(1, 601))

@@ -97,10 +97,10 @@ class Pages(unittest.TestCase):
 
     def test_a_list_of_a_later_answer(self):
         one = side(pictures([1, 2]))
-        one.answer["swapped"] = [{"first": 77777, "near": None, "is": True, "places": [1, 2]}]
-        self.assertEqual(Page(page(one)).rows["swapped"][1], ["77777", "", "yes", "1, 2"])
-        one.answer["swapped"][0]["is"] = False
-        self.assertEqual(Page(page(one)).rows["swapped"][1], ["77777", "", "no", "1, 2"])
+        one.answer["later"] = [{"first": 77777, "near": None, "is": True, "places": [1, 2]}]
+        self.assertEqual(Page(page(one)).rows["later"][1], ["77777", "", "yes", "1, 2"])
+        one.answer["later"][0]["is"] = False
+        self.assertEqual(Page(page(one)).rows["later"][1], ["77777", "", "no", "1, 2"])
 
     def test_whole_or_not(self):
         self.assertIn('<p class="yes">whole: yes</p>', page(side(pictures([1, 2]))))
