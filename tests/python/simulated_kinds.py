@@ -3,7 +3,7 @@ or lost, or from a worn disc."""
 
 from typing import NamedTuple, Optional
 
-from simulated_captures import kept_of, played
+from simulated_captures import played
 from simulated_discs import disc
 
 VIDEO = ("cav-pal", "cav-ntsc", "cav-both", "clv-pal", "clv-ntsc")  # layouts with two fields to each number
@@ -30,7 +30,8 @@ class Playing(NamedTuple):
 
 
 def skips(rng, layout, count):
-    """The player skips 1 to 5 times over 100 to 3,000 pictures of a CLV disc whose minutes are read in few fields."""
+    """The player skips 1 to 5 times over 100 to 3,000 pictures of a CLV disc, of whose minutes 2 to 10 % are read on
+    each line."""
     overs = [rng.randrange(100, 3001) for _ in range(rng.randrange(1, 6))]
     pieces = [rng.randrange(100, 1000) for _ in range(len(overs) + 1)]
     rows = disc(rng, layout, sum(pieces) + sum(overs))
@@ -39,7 +40,6 @@ def skips(rng, layout, count):
         order += range(at, at + 2 * piece)
         at += 2 * (piece + over)
     order += range(order[-1] + 1, len(rows))
-    # a minute that stands on both lines is read in a few fields more
     without_minute = 1 - rng.uniform(0.02, 0.1)
     return Playing(rows, order, {16: rng.choice((0, 0.02, 0.1)), 17: without_minute, 18: without_minute})
 
