@@ -13,9 +13,10 @@ def sentences_of():
     """Returns the sentences. The package is that of this repository."""
     sys.path.insert(0, os.path.join(TOP, "python"))
     from ldvbi_side import analysis, chain, chapters, clock, fates, lines, numbers, paces
-    from ldvbi_side import page, said, summary, times, whole
+    from ldvbi_side import page, said, speeds, summary, times, whole
     one, picture, ten, many = map(paces.price, (1, 2, 20, 20000))
     chapter, ntsc, pal = paces.ChapterPace, numbers.RATES["NTSC"], numbers.RATES["PAL"]
+    steps = ", ".join(map(str, speeds.STEPS[:-1]))
     tenth = ORDINALS[clock.TENTH_MINUTE // clock.MINUTE]
     return [
         f"what to look at first, at most {summary.MOST_LINES} lines |",
@@ -36,6 +37,9 @@ def sentences_of():
         f"from one jump of {clock.WIDE / 2:,g} numbers or more",
         f"at the start of a {tenth} minute never.",
         f"in a stretch of less than {clock.SHORT:,} numbers",
+        f"At least {speeds.LEAST} numbers that go on by {steps} or {speeds.STEPS[-1]} to a picture",
+        f"There are at most {speeds.APART} fields from one of them to the next.",
+        f"and than {one} for each end.",
         f"have a word in less than one of {lines.FEW} lines,",
         f"the least number is greater than {max(whole._FIRST['picture'])}, on CLV",
         f"codes of the other format stand {whole.NEAR} fields from each other or less;",

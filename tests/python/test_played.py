@@ -60,6 +60,12 @@ class Swaps(unittest.TestCase):
         self.check(found, 10, 6, 10)
         self.assertEqual(found["numbers"]["count"], 30)
 
+    def test_numbers_on_both_fields_that_come_again(self):
+        # the second field of picture 10 and the first one of 9 show each other's, but the player went back
+        found = answer(of_both(list(range(1, 11)) + list(range(9, 31))), "NTSC")
+        self.assertEqual(found["swapped"], [])
+        self.assertEqual([one["kind"] for one in found["breaks"]], ["back"])
+
     def test_seek_answers_with_the_field_in_which_it_was_read(self):
         found = seek(answer(swapped(times(range(20)), 11)), wanted_of("0:00:00.05"))
         self.assertEqual((found["field"], found["read"]), (12, True))
@@ -172,6 +178,30 @@ class Speeds(unittest.TestCase):
         found = answer(rows)
         self.assertEqual(found["lost"], [{"after": 199, "before": 201, "fields": 2, "by": "number"}])
         self.assertEqual([(one["first"], one["last"]) for one in found["speeds"]], [(181, 199), (201, 219)])
+
+    def test_a_number_that_the_clock_leaves_out(self):
+        # two numbers a picture from 90 to 130 and from 133 to 173: 131 is passed over, and one more is left out
+        numbers = list(range(90)) + list(range(90, 131, 2)) + list(range(133, 174, 2)) + list(range(174, 214))
+        found = answer(times(numbers, 30), "NTSC")
+        self.assertEqual([one["numbers"] for one in found["speeds"]], ["2", "2"])
+        self.assertEqual(lists(found, "breaks", "lost", "doubtful"), [[]] * 3)
+
+    def test_two_stretches_that_do_not_fit(self):
+        # three numbers a picture from 90 to 150, in fields 181 to 221, and from 200 on: a jump over 17 pictures would
+        # come to 201
+        numbers = list(range(90)) + list(range(90, 151, 3)) + list(range(200, 261, 3)) + list(range(261, 301))
+        found = answer(pictures(numbers))
+        self.assertEqual([one["numbers"] for one in found["speeds"]], ["3", "3"])
+        self.assertEqual([(one["after"], one["before"], one["from"], one["to"]) for one in found["breaks"]],
+                         [(221, 223, 150, 200)])
+
+    def test_wrong_numbers_on_a_line_that_weigh_no_more(self):
+        rows = pictures(range(100))
+        for place in range(20):  # two numbers a picture on line 17, beside the right ones on line 18
+            rows[60 + 2 * place] = "- %s %s" % (picture(1000 + 2 * place), picture(30 + place))
+        found = answer(rows)
+        self.assertEqual(lists(found, "speeds", "breaks"), [[], []])
+        self.assertEqual(found["numbers"]["count"], 100)
 
     def test_a_chapter_of_which_one_picture_was_shown(self):
         rows = pictures(played("-1", 90)[0])
