@@ -83,7 +83,8 @@ class Swaps(unittest.TestCase):
         other = swapped(sound, 11)
         other[11] = "- %s %s" % (picture(7), picture(7))  # three fields before its own
         lost = sound[:10] + sound[11:]
-        for rows in (sound, once, weak, other, lost):
+        back = of_both(list(range(1, 11)) + list(range(9, 31)))  # a jump back by a picture
+        for rows in (sound, once, weak, other, lost, back):
             self.assertEqual(answer(rows)["swapped"], [])
 
 
@@ -172,6 +173,23 @@ class Speeds(unittest.TestCase):
         found = answer(rows)
         self.assertEqual(found["lost"], [{"after": 199, "before": 201, "fields": 2, "by": "number"}])
         self.assertEqual([(one["first"], one["last"]) for one in found["speeds"]], [(181, 199), (201, 219)])
+
+    def test_a_number_that_the_clock_may_have_left_out(self):
+        # 0 to 90, then each third up to 150, and from 154 up to 211: 151 may have been left out
+        numbers = list(range(91)) + list(range(93, 151, 3)) + list(range(154, 212, 3)) + list(range(212, 250))
+        found = answer(times(numbers, 30), "NTSC")
+        self.assertEqual([(one["first"], one["last"]) for one in found["speeds"]], [(181, 221), (223, 261)])
+        self.assertEqual(lists(found, "breaks", "lost"), [[], []])
+        # PAL leaves out none, and 4 numbers are no whole pictures at this speed: 8 fields of the disc in 2
+        found = answer(times(numbers))
+        self.assertEqual([(one["after"], one["before"], one["fields"]) for one in found["lost"]], [(221, 223, 6)])
+
+    def test_weak_numbers_on_a_line_are_no_stretch(self):
+        rows = pictures(range(1, 41))
+        for place in range(8):
+            rows[21 + 2 * place] = "- %s* -" % picture(300 + 3 * place)
+        found = answer(rows)
+        self.assertEqual((found["speeds"], found["missing"], len(found["doubtful"])), ([], [], 8))
 
     def test_a_chapter_of_which_one_picture_was_shown(self):
         rows = pictures(played("-1", 90)[0])
