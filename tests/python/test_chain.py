@@ -140,8 +140,9 @@ class Chains(unittest.TestCase):
                     if number % 10 != 3:
                         ones.append(Reading(field, 70000 if number % 10 == 7 else number, 4 - variant, (17, 18)))
             found = chain(ones, pace)
-            with unittest.mock.patch.object(chains, "SURE", 1 << 40):
-                self.assertEqual(found, chain(ones, pace))
+            for name, value in (("SURE", 1 << 40), ("MOST_PRICES", 2)):
+                with unittest.mock.patch.object(chains, name, value):
+                    self.assertEqual(found, chain(ones, pace))
             self.assertNotIn(70000, {one.number for one in found})
             self.assertEqual(len(found), count)
 
