@@ -118,10 +118,13 @@ class Comparison:
     def _compare_played(self):
         """Swapped fields, and other speeds: a stretch is found where at least nine tenths of it are named."""
         truth = self.truth
-        self._share("swaps", {one["field"] for one in self.answer.get("swapped", ())}, set(truth.swaps))
-        found = {(first, last, speed) for first, last, speed in truth.speeds
-                 for one in self.answer.get("speeds", ()) if one["numbers"] == speed and
-                 10 * (min(last, one["last"]) - max(first, one["first"])) >= 9 * (last - first)}
+        self._share("swaps", {one["field"] for one in self.answer["swapped"]}, set(truth.swaps))
+        found = set()
+        for first, last, speed in truth.speeds:
+            named = sum(max(min(last, one["last"]) - max(first, one["first"]) + 1, 0)
+                        for one in self.answer["speeds"] if one["numbers"] == speed)
+            if 10 * named >= 9 * (last - first + 1):
+                found.add((first, last, speed))
         self._share("speeds", found, set(truth.speeds))
 
     def _compare_reasons(self):

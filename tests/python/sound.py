@@ -157,7 +157,7 @@ class Sound:
                 found[place] = found.get(place, 0) + least
         lost = [(one["after"], one["before"], one["fields"]) for one in self.answer["lost"]]
         jumps = [(one["after"], one["before"]) for one in self.answer["breaks"] if one["kind"] != "lost"]
-        jumps += [(one["first"], one["last"]) for one in self.answer.get("speeds", ())]
+        jumps += [(one["first"] - 1, one["last"] + 1) for one in self.answer["speeds"]]
         for (begin, end), least in found.items():
             if any(begin < before and after < end for after, before in jumps):
                 continue  # more may be passed over there

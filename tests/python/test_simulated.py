@@ -85,7 +85,7 @@ class Played(unittest.TestCase):
                 "restarts": 150}
     # of these three sides at least so many have exact missing numbers, exact first fields, and just the reasons why
     # they aren't whole
-    EXACT = {"skips": (2, 2, 3), "worn": (3, 3, 3), "swapped": (2, 2, 0), "speeds": (2, 2, 0), "joined": (3, 3, 3),
+    EXACT = {"skips": (2, 2, 3), "worn": (3, 3, 3), "swapped": (3, 3, 2), "speeds": (3, 3, 2), "joined": (3, 3, 3),
              "losses": (1, 1, 3), "restarts": (3, 3, 3)}
 
     @classmethod
@@ -112,9 +112,12 @@ class Played(unittest.TestCase):
             self.assertGreater(self.all[name], least)
             self.assertGreaterEqual(self.all[name + " found"], self.all[name] - 1, (name, self.told))
 
-    def test_lost_fields_and_jumps_back(self):
+    def test_places(self):
         for name, count in (("lost places", 96), ("backs", 27)):
             self.assertEqual([self.all[name], self.all[name + " found"]], [count] * 2, (name, self.told))
+        self.assertEqual([self.all[name] for name in ("swaps", "speeds")], [4, 3])
+        self.assertGreaterEqual(self.all["swaps found"], 3, self.told)
+        self.assertEqual(self.all["speeds found"], 3, self.told)
         for kind in ("skips", "losses", "worn", "restarts"):
             counts = self.totals[kind]
             self.assertGreaterEqual(counts["lost found"] + counts["lost and hidden"], counts["lost"] - 1, self.told)
