@@ -58,10 +58,11 @@ endef
 # Proofs take all processors, and the program and the library have crates in common.
 .NOTPARALLEL:
 
-# How many jobs a crate's proof is shared among. Several take a third more of the processors' time than one, and are worth
-# it in the four large crates, whose number the toolchain chooses. `make JOBS=1` takes the least of the processors.
-LARGE := $(if $(JOBS),--jobs $(JOBS))
-SMALL := --jobs $(or $(JOBS),1)
+# How many jobs the proof of a large crate is shared among. One takes the least of the processors. With `make JOBS=4`
+# they work a third more, and you wait a third less.
+JOBS ?= 1
+LARGE := --jobs $(JOBS)
+SMALL := --jobs 1
 
 # Libraries, lowest first: with one of them missing, `rt run` would first pass over the sources of all
 ldvbi: crates.txt $(SOURCES)

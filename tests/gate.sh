@@ -77,7 +77,7 @@ if [ "$(awk '/^MemAvailable/ { print $2 }' /proc/meminfo)" -lt "$memory_of_both"
     ends_proofs
     part 'proofs and tests'
 fi
-make ldvbi lib JOBS=1
+make ldvbi lib
 part 'program and library'
 python3 tests/wrong_bodies.py > "$work/wrong" || { cat "$work/wrong"; fails 'a wrong body was not refused'; }
 cat "$work/wrong"

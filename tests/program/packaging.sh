@@ -196,15 +196,16 @@ asked() {
         sed -n 1p "tree/crates/$crate/out/make.log"
     done
 }
-printf '%s\n' 'rt lib' 'rt lib' 'rt lib' 'rt lib --jobs 1' 'rt lib' 'rt run --jobs 1 -- --help' > wanted
+printf 'rt lib --jobs 1\n%.0s' 1 2 3 4 5 > wanted
+echo 'rt run --jobs 1 -- --help' >> wanted
 asked > found
-check 'small crates are proved by one job' cmp found wanted
+check 'each crate is proved by one job' cmp found wanted
 rm tree/ldvbi
 proves none ldvbi JOBS=3
-printf 'rt lib --jobs 3\n%.0s' 1 2 3 4 5 > wanted
-echo 'rt run --jobs 3 -- --help' >> wanted
+printf '%s\n' 'rt lib --jobs 3' 'rt lib --jobs 3' 'rt lib --jobs 3' 'rt lib --jobs 1' 'rt lib --jobs 3' > wanted
+echo 'rt run --jobs 1 -- --help' >> wanted
 asked > found
-check 'make JOBS=3 has each crate proved by three' cmp found wanted
+check 'make JOBS=3 has each large crate proved by three' cmp found wanted
 proves none libldvbi.a
 # shellcheck disable=SC2086
 proved $library_crates > wanted_text
