@@ -138,8 +138,11 @@ enum LdvbiStatus {
     LDVBI_DONE = 0,
     LDVBI_BAD_SYSTEM = 1, /* the system is neither LDVBI_NTSC nor LDVBI_PAL */
     LDVBI_BAD_LEVELS = 2, /* black is not below white, or one of them is above 65535 */
-    LDVBI_BAD_LENGTH = 3, /* fewer or more bytes than the call's lines or fields have in this system */
-    LDVBI_BAD_WORD = 4    /* a number is no code word: not from 0x800000 to 0xFFFFFF, nor 0 where 0 stands for none */
+    LDVBI_BAD_LENGTH = 3, /* fewer or more bytes than the call's lines or fields have in this system, or arrays that are
+                             not as long as one another */
+    LDVBI_BAD_WORD = 4,   /* a number is no code word: not from 0x800000 to 0xFFFFFF, nor 0 where 0 stands for none */
+    LDVBI_BAD_COUNTED = 5, /* neither LDVBI_PICTURES nor LDVBI_TIMES */
+    LDVBI_BAD_PACE = 6     /* none of LDVBI_VIDEO, LDVBI_FILM and LDVBI_FIND_PACE */
 };
 
 /* ---- Reading */
@@ -231,6 +234,70 @@ enum LdvbiFormat {
 LDVBI_RESULT LDVBI_POINTER(4)
 uint32_t ldvbi_format(uint32_t first, uint32_t second, uint32_t third, uint32_t *format);
 
+/* ---- Judging: which number of its disc each field shows
+ *
+ * A line that was misread shows a number like any other. So a number is believed in a field only where the numbers of
+ * this field and of the LDVBI_REACH fields before and behind it that fit it at the disc's pace weigh 10 or more: a word
+ * of pass 1 weighs 2, one of pass 2 weighs 1. It has to weigh more than any other number of its field, too.
+ *
+ * What is proved of it: where the disc ran on around a field within LDVBI_REACH fields, and what was misread there
+ * weighs less than 10, a believed number is the one that was recorded. Where the player stood still, the same holds as
+ * long as what was misread weighs less than 6.
+ *
+ * What it doesn't do: it knows no minutes without their seconds, sees no lost fields, and judges no chapters.
+ * `ldvbi-side` does all of that. Where the disc was made to jump within LDVBI_REACH fields, or film stands still, nothing
+ * is promised, though it seldom errs there. */
+
+/* The fields that are looked at on either side of one. */
+enum { LDVBI_REACH = 24 };
+
+enum LdvbiCounted {
+    LDVBI_PICTURES = 1, /* the picture numbers of a CAV disc */
+    LDVBI_TIMES = 2     /* the times of a CLV disc, as pictures from its beginning: 30 (NTSC) or 25 (PAL) a second */
+};
+
+enum LdvbiPace {
+    LDVBI_VIDEO = 1,    /* a picture lasts two fields */
+    LDVBI_FILM = 2,     /* two and three fields by turns, as film does on NTSC */
+    LDVBI_FIND_PACE = 3 /* that of film where more numbers are believed by it, else that of video */
+};
+
+/* A number that a line shows. */
+typedef struct LdvbiSighting {
+    uint32_t number;
+    uint32_t weight; /* 2: in pass 1; 1: in pass 2; 0: the line shows no number, which is 0 then */
+} LdvbiSighting;
+
+/* What a field shows: the numbers of lines 17 and 18. A time belongs to line 16 as well. */
+typedef struct LdvbiSightings {
+    LdvbiSighting line_17, line_18;
+    uint32_t instead; /* 1: one of them shows a chapter, the lead-in, the lead-out or a number of the other disc; else 0 */
+} LdvbiSightings;
+
+enum LdvbiState {
+    LDVBI_NOTHING = 0,  /* the field shows no number, and none is due; the number is 0 */
+    LDVBI_BELIEVED = 1, /* the field shows the number, and enough around it supports it */
+    LDVBI_DOUBTFUL = 2, /* the field shows the number, that of line 17 if both do, and too little supports it */
+    LDVBI_DUE = 3       /* the field shows it not: the believed numbers before and behind it leave no other */
+};
+
+typedef struct LdvbiNumber {
+    uint32_t number;
+    uint32_t state; /* of enum LdvbiState */
+} LdvbiNumber;
+
+/* Judges the numbers of `count` fields, one after the other. Both arrays are the caller's and may hold anything before:
+ * `seen` gets what each field shows, since each is looked at from 48 others, and `numbers` gets the answers. Both have
+ * to be `count` long. Of a capture that goes on, the last LDVBI_REACH fields may be answered otherwise once more fields
+ * are there; those before are believed as they are. A number is due only up to LDVBI_REACH fields from believed ones.
+ * LDVBI_BAD_SYSTEM, LDVBI_BAD_LENGTH, LDVBI_BAD_COUNTED, LDVBI_BAD_PACE. */
+LDVBI_RESULT
+uint32_t ldvbi_judge(uint32_t system, uint32_t counted, uint32_t pace, const LdvbiFieldReadings *readings, size_t count,
+                     LdvbiSightings *seen, size_t seen_count, LdvbiNumber *numbers, size_t number_count);
+
+/* The first field, counted from 0, whose number is believed or due and is this one; `count` where there is none. */
+size_t ldvbi_first_of(const LdvbiNumber *numbers, size_t count, uint32_t number);
+
 /* ---- Drawing */
 
 /* Writes the samples of a line that shows the word, in black and white, or of a blank line for 0. `length` has to be
@@ -249,6 +316,8 @@ static inline const char *ldvbi_status_text(uint32_t status) {
     case LDVBI_BAD_LEVELS: return "black is not below white, or one of them is above 65535";
     case LDVBI_BAD_LENGTH: return "length does not fit the system";
     case LDVBI_BAD_WORD: return "number is no code word";
+    case LDVBI_BAD_COUNTED: return "neither pictures nor times are counted";
+    case LDVBI_BAD_PACE: return "pace is neither that of video nor of film, nor to be found";
     default: return "unknown";
     }
 }
@@ -278,6 +347,16 @@ static inline const char *ldvbi_kind_text(uint32_t kind) {
     case LDVBI_LEAD_OUT: return "lead-out";
     case LDVBI_PICTURE_STOP: return "picture stop";
     case LDVBI_CLV_MARK: return "clv";
+    default: return "unknown";
+    }
+}
+
+static inline const char *ldvbi_state_text(uint32_t state) {
+    switch (state) {
+    case LDVBI_NOTHING: return "nothing";
+    case LDVBI_BELIEVED: return "believed";
+    case LDVBI_DOUBTFUL: return "doubtful";
+    case LDVBI_DUE: return "due";
     default: return "unknown";
     }
 }

@@ -13,7 +13,7 @@ import shutil
 import sys
 
 MODULES = {"vbi_words": "words", "vbi_line": "line", "vbi_field": "field", "vbi_meta": "meta", "vbi_cli": "cli",
-           "vbi_c": "c"}
+           "vbi_side": "side", "vbi_c": "c"}
 # A comment, a text or a character, in which nothing is code
 APART = re.compile(r"""//[^\n]*|b?"(?:\\.|[^"\\])*"|b?'(?:\\[^'\n]+|[^'\\\n])'""", re.S)
 GHOST = re.compile(r"^[ \t]*(?:pub )?ghost ", re.M)

@@ -1,6 +1,7 @@
 pub mod Codes
 pub mod Drawing
 pub mod Fields
+pub mod Judging
 pub mod Readings
 pub mod Setups
 pub mod Statuses

@@ -1,7 +1,7 @@
 -- How a call ends.
 use Rattle.std.specs.Prelude.{ℕ, Result, Ok, Err}
 use Rattle.vbi_c.specs.declared.status.Refusal.{Refusal}
-use Rattle.vbi_c.specs.declared.status.Refusal.TheVariants.{System, Levels, Length, Word}
+use Rattle.vbi_c.specs.declared.status.Refusal.TheVariants.{System, Levels, Length, Word, Counted, Pace}
 
 -- the status of a refused call, as include/ldvbi.h has it
 abbrev pub refusal_status : Refusal → ℕ
@@ -9,6 +9,8 @@ refusal_status System = 1
 refusal_status Levels = 2
 refusal_status Length = 3
 refusal_status Word = 4
+refusal_status Counted = 5
+refusal_status Pace = 6
 
 -- the status of a call whose arguments were found right, or were refused
 abbrev pub status_of : {A : Type 0} → Result A Refusal → ℕ

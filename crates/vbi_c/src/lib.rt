@@ -1,5 +1,6 @@
 //! The code words of LaserDisc lines (IEC 60857 and IEC 60856) for callers in C: the static library that
-//! `include/ldvbi.h` declares, over the reader of `vbi_line` and the codes of `vbi_words`.
+//! `include/ldvbi.h` declares, over the reader of `vbi_line`, the judge of
+//! `vbi_side` and the codes of `vbi_words`.
 //!
 //! Each export tests the numbers that it is given, and answers a status; after any but 0 it has written nothing.
 //! Numbers are as wide as C hands them, 32 bits, so that none is cut off before it is tested.
@@ -12,6 +13,7 @@ mod code;
 mod drawing;
 mod fields;
 mod format;
+mod judging;
 mod line;
 mod reading;
 mod setup;
@@ -24,6 +26,7 @@ pub use code::{LdvbiCode, ldvbi_classify};
 pub use drawing::ldvbi_draw_line;
 pub use fields::{LdvbiFieldReadings, ldvbi_read_field, ldvbi_read_fields, ldvbi_read_rows};
 pub use format::ldvbi_format;
+pub use judging::{ldvbi_first_of, ldvbi_judge};
 pub use line::ldvbi_read_line;
 pub use reading::LdvbiReading;
 pub use sizes::{ldvbi_field_bytes, ldvbi_line_bytes, ldvbi_line_samples, ldvbi_lines};

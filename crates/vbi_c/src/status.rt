@@ -14,6 +14,11 @@ pub const BAD_LENGTH: u32 = 3;
 /// A number is no code word.
 pub const BAD_WORD: u32 = 4;
 
+/// The number of what is counted is neither 1 nor 2.
+pub const BAD_COUNTED: u32 = 5;
+/// The number of the pace is none of 1 to 3.
+pub const BAD_PACE: u32 = 6;
+
 /// Why a call is refused. What comes first here is tested first.
 #[derive(Clone, Copy)]
 pub(crate) enum Refusal {
@@ -25,6 +30,10 @@ pub(crate) enum Refusal {
     Length,
     /// A number that is no code word.
     Word,
+    /// Nothing of that number is counted.
+    Counted,
+    /// There is no pace of that number.
+    Pace,
 }
 
 impl Refusal {
@@ -37,6 +46,8 @@ impl Refusal {
             Refusal::Levels => BAD_LEVELS,
             Refusal::Length => BAD_LENGTH,
             Refusal::Word => BAD_WORD,
+            Refusal::Counted => BAD_COUNTED,
+            Refusal::Pace => BAD_PACE,
         }
     }
 }

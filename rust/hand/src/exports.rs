@@ -4,17 +4,18 @@
 //! or to one value; only where the length is 0 it may be null.
 #![allow(clippy::missing_safety_doc)]
 use crate::c::{self, LdvbiCode, LdvbiFieldReadings, LdvbiReading};
+use crate::side::{Number, Sightings};
 use std::mem::size_of;
 use std::slice::{from_raw_parts, from_raw_parts_mut};
 
 /// The most bytes that a slice may have. A length past that is never right, nor is this one.
 const MOST: usize = isize::MAX as usize;
 
-unsafe fn bytes<'a>(start: *const u8, length: usize) -> &'a [u8] {
-    if length == 0 {
+unsafe fn values<'a, T>(start: *const T, count: usize) -> &'a [T] {
+    if count == 0 {
         return &[];
     }
-    from_raw_parts(start, length.min(MOST))
+    from_raw_parts(start, count.min(MOST / size_of::<T>()))
 }
 
 unsafe fn room<'a, T>(start: *mut T, length: usize) -> &'a mut [T] {
@@ -63,7 +64,7 @@ pub unsafe extern "C" fn ldvbi_read_line(
     length: usize,
     out: *mut LdvbiReading,
 ) -> u32 {
-    c::ldvbi_read_line(system, black, white, bytes(samples, length), &mut *out)
+    c::ldvbi_read_line(system, black, white, values(samples, length), &mut *out)
 }
 
 #[no_mangle]
@@ -75,7 +76,7 @@ pub unsafe extern "C" fn ldvbi_read_rows(
     length: usize,
     out: *mut LdvbiFieldReadings,
 ) -> u32 {
-    c::ldvbi_read_rows(system, black, white, bytes(samples, length), &mut *out)
+    c::ldvbi_read_rows(system, black, white, values(samples, length), &mut *out)
 }
 
 #[no_mangle]
@@ -87,7 +88,7 @@ pub unsafe extern "C" fn ldvbi_read_field(
     length: usize,
     out: *mut LdvbiFieldReadings,
 ) -> u32 {
-    c::ldvbi_read_field(system, black, white, bytes(samples, length), &mut *out)
+    c::ldvbi_read_field(system, black, white, values(samples, length), &mut *out)
 }
 
 #[no_mangle]
@@ -100,7 +101,7 @@ pub unsafe extern "C" fn ldvbi_read_fields(
     out: *mut LdvbiFieldReadings,
     count: usize,
 ) -> u32 {
-    c::ldvbi_read_fields(system, black, white, bytes(samples, length), room(out, count))
+    c::ldvbi_read_fields(system, black, white, values(samples, length), room(out, count))
 }
 
 #[no_mangle]
@@ -123,4 +124,25 @@ pub unsafe extern "C" fn ldvbi_draw_line(
     length: usize,
 ) -> u32 {
     c::ldvbi_draw_line(system, black, white, word, room(samples, length))
+}
+
+#[no_mangle]
+pub unsafe extern "C" fn ldvbi_judge(
+    system: u32,
+    counted: u32,
+    pace: u32,
+    readings: *const LdvbiFieldReadings,
+    count: usize,
+    seen: *mut Sightings,
+    seen_count: usize,
+    numbers: *mut Number,
+    number_count: usize,
+) -> u32 {
+    let (seen, numbers) = (room(seen, seen_count), room(numbers, number_count));
+    c::ldvbi_judge(system, counted, pace, values(readings, count), seen, numbers)
+}
+
+#[no_mangle]
+pub unsafe extern "C" fn ldvbi_first_of(numbers: *const Number, count: usize, number: u32) -> usize {
+    c::ldvbi_first_of(values(numbers, count), number)
 }

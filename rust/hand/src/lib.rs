@@ -2,7 +2,8 @@
 //!
 //! The modules are the source of the program `ldvbi` without its contracts, which were proved of it: [`words`] (what
 //! words are and say), [`line`] (the word of a line), [`field`] (documents and reports of a stream), [`meta`] (settings
-//! from ld-decode's metadata), [`c`] (the calls of the C interface, over slices) and [`cli`] (the program's commands).
+//! from ld-decode's metadata), [`side`] (which number of its disc each field shows), [`c`] (the calls of the C
+//! interface, over slices) and [`cli`] (the program's commands).
 //! Nothing but metadata takes memory. What a function asks of its arguments stands in its contract, in the source;
 //! where that isn't met it panics or answers anything, but touches no memory that isn't its own.
 //!
@@ -62,4 +63,5 @@ mod exports;
 pub mod field;
 pub mod line;
 pub mod meta;
+pub mod side;
 pub mod words;

@@ -1,0 +1,150 @@
+//! Judging the numbers of fields.
+
+ghost use Rattle.std.specs.Prelude.{◌≡◌, ◌≢◌, ℕ, length, map, IfOk, Option, Some, slice_get};
+ghost use Rattle.vbi_side.specs.Numbers.{believed, AreAnswers, first_or};
+ghost use Rattle.vbi_side.specs.Truth.{IsSound};
+ghost use Rattle.vbi_c.specs.Judging.{counted_of, asked_of, judging_of, shown_by, seen_in, IsAskedPace};
+ghost use Rattle.vbi_c.specs.Statuses.{status_of};
+
+use crate::fields::LdvbiFieldReadings;
+use crate::reading::LdvbiReading;
+use crate::setup::system_of;
+use crate::status::{DONE, Refusal};
+use vbi_side::{Counted, Number, Pace, Shown, Sightings, first_of, found_pace, judge, sightings};
+use vbi_words::{System, Word24};
+
+/// Which pace is asked for.
+#[derive(Clone, Copy)]
+enum Asked {
+    /// This one.
+    Given(Pace),
+    /// The one by which more numbers are believed.
+    Found,
+}
+
+/// What is to be judged, and how.
+#[derive(Clone, Copy)]
+struct Judging {
+    system: System,
+    counted: Counted,
+    asked: Asked,
+}
+
+/// What is counted, by its number: 1 for pictures, 2 for times.
+fn counted_of(number: u32) -> Option<Counted>
+    ensures { result ≡ counted_of number }
+{
+    match number {
+        1 => Some(Counted::Pictures),
+        2 => Some(Counted::Times),
+        _ => None,
+    }
+}
+
+/// The pace that is asked for, by its number: 1 for that of video, 2 for that of film, 3 for the one that is found.
+fn asked_of(number: u32) -> Option<Asked>
+    ensures { result ≡ asked_of number }
+{
+    match number {
+        1 => Some(Asked::Given(Pace::Video)),
+        2 => Some(Asked::Given(Pace::Film)),
+        3 => Some(Asked::Found),
+        _ => None,
+    }
+}
+
+/// What these numbers ask for, or why they are refused: both arrays have to be as long as that of the readings.
+fn judging_of(
+    system: u32,
+    counted: u32,
+    pace: u32,
+    count: usize,
+    seen: usize,
+    numbers: usize,
+) -> Result<Judging, Refusal>
+    ensures { result ≡ judging_of system counted pace count seen numbers }
+{
+    let system = system_of(system).ok_or(Refusal::System)?;
+    if seen != count || numbers != count {
+        return Err(Refusal::Length);
+    }
+    let counted = counted_of(counted).ok_or(Refusal::Counted)?;
+    let asked = asked_of(pace).ok_or(Refusal::Pace)?;
+    Ok(Judging {
+        system,
+        counted,
+        asked,
+    })
+}
+
+/// What a line shows by its reading, of which C may have made anything.
+fn shown_by(reading: &LdvbiReading) -> Shown
+    ensures { result ≡ shown_by reading.now }
+{
+    Shown {
+        word: Word24::new(reading.word).ok(),
+        pass: reading.pass,
+    }
+}
+
+/// What a field's lines show of its number.
+fn seen_in(judging: &Judging, readings: &LdvbiFieldReadings) -> Sightings
+    ensures { result ≡ seen_in judging.now readings.now }
+{
+    let [line_16, line_17, line_18] = &readings.lines;
+    let lines = [shown_by(line_16), shown_by(line_17), shown_by(line_18)];
+    sightings(judging.system, judging.counted, &lines)
+}
+
+/// Puts what each field shows of its number into its place.
+fn see_all(judging: &Judging, readings: &[LdvbiFieldReadings], seen: &mut [Sightings])
+    requires { length seen.old ≡ length readings.now }
+    ensures { seen.new ≡ map (seen_in judging.now) readings.now }
+{
+    for i in 0..readings.len() {
+        seen[i] = seen_in(judging, &readings[i]);
+    }
+}
+
+/// The pace that is asked for.
+fn pace_for(asked: Asked, seen: &[Sightings]) -> Pace
+    ensures { IsAskedPace asked seen.now result }
+{
+    match asked {
+        Asked::Given(pace) => pace,
+        Asked::Found => found_pace(seen),
+    }
+}
+
+/// Judges which number of its disc each field shows, by the fields around it: what is read of each goes to `seen`, what
+/// is answered to `numbers`, both as long as `readings`.
+#[unsafe(no_mangle)]
+pub extern "C" fn ldvbi_judge(
+    system: u32,
+    counted: u32,
+    pace: u32,
+    readings: &[LdvbiFieldReadings],
+    seen: &mut [Sightings],
+    numbers: &mut [Number],
+) -> u32
+{
+    match judging_of(system, counted, pace, readings.len(), seen.len(), numbers.len()) {
+        Ok(judging) => {
+            see_all(&judging, readings, seen);
+            judge(seen, pace_for(judging.asked, seen), numbers);
+            DONE
+        }
+        Err(refusal) => refusal.status(),
+    }
+}
+
+/// The first of these numbers, counted from 0, that is believed or due and is this one; as many as there are where none
+/// is.
+#[unsafe(no_mangle)]
+pub extern "C" fn ldvbi_first_of(numbers: &[Number], number: u32) -> usize
+{
+    match first_of(numbers, number) {
+        Some(field) => field,
+        None => numbers.len(),
+    }
+}

@@ -1,0 +1,92 @@
+-- A believed number is one of the field's two sightings, judged beside the other.
+use Rattle.std.proofs.lemmas.Bool.Decides.{eqb_tells}
+use Rattle.std.proofs.Math.Dec.{eqb}
+use Rattle.std.proofs.Common.{◌≡◌, ◌≢◌, ℕ, true, false, List, arith, sym, ◌∙◌, subst, inl, inr, ap}
+use Rattle.std.specs.Prelude.{Option, Some, None, slice_get, ◌⊎◌, ◌↔◌, unwrap_or}
+use Rattle.vbi_side.specs.declared.sighting.Sighting.{Sighting}
+use Rattle.vbi_side.specs.declared.sighting.Sightings.{Sightings}
+use Rattle.vbi_side.specs.declared.pace.Pace.{Pace}
+use Rattle.vbi_side.specs.Sightings.{Has, Shows}
+use Rattle.vbi_side.specs.Beliefs.{Believed}
+use Rattle.vbi_side.specs.Ahead.{IsBelieved}
+
+one_number : (sighting : Sighting) (m n : ℕ) → Has sighting m → Has sighting n → m ≡ n
+one_number sighting m n has others = sym has.1 ∙ others.1
+
+-- a number that is ahead of the other sighting's is believed
+pub ahead_believed : (pace : Pace) (fields : List Sightings) (i n : ℕ) (field : Sightings)
+    → slice_get fields i ≡ Some field
+    → IsBelieved pace fields i field.line_17 field.line_18 n ⊎ IsBelieved pace fields i field.line_18 field.line_17 n
+    → Believed pace fields i n
+ahead_believed pace fields i n field is (inl a) = record {
+  shown = subst (λ f. Shows f n) (sym is) (inl a.has);
+  enough = a.enough;
+  ahead = λ m shown apart. elim (subst (λ f. Shows f m) is shown) [
+    | inl h ↦ absurd (apart (one_number field.line_17 m n h a.has))
+    | inr h ↦ a.ahead m h apart
+  ];
+}
+ahead_believed pace fields i n field is (inr a) = record {
+  shown = subst (λ f. Shows f n) (sym is) (inr a.has);
+  enough = a.enough;
+  ahead = λ m shown apart. elim (subst (λ f. Shows f m) is shown) [
+    | inl h ↦ a.ahead m h apart
+    | inr h ↦ absurd (apart (one_number field.line_18 m n h a.has))
+  ];
+}
+
+-- and the other way round
+pub believed_ahead : (pace : Pace) (fields : List Sightings) (i n : ℕ) (field : Sightings)
+    → slice_get fields i ≡ Some field → Believed pace fields i n
+    → IsBelieved pace fields i field.line_17 field.line_18 n ⊎ IsBelieved pace fields i field.line_18 field.line_17 n
+believed_ahead pace fields i n field is b = elim (subst (λ f. Shows f n) is b.shown) [
+  | inl h ↦ inl (record {
+    has = h;
+    enough = b.enough;
+    ahead = λ m has apart. b.ahead m (subst (λ f. Shows f m) (sym is) (inr has)) apart;
+  })
+  | inr h ↦ inr (record {
+    has = h;
+    enough = b.enough;
+    ahead = λ m has apart. b.ahead m (subst (λ f. Shows f m) (sym is) (inl has)) apart;
+  })
+]
+
+-- a field has at most one believed number
+pub one_believed : (pace : Pace) (fields : List Sightings) (i m n : ℕ)
+    → Believed pace fields i m → Believed pace fields i n → m ≡ n
+one_believed pace fields i m n a b = go (eqb_tells m n)
+  where
+    go : ((eqb m n ≡ true) × (m ≡ n)) ⊎ ((eqb m n ≡ false) × (m ≢ n)) → m ≡ n
+    go (inl (t, e)) = e
+    go (inr (f, apart)) = absurd (omega (arith, a.ahead n b.shown (λ e. apart (sym e)), b.ahead m a.shown apart))
+
+-- where one of the two sightings' numbers is found to be ahead, it is what is believed
+pub first_judged : (pace : Pace) (fields : List Sightings) (i x : ℕ) (field : Sightings) (found : Option ℕ)
+    → slice_get fields i ≡ Some field → found ≡ Some x
+    → ((n : ℕ) → (found ≡ Some n) ↔ IsBelieved pace fields i field.line_17 field.line_18 n)
+    → (n : ℕ) → (Some x ≡ Some n) ↔ Believed pace fields i n
+first_judged pace fields i x field found is some tells n =
+    let has : Believed pace fields i x
+    = ahead_believed pace fields i x field is (inl ((tells x).0 some)) in (
+      λ e. ahead_believed pace fields i n field is (inl ((tells n).0 (some ∙ e))),
+      λ b. ap Some (one_believed pace fields i x n has b),
+    )
+
+-- where the first is not
+pub second_judged : (pace : Pace) (fields : List Sightings) (i : ℕ) (field : Sightings) (found other : Option ℕ)
+    → slice_get fields i ≡ Some field → found ≡ None
+    → ((n : ℕ) → (found ≡ Some n) ↔ IsBelieved pace fields i field.line_17 field.line_18 n)
+    → ((n : ℕ) → (other ≡ Some n) ↔ IsBelieved pace fields i field.line_18 field.line_17 n)
+    → (n : ℕ) → (other ≡ Some n) ↔ Believed pace fields i n
+second_judged pace fields i field found other is none first second n =
+    let clash : found ≡ Some n → other ≡ Some n = λ e. absurd (none_some found n none e) in (
+      λ e. ahead_believed pace fields i n field is (inr ((second n).0 e)),
+      λ b. elim (believed_ahead pace fields i n field is b) [
+        | inl a ↦ clash ((first n).1 a)
+        | inr a ↦ (second n).1 a
+      ],
+    )
+  where
+    none_some : (o : Option ℕ) (m : ℕ) → o ≡ None → o ≡ Some m → ⊥
+    none_some o m a b = cc

@@ -1,0 +1,267 @@
+-- What was misread and what is true around a field.
+use Rattle.std.proofs.Common.{◌≡◌, ◌≢◌, ℕ, ◌+◌, ◌*◌, ◌-◌, ◌%◌, ◌<◌, ◌≤◌, Bool, true, false, List, refl, arith, ap, sym, ◌∙◌, subst, inl, inr}
+use Rattle.std.specs.Prelude.{Option, Some, None, slice_get, ◌⊎◌, nat_le, not, ◌&&◌, ◌==◌}
+use Rattle.std.proofs.Math.Dec.{eqb}
+use Rattle.std.proofs.lemmas.Bool.{leb-true, eqb-true}
+use Rattle.std.proofs.lemmas.Bool.Decides.{eqb_tells, leb_tells}
+use Rattle.vbi_side.specs.declared.sighting.Sightings.{Sightings}
+use Rattle.vbi_side.specs.declared.pace.Pace.{Pace}
+use Rattle.vbi_side.specs.declared.pace.Pace.TheVariants.{Video, Film}
+use Rattle.vbi_side.specs.Sightings.{Shows}
+use Rattle.vbi_side.specs.Paces.{fits, stays}
+use Rattle.vbi_side.specs.Beliefs.{reach, enough, field_most, window_weight, support_of, Believed}
+use Rattle.vbi_side.specs.Truth.{IsNear, AreEven, InStep, RunsOn, StandsStill, IsSound, IsSoundStill, is_recorded, wrong_weight}
+use Rattle.vbi_side.proofs.Weights.{weight_below-narrower, weight_below-agree, weight_below-split, once, spread, weight_at-passes}
+
+-- both of two tests
+both : (a b : Bool) → (a && b) ≡ true → (a ≡ true) × (b ≡ true)
+both true true e = (refl, refl)
+both true false e = absurd (let clash : false ≡ true → ⊥ = λ h. cc in clash e)
+both false b e = absurd (let clash : false ≡ true → ⊥ = λ h. cc in clash e)
+
+and_so : (a b : Bool) → a ≡ true → b ≡ true → (a && b) ≡ true
+and_so true true e f = refl
+and_so true false e f = f
+and_so false b e f = e
+
+-- ---- what fits, in numbers
+
+video_fits : (i m j n : ℕ) → fits Video i m j n ≡ true → j + 2 * m ≡ i + 2 * n
+video_fits i m j n e = eqb-true (j + 2 * m) (i + 2 * n) e
+
+film_fits : (i m j n : ℕ) → fits Film i m j n ≡ true
+    → (2 * j + 5 * m ≤ 2 * i + 5 * n + 2) × (2 * i + 5 * n ≤ 2 * j + 5 * m + 2)
+film_fits i m j n e =
+    let p = both (nat_le (2 * j + 5 * m) (2 * i + 5 * n + 2)) (nat_le (2 * i + 5 * n) (2 * j + 5 * m + 2)) e in
+    (leb-true (2 * j + 5 * m) (2 * i + 5 * n + 2) p.0, leb-true (2 * i + 5 * n) (2 * j + 5 * m + 2) p.1)
+
+-- the fields of a still
+stays_is : (i m j n : ℕ) → stays i m j n ≡ true → (n ≡ m) × AreEven i j
+stays_is i m j n e =
+    let p = both (n == m) ((i + j) % 2 == 0) e in (eqb-true n m p.0, eqb-true ((i + j) % 2) 0 p.1)
+
+-- one number in a field fits one in another: the fields are in step
+fits_in_step : (pace : Pace) (i m j n : ℕ) → fits pace i m j n ≡ true → InStep pace i j
+fits_in_step Video i m j n e = omega (arith, video_fits i m j n e)
+fits_in_step Film i m j n e = tt {0}
+
+even_in_step : (pace : Pace) (i j : ℕ) → AreEven i j → InStep pace i j
+even_in_step Video i j e = e
+even_in_step Film i j e = tt {0}
+
+-- no two numbers in one field fit the same number in another
+one_fits : (pace : Pace) (i a b j n : ℕ) → fits pace i a j n ≡ true → fits pace i b j n ≡ true → a ≡ b
+one_fits Video i a b j n first second = omega (arith, video_fits i a j n first, video_fits i b j n second)
+one_fits Film i a b j n first second =
+    let p = film_fits i a j n first in
+    let q = film_fits i b j n second in
+    omega (arith, p.0, p.1, q.0, q.1)
+
+-- no two fields an even number apart have one number that fits
+one_field : (pace : Pace) (j k n : ℕ) → fits pace j n k n ≡ true → AreEven j k → j ≡ k
+one_field Video j k n e even = omega (arith, video_fits j n k n e)
+one_field Film j k n e even = let p = film_fits j n k n e in omega (arith, p.0, p.1, even)
+
+-- ---- a number is wrong, or that on the disc
+
+recorded_is : (o : Option ℕ) (n : ℕ) → is_recorded o n ≡ true → o ≡ Some n
+recorded_is None n e = absurd (let clash : false ≡ true → ⊥ = λ h. cc in clash e)
+recorded_is (Some m) n e = ap Some (sym (eqb-true n m e))
+
+wrong_or_right : (recorded : ℕ → Option ℕ) (j m : ℕ)
+    → (not (is_recorded (recorded j) m) ≡ true) ⊎ (is_recorded (recorded j) m ≡ true)
+wrong_or_right recorded j m = go (is_recorded (recorded j) m)
+  where
+    go : (b : Bool) → (not b ≡ true) ⊎ (b ≡ true)
+    go true = inr refl
+    go false = inl refl
+
+-- ---- where the disc ran on
+
+-- a sighting that fits a wrong number is wrong
+wrong_fits : (pace : Pace) (recorded : ℕ → Option ℕ) (i a n : ℕ) → RunsOn pace recorded i → recorded i ≡ Some a → n ≢ a
+    → (j m : ℕ) → IsNear i j → fits pace i n j m ≡ true → not (is_recorded (recorded j) m) ≡ true
+wrong_fits pace recorded i a n runs has wrong j m near e = go (wrong_or_right recorded j m)
+  where
+    go : (not (is_recorded (recorded j) m) ≡ true) ⊎ (is_recorded (recorded j) m ≡ true)
+        → not (is_recorded (recorded j) m) ≡ true
+    go (inl is) = is
+    go (inr is) =
+        absurd (wrong (one_fits pace i n a j m e
+        (runs i j a m (omega arith, omega arith) near (fits_in_step pace i n j m e) has
+        (recorded_is (recorded j) m is))))
+
+-- of the right ones, one field's at most is of one still with a wrong number
+wrong_still : (pace : Pace) (recorded : ℕ → Option ℕ) (fields : List Sightings) (i n : ℕ) → RunsOn pace recorded i
+    → window_weight (stays i n) fields i ≤ wrong_weight recorded fields i + field_most
+wrong_still pace recorded fields i n runs =
+    omega (
+      arith,
+      weight_below-split (stays i n) wrong right fields i (2 * reach + 1) (omega arith) split,
+      once right fields i (2 * reach + 1) (omega arith) alone,
+    )
+  where
+    wrong : ℕ → ℕ → Bool
+    wrong = λ j m. not (is_recorded (recorded j) m)
+
+    right : ℕ → ℕ → Bool
+    right = λ j m. stays i n j m && is_recorded (recorded j) m
+
+    split : (j m : ℕ) → IsNear i j → stays i n j m ≡ true → (wrong j m ≡ true) ⊎ (right j m ≡ true)
+    split j m near e = elim (wrong_or_right recorded j m) [
+      | inl is ↦ inl is
+      | inr is ↦ inr (and_so (stays i n j m) (is_recorded (recorded j) m) e is)
+    ]
+
+    alone : (j k l m : ℕ) → IsNear i j → IsNear i k → right j l ≡ true → right k m ≡ true → j ≡ k
+    alone j k l m near others e f =
+        let p = both (stays i n j l) (is_recorded (recorded j) l) e in
+        let q = both (stays i n k m) (is_recorded (recorded k) m) f in
+        let a = stays_is i n j l p.0 in
+        let b = stays_is i n k m q.0 in
+        let even : AreEven j k = omega (arith, a.1, b.1) in
+        let fit : fits pace j l k m ≡ true
+        = runs j k l m near others (even_in_step pace j k even) (recorded_is (recorded j) l p.1)
+        (recorded_is (recorded k) m q.1) in
+        one_field pace j k n (subst (λ x. fits pace j n k x ≡ true) b.0
+        (subst (λ x. fits pace j x k m ≡ true) a.0 fit)) even
+
+-- so all that supports a wrong number is wrong
+wrong_support : (pace : Pace) (recorded : ℕ → Option ℕ) (fields : List Sightings) (i a n : ℕ)
+    → RunsOn pace recorded i → recorded i ≡ Some a → n ≢ a
+    → support_of pace fields i n ≤ wrong_weight recorded fields i
+wrong_support pace recorded fields i a n runs has wrong =
+    omega (
+      arith,
+      weight_below-narrower (fits pace i n) (λ j m. not (is_recorded (recorded j) m)) fields i (2 * reach + 1)
+          (omega arith) (wrong_fits pace recorded i a n runs has wrong),
+      wrong_still pace recorded fields i n runs,
+    )
+
+pub sound : (pace : Pace) (recorded : ℕ → Option ℕ) (fields : List Sightings) (i m n : ℕ)
+    → IsSound pace recorded fields i m → Believed pace fields i n → n ≡ m
+sound pace recorded fields i m n (runs, has, few) b = go (eqb_tells n m)
+  where
+    go : ((eqb n m ≡ true) × (n ≡ m)) ⊎ ((eqb n m ≡ false) × (n ≢ m)) → n ≡ m
+    go (inl (t, e)) = e
+    go (inr (f, wrong)) =
+        absurd (omega (arith, few, b.enough, wrong_support pace recorded fields i m n runs has wrong))
+
+pub complete : (pace : Pace) (recorded : ℕ → Option ℕ) (fields : List Sightings) (i m : ℕ)
+    → RunsOn pace recorded i → recorded i ≡ Some m → Shows (slice_get fields i) m
+    → enough ≤ support_of pace fields i m → wrong_weight recorded fields i < support_of pace fields i m
+    → Believed pace fields i m
+complete pace recorded fields i m runs has shown much more = record {
+  shown = shown;
+  enough = much;
+  ahead = λ k other apart. omega (arith, more, wrong_support pace recorded fields i m k runs has apart);
+}
+
+-- ---- where it stood still
+
+-- a sighting of one still with a wrong number is wrong
+wrong_stays : (recorded : ℕ → Option ℕ) (i a n : ℕ) → StandsStill recorded i a → n ≢ a
+    → (j m : ℕ) → IsNear i j → stays i n j m ≡ true → not (is_recorded (recorded j) m) ≡ true
+wrong_stays recorded i a n still wrong j m near e = go (wrong_or_right recorded j m)
+  where
+    go : (not (is_recorded (recorded j) m) ≡ true) ⊎ (is_recorded (recorded j) m ≡ true)
+        → not (is_recorded (recorded j) m) ≡ true
+    go (inl is) = is
+    go (inr is) =
+        let p = stays_is i n j m e in
+        absurd (wrong (sym p.0 ∙ still j m near p.1 (recorded_is (recorded j) m is)))
+
+-- of the right ones, one field's at most fits a wrong number at the pace of video
+wrong_running : (recorded : ℕ → Option ℕ) (fields : List Sightings) (i a n : ℕ) → StandsStill recorded i a
+    → window_weight (fits Video i n) fields i ≤ wrong_weight recorded fields i + field_most
+wrong_running recorded fields i a n still =
+    omega (
+      arith,
+      weight_below-split (fits Video i n) wrong right fields i (2 * reach + 1) (omega arith) split,
+      once right fields i (2 * reach + 1) (omega arith) alone,
+    )
+  where
+    wrong : ℕ → ℕ → Bool
+    wrong = λ j m. not (is_recorded (recorded j) m)
+
+    right : ℕ → ℕ → Bool
+    right = λ j m. fits Video i n j m && is_recorded (recorded j) m
+
+    split : (j m : ℕ) → IsNear i j → fits Video i n j m ≡ true → (wrong j m ≡ true) ⊎ (right j m ≡ true)
+    split j m near e = elim (wrong_or_right recorded j m) [
+      | inl is ↦ inl is
+      | inr is ↦ inr (and_so (fits Video i n j m) (is_recorded (recorded j) m) e is)
+    ]
+
+    alone : (j k l m : ℕ) → IsNear i j → IsNear i k → right j l ≡ true → right k m ≡ true → j ≡ k
+    alone j k l m near others e f =
+        let p = both (fits Video i n j l) (is_recorded (recorded j) l) e in
+        let q = both (fits Video i n k m) (is_recorded (recorded k) m) f in
+        let here : l ≡ a = still j l near (fits_in_step Video i n j l p.0) (recorded_is (recorded j) l p.1) in
+        let there : m ≡ a = still k m others (fits_in_step Video i n k m q.0) (recorded_is (recorded k) m q.1) in
+        omega (arith, video_fits i n j l p.0, video_fits i n k m q.0, here, there)
+
+pub sound_still : (recorded : ℕ → Option ℕ) (fields : List Sightings) (i m n : ℕ)
+    → IsSoundStill recorded fields i m → Believed Video fields i n → n ≡ m
+sound_still recorded fields i m n (still, few) b = go (eqb_tells n m)
+  where
+    go : ((eqb n m ≡ true) × (n ≡ m)) ⊎ ((eqb n m ≡ false) × (n ≢ m)) → n ≡ m
+    go (inl (t, e)) = e
+    go (inr (f, wrong)) =
+        absurd (omega (
+          arith,
+          few,
+          b.enough,
+          wrong_running recorded fields i m n still,
+          weight_below-narrower (stays i n) (λ j k. not (is_recorded (recorded j) k)) fields i (2 * reach + 1)
+              (omega arith) (wrong_stays recorded i m n still wrong),
+        ))
+
+-- ---- whatever the truth
+
+pub only_near : (pace : Pace) (fields others : List Sightings) (i n : ℕ)
+    → ((j : ℕ) → IsNear i j → slice_get fields j ≡ slice_get others j)
+    → Believed pace fields i n → Believed pace others i n
+only_near pace fields others i n agree b =
+    let here : slice_get fields i ≡ slice_get others i = agree i (omega arith, omega arith) in
+    let same : (m : ℕ) → support_of pace fields i m ≡ support_of pace others i m
+    = λ m. omega (
+      arith,
+      weight_below-agree (fits pace i m) fields others i (2 * reach + 1) (omega arith) agree,
+      weight_below-agree (stays i m) fields others i (2 * reach + 1) (omega arith) agree,
+    ) in
+    record {
+      shown = subst (λ f. Shows f n) here b.shown;
+      enough = subst (λ w. enough ≤ w) (same n) b.enough;
+      ahead = λ m shown apart. omega (
+        arith,
+        same m,
+        same n,
+        b.ahead m (subst (λ f. Shows f m) (sym here) shown) apart,
+      );
+    }
+
+-- ---- another field agrees
+
+-- where sightings that pass the test weigh more than one field's do, a number of another field passes it
+another : (test : ℕ → ℕ → Bool) (fields : List Sightings) (i : ℕ) → field_most < window_weight test fields i
+    → (j m : ℕ) × (j ≢ i) × IsNear i j × Shows (slice_get fields j) m × (test j m ≡ true)
+another test fields i more = elim (spread test fields i reach (2 * reach + 1)) [
+  | inl (most, none) ↦ absurd (omega (arith, most, more))
+  | inr (k, less, apart, weighs) ↦ let p = weight_at-passes test fields i k weighs in
+      (i + k - reach, p.1.0, omega (arith, apart, p.0), (omega (arith, p.0), omega (arith, less)), p.1.1, p.1.2)
+]
+
+pub never_alone : (pace : Pace) (fields : List Sightings) (i n : ℕ) → Believed pace fields i n
+    → (j m : ℕ) × (j ≢ i) × IsNear i j × Shows (slice_get fields j) m
+    × ((fits pace i n j m ≡ true) ⊎ (stays i n j m ≡ true))
+never_alone pace fields i n b = go (leb_tells 5 (window_weight (fits pace i n) fields i))
+  where
+    go : ((nat_le 5 (window_weight (fits pace i n) fields i) ≡ true) × (5 ≤ window_weight (fits pace i n) fields i))
+        ⊎ ((nat_le 5 (window_weight (fits pace i n) fields i) ≡ false) × (window_weight (fits pace i n) fields i < 5))
+        → (j m : ℕ) × (j ≢ i) × IsNear i j × Shows (slice_get fields j) m
+        × ((fits pace i n j m ≡ true) ⊎ (stays i n j m ≡ true))
+    go (inl (t, le)) =
+        let p = another (fits pace i n) fields i (omega (arith, le)) in (p.0, p.1, p.2, p.3, p.4, inl p.5)
+    go (inr (f, lt)) =
+        let p = another (stays i n) fields i (omega (arith, lt, b.enough)) in (p.0, p.1, p.2, p.3, p.4, inr p.5)

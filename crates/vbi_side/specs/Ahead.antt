@@ -1,0 +1,26 @@
+-- How the rule is reckoned: weights by what they have in common, and one sighting of a field judged beside the other.
+use Rattle.std.specs.Prelude.{◌≡◌, ℕ, ◌<◌, ◌≤◌, List, Bool}
+use Rattle.vbi_side.specs.declared.sighting.Sighting.{Sighting}
+use Rattle.vbi_side.specs.declared.sighting.Sightings.{Sightings}
+use Rattle.vbi_side.specs.declared.pace.Pace.{Pace}
+use Rattle.vbi_side.specs.declared.belief.Kin.{Kin}
+use Rattle.vbi_side.specs.declared.belief.Kin.TheVariants.{Runs, Stays}
+use Rattle.vbi_side.specs.Sightings.{Has}
+use Rattle.vbi_side.specs.Paces.{fits, stays}
+use Rattle.vbi_side.specs.Beliefs.{enough, support_of}
+
+-- the test that is meant
+abbrev pub is_akin : Kin → ℕ → ℕ → ℕ → ℕ → Bool
+is_akin (Runs pace) = fits pace
+is_akin Stays = stays
+
+-- less supports another number that the other sighting has
+abbrev pub IsAhead : Pace → List Sightings → ℕ → ℕ → Sighting → Type 0
+IsAhead pace fields i n other =
+    (m : ℕ) → Has other m → (m ≡ n → ⊥) → support_of pace fields i m < support_of pace fields i n
+
+-- the sighting has number n, enough supports it, and less supports another number that the other sighting has
+pub record IsBelieved (pace : Pace) (fields : List Sightings) (i : ℕ) (sighting other : Sighting) (n : ℕ) : Type 0 where
+  pub has : Has sighting n
+  pub enough : enough ≤ support_of pace fields i n
+  pub ahead : IsAhead pace fields i n other

@@ -1,0 +1,9 @@
+pub mod Sightings
+pub mod Lines
+pub mod Paces
+pub mod Beliefs
+pub mod Ahead
+pub mod Due
+pub mod Numbers
+pub mod Found
+pub mod Truth

@@ -1,0 +1,19 @@
+-- When two numbers lie as a disc counts that runs on, or stands still.
+use Rattle.std.specs.Prelude.{◌≡◌, ℕ, ◌+◌, ◌*◌, ◌%◌, ◌==◌, nat_le, ◌&&◌, Bool}
+use Rattle.vbi_side.specs.declared.pace.Pace.{Pace}
+use Rattle.vbi_side.specs.declared.pace.Pace.TheVariants.{Video, Film}
+
+-- number m in field i and number n in field j fit: of video they lie exactly 2 fields a picture apart, of film 2 1/2,
+-- to within a field
+abbrev pub fits : Pace → ℕ → ℕ → ℕ → ℕ → Bool
+fits Video i m j n = (j + 2 * m) == (i + 2 * n)
+fits Film i m j n = nat_le (2 * j + 5 * m) (2 * i + 5 * n + 2) && nat_le (2 * i + 5 * n) (2 * j + 5 * m + 2)
+
+-- number m in field i and number n in field j are of one still: they are equal, an even number of fields apart
+abbrev pub stays : ℕ → ℕ → ℕ → ℕ → Bool
+stays i m j n = (n == m) && ((i + j) % 2 == 0)
+
+-- so many fields last exactly so many pictures
+abbrev pub Last : Pace → ℕ → ℕ → Type 0
+Last Video fields pictures = fields ≡ 2 * pictures
+Last Film fields pictures = 2 * fields ≡ 5 * pictures

@@ -1,0 +1,21 @@
+-- The numbers that a field's lines show.
+use Rattle.std.specs.Prelude.{◌≡◌, ℕ, ◌≤◌, min, ◌⊎◌, Option, Some, None}
+use Rattle.vbi_side.specs.declared.sighting.Sighting.{Sighting}
+use Rattle.vbi_side.specs.declared.sighting.Sightings.{Sightings}
+
+-- the line shows a number
+abbrev pub IsSeen : Sighting → Type 0
+IsSeen sighting = 1 ≤ sighting.weight
+
+-- how much a sighting weighs: 2 at most
+abbrev pub weight_of : Sighting → ℕ
+weight_of sighting = min sighting.weight 2
+
+-- the line shows this number
+abbrev pub Has : Sighting → ℕ → Type 0
+Has sighting n = IsSeen sighting × (sighting.number ≡ n)
+
+-- the field shows this number
+abbrev pub Shows : Option Sightings → ℕ → Type 0
+Shows None n = ⊥
+Shows (Some field) n = Has field.line_17 n ⊎ Has field.line_18 n

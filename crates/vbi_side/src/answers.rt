@@ -1,0 +1,52 @@
+//! What is answered of each field.
+
+ghost use Rattle.std.specs.Prelude.{◌≡◌, ◌↔◌, ℕ, ◌<◌, length, Some, slice_get, Option};
+ghost use Rattle.vbi_side.specs.declared.pace.Pace.TheVariants.{Video};
+ghost use Rattle.vbi_side.specs.Numbers.{AreAnswers, AreMarked, believed};
+ghost use Rattle.vbi_side.specs.Truth.{IsSound, IsSoundStill};
+
+use crate::belief::judge_field;
+use crate::due::number_due;
+use crate::number::Number;
+use crate::pace::Pace;
+use crate::sighting::Sightings;
+
+/// Answers of each field its believed number, or what it shows in doubt.
+fn mark(fields: &[Sightings], pace: Pace, numbers: &mut [Number])
+    requires { length numbers.old ≡ length fields.now }
+    ensures { AreMarked pace fields.now numbers.new }
+{
+    for field in 0..numbers.len() {
+        numbers[field] = match judge_field(fields, pace, field) {
+            Some(number) => Number::believed(number),
+            None => Number::doubtful(&fields[field]),
+        };
+    }
+}
+
+/// Answers of each field of which no number is believed the one that is due, if one is.
+fn fill(fields: &[Sightings], pace: Pace, numbers: &mut [Number])
+    requires { AreMarked pace fields.now numbers.old }
+    ensures { AreAnswers pace fields.now numbers.new }
+{
+    for field in 0..numbers.len() {
+        if let Some(number) = number_due(fields, pace, numbers, field) {
+            numbers[field] = Number::due(number);
+        }
+    }
+}
+
+/// The number of each field: believed, due, in doubt, or none.
+pub fn judge(fields: &[Sightings], pace: Pace, numbers: &mut [Number])
+    requires { length numbers.old ≡ length fields.now }
+    ensures answers { AreAnswers pace fields.now numbers.new }
+
+    // Where the disc ran on around a field, or stood still, and little was misread there, it is the number on the disc.
+    ensures sound { (recorded : ℕ → Option ℕ) (i m n : ℕ) → slice_get numbers.new i ≡ Some (believed n)
+        → IsSound pace recorded fields.now i m → n ≡ m }
+    ensures sound_still { (recorded : ℕ → Option ℕ) (i m n : ℕ) → slice_get numbers.new i ≡ Some (believed n)
+        → pace ≡ Video → IsSoundStill recorded fields.now i m → n ≡ m }
+{
+    mark(fields, pace, numbers);
+    fill(fields, pace, numbers);
+}

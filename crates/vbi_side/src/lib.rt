@@ -1,0 +1,27 @@
+//! Which number of its disc each field of a capture shows, judged by the fields around it.
+//!
+//! A line that was misread shows a number like any other. So a number is believed only where sightings of the same field
+//! and of the 24 before it and behind it fit it at the disc's pace and weigh enough together. The definitions are in
+//! `specs/`, and the module `laws` says what holds of them: above all that where less than enough of what was read around
+//! a field is wrong, a believed number is the true one. Nothing allocates or fails.
+#![tactic(auto)]
+
+mod answers;
+mod belief;
+mod due;
+mod found;
+pub mod laws;
+mod lines;
+mod number;
+mod pace;
+mod seek;
+mod sighting;
+
+pub use answers::judge;
+pub use belief::{ENOUGH, REACH, judge_field, support};
+pub use found::found_pace;
+pub use lines::{Counted, Shown, sightings};
+pub use number::{BELIEVED, DOUBTFUL, DUE, NOTHING, Number};
+pub use pace::Pace;
+pub use seek::first_of;
+pub use sighting::{Sighting, Sightings};

@@ -1,0 +1,70 @@
+//! The number that is answered of a field.
+
+ghost use Rattle.std.specs.Prelude.{◌≡◌};
+ghost use Rattle.vbi_side.specs.Numbers.{believed, due, doubtful_of};
+
+use crate::sighting::Sightings;
+use std::mem::size_of;
+
+/// The field shows no number, and none is due.
+pub const NOTHING: u32 = 0;
+/// The number was read, and enough around supports it.
+pub const BELIEVED: u32 = 1;
+/// The number was read, and too little supports it.
+pub const DOUBTFUL: u32 = 2;
+/// The number wasn't read there: the believed ones before and behind leave no other.
+pub const DUE: u32 = 3;
+
+/// The number that is answered of a field, with what it is worth.
+#[derive(Clone, Copy)]
+#[repr(C)]
+pub struct Number {
+    /// The picture's number, or the pictures from the disc's beginning; 0 where there is none.
+    pub number: u32,
+    /// `NOTHING`, `BELIEVED`, `DOUBTFUL` or `DUE`.
+    pub state: u32,
+}
+
+// As include/ldvbi.h has it.
+const _: () = prove!(size_of::<Number>() == 8);
+
+impl Number {
+    /// A number that is believed.
+    pub(crate) fn believed(number: u32) -> Number
+        ensures { result ≡ believed number }
+    {
+        Number {
+            number,
+            state: BELIEVED,
+        }
+    }
+
+    /// A number that is due.
+    pub(crate) fn due(number: u32) -> Number
+        ensures { result ≡ due number }
+    {
+        Number { number, state: DUE }
+    }
+
+    /// Where no number is believed or due: that of line 17, else that of line 18, or nothing.
+    pub(crate) fn doubtful(field: &Sightings) -> Number
+        ensures { result ≡ doubtful_of field.now }
+    {
+        let sighting = if field.line_17.is_seen() {
+            field.line_17
+        } else {
+            field.line_18
+        };
+        if sighting.is_seen() {
+            Number {
+                number: sighting.number,
+                state: DOUBTFUL,
+            }
+        } else {
+            Number {
+                number: 0,
+                state: NOTHING,
+            }
+        }
+    }
+}
