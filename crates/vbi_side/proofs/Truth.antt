@@ -26,10 +26,10 @@ and_so false b e f = e
 
 -- ---- what fits, in numbers
 
-video_fits : (i m j n : ℕ) → fits Video i m j n ≡ true → j + 2 * m ≡ i + 2 * n
+pub video_fits : (i m j n : ℕ) → fits Video i m j n ≡ true → j + 2 * m ≡ i + 2 * n
 video_fits i m j n e = eqb-true (j + 2 * m) (i + 2 * n) e
 
-film_fits : (i m j n : ℕ) → fits Film i m j n ≡ true
+pub film_fits : (i m j n : ℕ) → fits Film i m j n ≡ true
     → (2 * j + 5 * m ≤ 2 * i + 5 * n + 2) × (2 * i + 5 * n ≤ 2 * j + 5 * m + 2)
 film_fits i m j n e =
     let p = both (nat_le (2 * j + 5 * m) (2 * i + 5 * n + 2)) (nat_le (2 * i + 5 * n) (2 * j + 5 * m + 2)) e in
