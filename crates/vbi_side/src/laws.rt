@@ -14,8 +14,10 @@ ghost use Rattle.vbi_side.specs.Lines.{number_from, code_in};
 ghost use Rattle.vbi_side.specs.Paces.{fits, stays};
 ghost use Rattle.vbi_side.specs.Beliefs.{enough, support_of, Believed};
 ghost use Rattle.vbi_side.specs.Due.{Due};
+ghost use Rattle.vbi_side.specs.Found.{IsFound};
 ghost use Rattle.vbi_side.specs.Numbers.{IsAnswer, IsKnown};
 ghost use Rattle.vbi_side.specs.Truth.{IsNear, RunsOn, IsSound, IsSoundStill, wrong_weight, video_disc, film_disc};
+ghost use Rattle.vbi_side.specs.Worked.{wrong_by_9, wrong_by_10};
 
 /// Where the disc ran on around a field that has a number and what was misread there weighs less than enough, a believed
 /// number is that number.
@@ -55,6 +57,16 @@ pub fn discs_run()
     ensures film { (i : ℕ) → RunsOn Film film_disc i }
 {}
 
+/// The premise of `sound` can be met, and it is sharp. With wrong readings of weight 9 around a field its number is
+/// believed. With wrong ones of weight 10 a wrong number is believed where the right one wasn't read.
+pub fn worked_sides()
+    ensures sound { IsSound Video video_disc wrong_by_9 4 2 }
+    ensures nine { wrong_weight video_disc wrong_by_9 4 ≡ 9 }
+    ensures right { Believed Video wrong_by_9 4 2 }
+    ensures ten { wrong_weight video_disc wrong_by_10 4 ≡ 10 }
+    ensures wrong { Believed Video wrong_by_10 4 102 }
+{}
+
 /// Of a field at most one number is believed.
 pub fn one_believed()
     ensures { (pace : Pace) (fields : List Sightings) (i m n : ℕ)
@@ -77,6 +89,11 @@ pub fn one_answer()
 pub fn known_numbers()
     ensures { (pace : Pace) (fields : List Sightings) (i n : ℕ) (answer : Number) → IsAnswer pace fields i answer
         → IsKnown answer n ↔ (Believed pace fields i n ⊎ Due pace fields i n) }
+{}
+
+/// Of a capture one pace is found.
+pub fn one_found()
+    ensures { (fields : List Sightings) (one other : Pace) → IsFound fields one → IsFound fields other → one ≡ other }
 {}
 
 /// A number is never believed for its own field alone: another field within reach shows one that fits it, or that is of
