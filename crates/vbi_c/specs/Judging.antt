@@ -84,7 +84,7 @@ IsAskedPace Found seen pace = IsFound seen pace
 -- the numbers are the answers of these fields at the pace that is asked for, and a believed one is the number on the
 -- disc, where the disc ran on around its field, or stood still, and little was misread there
 pub record AreJudged (asked : Asked) (seen : List Sightings) (numbers : List Number) (pace : paces.Pace) : Type 0 where
-  pub asked : IsAskedPace asked seen pace
+  pub pace_is : IsAskedPace asked seen pace
   pub answers : AreAnswers pace seen numbers
   pub sound : (recorded : ℕ → Option ℕ) (i m n : ℕ) → slice_get numbers i ≡ Some (believed n)
       → IsSound pace recorded seen i m → n ≡ m
