@@ -135,7 +135,14 @@ pub extern "C" fn ldvbi_judge(
         (λ judging. (pace : paces.Pace) × AreJudged judging.asked seen.new numbers.new pace) }
     ensures unwritten { result ≢ 0 → (seen.new ≡ seen.old) × (numbers.new ≡ numbers.old) }
 {
-    match judging_of(system, counted, pace, readings.len(), seen.len(), numbers.len()) {
+    match judging_of(
+        system,
+        counted,
+        pace,
+        readings.len(),
+        seen.len(),
+        numbers.len(),
+    ) {
         Ok(judging) => {
             see_all(&judging, readings, seen);
             judge(seen, pace_for(judging.asked, seen), numbers);

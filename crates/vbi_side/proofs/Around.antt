@@ -1,5 +1,5 @@
 -- The nearest numbers around a field, and what they leave for it.
-use Rattle.std.proofs.Common.{◌≡◌, ◌≢◌, ℕ, ◌<◌, List, arith, ap, sym, ◌∙◌, subst, get_or, length}
+use Rattle.std.proofs.Common.{◌≡◌, ℕ, ◌<◌, ◌≤◌, Bool, true, false, List, ap, sym, ◌∙◌, subst, get_or, length}
 use Rattle.std.specs.Prelude.{Option, Some, None, ◌↔◌, unwrap_or}
 use Rattle.std.proofs.lemmas.Option.{slice_get-get_or, get_or_from_slice_get}
 use Rattle.vbi_side.specs.declared.number.Number.{Number}
@@ -94,31 +94,36 @@ left_due pace fields numbers i answer marked none vacant left n = (
     left = left_along (IsMarked numbers) (Believed pace fields) pace i n marked ((left n).0 e);
   },
   λ due. (left n).1 (left_along (Believed pace fields) (IsMarked numbers) pace i n
-  (λ k l. ((marked k l).1, (marked k l).0)) due.left),
+      (λ k l. ((marked k l).1, (marked k l).0)) due.left),
 )
 
 -- nothing is found, and nothing is there
 pub nothing_there : {A : Type 0} (answer : Option ℕ) (n : ℕ) → answer ≡ None → (A → ⊥) → (answer ≡ Some n) ↔ A
 nothing_there answer n none others = (λ e. absurd (none_some answer n none e), λ a. absurd (others a))
 
--- a field is marked as believed by the state that stands there
+-- a field is marked as believed just where its state says so
 pub marked_at : (numbers : List Number) (i : ℕ) (d : Number) → i < length numbers
-    → (get_or numbers i d).state ≡ 1 → IsMarked numbers i (get_or numbers i d).number
-marked_at numbers i d within is =
-    slice_get-get_or numbers i d within
-    ∙ ap (λ s. Some (record { number = (get_or numbers i d).number; state = s })) is
+    → (get_or numbers i d).state ≡ 1 → (n : ℕ) × IsMarked numbers i n
+marked_at numbers i d within is = (
+  (get_or numbers i d).number,
+  slice_get-get_or numbers i d within
+      ∙ ap (λ s. Some (record { number = (get_or numbers i d).number; state = s })) is,
+)
 
-pub unmarked_at : (numbers : List Number) (i n : ℕ) (d : Number) → (get_or numbers i d).state ≢ 1
-    → IsMarked numbers i n → ⊥
-unmarked_at numbers i n d isnt marked = isnt (ap (λ (a : Number). a.state) (get_or_from_slice_get numbers i (believed n) d marked))
+pub state_at : (numbers : List Number) (i n : ℕ) (d : Number) → IsMarked numbers i n → (get_or numbers i d).state ≡ 1
+state_at numbers i n d marked =
+    ap (λ (a : Number). a.state) (get_or_from_slice_get numbers i (believed n) d marked)
 
--- another code stands in a field by what is said of it there
+-- another code stands in a field just where it says so
 pub instead_at : (fields : List Sightings) (i : ℕ) (d : Sightings) → i < length fields
-    → (get_or fields i d).instead ≢ 0 → ShowsInstead fields i
-instead_at fields i d within isnt =
-    (get_or fields i d, slice_get-get_or fields i d within, omega (arith, isnt))
+    → 1 ≤ (get_or fields i d).instead → ShowsInstead fields i
+instead_at fields i d within shows = (get_or fields i d, slice_get-get_or fields i d within, shows)
 
-pub vacant_at : (fields : List Sightings) (i : ℕ) (d : Sightings) → (get_or fields i d).instead ≡ 0
-    → ShowsInstead fields i → ⊥
-vacant_at fields i d is (field, at, shows) =
-    absurd (omega (arith, is, shows, ap (λ (f : Sightings). f.instead) (get_or_from_slice_get fields i field d at)))
+pub code_at : (fields : List Sightings) (i : ℕ) (d : Sightings) → ShowsInstead fields i
+    → 1 ≤ (get_or fields i d).instead
+code_at fields i d (field, at, shows) =
+    subst (λ (f : Sightings). 1 ≤ f.instead) (sym (get_or_from_slice_get fields i field d at)) shows
+
+-- a test holds or doesn't
+pub not_both : {b : Bool} → b ≡ false → b ≡ true → ⊥
+not_both e f = cc

@@ -9,12 +9,15 @@ use Rattle.std.proofs.Math.Dec.{eqb}
 use Rattle.vbi_side.specs.declared.number.Number.{Number}
 use Rattle.vbi_side.specs.declared.sighting.Sightings.{Sightings}
 use Rattle.vbi_side.specs.declared.pace.Pace.{Pace}
+use Rattle.vbi_side.specs.declared.pace.Pace.TheVariants.{Video}
 use Rattle.vbi_side.specs.Sightings.{Shows}
 use Rattle.vbi_side.specs.Beliefs.{Believed}
 use Rattle.vbi_side.specs.Due.{Due}
 use Rattle.vbi_side.specs.Numbers.{nothing, believed, due, doubtful, doubtful_of, IsMarked, IsMark, AreMarks}
 use Rattle.vbi_side.specs.Numbers.{IsAnswer, AreAnswers, IsKnown}
+use Rattle.vbi_side.specs.Truth.{IsSound, IsSoundStill}
 use Rattle.vbi_side.proofs.Ahead.{one_believed}
+use Rattle.vbi_side.proofs.Truth.{sound, sound_still}
 use Rattle.vbi_side.proofs.DueLemmas.{one_due}
 
 -- ---- answers that differ
@@ -74,10 +77,10 @@ pub marks_tell : (pace : Pace) (fields : List Sightings) (numbers : List Number)
 marks_tell pace fields numbers marks i n = (
   λ e. (mark_tells pace fields i n (believed n) (marks.each i (believed n) e)).0 refl,
   λ b.
-    let within : i < length numbers = omega (arith, marks.count, shown_within fields i n b.shown) in
-    let at = slice_get-get_or numbers i nothing within in
-    at ∙ ap Some ((mark_tells pace fields i n (get_or numbers i nothing)
-    (marks.each i (get_or numbers i nothing) at)).1 b),
+      let within : i < length numbers = omega (arith, marks.count, shown_within fields i n b.shown) in
+      let at = slice_get-get_or numbers i nothing within in
+      at ∙ ap Some ((mark_tells pace fields i n (get_or numbers i nothing)
+      (marks.each i (get_or numbers i nothing) at)).1 b),
 )
 
 -- ---- filling
@@ -246,3 +249,19 @@ one_answer pace fields i one other (inr (inr (none, others, (field, at, e)))) (i
 one_answer pace fields i one other (inr (inr (none, others, (field, at, e)))) (inr (inl (m, d, f))) = absurd (others m d)
 one_answer pace fields i one other (inr (inr (none, others, (field, at, e)))) (inr (inr (nones, rest, (same, there, f)))) =
     e ∙ ap doubtful_of (some_is field same (sym at ∙ there)) ∙ sym f
+
+-- a number that is answered as believed is the recorded one
+pub answers_sound : (pace : Pace) (fields : List Sightings) (answers : List Number) → AreAnswers pace fields answers
+    → (recorded : ℕ → Option ℕ) (i m n : ℕ) → slice_get answers i ≡ Some (believed n)
+    → IsSound pace recorded fields i m → n ≡ m
+answers_sound pace fields answers are recorded i m n at is =
+    sound pace recorded fields i m n is
+    (answer_believed pace fields i n (believed n) (are.each i (believed n) at) refl)
+
+-- where the player stood still, it is that of the still
+pub answers_sound_still : (pace : Pace) (fields : List Sightings) (answers : List Number)
+    → AreAnswers pace fields answers → (recorded : ℕ → Option ℕ) (i m n : ℕ) → slice_get answers i ≡ Some (believed n)
+    → pace ≡ Video → IsSoundStill recorded fields i m → n ≡ m
+answers_sound_still pace fields answers are recorded i m n at video is =
+    sound_still recorded fields i m n is (subst (λ p. Believed p fields i n) video
+    (answer_believed pace fields i n (believed n) (are.each i (believed n) at) refl))

@@ -40,7 +40,7 @@ abbrev pub IsMark : Pace → List Sightings → ℕ → Number → Type 0
 IsMark pace fields i answer =
     ((n : ℕ) × Believed pace fields i n × (answer ≡ believed n))
     ⊎ (((n : ℕ) → Believed pace fields i n → ⊥)
-        × ((field : Sightings) × (slice_get fields i ≡ Some field) × (answer ≡ doubtful_of field)))
+    × ((field : Sightings) × (slice_get fields i ≡ Some field) × (answer ≡ doubtful_of field)))
 
 -- each field is answered its believed number, or what it shows in doubt
 pub record AreMarks (pace : Pace) (fields : List Sightings) (answers : List Number) : Type 0 where
@@ -53,7 +53,7 @@ IsAnswer pace fields i answer =
     ((n : ℕ) × Believed pace fields i n × (answer ≡ believed n))
     ⊎ ((n : ℕ) × Due pace fields i n × (answer ≡ due n))
     ⊎ (((n : ℕ) → Believed pace fields i n → ⊥) × ((n : ℕ) → Due pace fields i n → ⊥)
-        × ((field : Sightings) × (slice_get fields i ≡ Some field) × (answer ≡ doubtful_of field)))
+    × ((field : Sightings) × (slice_get fields i ≡ Some field) × (answer ≡ doubtful_of field)))
 
 -- the answers are those of the fields
 pub record AreAnswers (pace : Pace) (fields : List Sightings) (answers : List Number) : Type 0 where

@@ -27,7 +27,7 @@ fn mark(fields: &[Sightings], pace: Pace, numbers: &mut [Number])
     requires { length numbers.old ≡ length fields.now }
     ensures { AreMarks pace fields.now numbers.new }
 {
-    for field in 0..numbers.len() {
+    for field in 0..fields.len() {
         numbers[field] = marked(fields, pace, field);
     }
 }

@@ -111,13 +111,7 @@ fn is_supported(fields: &[Sightings], pace: Pace, field: usize, number: u32) -> 
 }
 
 /// Whether another number that the field shows has less support.
-fn is_ahead(
-    fields: &[Sightings],
-    pace: Pace,
-    field: usize,
-    number: u32,
-    other: &Sighting,
-) -> bool
+fn is_ahead(fields: &[Sightings], pace: Pace, field: usize, number: u32, other: &Sighting) -> bool
     requires { field < length fields.now }
     ensures { (result ≡ true) ↔ IsAhead pace fields.now field number other.now }
 {

@@ -7,7 +7,7 @@ ghost use Rattle.vbi_side.specs.Numbers.{IsMarked};
 ghost use Rattle.vbi_side.specs.Paces.{fits, Last};
 
 use crate::belief::REACH;
-use crate::number::{BELIEVED, Number};
+use crate::number::Number;
 use crate::pace::Pace;
 use crate::sighting::Sightings;
 
@@ -29,7 +29,7 @@ fn before(numbers: &[Number], field: usize) -> Option<Place>
             return None;
         }
         let place = field - distance;
-        if numbers[place].state == BELIEVED {
+        if numbers[place].is_believed() {
             return Some(Place {
                 field: place,
                 number: numbers[place].number,
@@ -48,7 +48,7 @@ fn behind(numbers: &[Number], field: usize) -> Option<Place>
     for distance in 1..REACH + 1 {
         let place = field + distance;
         let number = numbers.get(place)?;
-        if number.state == BELIEVED {
+        if number.is_believed() {
             return Some(Place {
                 field: place,
                 number: number.number,
@@ -68,7 +68,8 @@ fn fit(pace: Pace, before: Place, behind: Place) -> bool
     let fields = (behind.field - before.field) as u64;
     match pace {
         Pace::Video => fields + 2 * first == 2 * last,
-        Pace::Film => 2 * fields + 5 * first <= 5 * last + 2 && 5 * last <= 2 * fields + 5 * first + 2,
+        Pace::Film => 2 * fields + 5 * first <= 5 * last + 2
+            && 5 * last <= 2 * fields + 5 * first + 2,
     }
 }
 
@@ -140,10 +141,7 @@ pub(crate) fn number_due(
     requires marked { (i n : ℕ) → IsMarked numbers.now i n ↔ Believed pace fields.now i n }
     ensures { (n : ℕ) → (result ≡ Some n) ↔ Due pace fields.now field n }
 {
-    if numbers[field].state == BELIEVED {
-        return None;
-    }
-    if fields[field].instead != 0 {
+    if numbers[field].is_believed() || fields[field].shows_instead() {
         return None;
     }
     left_around(numbers, pace, field)

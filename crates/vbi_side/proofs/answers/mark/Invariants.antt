@@ -8,5 +8,5 @@ abbrev pub invariant-loop-field : goal.invariant-loop-field
 invariant-loop-field l = record {
   count : length l.numbers ≡ length l.fields;
   each : (i : ℕ) (answer : Number) → i < l.field → slice_get l.numbers i ≡ Some answer
-    → IsMark l.pace l.fields i answer;
+      → IsMark l.pace l.fields i answer;
 }
