@@ -29,11 +29,13 @@ no_more pace fields i count None tells none counted =
 
 -- ---- one count, and one pace
 
-one_count : (pace : Pace) (fields : List Sightings) (n a b : ℕ) → IsCount pace fields n a → IsCount pace fields n b → a ≡ b
+one_count : (pace : Pace) (fields : List Sightings) (n a b : ℕ) → IsCount pace fields n a
+    → IsCount pace fields n b → a ≡ b
 one_count pace fields zero a b one other = one ∙ sym other
 one_count pace fields (suc n) a b (inl (m, fewer, believed, counted, is)) (inl (k, less, others, counts, are)) =
     is ∙ ap suc (one_count pace fields n fewer less counted counts) ∙ sym are
-one_count pace fields (suc n) a b (inl (m, fewer, believed, counted, is)) (inr (none, counts)) = absurd (none m believed)
+one_count pace fields (suc n) a b (inl (m, fewer, believed, counted, is)) (inr (none, counts)) =
+    absurd (none m believed)
 one_count pace fields (suc n) a b (inr (none, counted)) (inl (k, less, others, counts, are)) = absurd (none k others)
 one_count pace fields (suc n) a b (inr (none, counted)) (inr (nones, counts)) =
     one_count pace fields n a b counted counts

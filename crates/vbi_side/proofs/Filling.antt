@@ -1,6 +1,8 @@
 -- How the answers come about: marked first, then filled with what is due, from the first field on.
-use Rattle.std.proofs.Common.{◌≡◌, ◌≢◌, ℕ, ◌+◌, ◌<◌, ◌≤◌, Bool, true, false, List, refl, arith, ap, sym, ◌∙◌, subst, inl, inr, get_or}
-use Rattle.std.specs.Prelude.{Option, Some, None, slice_get, slice_set, length, ◌⊎◌, ◌↔◌, unwrap_or, nat_le, if◌then◌else◌}
+use Rattle.std.proofs.Common.{◌≡◌, ◌≢◌, ℕ, ◌+◌, ◌<◌, ◌≤◌, Bool, true, false, List}
+use Rattle.std.proofs.Common.{refl, arith, ap, sym, ◌∙◌, subst, inl, inr, get_or}
+use Rattle.std.specs.Prelude.{Option, Some, None, slice_get, slice_set, length}
+use Rattle.std.specs.Prelude.{◌⊎◌, ◌↔◌, unwrap_or, nat_le, if◌then◌else◌}
 use Rattle.std.proofs.lemmas.Bool.Decides.{eqb_tells}
 use Rattle.std.proofs.lemmas.List.{length-set, get_or-set_other}
 use Rattle.std.proofs.lemmas.Grind.{get_or-set_at}
@@ -28,13 +30,15 @@ state_of one other e = ap (λ (n : Number). n.state) e
 number_of : (one other : Number) → one ≡ other → one.number ≡ other.number
 number_of one other e = ap (λ (n : Number). n.number) e
 
--- what is doubtful is neither believed nor due
-doubtful_state : (field : Sightings) → (doubtful_of field).state ≤ 2 × ((doubtful_of field).state ≢ 1)
+-- what is in doubt is neither believed nor due
+doubtful_state : (field : Sightings) → ((doubtful_of field).state ≤ 2) × ((doubtful_of field).state ≢ 1)
 doubtful_state field = go (nat_le 1 field.line_17.weight) (nat_le 1 field.line_18.weight)
   where
-    go : (a b : Bool)
-        → ((if a then doubtful field.line_17.number else (if b then doubtful field.line_18.number else nothing)).state ≤ 2)
-        × ((if a then doubtful field.line_17.number else (if b then doubtful field.line_18.number else nothing)).state ≢ 1)
+    in_doubt : Bool → Bool → Number
+    in_doubt = λ a b. if a then doubtful field.line_17.number
+        else (if b then doubtful field.line_18.number else nothing)
+
+    go : (a b : Bool) → ((in_doubt a b).state ≤ 2) × ((in_doubt a b).state ≢ 1)
     go true b = (omega arith, λ e. absurd (omega (arith, e)))
     go false true = (omega arith, λ e. absurd (omega (arith, e)))
     go false false = (omega arith, λ e. absurd (omega (arith, e)))
@@ -245,10 +249,13 @@ one_answer pace fields i one other (inr (inl (m, d, e))) is = go ((known_numbers
     go : IsKnown other m → one ≡ other
     go (inl f) = absurd (d.unbelieved m (answer_believed pace fields i m other is f))
     go (inr f) = e ∙ sym f
-one_answer pace fields i one other (inr (inr (none, others, (field, at, e)))) (inl (m, b, f)) = absurd (none m b)
-one_answer pace fields i one other (inr (inr (none, others, (field, at, e)))) (inr (inl (m, d, f))) = absurd (others m d)
-one_answer pace fields i one other (inr (inr (none, others, (field, at, e)))) (inr (inr (nones, rest, (same, there, f)))) =
-    e ∙ ap doubtful_of (some_is field same (sym at ∙ there)) ∙ sym f
+one_answer pace fields i one other (inr (inr (none, others, (field, at, e)))) is = go is
+  where
+    go : IsAnswer pace fields i other → one ≡ other
+    go (inl (m, b, f)) = absurd (none m b)
+    go (inr (inl (m, d, f))) = absurd (others m d)
+    go (inr (inr (nones, rest, (same, there, f)))) =
+        e ∙ ap doubtful_of (some_is field same (sym at ∙ there)) ∙ sym f
 
 -- a number that is answered as believed is the recorded one
 pub answers_sound : (pace : Pace) (fields : List Sightings) (answers : List Number) → AreAnswers pace fields answers

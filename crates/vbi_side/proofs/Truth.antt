@@ -1,5 +1,6 @@
 -- What was misread and what is true around a field.
-use Rattle.std.proofs.Common.{◌≡◌, ◌≢◌, ℕ, ◌+◌, ◌*◌, ◌-◌, ◌%◌, ◌<◌, ◌≤◌, Bool, true, false, List, refl, arith, ap, sym, ◌∙◌, subst, inl, inr}
+use Rattle.std.proofs.Common.{◌≡◌, ◌≢◌, ℕ, ◌+◌, ◌*◌, ◌-◌, ◌%◌, ◌<◌, ◌≤◌, Bool, true}
+use Rattle.std.proofs.Common.{false, List, refl, arith, ap, sym, ◌∙◌, subst, inl, inr}
 use Rattle.std.specs.Prelude.{Option, Some, None, slice_get, ◌⊎◌, nat_le, not, ◌&&◌, ◌==◌}
 use Rattle.std.proofs.Math.Dec.{eqb}
 use Rattle.std.proofs.lemmas.Bool.{leb-true, eqb-true}
@@ -10,8 +11,10 @@ use Rattle.vbi_side.specs.declared.pace.Pace.TheVariants.{Video, Film}
 use Rattle.vbi_side.specs.Sightings.{Shows}
 use Rattle.vbi_side.specs.Paces.{fits, stays}
 use Rattle.vbi_side.specs.Beliefs.{reach, enough, field_most, window_weight, support_of, Believed}
-use Rattle.vbi_side.specs.Truth.{IsNear, AreEven, InStep, RunsOn, StandsStill, IsSound, IsSoundStill, is_recorded, wrong_weight}
-use Rattle.vbi_side.proofs.Weights.{weight_below-narrower, weight_below-agree, weight_below-split, once, spread, weight_at-passes}
+use Rattle.vbi_side.specs.Truth.{IsNear, AreEven, InStep, RunsOn, StandsStill}
+use Rattle.vbi_side.specs.Truth.{IsSound, IsSoundStill, is_recorded, wrong_weight}
+use Rattle.vbi_side.proofs.Weights.{weight_below-narrower, weight_below-agree, weight_below-split, once}
+use Rattle.vbi_side.proofs.Weights.{spread, weight_at-passes}
 
 -- both of two tests
 both : (a b : Bool) → (a && b) ≡ true → (a ≡ true) × (b ≡ true)

@@ -23,8 +23,8 @@ pub record IsBehind (HasNumber : ℕ → ℕ → Type 0) (i j m : ℕ) : Type 0 
 abbrev pub IsBetween : ℕ → ℕ → ℕ → ℕ → Type 0
 IsBetween low high number n = (low < n) × (n < high) × (number ≡ n)
 
--- number m in field j and number l in field k fit, and leave number n for field i between them: it lies between the two,
--- and from one of them exactly as many pictures away as the fields last
+-- number m in field j and number l in field k fit, and leave number n for field i between them: it lies between the
+-- two, and from one of them exactly as many pictures away as the fields last
 pub record Leaves (pace : Pace) (j m k l i n : ℕ) : Type 0 where
   pub fit : fits pace j m k l ≡ true
   pub above : m < n

@@ -14,7 +14,8 @@ field_of first weight second other = record {
 abbrev pub blank : Sightings
 blank = field_of 0 0 0 0
 
--- six pictures are right on line 17; on line 18 of five fields numbers stand that are 100 too large, one of them in pass 2
+-- six pictures are right on line 17; on line 18 of five fields numbers stand that are 100 too large, one of them in
+-- pass 2
 abbrev pub wrong_by_9 : List Sightings
 wrong_by_9 =
     field_of 0 2 100 2 ∷ blank ∷ field_of 1 2 101 2 ∷ blank ∷ field_of 2 2 102 2 ∷ blank ∷ field_of 3 2 103 2 ∷ blank

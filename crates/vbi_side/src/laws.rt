@@ -19,22 +19,22 @@ ghost use Rattle.vbi_side.specs.Numbers.{IsAnswer, IsKnown};
 ghost use Rattle.vbi_side.specs.Truth.{IsNear, RunsOn, IsSound, IsSoundStill, wrong_weight, video_disc, film_disc};
 ghost use Rattle.vbi_side.specs.Worked.{wrong_by_9, wrong_by_10};
 
-/// Where the disc ran on around a field that has a number and what was misread there weighs less than enough, a believed
-/// number is that number.
+/// Where the disc ran on around a field that has a number and what was misread there weighs less than enough, a
+/// believed number is that number.
 pub fn sound()
     ensures { (pace : Pace) (recorded : ℕ → Option ℕ) (fields : List Sightings) (i m n : ℕ)
         → IsSound pace recorded fields i m → Believed pace fields i n → n ≡ m }
 {}
 
-/// Where the player stood still around a field and what was misread there weighs 4 less than enough, a number believed at
-/// the pace of video is that of the still.
+/// Where the player stood still around a field and what was misread there weighs 4 less than enough, a number believed
+/// at the pace of video is that of the still.
 pub fn sound_still()
     ensures { (recorded : ℕ → Option ℕ) (fields : List Sightings) (i m n : ℕ)
         → IsSoundStill recorded fields i m → Believed Video fields i n → n ≡ m }
 {}
 
-/// Where the disc ran on around a field and the numbers believed within reach of it are those recorded, a number that is
-/// due there is the recorded one, if the field has one.
+/// Where the disc ran on around a field and the numbers believed within reach of it are those recorded, a number that
+/// is due there is the recorded one, if the field has one.
 pub fn due_sound()
     ensures { (pace : Pace) (recorded : ℕ → Option ℕ) (fields : List Sightings) (i m n : ℕ)
         → RunsOn pace recorded i → recorded i ≡ Some m
@@ -42,8 +42,8 @@ pub fn due_sound()
         → Due pace fields i n → n ≡ m }
 {}
 
-/// Where the disc ran on around a field that shows the number that it has, and what fits that weighs enough and more than
-/// all that was misread there, it is believed.
+/// Where the disc ran on around a field that shows the number that it has, and what fits that weighs enough and more
+/// than all that was misread there, it is believed.
 pub fn complete()
     ensures { (pace : Pace) (recorded : ℕ → Option ℕ) (fields : List Sightings) (i m : ℕ)
         → RunsOn pace recorded i → recorded i ≡ Some m → Shows (slice_get fields i) m

@@ -11,8 +11,8 @@ use std::mem::size_of;
 pub struct Sighting {
     /// The picture's number, or the pictures from the disc's beginning.
     pub number: u32,
-    /// How much it weighs: 2 of a word of pass 1, 1 of a word of pass 2; 0 where the line shows no number. What is above
-    /// 2 counts as 2.
+    /// How much it weighs: 2 of a word of pass 1, 1 of a word of pass 2; 0 where the line shows no number. What is
+    /// above 2 counts as 2.
     pub weight: u32,
 }
 
