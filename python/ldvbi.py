@@ -43,9 +43,9 @@ from ldvbi_side.library import (BAD_LENGTH, Counted, Pace, System, check, counte
                                 number_of, pace_number, setup_of, system_number, system_of)
 from ldvbi_side.samples import Samples
 
-__all__ = ["System", "Cause", "Kind", "Format", "Counted", "Pace", "State", "Reading", "FieldReadings", "Code", "Number",
-           "Stream", "line_bytes", "field_bytes", "read_line", "read_rows", "read_field", "fields", "classify",
-           "format_of", "judge", "first_of", "draw_line"]
+__all__ = ["System", "Cause", "Kind", "Format", "Counted", "Pace", "State", "Reading", "FieldReadings", "Code",
+           "Number", "Stream", "line_bytes", "field_bytes", "read_line", "read_rows", "read_field", "fields",
+           "classify", "format_of", "judge", "first_of", "draw_line"]
 
 __version__ = "0.1.0"
 BLOCK = 64  # fields to a call of the library; of a mapped file the pages of so many are fetched ahead
@@ -63,8 +63,8 @@ class Cause(enum.IntEnum):
 class Reading(NamedTuple):
     """What a line shows. `pass_` is 1 for a word of the line's own levels, 2 for one of the levels without short
     glitches, 0 for no word; `column` is the first hopeless column, counted from 0, of the causes change and hold, else
-    0; `word` is the word, from 0x800000 to 0xFFFFFF, or 0. A cause of a later library, which this module doesn't know, is
-    its number."""
+    0; `word` is the word, from 0x800000 to 0xFFFFFF, or 0. A cause of a later library, which this module doesn't know,
+    is its number."""
     cause: Cause
     pass_: int
     column: int
@@ -79,9 +79,9 @@ class FieldReadings(NamedTuple):
 
 
 class State(enum.IntEnum):
-    """What the number of a field is worth: the field shows none, and none is due; it shows the number, and enough around
-    supports it; it shows it, and too little does; it doesn't show it, but the believed numbers before and behind it leave
-    no other."""
+    """What the number of a field is worth. `nothing`: the field shows none, and none is due; `believed`: it shows the
+    number, and enough around supports it; `doubtful`: it shows the number, and too little supports it; `due`: it doesn't
+    show it, but the believed numbers before and behind it leave no other."""
     nothing = 0
     believed = 1
     doubtful = 2
@@ -90,8 +90,8 @@ class State(enum.IntEnum):
 
 class Number(NamedTuple):
     """What is answered of a field. `number` is that of a picture, from 0 to 79999, or of a time the pictures from the
-    disc's beginning, 30 (NTSC) or 25 (PAL) to a second; None where `state` is nothing. A state of a later library, which
-    this module doesn't know, is its number."""
+    disc's beginning, 30 (NTSC) or 25 (PAL) to a second; None where `state` is `nothing`. A state of a later library,
+    which this module doesn't know, is its number."""
     number: Optional[int]
     state: State
 
@@ -171,20 +171,21 @@ def draw_line(word, system, black, white):
 
 def judge(readings, system, counted=Counted.pictures, pace=Pace.find):
     """The `Number` of each field, as a list: which number of its disc it shows, judged by the 24 fields before it and
-    the 24 behind it. `readings` are those of the fields, one after the other: a `Stream`; `FieldReadings`, read or made,
-    in anything that a loop goes over; or readings as the library writes them (`Stream.packed`), in bytes or an array.
-    `counted` and `pace` are a `Counted` and a `Pace`, or their names.
+    the 24 behind it. `readings` are those of the fields, one after the other: a `Stream`; `FieldReadings`, read or
+    made, in anything that a loop goes over; or readings as the library writes them (`Stream.packed`), in bytes or an
+    array. `counted` and `pace` are a `Counted` and a `Pace`, or their names.
 
-    Where the disc ran on around a field, and what was misread there weighs less than 10 (2 of a line of pass 1, 1 of one
-    of pass 2), a believed number is the one that was recorded. No minutes without their seconds are known, no lost fields
-    are seen, and no chapters are judged: `ldvbi-side` does that."""
+    Where the disc ran on around a field, and what was misread there weighs less than 10 (2 for a line of pass 1, 1 for
+    one of pass 2), a believed number is the one that was recorded. The judge knows no minutes without their seconds,
+    sees no lost fields, and judges no chapters: `ldvbi-side` does all of that."""
     call = judging_library().ldvbi_judge
     asked = system_number(system), counted_number(counted), pace_number(pace)
     check(call(*asked, None, 0, None, 0, None, 0))  # of no field the library tests these alone
     packed = _packed(readings)
     count, rest = divmod(len(packed), PACKED_FIELD.size)
     if rest:
-        raise ValueError("packed readings have %d bytes to a field, and these are %d" % (PACKED_FIELD.size, len(packed)))
+        raise ValueError("packed readings have %d bytes to a field, and these are %d"
+                         % (PACKED_FIELD.size, len(packed)))
     seen = ctypes.create_string_buffer(_SIGHTINGS_BYTES * count)
     numbers = ctypes.create_string_buffer(_PACKED_NUMBER.size * count)
     check(call(*asked, packed, count, seen, count, numbers, count))

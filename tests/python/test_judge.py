@@ -196,7 +196,8 @@ class Refusals(unittest.TestCase):
             (("PAL", None), counted), (("PAL", 0), counted), (("PAL", 3, 9), counted), (("PAL", 1.0), counted),
             (("PAL", "times", "slow"), pace), (("PAL", 1, 0), pace), (("PAL", 2, 4), pace), (("PAL", 2, None), pace),
         ]
-        rows += [(("PAL", wide), counted) for wide in WIDE + (257,)] + [(("PAL", 1, wide), pace) for wide in WIDE + (257,)]
+        for wide in WIDE + (257, 258, 259):
+            rows += [(("PAL", wide), counted), (("PAL", 1, wide), pace)]
         for words, text in rows:
             with self.subTest(words):
                 for readings in ([], [5]):  # what is asked for is looked at first
