@@ -80,7 +80,7 @@ class FieldReadings(NamedTuple):
 
 class State(enum.IntEnum):
     """What the number of a field is worth. `nothing`: the field shows none, and none is due; `believed`: it shows the
-    number, and enough around supports it; `doubtful`: it shows the number, and too little supports it; `due`: it doesn't
+    number, and enough around supports it; `doubtful`: it shows the number, and too little does; `due`: it doesn't
     show it, but the believed numbers before and behind it leave no other."""
     nothing = 0
     believed = 1
