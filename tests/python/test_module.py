@@ -196,8 +196,9 @@ class Library(unittest.TestCase):
         call = "unsigned ldvbi_judge(unsigned system, unsigned counted, unsigned pace, const void *readings, " \
                "size_t count, void *seen, size_t seen_count, unsigned *numbers, size_t number_count) " \
                "{ if (count) { numbers[0] = 5; numbers[1] = %d; } return count ? %d : 0; }\n"
-        code = 'import ldvbi; print(*ldvbi.judge(bytes(24), "NTSC")[0])'
-        for state, said in ((4, "5 4"), (2 ** 31 - 1, "5 2147483647"), (3, "5 3"), (0, "None 0")):
+        code = 'import ldvbi; print(tuple(ldvbi.judge(bytes(24), "NTSC")[0]))'
+        for state, said in ((4, "(5, 4)"), (2 ** 31 - 1, "(5, 2147483647)"), (3, "(5, <State.due: 3>)"),
+                            (0, "(None, <State.nothing: 0>)")):
             self.assertEqual(run(code, LDVBI_LIBRARY=self.other(1, 0, 0, call % (state, 0))), said + "\n")
         said = run(code, LDVBI_LIBRARY=self.other(1, 0, 0, call % (0, 9))).split("\n")
         self.assertEqual(said[-2], "ValueError: the library's status is 9")
