@@ -108,6 +108,10 @@ class Premises(unittest.TestCase):
         self.assertEqual([truth.has_stood_still(field) for field in (33, 34, 35)], [True, False, True])
         self.assertEqual([truth.is_promised(field) for field in (32, 34)], [True, False])
         self.assertFalse(truth_of(rows, fields_of_pictures([7] * 30), Pace.film).is_promised(32))
+        rows[20:23] = "- F00009 F00009*", BLANK, "- F00009 -"
+        self.assertTrue(truth_of(rows, fields_of_pictures([7] * 30)).is_promised(32))  # what was misread weighs 5
+        rows[24] = "- - F00009*"
+        self.assertFalse(truth_of(rows, fields_of_pictures([7] * 30)).is_promised(32))  # and 6
 
     def test_what_was_misread_weighs(self):
         """Two wrong words of pass 1 on either of two fields are 8, one of pass 2 makes 9, and one more 10."""
@@ -166,11 +170,19 @@ class Planted(unittest.TestCase):
                          "said to have 16 (it runs on)")
 
     def test_due(self):
-        def change(numbers):
-            numbers[20] = Number(11, State.due)
-        counts, _ = self.counts(change)
-        self.assertEqual([counts["due by the judge, wrong"], counts["due by the judge, wrong where promised"]], [1, 1])
-        self.assertNotIn("wrong by the judge", counts)
+        """In field 20, where a number is due; in field 21, which has none; and behind much that was misread."""
+        def put(field):
+            def change(numbers):
+                numbers[field] = Number(11, State.due)
+            return change
+        misread = pictures(range(40))
+        for field in (12, 14, 16):
+            misread[field] = "- %s %s" % (picture(500), picture(500))
+        for field, rows, promised in ((20, None, 1), (21, None, 0), (20, misread, 0)):
+            counts, _ = self.counts(put(field), rows)
+            self.assertEqual([counts.get(name, 0) for name in (
+                "due by the judge, wrong", "due by the judge, wrong where promised", "wrong by the judge")],
+                [1, promised, 0])
 
     def test_where_nothing_is_promised(self):
         rows = pictures(range(40))
