@@ -64,7 +64,7 @@ _ARGUMENTS = {
     "ldvbi_read_fields": _SETUP + [_MEMORY, _SIZE, _MEMORY, _SIZE],
     "ldvbi_draw_line": _SETUP + [_NUMBER, _MEMORY, _SIZE],
 }
-# Those of a call that libraries of the first days lack
+# Those of a call that an older library may lack
 _JUDGE = {"ldvbi_judge": [_NUMBER] * 3 + [_MEMORY, _SIZE] * 3}
 
 

@@ -1,6 +1,6 @@
 #!/usr/bin/env python3
-"""The second table of docs/SIDES.md: the library's judge beside the package's analysis, on simulated sides. Whatever is
-said of a field is held against the truth, and where the judge promises to be right, it has to be.
+"""The tables of docs/SIDES.md that have the library's judge beside the package: both on simulated sides. Whatever they
+say of a field is held against the truth, and where the judge promises to be right, it has to be.
 
 usage: judged.py FROM TO [--kind KIND]... [--show N]     the seeds FROM to TO - 1
 
@@ -182,8 +182,8 @@ def judged(seed, kind=None, tell=lambda text: None, count=None):
 
 def print_table(totals):
     for (kind, how), counts in sorted(totals.items()):
-        print("%s, pace %s: %s" % (kind, how, ", ".join("%s %d" % (name, counts[name]) for name in NAMES
-                                                        if counts[name])))
+        told = ["%s %d" % (name, counts[name]) for name in NAMES if counts[name] or name.endswith("where promised")]
+        print("%s, pace %s: %s" % (kind, how, ", ".join(told)))
 
 
 def main():
