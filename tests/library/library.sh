@@ -145,6 +145,7 @@ for seek in ./seek "python3 $top/examples/seek.py"; do
     check "$seek: no such time" prints 1 'not found' $seek clv.tbc $on_clv 0:02:00.00
     check "$seek: the number on line 18 alone" prints 0 'field 5' $seek stops.tbc $on_cav 3
     check "$seek: the number on line 17 alone" prints 0 'field 7' $seek stops.tbc $on_cav 4
+    check "$seek: lines 17 and 18 differ, the one" prints 1 'not found' $seek stops.tbc $on_cav 2
     check "$seek: lines 17 and 18 differ, the other" prints 1 'not found' $seek stops.tbc $on_cav 7
     check "$seek: a mark on line 17" prints 0 'field 1' $seek marks.tbc $on_clv 0:00:00.00
     check "$seek: minutes that differ" prints 1 'not found' $seek marks.tbc $on_clv 0:00:00.02
@@ -184,9 +185,6 @@ empty.tbc NTSC 51200 16384 3
 cav.tbc NTSC 16384 51200
 WORDS
 done
-check 'seek: lines 17 and 18 differ, the one' prints 1 'not found' ./seek stops.tbc $on_cav 2
-check 'seek.py: lines 17 and 18 differ, the one that fits' prints 0 'field 3' \
-    python3 "$top/examples/seek.py" stops.tbc $on_cav 2
 check 'seek: what is refused is said' refuses 'seek: black is not below white, or one of them is above 65535' \
     ./seek cav.tbc NTSC 51200 16384 3
 check 'seek: a system is named exactly' refuses 'seek: system is neither NTSC nor PAL' ./seek cav.tbc pal 1 2 3
