@@ -3,6 +3,10 @@
 that of a CLV disc by its time, as 0:59:29.07 for picture 7 of its second. Status 0: found; 1: not found; 2: what was
 asked for can't be read, and standard error says why. It also says where the file ends inside a field.
 
+A field is found by the number that the fields around it support, or leave for it where it shows none: a misread number
+isn't found. Where no number of the whole side is supported so, as on a side of a few fields, the lines alone are
+believed, and standard error says that.
+
     PYTHONPATH=python python3 examples/seek.py side.tbc NTSC 16384 51200 12345
 """
 
@@ -10,6 +14,12 @@ import re
 import sys
 
 import ldvbi
+
+RATES = {ldvbi.System.NTSC: 30, ldvbi.System.PAL: 25}  # pictures of a CLV disc to a second
+
+
+def say(text):
+    print("seek.py: " + text, file=sys.stderr)
 
 
 def whole_number(name, text):
@@ -29,6 +39,20 @@ def wanted_codes(text):
     return ldvbi.Code(ldvbi.Kind.time, hours, minutes), ldvbi.Code(ldvbi.Kind.clv_picture, seconds, picture)
 
 
+# ---- By the fields around
+
+def judged_number(number, seconds, system):
+    """The number that is judged for these codes: of a time the pictures from the disc's beginning, or None where no
+    clock shows it."""
+    if seconds is None:
+        return number.first
+    if number.second >= 60 or seconds.second >= RATES[system]:
+        return None
+    return ((number.first * 60 + number.second) * 60 + seconds.first) * RATES[system] + seconds.second
+
+
+# ---- By a field's lines alone
+
 def number_of(field, kind):
     """What lines 17 and 18 say of this kind. Where the two differ, one was misread: then None."""
     codes = {ldvbi.classify(line.word) for line in field[1:] if line.word}
@@ -42,6 +66,19 @@ def shows(field, number, seconds):
     return seconds is None or bool(field[0].word) and ldvbi.classify(field[0].word) == seconds
 
 
+def found_field(side, number, seconds):
+    """The index of the field, from 0, or None."""
+    counted = ldvbi.Counted.pictures if seconds is None else ldvbi.Counted.times
+    numbers = ldvbi.judge(side, side.system, counted)
+    if any(one.state == ldvbi.State.believed for one in numbers):
+        wanted = judged_number(number, seconds, side.system)
+        return None if wanted is None else ldvbi.first_of(numbers, wanted)
+    place = next((place for place, field in enumerate(side) if shows(field, number, seconds)), None)
+    if place is not None:
+        say("no number of this side is supported by those around it, so this is what the lines say")
+    return place
+
+
 def main():
     if len(sys.argv) != 6:
         raise ValueError("usage: seek.py FILE NTSC|PAL BLACK WHITE NUMBER|H:MM:SS.PP")
@@ -49,19 +86,16 @@ def main():
     number, seconds = wanted_codes(text)
     with ldvbi.Stream(path, system, whole_number("black", black), whole_number("white", white)) as side:
         if side.cut_bytes:
-            print("seek.py: the last field is cut: field %d has %d of %d bytes"
-                  % (len(side) + 1, side.cut_bytes, ldvbi.field_bytes(system)), file=sys.stderr)
-        for place, field in enumerate(side, 1):
-            if shows(field, number, seconds):
-                print("field", place)
-                return 0
-    print("not found")
-    return 1
+            say("the last field is cut: field %d has %d of %d bytes"
+                % (len(side) + 1, side.cut_bytes, ldvbi.field_bytes(system)))
+        place = found_field(side, number, seconds)
+    print("not found" if place is None else "field %d" % (place + 1))
+    return 1 if place is None else 0
 
 
 if __name__ == "__main__":
     try:
         sys.exit(main())
     except (OSError, ValueError) as error:
-        print("seek.py: %s" % error, file=sys.stderr)
+        say(str(error))
         sys.exit(2)

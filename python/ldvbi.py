@@ -9,6 +9,9 @@
     side = ldvbi.Stream("side.tbc", "NTSC", 16384, 51200)
     print(len(side), side[7], side[-1], side.cut_bytes)
 
+    numbers = ldvbi.judge(side, "NTSC")
+    print(numbers[7].number, numbers[7].state, ldvbi.first_of(numbers, 12345))
+
 A line, a field or a stream is anything with the buffer protocol that holds samples of 16 bits, the low byte first, as
 ld-decode's TBC files do: a numpy array of uint16, an array of "H"; or the bytes of such samples: bytes, a mapped file,
 a memoryview of these. Items of another kind raise a ValueError, as do all arguments that can't be right, and nothing is
@@ -33,14 +36,16 @@ import os
 import stat
 import struct
 import sys
-from typing import NamedTuple
+from typing import NamedTuple, Optional
 
 from ldvbi_side.classes import Code, Format, Kind, classify, format_of
-from ldvbi_side.library import BAD_LENGTH, System, library, number_of, setup_of, system_of
+from ldvbi_side.library import (BAD_LENGTH, Counted, Pace, System, check, counted_number, judging_library, library,
+                                number_of, pace_number, setup_of, system_number, system_of)
 from ldvbi_side.samples import Samples
 
-__all__ = ["System", "Cause", "Kind", "Format", "Reading", "FieldReadings", "Code", "Stream", "line_bytes",
-           "field_bytes", "read_line", "read_rows", "read_field", "fields", "classify", "format_of", "draw_line"]
+__all__ = ["System", "Cause", "Kind", "Format", "Counted", "Pace", "State", "Reading", "FieldReadings", "Code",
+           "Number", "Stream", "line_bytes", "field_bytes", "read_line", "read_rows", "read_field", "fields",
+           "classify", "format_of", "judge", "first_of", "draw_line"]
 
 __version__ = "0.1.0"
 BLOCK = 64  # fields to a call of the library; of a mapped file the pages of so many are fetched ahead
@@ -58,8 +63,8 @@ class Cause(enum.IntEnum):
 class Reading(NamedTuple):
     """What a line shows. `pass_` is 1 for a word of the line's own levels, 2 for one of the levels without short
     glitches, 0 for no word; `column` is the first hopeless column, counted from 0, of the causes change and hold, else
-    0; `word` is the word, from 0x800000 to 0xFFFFFF, or 0. A cause of a later library, which this module doesn't know, is
-    its number."""
+    0; `word` is the word, from 0x800000 to 0xFFFFFF, or 0. A cause of a later library, which this module doesn't know,
+    is its number."""
     cause: Cause
     pass_: int
     column: int
@@ -73,8 +78,29 @@ class FieldReadings(NamedTuple):
     third: Reading
 
 
+class State(enum.IntEnum):
+    """What the number of a field is worth. `nothing`: the field shows none, and none is due; `believed`: it shows the
+    number, and enough around supports it; `doubtful`: it shows the number, and too little does; `due`: it doesn't
+    show it, but the believed numbers before and behind it leave no other."""
+    nothing = 0
+    believed = 1
+    doubtful = 2
+    due = 3
+
+
+class Number(NamedTuple):
+    """What is answered of a field. `number` is that of a picture, from 0 to 79999, or of a time the pictures from the
+    disc's beginning, 30 (NTSC) or 25 (PAL) to a second; None where `state` is `nothing`. A state of a later library,
+    which this module doesn't know, is its number."""
+    number: Optional[int]
+    state: State
+
+
 _PACKED_LINE = struct.Struct("=BBHI")  # LdvbiReading of ldvbi.h
 PACKED_FIELD = struct.Struct("=BBHIBBHIBBHI")  # LdvbiFieldReadings
+_PACKED_NUMBER = struct.Struct("=II")  # LdvbiNumber
+_SIGHTINGS_BYTES = 20  # of LdvbiSightings
+_STATES = dict(enumerate(State))
 _CAUSES = (*Cause, *range(len(Cause), 256))  # those that a later library may add stay numbers
 _SIZES = {System.NTSC: (910, 263), System.PAL: (1135, 313)}  # samples of a line, lines of a field
 
@@ -139,6 +165,64 @@ def draw_line(word, system, black, white):
     out = ctypes.create_string_buffer(size)
     setup.check(library().ldvbi_draw_line(*setup, number_of("word", word), out, size))
     return out.raw
+
+
+# ---- Judging
+
+def judge(readings, system, counted=Counted.pictures, pace=Pace.find):
+    """The `Number` of each field, as a list: which number of its disc it shows, judged by the 24 fields before it and
+    the 24 behind it. `readings` are those of the fields, one after the other: a `Stream`; `FieldReadings`, read or
+    made, in anything that a loop goes over; or readings as the library writes them (`Stream.packed`), in bytes or an
+    array. `counted` and `pace` are a `Counted` and a `Pace`, or their names.
+
+    Where the disc ran on around a field, and what was misread there weighs less than 10 (2 for a line of pass 1, 1 for
+    one of pass 2), a believed number is the one that was recorded. The judge knows no minutes without their seconds,
+    sees no lost fields, and judges no chapters: `ldvbi-side` does all of that."""
+    call = judging_library().ldvbi_judge
+    asked = system_number(system), counted_number(counted), pace_number(pace)
+    check(call(*asked, None, 0, None, 0, None, 0))  # of no field the library tests these alone
+    packed = _packed(readings)
+    count, rest = divmod(len(packed), PACKED_FIELD.size)
+    if rest:
+        raise ValueError("packed readings have %d bytes to a field, and these are %d"
+                         % (PACKED_FIELD.size, len(packed)))
+    seen = ctypes.create_string_buffer(_SIGHTINGS_BYTES * count)
+    numbers = ctypes.create_string_buffer(_PACKED_NUMBER.size * count)
+    check(call(*asked, packed, count, seen, count, numbers, count))
+    return [Number(number if state else None, _STATES.get(state, state))
+            for number, state in _PACKED_NUMBER.iter_unpack(numbers)]
+
+
+def _packed(readings):
+    """Readings as the library takes them: what is packed, and a stream, in one piece, others field by field."""
+    if isinstance(readings, Stream):
+        return b"".join(readings.packed(0, len(readings)))
+    try:
+        return bytes(memoryview(readings))
+    except TypeError:
+        pass
+    try:
+        looped = iter(readings)
+    except TypeError:
+        raise ValueError("readings are none of fields, but of the type %s" % type(readings).__name__) from None
+    return b"".join([_packed_field(number, field) for number, field in enumerate(looped)])
+
+
+def _packed_field(number, readings):
+    try:
+        first, second, third = readings
+        return PACKED_FIELD.pack(*first, *second, *third)
+    except (TypeError, ValueError, struct.error):
+        raise ValueError("readings[%d] is not three readings" % number) from None
+
+
+def first_of(numbers, number):
+    """The index, from 0, of the first field whose number is believed or due and is this one; None where there is none.
+    `numbers` are those of `judge`."""
+    for field, (known, state) in enumerate(numbers):
+        if known == number and state in (State.believed, State.due):
+            return field
+    return None
 
 
 # ---- Streams

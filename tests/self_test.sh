@@ -21,6 +21,8 @@ library|python/ldvbi_side/library.py|s/is no code word/is not a word/
 python|python/ldvbi_side/analysis.py|s/^def analyse(/def analyze(/
 python|tests/python/python.sh|s/\$3 == "python"/$1 == "side_schema"/
 python_unit|python/ldvbi_side/missing.py|s/"lost", fields/"last", fields/
+python_unit|python/ldvbi.py|s/in (State.believed, State.due)/in (State.believed,)/
+python_unit|tests/python/judged_truth.py|s/^REACH, ENOUGH, FIELD_MOST = 24,/REACH, ENOUGH, FIELD_MOST = 23,/
 python_unit|tests/python/test_cav.py|s/"after": 39, "before": 42/"after": 38, "before": 42/
 python_side|out|"vbiPass"|"vbiPaSS"
 python_side|hangs

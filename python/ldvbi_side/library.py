@@ -9,9 +9,12 @@ from typing import NamedTuple
 from .classes import whole_number
 
 ABI = 1
-BAD_SYSTEM, BAD_LEVELS, BAD_LENGTH, BAD_WORD = 1, 2, 3, 4  # statuses
+BAD_SYSTEM, BAD_LEVELS, BAD_LENGTH, BAD_WORD, BAD_COUNTED, BAD_PACE = range(1, 7)  # statuses
 
 _NO_SYSTEM = "system is neither NTSC nor PAL"
+_TEXTS = {BAD_SYSTEM: _NO_SYSTEM, BAD_WORD: "number is no code word",
+          BAD_COUNTED: "neither pictures nor times are counted",
+          BAD_PACE: "pace is neither that of video nor of film, nor to be found"}
 _MOST = 0xFFFFFFFF
 
 
@@ -19,6 +22,21 @@ class System(enum.IntEnum):
     """A television system."""
     NTSC = 1
     PAL = 2
+
+
+class Counted(enum.IntEnum):
+    """Which numbers of a disc are judged: the picture numbers of a CAV disc, or the times of a CLV disc, as pictures
+    from its beginning, 30 (NTSC) or 25 (PAL) to a second."""
+    pictures = 1
+    times = 2
+
+
+class Pace(enum.IntEnum):
+    """How long the pictures of a disc last: two fields (video), or two and three fields by turns (film on NTSC).
+    `find` is that of film where more numbers are believed by it, else that of video."""
+    video = 1
+    film = 2
+    find = 3
 
 
 # ---- Loading
@@ -35,19 +53,25 @@ def _library_file():
     return os.environ.get("LDVBI_LIBRARY") or next((place for place in places if os.path.exists(place)), name)
 
 
-def _declare(calls):
-    number, size, memory = ctypes.c_uint32, ctypes.c_size_t, ctypes.c_void_p
-    setup = [number, number, number]
-    for name, arguments in {
-            "ldvbi_abi": [],
-            "ldvbi_read_line": setup + [memory, size, memory],
-            "ldvbi_read_rows": setup + [memory, size, memory],
-            "ldvbi_read_field": setup + [memory, size, memory],
-            "ldvbi_read_fields": setup + [memory, size, memory, size],
-            "ldvbi_draw_line": setup + [number, memory, size],
-    }.items():
+_NUMBER, _SIZE, _MEMORY = ctypes.c_uint32, ctypes.c_size_t, ctypes.c_void_p
+_SETUP = [_NUMBER] * 3
+# The arguments of the calls that every library has; each of them returns a number.
+_ARGUMENTS = {
+    "ldvbi_abi": [],
+    "ldvbi_read_line": _SETUP + [_MEMORY, _SIZE, _MEMORY],
+    "ldvbi_read_rows": _SETUP + [_MEMORY, _SIZE, _MEMORY],
+    "ldvbi_read_field": _SETUP + [_MEMORY, _SIZE, _MEMORY],
+    "ldvbi_read_fields": _SETUP + [_MEMORY, _SIZE, _MEMORY, _SIZE],
+    "ldvbi_draw_line": _SETUP + [_NUMBER, _MEMORY, _SIZE],
+}
+# Those of a call that an older library may lack
+_JUDGE = {"ldvbi_judge": [_NUMBER] * 3 + [_MEMORY, _SIZE] * 3}
+
+
+def _declare(calls, arguments):
+    for name, types in arguments.items():
         call = getattr(calls, name)
-        call.restype, call.argtypes = number, arguments
+        call.restype, call.argtypes = _NUMBER, types
 
 
 @functools.lru_cache(maxsize=None)
@@ -56,13 +80,26 @@ def library():
     file = _library_file()
     try:
         calls = ctypes.CDLL(file)
-        _declare(calls)
+        _declare(calls, _ARGUMENTS)
     except (OSError, AttributeError) as error:
         raise OSError("no library to read samples with (%s): `make lib` builds it, LDVBI_LIBRARY names its file"
                       % error) from None
     if calls.ldvbi_abi() != ABI:
         raise OSError("%s has the interface %d, not %d: `make lib` builds the one that fits, LDVBI_LIBRARY names its "
                       "file" % (file, calls.ldvbi_abi(), ABI))
+    return calls
+
+
+@functools.lru_cache(maxsize=None)
+def judging_library():
+    """The library's calls, with the one that judges numbers. An OSError in one line where the library is too old for
+    that; it may read samples all the same."""
+    calls = library()
+    try:
+        _declare(calls, _JUDGE)
+    except AttributeError:
+        raise OSError("%s is too old to judge numbers, it has no ldvbi_judge: `make lib` builds a later one, "
+                      "LDVBI_LIBRARY names its file" % calls._name) from None
     return calls
 
 
@@ -75,14 +112,29 @@ def number_of(name, value):
     return number if 0 <= number <= _MOST else _MOST
 
 
+def _member_number(enumeration, value, refusal):
+    """The number of a member of an enumeration, given by it or by its name."""
+    if isinstance(value, str):
+        value = enumeration.__members__.get(value)
+    try:
+        return number_of("number", value)
+    except ValueError:
+        raise ValueError(refusal) from None
+
+
 def system_number(system):
     """The number of a system, given by it or by its name."""
-    if isinstance(system, str):
-        system = System.__members__.get(system)
-    try:
-        return number_of("system", system)
-    except ValueError:
-        raise ValueError(_NO_SYSTEM) from None
+    return _member_number(System, system, _NO_SYSTEM)
+
+
+def counted_number(counted):
+    """The number of what is counted, given by it or by its name."""
+    return _member_number(Counted, counted, _TEXTS[BAD_COUNTED])
+
+
+def pace_number(pace):
+    """The number of a pace, given by it or by its name."""
+    return _member_number(Pace, pace, _TEXTS[BAD_PACE])
 
 
 def system_of(system):
@@ -93,6 +145,12 @@ def system_of(system):
     return System(number)
 
 
+def check(status):
+    """Raises a ValueError for a status by which a call refused its arguments."""
+    if status:
+        raise ValueError(_TEXTS.get(status) or "the library's status is %d" % status)
+
+
 class Setup(NamedTuple):
     """The three numbers that a call begins with."""
     system: int
@@ -101,13 +159,10 @@ class Setup(NamedTuple):
 
     def check(self, status):
         """Raises a ValueError for a status of a call with this setup."""
-        if status == BAD_SYSTEM:
-            raise ValueError(_NO_SYSTEM)
         if status == BAD_LEVELS:
             wide = [name for name in ("black", "white") if getattr(self, name) > 65535]
             raise ValueError("%s is not from 0 to 65535" % wide[0] if wide else "black is not below white")
-        if status:
-            raise ValueError("number is no code word" if status == BAD_WORD else "the library's status is %d" % status)
+        check(status)
 
 
 def setup_of(system, black, white):

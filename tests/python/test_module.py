@@ -160,8 +160,9 @@ class Library(unittest.TestCase):
         self.assertRegex(said, r"^no library to read samples with \(.*undefined symbol: ldvbi_abi\): `make lib` builds")
         self.assertEqual(said.count("\n"), 1)
 
-    def other(self, interface, status, cause):
-        """The file of a library with this interface, whose calls return this status and write this cause."""
+    def other(self, interface, status, cause, more=""):
+        """The file of a library with this interface, whose calls return this status and write this cause; `more` is the
+        source of another call."""
         source, file = os.path.join(self.folder, "other.c"), os.path.join(self.folder, "other.so")
         with open(source, "w", encoding="ascii") as text:
             text.write("#include <stddef.h>\n#define CALL(name) unsigned name(unsigned system, unsigned black, "
@@ -169,6 +170,7 @@ class Library(unittest.TestCase):
             text.write("unsigned ldvbi_abi(void) { return %d; }\n" % interface)
             for name in ("read_line", "read_rows", "read_field", "read_fields", "draw_line"):
                 text.write("CALL(ldvbi_%s) { if (length) out[0] = %d; return %d; }\n" % (name, cause, status))
+            text.write(more)
         subprocess.run([os.environ.get("CC", "cc"), "-shared", "-fPIC", "-o", file, source], check=True)
         return file
 
@@ -180,6 +182,25 @@ class Library(unittest.TestCase):
         self.assertEqual(run(code, LDVBI_LIBRARY=self.other(1, 0, 255)), "255 [255]\n")
         self.assertEqual(run(code, LDVBI_LIBRARY=self.other(1, 0, 4)), "<Cause.hold: 4> [<Cause.hold: 4>]\n")
         said = run(code, LDVBI_LIBRARY=self.other(1, 9, 0)).split("\n")
+        self.assertEqual(said[-2], "ValueError: the library's status is 9")
+
+    def test_a_library_that_judges_nothing(self):
+        """It reads samples, and says at the call that it is too old."""
+        file = self.other(1, 0, 1)
+        code = READ + "\ntry:\n    ldvbi.judge([], 'NTSC')\nexcept OSError as error:\n    print(error)"
+        self.assertEqual(run(code, LDVBI_LIBRARY=file), "blank\n%s is too old to judge numbers, it has no ldvbi_judge: "
+                         "`make lib` builds a later one, LDVBI_LIBRARY names its file\n" % file)
+
+    def test_states_that_a_later_library_adds(self):
+        """They stay numbers, as causes do; a status is a refusal."""
+        call = "unsigned ldvbi_judge(unsigned system, unsigned counted, unsigned pace, const void *readings, " \
+               "size_t count, void *seen, size_t seen_count, unsigned *numbers, size_t number_count) " \
+               "{ if (count) { numbers[0] = 5; numbers[1] = %d; } return count ? %d : 0; }\n"
+        code = 'import ldvbi; print(tuple(ldvbi.judge(bytes(24), "NTSC")[0]))'
+        for state, said in ((4, "(5, 4)"), (2 ** 31 - 1, "(5, 2147483647)"), (3, "(5, <State.due: 3>)"),
+                            (0, "(None, <State.nothing: 0>)")):
+            self.assertEqual(run(code, LDVBI_LIBRARY=self.other(1, 0, 0, call % (state, 0))), said + "\n")
+        said = run(code, LDVBI_LIBRARY=self.other(1, 0, 0, call % (0, 9))).split("\n")
         self.assertEqual(said[-2], "ValueError: the library's status is 9")
 
     def test_another_interface(self):

@@ -1,0 +1,203 @@
+"""The library's judge beside the package's analysis on a few simulated sides, none of which may have a wrong answer
+where the judge promises to be right; and that the tool which measures this finds one that has been put there."""
+
+import types
+import unittest
+from collections import Counter
+
+import ldvbi
+from discs import BLANK, film, picture, pictures, plain
+from judged import Judged, Package, judged, packed_of
+from judged_truth import JudgedTruth
+from ldvbi import Counted, Number, Pace, State
+from ldvbi_side.analysis import analyse
+from simulate import KINDS, PLAYED
+
+# of each kind of PLAYED how many pictures two sides have
+PICTURES = {"skips": None, "worn": 300, "swapped": 200, "speeds": 1000, "joined": 150, "losses": 600, "restarts": 150}
+
+
+class Beside(unittest.TestCase):
+    """Two sides of each kind of KINDS, and of each other kind."""
+
+    @classmethod
+    def setUpClass(cls):
+        cls.totals, cls.kinds, cls.told = {"given": Counter(), "found": Counter()}, {}, []
+        sides = [(seed, None, None) for seed in range(2000, 2014)]
+        sides += [(seed, kind, PICTURES[kind]) for kind in PLAYED for seed in range(2)]
+        for seed, kind, count in sides:
+            kind, counts = judged(seed, kind, cls.told.append, count)
+            cls.kinds.setdefault(kind, Counter()).update(counts["given"])
+            for how, one in counts.items():
+                cls.totals[how].update(one)
+
+    def test_nothing_is_wrong_where_the_promise_speaks(self):
+        for how, counts in self.totals.items():
+            wrong = {name: count for name, count in counts.items() if name.endswith("where promised") and count}
+            self.assertEqual(wrong, {}, (how, self.told))
+        self.assertGreater(self.totals["given"]["promised"], 0.8 * self.totals["given"]["right"])
+
+    def test_each_kind(self):
+        self.assertEqual({kind: counts["sides"] for kind, counts in self.kinds.items()},
+                         dict.fromkeys((*KINDS, *PLAYED), 2))
+        for kind, counts in self.kinds.items():
+            if kind == "clv-minutes":  # which aren't judged
+                self.assertEqual([name for name, count in counts.items() if count], ["sides", "fields"])
+                continue
+            for name in ("right by both", "promised", "seeks, found by the judge"):
+                self.assertGreater(counts[name], 0, (kind, name))
+
+    def test_numbers(self):
+        """Both believe nearly all that is right. What the package alone believes are times of which few have their
+        minute, and numbers at another speed."""
+        counts = self.totals["given"]
+        self.assertGreater(counts["right by both"], 20100)
+        usual = sum((one for kind, one in self.kinds.items() if kind not in ("skips", "speeds")), Counter())
+        self.assertGreaterEqual(usual["right by both"], usual["right"] - 50)
+        self.assertGreater(counts["due by the judge, right"], 800)
+        for name in ("wrong by the judge", "due by the judge, wrong"):
+            self.assertEqual(counts[name], 0, self.told)
+
+    def test_seeks(self):
+        """No seek by the judge answers a field of another number, and many by the lines alone do."""
+        counts = self.totals["given"]
+        for asked, least, least_wrong in (("seeks", 22000, 10), ("seeks of misread ones", 60, 30)):
+            self.assertGreater(counts[asked], least)
+            self.assertGreater(counts[asked + ", wrong by the lines"], least_wrong)
+            self.assertEqual(counts[asked + ", wrong by the judge"], 0, self.told)
+        self.assertGreater(counts["seeks, found by the judge"], counts["seeks, found by the lines"])
+
+
+def truth_of(rows, numbers, pace=Pace.video):
+    """The truth of a side of pictures with these rows, whose fields have these numbers on the disc."""
+    side = types.SimpleNamespace(layout="cav-pal", numbers=numbers)
+    return JudgedTruth(side, plain(rows), Counted.pictures, pace)
+
+
+def fields_of_pictures(numbers):
+    return [one for number in numbers for one in (number, None)]
+
+
+class Premises(unittest.TestCase):
+    """Where the disc ran on or stood still, and what was misread weighs, by hand."""
+
+    def test_a_disc_that_runs_on(self):
+        truth = truth_of(pictures(range(40)), fields_of_pictures(range(40)))
+        self.assertTrue(all(truth.has_run_on(field) and truth.wrong_weight(field) == 0 for field in range(80)))
+        # in field 1 nothing can be believed, since no field with a number is an even number of fields away
+        self.assertEqual([truth.is_promised(field) for field in (0, 1, 40)], [True, True, True])
+
+    def test_a_jump(self):
+        """Behind field 39 the player skipped: fields 38 and 40 are the last and the first with a number there."""
+        numbers = [*range(20), *range(30, 50)]
+        truth = truth_of(pictures(numbers), fields_of_pictures(numbers))
+        self.assertEqual([field for field in range(80) if not truth.has_run_on(field)], list(range(16, 63)))
+
+    def test_film(self):
+        rows, numbers = film(range(1, 21)), []
+        for number in range(1, 21):
+            numbers += [number] + [None] * (1 + number % 2)
+        self.assertTrue(all(truth_of(rows, numbers, Pace.film).has_run_on(field) for field in range(50)))
+        self.assertFalse(truth_of(rows, numbers).has_run_on(25))
+        numbers[28], numbers[29] = None, numbers[28]  # 12, the second of a pair, a field late
+        self.assertFalse(truth_of(rows, numbers, Pace.film).has_run_on(25))
+
+    def test_a_still(self):
+        rows = pictures([7] * 30)
+        truth = truth_of(rows, fields_of_pictures([7] * 29 + [8]))
+        self.assertEqual([truth.has_stood_still(field) for field in (33, 34, 35)], [True, False, True])
+        self.assertEqual([truth.is_promised(field) for field in (32, 34)], [True, False])
+        self.assertFalse(truth_of(rows, fields_of_pictures([7] * 30), Pace.film).is_promised(32))
+        rows[20:23] = "- F00009 F00009*", BLANK, "- F00009 -"
+        self.assertTrue(truth_of(rows, fields_of_pictures([7] * 30)).is_promised(32))  # what was misread weighs 5
+        rows[24] = "- - F00009*"
+        self.assertFalse(truth_of(rows, fields_of_pictures([7] * 30)).is_promised(32))  # and 6
+
+    def test_what_was_misread_weighs(self):
+        """Two wrong words of pass 1 on either of two fields are 8, one of pass 2 makes 9, and one more 10."""
+        rows = pictures(range(40))
+        for field, words in ((30, "- F09999 F09999"), (40, "- F08888 F08888"), (54, "- F00027 F00077*")):
+            rows[field] = words
+        truth = truth_of(rows, fields_of_pictures(range(40)))
+        self.assertEqual([truth.wrong_weight(field) for field in (29, 30, 54, 55, 64, 65, 78, 79)],
+                         [8, 9, 9, 5, 5, 1, 1, 0])
+        self.assertEqual((truth.is_promised(30), truth.misread), (True, {9999, 8888, 77}))
+        rows[31] = "- - F00005*"
+        truth = truth_of(rows, fields_of_pictures(range(40)))
+        self.assertEqual([truth.wrong_weight(30), truth.is_promised(30)], [10, False])
+
+
+class Planted(unittest.TestCase):
+    """A wrong answer is found, and whether the promise speaks of it."""
+
+    def counts(self, change, rows=None):
+        """What is counted where this has changed the answers of 40 pictures, of which one is damaged."""
+        numbers = list(range(40))
+        rows = rows or pictures(numbers)
+        rows[20] = BLANK
+        fields = plain(rows)
+        known = ldvbi.judge(packed_of(fields), "PAL", "pictures", "video")
+        change(known)
+        told = []
+        truth, package = truth_of(rows, fields_of_pictures(numbers)), Package(fields, analyse(fields))
+        found = Judged(truth, known, package, told.append)
+        return {name: count for name, count in found.counts.items() if count}, told
+
+    def test_as_it_is(self):
+        counts, told = self.counts(lambda numbers: None)
+        self.assertEqual((counts, told), ({
+            "sides": 1, "fields": 80, "right": 39, "promised": 39, "right by both": 39, "due by the judge, right": 1,
+            "due by the package, right": 1, "seeks": 40, "seeks, found by the judge": 40,
+            "seeks, found by the package": 40, "seeks, found by the lines": 39}, []))
+
+    def test_believed(self):
+        def change(numbers):
+            numbers[30] = Number(14, State.believed)
+        counts, told = self.counts(change)
+        self.assertEqual([counts.get(name, 0) for name in (
+            "wrong by the judge", "wrong by the judge where promised", "right by the package alone",
+            "seeks, found by the judge")], [1, 1, 1, 39])
+        self.assertEqual(told, [
+            "wrong by the judge where promised: field 31 has 15 and is said to have 14 (it runs on)"])
+
+    def test_sought(self):
+        def change(numbers):
+            numbers[8] = Number(16, State.believed)
+        counts, told = self.counts(change)
+        for name in ("seeks, wrong by the judge", "seeks, wrong by the judge where promised"):
+            self.assertEqual(counts[name], 1)
+        self.assertEqual(told[-1], "seeks, wrong by the judge where promised: 16 is asked for, field 9 has 4 and is "
+                         "said to have 16 (it runs on)")
+
+    def test_due(self):
+        """In field 20, where a number is due; in field 21, which has none; and behind much that was misread."""
+        def put(field):
+            def change(numbers):
+                numbers[field] = Number(11, State.due)
+            return change
+        misread = pictures(range(40))
+        for field in (12, 14, 16):
+            misread[field] = "- %s %s" % (picture(500), picture(500))
+        for field, rows, promised in ((20, None, 1), (21, None, 0), (20, misread, 0)):
+            counts, _ = self.counts(put(field), rows)
+            self.assertEqual([counts.get(name, 0) for name in (
+                "due by the judge, wrong", "due by the judge, wrong where promised", "wrong by the judge")],
+                [1, promised, 0])
+
+    def test_where_nothing_is_promised(self):
+        rows = pictures(range(40))
+        for field in (10, 12, 14):
+            rows[field] = "- %s %s" % (picture(500), picture(500))
+
+        def change(numbers):
+            numbers[30] = Number(500, State.believed)
+        counts, told = self.counts(change, rows)
+        self.assertEqual([counts.get(name, 0) for name in (
+            "wrong by the judge", "wrong by the judge where promised", "seeks of misread ones, wrong by the judge",
+            "seeks of misread ones, wrong by the judge where promised", "seeks of misread ones, wrong by the lines")],
+            [1, 0, 1, 0, 1])
+        self.assertIn("wrong by the judge: field 31 has 15 and is said to have 500 (wrong weight 12)", told)
+
+
+if __name__ == "__main__":
+    unittest.main()
