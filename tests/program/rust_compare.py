@@ -8,6 +8,7 @@ many runs there were, and of those that differ how many there are and the first 
 import ctypes
 import pathlib
 import random
+import struct
 import subprocess
 import sys
 import tempfile
@@ -202,9 +203,54 @@ def compare_metadata(programs, choose, count):
         yield words + [data], programs.run(words)
 
 
-class Reading(ctypes.Structure):
-    _fields_ = [("cause", ctypes.c_uint8), ("pass_", ctypes.c_uint8), ("column", ctypes.c_uint16),
-                ("word", ctypes.c_uint32)]
+class At:
+    """A place in what a call writes, behind so many bytes."""
+
+    def __init__(self, count):
+        self.bytes = count
+
+
+def decimal(number):
+    """A number whose hexadecimal digits are these decimal ones."""
+    return int(str(number), 16)
+
+
+def random_readings(choose):
+    """The readings of a side's fields: a disc that runs on, with jumps, gaps and misread words."""
+    times, film, both = choose.random() < 0.4, choose.random() < 0.3, choose.random() < 0.2
+    number = choose.choice([0, 1, 50, 1795, 79950, choose.randrange(79999)])
+    readings = bytearray()
+    for field in range(choose.choice([0, 1, 2, 24, 25, 49, 50, choose.randrange(150)])):
+        first = field % 5 in (0, 2) if film else field % 2 == 0
+        number += first
+        number += choose.random() < 0.01 and choose.randrange(-3, 30)
+        second = number // 30
+        words = [0, 0xF00000 | decimal(number % 80000), 0xF80000 | decimal(number % 80000)]
+        if times:
+            words = [0x80E000 + (10 + second % 60 // 10 << 16) + (second % 10 << 8) + decimal(number % 30),
+                     0xF0DD00 + (second // 3600 % 10 << 16) + decimal(second // 60 % 60)]
+            words.append(words[1])
+        for line, word in enumerate(words):
+            word *= first or both
+            if choose.random() < 0.15:
+                word = choose.choice([0, 0, word ^ 1 << choose.randrange(24), 0x801DDD, 0x88FFFF, 0x80EEEE, 0x82CFFF,
+                                      0x87FFFF, choose.randrange(2 ** 32)])
+            passed = choose.choice([1, 1, 1, 2, choose.randrange(256)]) if word else 0
+            readings += struct.pack("<BBHI", choose.randrange(5), passed, line, word)
+    return bytes(readings)
+
+
+def compare_judge(call, choose):
+    """A side judged, and a search in answers of any kind."""
+    number, size = ctypes.c_uint32, ctypes.c_size_t
+    readings = random_readings(choose)
+    count = len(readings) // 24
+    off = (choose.random() < 0.05) * choose.randrange(3)
+    system, counted, pace = (choose.choice([*fit, *fit, *fit, *fit, 0, 4, 257]) for fit in ((1, 2), (1, 2), (1, 2, 3)))
+    yield call("ldvbi_judge", number(system), number(counted), number(pace), readings, size(count), ..., size(count),
+               At(20 * count), size(count + off), room=28 * count + 16)
+    numbers = b"".join(struct.pack("<II", choose.randrange(4), choose.randrange(6)) for _ in range(count))
+    yield call("ldvbi_first_of", numbers, size(count), number(choose.randrange(4)))
 
 
 def compare_library(paths, choose, count):
@@ -215,8 +261,9 @@ def compare_library(paths, choose, count):
         def answer(library):
             written = ctypes.create_string_buffer(b"\xa5" * room, room)
             function = getattr(library, name)
-            function.restype = ctypes.c_size_t if name in SIZES else ctypes.c_uint32
-            done = function(*[written if argument is Ellipsis else argument for argument in arguments])
+            function.restype = ctypes.c_size_t if name in LONG else ctypes.c_uint32
+            places = {At: lambda at: ctypes.byref(written, at.bytes), type(...): lambda _: written}
+            done = function(*[places.get(type(argument), lambda same: same)(argument) for argument in arguments])
             return done, written.raw
         return (name, *arguments), [answer(library) for library in libraries]
 
@@ -249,10 +296,12 @@ def compare_library(paths, choose, count):
             yield call("ldvbi_read_field", *first, field, size(len(field)), ..., room=24)
             count_of = choose.choice([1, 2, 3, 2 ** 40])
             yield call("ldvbi_read_fields", *first, field * 2, size(2 * len(field)), ..., size(count_of), room=72)
+        yield from compare_judge(call, choose)
     yield call("ldvbi_read_fields", number(1), number(1), number(2), None, size(0), None, size(0))
 
 
 SIZES = ("ldvbi_line_samples", "ldvbi_line_bytes", "ldvbi_lines", "ldvbi_field_bytes")
+LONG = (*SIZES, "ldvbi_first_of")
 PARTS = {"words": compare_words, "streams": compare_streams, "rows": compare_rows, "metadata": compare_metadata}
 
 
