@@ -203,8 +203,8 @@ static size_t first_field(const Side *side, const Wanted *wanted, const Room *ro
     return field;
 }
 
-/* Reads and judges the side, at the pace that is found: that of video, or that of film, whose pictures last two and three
- * fields by turns. */
+/* Reads and judges the side, at the pace that is found: that of video, or that of film, whose pictures last two and
+ * three fields by turns. */
 static uint32_t find(const Side *side, const Wanted *wanted, const Room *room, size_t *found) {
     uint32_t counted = wanted->number.kind == LDVBI_PICTURE ? LDVBI_PICTURES : LDVBI_TIMES;
     uint32_t status = read_side(side, room->readings);

@@ -1,6 +1,7 @@
-/* Judges the numbers of sides that are written as text (library_judging.h), and compares the answers with those that the
-   rule gives, worked out by hand. A number is believed where what fits it within 24 fields weighs 10 or more, or where
-   what equals it, an even number of fields away, weighs 14 or more; a line of pass 1 weighs 2, one of pass 2 weighs 1. */
+/* Judges the numbers of sides that are written as text (library_judging.h), and compares the answers with those that
+   the rule gives, worked out by hand. A number is believed where what fits it within 24 fields weighs 10 or more, or
+   where what equals it, an even number of fields away, weighs 14 or more; a line of pass 1 weighs 2, one of pass 2
+   weighs 1. It has to weigh more than another number of its field. */
 #include "library_judging.h"
 
 /* ---- Sides, and what is answered of them */

@@ -38,8 +38,8 @@ check 'seek is built' does ${CC:-cc} -std=c99 $strict -o seek "$top/examples/see
 check 'stops is built' does ${CXX:-c++} -std=c++17 $strict -o stops "$top/examples/stops.cpp" $linked
 check 'player is built' does ${CXX:-c++} -std=c++17 $strict -o player "$top/examples/player.cpp" $linked
 
-# Pictures 94 to 157, of which 100 reads 79999 and 151 reads 5, on both lines, and 110 reads 7 on one, with a stop at 100,
-# 120 and 151; and a stop with a chapter where picture 130 would have its number.
+# Pictures 94 to 157, of which 100 reads 79999 and 151 reads 5, on both lines, and 110 reads 7 on one, with a stop at
+# 100, 120 and 151; and a stop with a chapter where picture 130 would have its number.
 awk 'BEGIN {
     for (picture = 94; picture <= 157; picture++) {
         shown = picture == 100 ? 79999 : picture == 151 ? 5 : picture
