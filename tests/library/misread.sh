@@ -114,6 +114,8 @@ times 0:59:59.29 0 field 9
 times 1:00:00.00 0 field 11
 times 0:60:00.00 1 not found
 times 0:59:59.30 1 not found
+times 3 1 not found
+video 0:00:03.10 1 not found
 END
 while read -r side number ended text; do
     check "player: a search for $number of $side" prints $ended "search: $text" ./player $side.tbc $on search $number
@@ -143,6 +145,7 @@ field 115 picture 151
 4 stops' sh -c "./stops $on < video.tbc"
 check 'stops: of film' prints 0 'field 13 picture 6
 1 stops' sh -c "./stops $on < film.tbc"
+check 'stops: no field' prints 0 '0 stops' sh -c "./stops $on < empty"
 
 # Without memory for what is read and judged of 220,000 fields, of which the file has no block
 truncate -s $((478660 * 220000)) great.tbc
