@@ -184,34 +184,39 @@ static void release(Room *room) {
     free(room->numbers);
 }
 
-static int is_any_believed(const LdvbiNumber *numbers, size_t count) {
-    for (size_t i = 0; i < count; i++)
-        if (numbers[i].state == LDVBI_BELIEVED) return 1;
-    return 0;
+/* Judges the side, at the pace that is found: that of video, or that of film, whose pictures last two and three fields
+ * by turns. Says whether any number is believed. */
+static uint32_t judge(const Side *side, uint32_t counted, const Room *room, int *is_any_believed) {
+    uint32_t status = ldvbi_judge(side->system, counted, LDVBI_FIND_PACE, room->readings, side->fields, room->seen,
+                                  side->fields, room->numbers, side->fields);
+    *is_any_believed = 0;
+    for (size_t i = 0; status == LDVBI_DONE && i < side->fields; i++)
+        *is_any_believed |= room->numbers[i].state == LDVBI_BELIEVED;
+    return status;
 }
 
-/* The first field whose number is believed or due, and is the one that is wanted. A side of which no number is believed
- * is too short to be judged, or has too few: of that, and of that alone, what the lines say is taken as it is. */
-static size_t first_field(const Side *side, const Wanted *wanted, const Room *room) {
-    uint32_t number;
+/* The first field that shows what is wanted, as its lines were read. */
+static size_t first_shown(const Side *side, const Wanted *wanted, const Room *room) {
     size_t field = 0;
-    if (is_any_believed(room->numbers, side->fields)) {
-        if (!judged_number(side->system, wanted, &number)) return side->fields;
-        return ldvbi_first_of(room->numbers, side->fields, number);
-    }
     while (field < side->fields && !shows(&room->readings[field], wanted)) field++;
     return field;
 }
 
-/* Reads and judges the side, at the pace that is found: that of video, or that of film, whose pictures last two and
- * three fields by turns. */
+/* The first field whose number is believed or due, and is the one that is wanted. A side of which no number is
+ * believed, neither as a picture's nor as a time, is too short to be judged, or has too few: of that, and of that
+ * alone, what the lines say is taken as it is. */
 static uint32_t find(const Side *side, const Wanted *wanted, const Room *room, size_t *found) {
-    uint32_t counted = wanted->number.kind == LDVBI_PICTURE ? LDVBI_PICTURES : LDVBI_TIMES;
-    uint32_t status = read_side(side, room->readings);
-    if (status == LDVBI_DONE)
-        status = ldvbi_judge(side->system, counted, LDVBI_FIND_PACE, room->readings, side->fields, room->seen,
-                             side->fields, room->numbers, side->fields);
-    if (status == LDVBI_DONE) *found = first_field(side, wanted, room);
+    int is_picture = wanted->number.kind == LDVBI_PICTURE, is_judged, is_other_disc;
+    uint32_t number, status = read_side(side, room->readings);
+    if (status == LDVBI_DONE) status = judge(side, is_picture ? LDVBI_PICTURES : LDVBI_TIMES, room, &is_judged);
+    if (status != LDVBI_DONE) return status;
+    if (is_judged) {
+        if (judged_number(side->system, wanted, &number))
+            *found = ldvbi_first_of(room->numbers, side->fields, number);
+        return LDVBI_DONE;
+    }
+    status = judge(side, is_picture ? LDVBI_TIMES : LDVBI_PICTURES, room, &is_other_disc);
+    if (status == LDVBI_DONE && !is_other_disc) *found = first_shown(side, wanted, room);
     return status;
 }
 

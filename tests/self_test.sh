@@ -18,7 +18,8 @@ library|include/ldvbi.h|s/LDVBI_HOLD = 4/LDVBI_HOLD = 5/
 library|include/ldvbi.h|s/LDVBI_DUE = 3/LDVBI_DUE = 4/
 library|tests/library/library_numbers.c|s/(105) . 106..110/(106) . 106..110/
 library|tests/library/library_sightings.c|s/SEEN(1079999, 2, 1079999, 2, 0)/SEEN(1079999, 2, 1079999, 1, 0)/
-misread|examples/seek.c|s/if (is_any_believed(/if (!is_any_believed(/
+misread|examples/seek.c|s/if (is_judged) {/if (!is_judged) {/
+misread|examples/seek.c|s/ \&\& !is_other_disc//
 misread|examples/seek.c|s/seconds.second < rate/seconds.second < 100/
 misread|examples/seek.c|s/refuse(strerror(ENOMEM))/1/
 misread|examples/player.cpp|s/ \&\& number.state != LDVBI_DUE//

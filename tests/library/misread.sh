@@ -70,7 +70,7 @@ draws film << 'WORDS'
 - - -
 - F00008 F00008
 WORDS
-# A CLV disc before and behind its first hour, whose time 0:59:59.28 reads 9:59:59.29
+# A CLV disc before and behind its first hour, whose time 0:59:59.28 reads 9:59:59.29, and the last one a picture
 draws times << 'WORDS'
 8FE925 87FFFF F0DD59
 8DC0A1 87FFFF 803DDD
@@ -87,6 +87,8 @@ draws times << 'WORDS'
 8AE001 87FFFF F1DD00
 8DC0A1 87FFFF 803DDD
 8AE002 87FFFF F1DD00
+8DC0A1 87FFFF 803DDD
+8AE003 87FFFF F12345
 WORDS
 rm out
 
@@ -114,7 +116,8 @@ times 0:59:59.29 0 field 9
 times 1:00:00.00 0 field 11
 times 0:60:00.00 1 not found
 times 0:59:59.30 1 not found
-times 3 1 not found
+times 12345 1 not found
+times 1:00:00.03 1 not found
 video 0:00:03.10 1 not found
 END
 while read -r side number ended text; do
