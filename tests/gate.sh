@@ -11,9 +11,9 @@
 set -eu
 
 # What the gate tried when it last grew. With less of any it fails, so what is taken out is taken out here as well.
-crates=12
+crates=13
 unit_tests=109
-wrong_bodies=233
+wrong_bodies=287
 # Memory in kB with which the proofs and the build can run side by side
 memory_of_both=14000000
 

@@ -1,15 +1,19 @@
--- The judging of numbers, as C asks for it.
-use Rattle.std.specs.Prelude.{◌≡◌, ℕ, ◌==◌, ◌&&◌, ◌||◌, nat_le, nat_lt, ◌^◌, if◌then◌else◌, List, map, get_or}
+-- The judging of numbers, as C asks for it: first the system is looked at, then the lengths of the arrays, then what is
+-- counted, then the pace.
+use Rattle.std.specs.Prelude.{◌≡◌, ℕ, ◌==◌, ◌^◌, ◌&&◌, nat_le, nat_lt, if◌then◌else◌, List, [], ◌∷◌, slice_get}
 use Rattle.std.specs.Prelude.{Option, Some, None, Result, Ok, Err}
 use Rattle.vbi_words.specs.declared.system.System as words
 use Rattle.vbi_side.specs.declared.lines.Counted as side
 use Rattle.vbi_side.specs.declared.lines.Counted.TheVariants.{Pictures, Times}
 use Rattle.vbi_side.specs.declared.lines.Shown.{Shown}
+use Rattle.vbi_side.specs.declared.number.Number.{Number}
 use Rattle.vbi_side.specs.declared.pace.Pace as paces
 use Rattle.vbi_side.specs.declared.pace.Pace.TheVariants.{Video, Film}
 use Rattle.vbi_side.specs.declared.sighting.Sightings.{Sightings}
 use Rattle.vbi_side.specs.Found.{IsFound}
 use Rattle.vbi_side.specs.Lines.{sightings_of}
+use Rattle.vbi_side.specs.Numbers.{believed, AreAnswers}
+use Rattle.vbi_side.specs.Truth.{IsSound, IsSoundStill}
 use Rattle.vbi_c.specs.declared.fields.LdvbiFieldReadings.{LdvbiFieldReadings}
 use Rattle.vbi_c.specs.declared.judging.Judging.{Judging}
 use Rattle.vbi_c.specs.declared.judging.Asked.{Asked}
@@ -18,6 +22,8 @@ use Rattle.vbi_c.specs.declared.reading.LdvbiReading.{LdvbiReading}
 use Rattle.vbi_c.specs.declared.status.Refusal.{Refusal}
 use Rattle.vbi_c.specs.declared.status.Refusal.TheVariants.{System, Length, Counted, Pace}
 use Rattle.vbi_c.specs.Setups.{system_of}
+
+-- ---- what is asked for
 
 -- what is counted, by its number
 abbrev pub counted_of : ℕ → Option side.Counted
@@ -28,3 +34,59 @@ abbrev pub asked_of : ℕ → Option Asked
 asked_of number =
     if number == 1 then Some (Given Video)
     else (if number == 2 then Some (Given Film) else (if number == 3 then Some Found else None))
+
+-- a system with arrays that are both as long as that of the readings
+abbrev pub with_arrays : Option words.System → ℕ → ℕ → ℕ → Result words.System Refusal
+with_arrays None count seen numbers = Err System
+with_arrays (Some system) count seen numbers = if seen == count && numbers == count then Ok system else Err Length
+
+-- the same with what is counted, and the pace
+abbrev pub with_pace : Result words.System Refusal → Option side.Counted → Option Asked → Result Judging Refusal
+with_pace (Err refusal) counted asked = Err refusal
+with_pace (Ok system) None asked = Err Counted
+with_pace (Ok system) (Some counted) None = Err Pace
+with_pace (Ok system) (Some counted) (Some asked) =
+    Ok (record { system = system; counted = counted; asked = asked })
+
+-- what the numbers of a call ask for, with arrays of these lengths
+abbrev pub judging_of : ℕ → ℕ → ℕ → ℕ → ℕ → ℕ → Result Judging Refusal
+judging_of system counted pace count seen numbers =
+    with_pace (with_arrays (system_of system) count seen numbers) (counted_of counted) (asked_of pace)
+
+-- ---- what is answered
+
+-- what a line shows by its reading, of which C may have made anything: no other number than a word's is a word
+abbrev pub shown_by : LdvbiReading → Shown
+shown_by reading = record {
+  word = if nat_le (2 ^ 23) reading.word && nat_lt reading.word (2 ^ 24) then Some reading.word else None;
+  pass = reading.pass;
+}
+
+-- what a field's three lines show of its number
+abbrev pub seen_of : Judging → List LdvbiReading → Sightings
+seen_of judging (line_16 ∷ line_17 ∷ line_18 ∷ []) =
+    sightings_of judging.system judging.counted (shown_by line_16) (shown_by line_17) (shown_by line_18)
+seen_of judging other = record {
+  line_17 = record { number = 0; weight = 0 };
+  line_18 = record { number = 0; weight = 0 };
+  instead = 0;
+}
+
+-- the same of a field's readings
+abbrev pub seen_in : Judging → LdvbiFieldReadings → Sightings
+seen_in judging readings = seen_of judging readings.lines
+
+-- the pace is the one that is asked for: the one that was given, or the one that is found
+abbrev pub IsAskedPace : Asked → List Sightings → paces.Pace → Type 0
+IsAskedPace (Given given) seen pace = pace ≡ given
+IsAskedPace Found seen pace = IsFound seen pace
+
+-- the numbers are the answers of these fields at the pace that is asked for, and a believed one is the number on the
+-- disc, where the disc ran on around its field, or stood still, and little was misread there
+pub record AreJudged (asked : Asked) (seen : List Sightings) (numbers : List Number) (pace : paces.Pace) : Type 0 where
+  pub pace_is : IsAskedPace asked seen pace
+  pub answers : AreAnswers pace seen numbers
+  pub sound : (recorded : ℕ → Option ℕ) (i m n : ℕ) → slice_get numbers i ≡ Some (believed n)
+      → IsSound pace recorded seen i m → n ≡ m
+  pub sound_still : (recorded : ℕ → Option ℕ) (i m n : ℕ) → slice_get numbers i ≡ Some (believed n) → pace ≡ Video
+      → IsSoundStill recorded seen i m → n ≡ m

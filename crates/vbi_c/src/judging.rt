@@ -1,9 +1,9 @@
 //! Judging the numbers of fields.
 
-ghost use Rattle.std.specs.Prelude.{◌≡◌, ◌≢◌, ℕ, length, map, IfOk, Option, Some, slice_get};
-ghost use Rattle.vbi_side.specs.Numbers.{believed, AreAnswers, first_or};
-ghost use Rattle.vbi_side.specs.Truth.{IsSound};
-ghost use Rattle.vbi_c.specs.Judging.{counted_of, asked_of, judging_of, shown_by, seen_in, IsAskedPace};
+ghost use Rattle.std.specs.Prelude.{◌≡◌, ◌≢◌, ◌<◌, ◌≤◌, length, map, IfOk, Some, None};
+ghost use Rattle.vbi_side.specs.declared.pace.Pace as paces;
+ghost use Rattle.vbi_side.specs.Numbers.{IsFirst};
+ghost use Rattle.vbi_c.specs.Judging.{counted_of, asked_of, judging_of, shown_by, seen_in, IsAskedPace, AreJudged};
 ghost use Rattle.vbi_c.specs.Statuses.{status_of};
 
 use crate::fields::LdvbiFieldReadings;
@@ -127,8 +127,22 @@ pub extern "C" fn ldvbi_judge(
     seen: &mut [Sightings],
     numbers: &mut [Number],
 ) -> u32
+    ensures status { result ≡ status_of (judging_of system counted pace
+        (length readings.now) (length seen.old) (length numbers.old)) }
+    ensures sees { IfOk (judging_of system counted pace (length readings.now) (length seen.old) (length numbers.old))
+        (λ judging. seen.new ≡ map (seen_in judging) readings.now) }
+    ensures judges { IfOk (judging_of system counted pace (length readings.now) (length seen.old) (length numbers.old))
+        (λ judging. (pace : paces.Pace) × AreJudged judging.asked seen.new numbers.new pace) }
+    ensures unwritten { result ≢ 0 → (seen.new ≡ seen.old) × (numbers.new ≡ numbers.old) }
 {
-    match judging_of(system, counted, pace, readings.len(), seen.len(), numbers.len()) {
+    match judging_of(
+        system,
+        counted,
+        pace,
+        readings.len(),
+        seen.len(),
+        numbers.len(),
+    ) {
         Ok(judging) => {
             see_all(&judging, readings, seen);
             judge(seen, pace_for(judging.asked, seen), numbers);
@@ -142,6 +156,9 @@ pub extern "C" fn ldvbi_judge(
 /// is.
 #[unsafe(no_mangle)]
 pub extern "C" fn ldvbi_first_of(numbers: &[Number], number: u32) -> usize
+    ensures found { result < length numbers.now → IsFirst numbers.now number (Some result) }
+    ensures none { length numbers.now ≤ result
+        → (result ≡ length numbers.now) × IsFirst numbers.now number None }
 {
     match first_of(numbers, number) {
         Some(field) => field,

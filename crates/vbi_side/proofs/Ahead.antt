@@ -2,7 +2,7 @@
 use Rattle.std.proofs.lemmas.Bool.Decides.{eqb_tells}
 use Rattle.std.proofs.Math.Dec.{eqb}
 use Rattle.std.proofs.Common.{◌≡◌, ◌≢◌, ℕ, true, false, List, arith, sym, ◌∙◌, subst, inl, inr, ap}
-use Rattle.std.specs.Prelude.{Option, Some, None, slice_get, ◌⊎◌, ◌↔◌, unwrap_or}
+use Rattle.std.specs.Prelude.{Option, Some, None, slice_get, ◌⊎◌, ◌↔◌}
 use Rattle.vbi_side.specs.declared.sighting.Sighting.{Sighting}
 use Rattle.vbi_side.specs.declared.sighting.Sightings.{Sightings}
 use Rattle.vbi_side.specs.declared.pace.Pace.{Pace}

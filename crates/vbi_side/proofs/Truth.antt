@@ -1,5 +1,6 @@
 -- What was misread and what is true around a field.
-use Rattle.std.proofs.Common.{◌≡◌, ◌≢◌, ℕ, ◌+◌, ◌*◌, ◌-◌, ◌%◌, ◌<◌, ◌≤◌, Bool, true, false, List, refl, arith, ap, sym, ◌∙◌, subst, inl, inr}
+use Rattle.std.proofs.Common.{◌≡◌, ◌≢◌, ℕ, ◌+◌, ◌*◌, ◌-◌, ◌%◌, ◌<◌, ◌≤◌, Bool, true}
+use Rattle.std.proofs.Common.{false, List, refl, arith, ap, sym, ◌∙◌, subst, inl, inr}
 use Rattle.std.specs.Prelude.{Option, Some, None, slice_get, ◌⊎◌, nat_le, not, ◌&&◌, ◌==◌}
 use Rattle.std.proofs.Math.Dec.{eqb}
 use Rattle.std.proofs.lemmas.Bool.{leb-true, eqb-true}
@@ -10,8 +11,10 @@ use Rattle.vbi_side.specs.declared.pace.Pace.TheVariants.{Video, Film}
 use Rattle.vbi_side.specs.Sightings.{Shows}
 use Rattle.vbi_side.specs.Paces.{fits, stays}
 use Rattle.vbi_side.specs.Beliefs.{reach, enough, field_most, window_weight, support_of, Believed}
-use Rattle.vbi_side.specs.Truth.{IsNear, AreEven, InStep, RunsOn, StandsStill, IsSound, IsSoundStill, is_recorded, wrong_weight}
-use Rattle.vbi_side.proofs.Weights.{weight_below-narrower, weight_below-agree, weight_below-split, once, spread, weight_at-passes}
+use Rattle.vbi_side.specs.Truth.{IsNear, AreEven, InStep, RunsOn, StandsStill}
+use Rattle.vbi_side.specs.Truth.{IsSound, IsSoundStill, is_recorded, wrong_weight}
+use Rattle.vbi_side.proofs.Weights.{weight_below-narrower, weight_below-agree, weight_below-split, once}
+use Rattle.vbi_side.proofs.Weights.{spread, weight_at-passes}
 
 -- both of two tests
 both : (a b : Bool) → (a && b) ≡ true → (a ≡ true) × (b ≡ true)
@@ -26,10 +29,10 @@ and_so false b e f = e
 
 -- ---- what fits, in numbers
 
-video_fits : (i m j n : ℕ) → fits Video i m j n ≡ true → j + 2 * m ≡ i + 2 * n
+pub video_fits : (i m j n : ℕ) → fits Video i m j n ≡ true → j + 2 * m ≡ i + 2 * n
 video_fits i m j n e = eqb-true (j + 2 * m) (i + 2 * n) e
 
-film_fits : (i m j n : ℕ) → fits Film i m j n ≡ true
+pub film_fits : (i m j n : ℕ) → fits Film i m j n ≡ true
     → (2 * j + 5 * m ≤ 2 * i + 5 * n + 2) × (2 * i + 5 * n ≤ 2 * j + 5 * m + 2)
 film_fits i m j n e =
     let p = both (nat_le (2 * j + 5 * m) (2 * i + 5 * n + 2)) (nat_le (2 * i + 5 * n) (2 * j + 5 * m + 2)) e in

@@ -1,5 +1,6 @@
 -- Sums of weights over the window.
-use Rattle.std.proofs.Common.{◌≡◌, ◌≢◌, ℕ, zero, suc, ◌+◌, ◌-◌, ◌<◌, ◌≤◌, Bool, true, false, List, refl, arith, ap, ◌*◌, add-one, inl, inr}
+use Rattle.std.proofs.Common.{◌≡◌, ◌≢◌, ℕ, zero, suc, ◌+◌, ◌-◌, ◌<◌, ◌≤◌, Bool, true}
+use Rattle.std.proofs.Common.{false, List, refl, arith, ap, ◌*◌, add-one, inl, inr}
 use Rattle.std.specs.Prelude.{Option, Some, None, slice_get, if◌then◌else◌, nat_le, ◌⊎◌}
 use Rattle.std.proofs.lemmas.Bool.Decides.{leb_tells, eqb_tells}
 use Rattle.vbi_side.specs.declared.sighting.Sighting.{Sighting}
@@ -109,7 +110,11 @@ field_split : (test some rest : ℕ → Bool) (field : Option Sightings)
     → field_weight test field ≤ field_weight some field + field_weight rest field
 field_split test some rest None passes = omega arith
 field_split test some rest (Some field) passes =
-    omega (arith, sighting_split test some rest field.line_17 passes, sighting_split test some rest field.line_18 passes)
+    omega (
+      arith,
+      sighting_split test some rest field.line_17 passes,
+      sighting_split test some rest field.line_18 passes,
+    )
 
 weight_at-split : (test some rest : ℕ → ℕ → Bool) (fields : List Sightings) (i k : ℕ) → k ≤ 2 * reach
     → ((j n : ℕ) → IsNear i j → test j n ≡ true → (some j n ≡ true) ⊎ (rest j n ≡ true))

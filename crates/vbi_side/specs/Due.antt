@@ -1,5 +1,5 @@
 -- Which number is due in a field that shows none to be believed: the one that the believed ones around it leave.
-use Rattle.std.specs.Prelude.{◌≡◌, ℕ, ◌+◌, ◌-◌, ◌<◌, ◌≤◌, true, ◌⊎◌, List, Option, Some, slice_get}
+use Rattle.std.specs.Prelude.{◌≡◌, ℕ, ◌+◌, ◌-◌, ◌<◌, ◌≤◌, true, ◌⊎◌, List, Some, slice_get}
 use Rattle.vbi_side.specs.declared.sighting.Sightings.{Sightings}
 use Rattle.vbi_side.specs.declared.pace.Pace.{Pace}
 use Rattle.vbi_side.specs.Paces.{fits, Last}
@@ -19,8 +19,12 @@ pub record IsBehind (HasNumber : ℕ → ℕ → Type 0) (i j m : ℕ) : Type 0 
   pub has : HasNumber j m
   pub nearest : (k n : ℕ) → i < k → k < j → HasNumber k n → ⊥
 
--- number m in field j and number l in field k fit, and leave number n for field i between them: it lies between the two,
--- and from one of them exactly as many pictures away as the fields last
+-- the number is n, which lies between two others
+abbrev pub IsBetween : ℕ → ℕ → ℕ → ℕ → Type 0
+IsBetween low high number n = (low < n) × (n < high) × (number ≡ n)
+
+-- number m in field j and number l in field k fit, and leave number n for field i between them: it lies between the
+-- two, and from one of them exactly as many pictures away as the fields last
 pub record Leaves (pace : Pace) (j m k l i n : ℕ) : Type 0 where
   pub fit : fits pace j m k l ≡ true
   pub above : m < n
@@ -31,10 +35,14 @@ pub record Leaves (pace : Pace) (j m k l i n : ℕ) : Type 0 where
 abbrev pub ShowsInstead : List Sightings → ℕ → Type 0
 ShowsInstead fields i = (field : Sightings) × (slice_get fields i ≡ Some field) × (1 ≤ field.instead)
 
--- number n is due in field i: no number of it is believed, no other code stands there, and the nearest believed ones
--- before and behind it leave this number
+-- the nearest fields before and behind field i that have numbers leave number n for it
+abbrev pub IsLeft : (ℕ → ℕ → Type 0) → Pace → ℕ → ℕ → Type 0
+IsLeft HasNumber pace i n =
+    (j m k l : ℕ) × IsBefore HasNumber i j m × IsBehind HasNumber i k l × Leaves pace j m k l i n
+
+-- number n is due in field i: no number of it is believed, no other code stands there, and the nearest believed numbers
+-- leave this one for it
 pub record Due (pace : Pace) (fields : List Sightings) (i n : ℕ) : Type 0 where
   pub unbelieved : (m : ℕ) → Believed pace fields i m → ⊥
   pub vacant : ShowsInstead fields i → ⊥
-  pub left : (j m k l : ℕ) × IsBefore (Believed pace fields) i j m × IsBehind (Believed pace fields) i k l
-      × Leaves pace j m k l i n
+  pub left : IsLeft (Believed pace fields) pace i n

@@ -7,3 +7,4 @@ pub mod Due
 pub mod Numbers
 pub mod Found
 pub mod Truth
+pub mod Worked

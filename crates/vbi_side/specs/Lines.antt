@@ -1,7 +1,7 @@
--- The numbers that a field's lines show: on lines 17 and 18 a CAV disc has the picture's number (IEC 60857 and IEC 60856),
--- a CLV disc the hours and minutes to which the seconds and the picture of line 16 belong.
+-- The numbers that a field's lines show: on lines 17 and 18 a CAV disc has the picture's number (IEC 60857 and IEC
+-- 60856), a CLV disc the hours and minutes to which the seconds and the picture of line 16 belong.
 use Rattle.std.specs.Prelude.{ℕ, ◌+◌, ◌*◌, ◌==◌, nat_lt, ◌&&◌, ◌||◌, if◌then◌else◌, Bool, true, false, min}
-use Rattle.std.specs.Prelude.{◌≡◌, Option, Some, None, option_map}
+use Rattle.std.specs.Prelude.{Option, Some, None, option_map}
 use Rattle.vbi_words.specs.declared.system.System.{System}
 use Rattle.vbi_words.specs.declared.system.System.TheVariants.{Ntsc, Pal}
 use Rattle.vbi_words.specs.declared.outcome.Reading.{Reading}

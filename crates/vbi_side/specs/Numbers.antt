@@ -1,5 +1,5 @@
 -- What is answered of each field, and where a number is found.
-use Rattle.std.specs.Prelude.{◌≡◌, ◌↔◌, ℕ, ◌<◌, ◌≤◌, nat_le, if◌then◌else◌, ◌⊎◌, List, length, Option, Some, None, slice_get}
+use Rattle.std.specs.Prelude.{◌≡◌, ℕ, ◌<◌, nat_le, if◌then◌else◌, ◌⊎◌, List, length, Option, Some, None, slice_get}
 use Rattle.vbi_side.specs.declared.sighting.Sighting.{Sighting}
 use Rattle.vbi_side.specs.declared.sighting.Sightings.{Sightings}
 use Rattle.vbi_side.specs.declared.number.Number.{Number}
@@ -35,12 +35,17 @@ doubtful_of field = doubtful_or field.line_17 (doubtful_or field.line_18 nothing
 abbrev pub IsMarked : List Number → ℕ → ℕ → Type 0
 IsMarked answers i n = slice_get answers i ≡ Some (believed n)
 
+-- of field i: its believed number, or where there is none what it shows in doubt
+abbrev pub IsMark : Pace → List Sightings → ℕ → Number → Type 0
+IsMark pace fields i answer =
+    ((n : ℕ) × Believed pace fields i n × (answer ≡ believed n))
+    ⊎ (((n : ℕ) → Believed pace fields i n → ⊥)
+    × ((field : Sightings) × (slice_get fields i ≡ Some field) × (answer ≡ doubtful_of field)))
+
 -- each field is answered its believed number, or what it shows in doubt
-pub record AreMarked (pace : Pace) (fields : List Sightings) (answers : List Number) : Type 0 where
+pub record AreMarks (pace : Pace) (fields : List Sightings) (answers : List Number) : Type 0 where
   pub count : length answers ≡ length fields
-  pub marked : (i n : ℕ) → IsMarked answers i n ↔ Believed pace fields i n
-  pub others : (i : ℕ) (field : Sightings) → slice_get fields i ≡ Some field
-      → ((n : ℕ) → Believed pace fields i n → ⊥) → slice_get answers i ≡ Some (doubtful_of field)
+  pub each : (i : ℕ) (answer : Number) → slice_get answers i ≡ Some answer → IsMark pace fields i answer
 
 -- what is answered of field i: its believed number, else the one that is due, else what it shows in doubt
 abbrev pub IsAnswer : Pace → List Sightings → ℕ → Number → Type 0
@@ -48,7 +53,7 @@ IsAnswer pace fields i answer =
     ((n : ℕ) × Believed pace fields i n × (answer ≡ believed n))
     ⊎ ((n : ℕ) × Due pace fields i n × (answer ≡ due n))
     ⊎ (((n : ℕ) → Believed pace fields i n → ⊥) × ((n : ℕ) → Due pace fields i n → ⊥)
-        × ((field : Sightings) × (slice_get fields i ≡ Some field) × (answer ≡ doubtful_of field)))
+    × ((field : Sightings) × (slice_get fields i ≡ Some field) × (answer ≡ doubtful_of field)))
 
 -- the answers are those of the fields
 pub record AreAnswers (pace : Pace) (fields : List Sightings) (answers : List Number) : Type 0 where

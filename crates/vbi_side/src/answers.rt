@@ -2,7 +2,7 @@
 
 ghost use Rattle.std.specs.Prelude.{◌≡◌, ◌↔◌, ℕ, ◌<◌, length, Some, slice_get, Option};
 ghost use Rattle.vbi_side.specs.declared.pace.Pace.TheVariants.{Video};
-ghost use Rattle.vbi_side.specs.Numbers.{AreAnswers, AreMarked, believed};
+ghost use Rattle.vbi_side.specs.Numbers.{AreAnswers, AreMarks, IsMark, believed};
 ghost use Rattle.vbi_side.specs.Truth.{IsSound, IsSoundStill};
 
 use crate::belief::judge_field;
@@ -11,22 +11,30 @@ use crate::number::Number;
 use crate::pace::Pace;
 use crate::sighting::Sightings;
 
+/// The believed number of a field, or what it shows in doubt.
+fn marked(fields: &[Sightings], pace: Pace, field: usize) -> Number
+    requires { field < length fields.now }
+    ensures { IsMark pace fields.now field result }
+{
+    match judge_field(fields, pace, field) {
+        Some(number) => Number::believed(number),
+        None => Number::doubtful(&fields[field]),
+    }
+}
+
 /// Answers of each field its believed number, or what it shows in doubt.
 fn mark(fields: &[Sightings], pace: Pace, numbers: &mut [Number])
     requires { length numbers.old ≡ length fields.now }
-    ensures { AreMarked pace fields.now numbers.new }
+    ensures { AreMarks pace fields.now numbers.new }
 {
-    for field in 0..numbers.len() {
-        numbers[field] = match judge_field(fields, pace, field) {
-            Some(number) => Number::believed(number),
-            None => Number::doubtful(&fields[field]),
-        };
+    for field in 0..fields.len() {
+        numbers[field] = marked(fields, pace, field);
     }
 }
 
 /// Answers of each field of which no number is believed the one that is due, if one is.
 fn fill(fields: &[Sightings], pace: Pace, numbers: &mut [Number])
-    requires { AreMarked pace fields.now numbers.old }
+    requires { AreMarks pace fields.now numbers.old }
     ensures { AreAnswers pace fields.now numbers.new }
 {
     for field in 0..numbers.len() {

@@ -26,7 +26,8 @@ enum Kin {
     Stays,
 }
 
-/// Whether a number is akin to one of the field that is looked at from, which is `REACH - offset` fields behind its own.
+/// Whether a number is akin to one of the field that is looked at from, which is `REACH - offset` fields behind its
+/// own.
 fn akin(kin: Kin, number: u32, offset: usize, other: u32) -> bool
     requires { offset ≤ 2 * reach }
     ensures { (i : ℕ) → reach ≤ i + offset → result ≡ is_akin kin i number (i + offset - reach) other }
@@ -89,8 +90,8 @@ fn weight_around(fields: &[Sightings], kin: Kin, field: usize, number: u32) -> u
     weight
 }
 
-/// What supports this number in a field: the weight of the sightings within reach that fit it at the disc's pace, its own
-/// among them, or of those that are of one still with it, less 4.
+/// What supports this number in a field: the weight of the sightings within reach that fit it at the disc's pace, its
+/// own among them, or of those that are of one still with it, less 4.
 pub fn support(fields: &[Sightings], pace: Pace, field: usize, number: u32) -> u32
     requires { field < length fields.now }
     ensures { result ≡ support_of pace fields.now field number }
@@ -111,13 +112,7 @@ fn is_supported(fields: &[Sightings], pace: Pace, field: usize, number: u32) -> 
 }
 
 /// Whether another number that the field shows has less support.
-fn is_ahead(
-    fields: &[Sightings],
-    pace: Pace,
-    field: usize,
-    number: u32,
-    other: &Sighting,
-) -> bool
+fn is_ahead(fields: &[Sightings], pace: Pace, field: usize, number: u32, other: &Sighting) -> bool
     requires { field < length fields.now }
     ensures { (result ≡ true) ↔ IsAhead pace fields.now field number other.now }
 {

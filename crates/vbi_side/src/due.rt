@@ -2,12 +2,12 @@
 
 ghost use Rattle.std.specs.Prelude.{◌≡◌, ◌↔◌, ℕ, ◌<◌, ◌≤◌, ◌+◌, ◌*◌, length, Some};
 ghost use Rattle.vbi_side.specs.Beliefs.{reach, Believed};
-ghost use Rattle.vbi_side.specs.Due.{IsBefore, IsBehind, Leaves, Due};
+ghost use Rattle.vbi_side.specs.Due.{IsBefore, IsBehind, IsBetween, Leaves, IsLeft, Due};
 ghost use Rattle.vbi_side.specs.Numbers.{IsMarked};
 ghost use Rattle.vbi_side.specs.Paces.{fits, Last};
 
 use crate::belief::REACH;
-use crate::number::{BELIEVED, Number};
+use crate::number::Number;
 use crate::pace::Pace;
 use crate::sighting::Sightings;
 
@@ -29,7 +29,7 @@ fn before(numbers: &[Number], field: usize) -> Option<Place>
             return None;
         }
         let place = field - distance;
-        if numbers[place].state == BELIEVED {
+        if numbers[place].is_believed() {
             return Some(Place {
                 field: place,
                 number: numbers[place].number,
@@ -48,7 +48,7 @@ fn behind(numbers: &[Number], field: usize) -> Option<Place>
     for distance in 1..REACH + 1 {
         let place = field + distance;
         let number = numbers.get(place)?;
-        if number.state == BELIEVED {
+        if number.is_believed() {
             return Some(Place {
                 field: place,
                 number: number.number,
@@ -60,14 +60,16 @@ fn behind(numbers: &[Number], field: usize) -> Option<Place>
 
 /// Whether two numbers, of which one is in an earlier field, fit at the disc's pace.
 fn fit(pace: Pace, before: Place, behind: Place) -> bool
-    requires { behind.field ≤ before.field + 2 * reach }
+    requires order { before.field ≤ behind.field }
+    requires near { behind.field ≤ before.field + 2 * reach }
     ensures { result ≡ fits pace before.field before.number behind.field behind.number }
 {
     let (first, last) = (u64::from(before.number), u64::from(behind.number));
     let fields = (behind.field - before.field) as u64;
     match pace {
         Pace::Video => fields + 2 * first == 2 * last,
-        Pace::Film => 2 * fields + 5 * first <= 5 * last + 2 && 5 * last <= 2 * fields + 5 * first + 2,
+        Pace::Film => 2 * fields + 5 * first <= 5 * last + 2
+            && 5 * last <= 2 * fields + 5 * first + 2,
     }
 }
 
@@ -84,6 +86,17 @@ fn pictures(pace: Pace, fields: usize) -> Option<u32>
     }
 }
 
+/// This number, if it lies between those of two fields.
+fn between(before: Place, behind: Place, number: u64) -> Option<u32>
+    ensures { (n : ℕ) → (result ≡ Some n) ↔ IsBetween before.number behind.number number n }
+{
+    if u64::from(before.number) < number && number < u64::from(behind.number) {
+        Some(number as u32)
+    } else {
+        None
+    }
+}
+
 /// The number that two others leave for a field between them.
 fn left(pace: Pace, before: Place, behind: Place, field: usize) -> Option<u32>
     requires first { before.field < field }
@@ -96,15 +109,24 @@ fn left(pace: Pace, before: Place, behind: Place, field: usize) -> Option<u32>
     if !fit(pace, before, behind) {
         return None;
     }
-    let number = match pictures(pace, field - before.field) {
-        Some(pictures) => before.number.checked_add(pictures)?,
-        None => behind.number.checked_sub(pictures(pace, behind.field - field)?)?,
-    };
-    if before.number < number && number < behind.number {
-        Some(number)
-    } else {
-        None
+    if let Some(count) = pictures(pace, field - before.field) {
+        return between(before, behind, u64::from(before.number) + u64::from(count));
     }
+    let count = pictures(pace, behind.field - field)?;
+    if count > behind.number {
+        return None;
+    }
+    between(before, behind, u64::from(behind.number - count))
+}
+
+/// The number that the nearest believed ones leave for a field.
+fn left_around(numbers: &[Number], pace: Pace, field: usize) -> Option<u32>
+    requires { field < length numbers.now }
+    ensures { (n : ℕ) → (result ≡ Some n) ↔ IsLeft (IsMarked numbers.now) pace field n }
+{
+    let before = before(numbers, field)?;
+    let behind = behind(numbers, field)?;
+    left(pace, before, behind, field)
 }
 
 /// The number that is due in a field, if one is. `numbers` has at each field what is believed of it.
@@ -119,10 +141,8 @@ pub(crate) fn number_due(
     requires marked { (i n : ℕ) → IsMarked numbers.now i n ↔ Believed pace fields.now i n }
     ensures { (n : ℕ) → (result ≡ Some n) ↔ Due pace fields.now field n }
 {
-    if numbers[field].state == BELIEVED || fields[field].instead != 0 {
+    if numbers[field].is_believed() || fields[field].shows_instead() {
         return None;
     }
-    let before = before(numbers, field)?;
-    let behind = behind(numbers, field)?;
-    left(pace, before, behind, field)
+    left_around(numbers, pace, field)
 }

@@ -14,25 +14,27 @@ ghost use Rattle.vbi_side.specs.Lines.{number_from, code_in};
 ghost use Rattle.vbi_side.specs.Paces.{fits, stays};
 ghost use Rattle.vbi_side.specs.Beliefs.{enough, support_of, Believed};
 ghost use Rattle.vbi_side.specs.Due.{Due};
+ghost use Rattle.vbi_side.specs.Found.{IsFound};
 ghost use Rattle.vbi_side.specs.Numbers.{IsAnswer, IsKnown};
 ghost use Rattle.vbi_side.specs.Truth.{IsNear, RunsOn, IsSound, IsSoundStill, wrong_weight, video_disc, film_disc};
+ghost use Rattle.vbi_side.specs.Worked.{wrong_by_9, wrong_by_10};
 
-/// Where the disc ran on around a field that has a number and what was misread there weighs less than enough, a believed
-/// number is that number.
+/// Where the disc ran on around a field that has a number and what was misread there weighs less than enough, a
+/// believed number is that number.
 pub fn sound()
     ensures { (pace : Pace) (recorded : ℕ → Option ℕ) (fields : List Sightings) (i m n : ℕ)
         → IsSound pace recorded fields i m → Believed pace fields i n → n ≡ m }
 {}
 
-/// Where the player stood still around a field and what was misread there weighs 4 less than enough, a number believed at
-/// the pace of video is that of the still.
+/// Where the player stood still around a field and what was misread there weighs 4 less than enough, a number believed
+/// at the pace of video is that of the still.
 pub fn sound_still()
     ensures { (recorded : ℕ → Option ℕ) (fields : List Sightings) (i m n : ℕ)
         → IsSoundStill recorded fields i m → Believed Video fields i n → n ≡ m }
 {}
 
-/// Where the disc ran on around a field and the numbers believed within reach of it are those recorded, a number that is
-/// due there is the recorded one, if the field has one.
+/// Where the disc ran on around a field and the numbers believed within reach of it are those recorded, a number that
+/// is due there is the recorded one, if the field has one.
 pub fn due_sound()
     ensures { (pace : Pace) (recorded : ℕ → Option ℕ) (fields : List Sightings) (i m n : ℕ)
         → RunsOn pace recorded i → recorded i ≡ Some m
@@ -40,8 +42,8 @@ pub fn due_sound()
         → Due pace fields i n → n ≡ m }
 {}
 
-/// Where the disc ran on around a field that shows the number that it has, and what fits that weighs enough and more than
-/// all that was misread there, it is believed.
+/// Where the disc ran on around a field that shows the number that it has, and what fits that weighs enough and more
+/// than all that was misread there, it is believed.
 pub fn complete()
     ensures { (pace : Pace) (recorded : ℕ → Option ℕ) (fields : List Sightings) (i m : ℕ)
         → RunsOn pace recorded i → recorded i ≡ Some m → Shows (slice_get fields i) m
@@ -53,6 +55,16 @@ pub fn complete()
 pub fn discs_run()
     ensures video { (i : ℕ) → RunsOn Video video_disc i }
     ensures film { (i : ℕ) → RunsOn Film film_disc i }
+{}
+
+/// The premise of `sound` can be met, and it is sharp. With wrong readings of weight 9 around a field its number is
+/// believed. With wrong ones of weight 10 a wrong number is believed where the right one wasn't read.
+pub fn worked_sides()
+    ensures sound { IsSound Video video_disc wrong_by_9 4 2 }
+    ensures nine { wrong_weight video_disc wrong_by_9 4 ≡ 9 }
+    ensures right { Believed Video wrong_by_9 4 2 }
+    ensures ten { wrong_weight video_disc wrong_by_10 4 ≡ 10 }
+    ensures wrong { Believed Video wrong_by_10 4 102 }
 {}
 
 /// Of a field at most one number is believed.
@@ -77,6 +89,11 @@ pub fn one_answer()
 pub fn known_numbers()
     ensures { (pace : Pace) (fields : List Sightings) (i n : ℕ) (answer : Number) → IsAnswer pace fields i answer
         → IsKnown answer n ↔ (Believed pace fields i n ⊎ Due pace fields i n) }
+{}
+
+/// Of a capture one pace is found.
+pub fn one_found()
+    ensures { (fields : List Sightings) (one other : Pace) → IsFound fields one → IsFound fields other → one ≡ other }
 {}
 
 /// A number is never believed for its own field alone: another field within reach shows one that fits it, or that is of

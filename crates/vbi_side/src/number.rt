@@ -1,7 +1,7 @@
 //! The number that is answered of a field.
 
-ghost use Rattle.std.specs.Prelude.{◌≡◌};
-ghost use Rattle.vbi_side.specs.Numbers.{believed, due, doubtful_of};
+ghost use Rattle.std.specs.Prelude.{◌≡◌, ◌↔◌, true};
+ghost use Rattle.vbi_side.specs.Numbers.{believed, due, doubtful_of, IsKnown};
 
 use crate::sighting::Sightings;
 use std::mem::size_of;
@@ -66,5 +66,19 @@ impl Number {
                 state: NOTHING,
             }
         }
+    }
+
+    /// Whether the number is believed.
+    pub(crate) fn is_believed(&self) -> bool
+        ensures { (result ≡ true) ↔ (self.now.state ≡ 1) }
+    {
+        self.state == BELIEVED
+    }
+
+    /// Whether this number is the one that the field has, as believed or due.
+    pub(crate) fn is_known(&self, number: u32) -> bool
+        ensures { (result ≡ true) ↔ IsKnown self.now number }
+    {
+        self.number == number && (self.state == BELIEVED || self.state == DUE)
     }
 }

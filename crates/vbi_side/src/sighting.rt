@@ -11,8 +11,8 @@ use std::mem::size_of;
 pub struct Sighting {
     /// The picture's number, or the pictures from the disc's beginning.
     pub number: u32,
-    /// How much it weighs: 2 of a word of pass 1, 1 of a word of pass 2; 0 where the line shows no number. What is above
-    /// 2 counts as 2.
+    /// How much it weighs: 2 of a word of pass 1, 1 of a word of pass 2; 0 where the line shows no number. What is
+    /// above 2 counts as 2.
     pub weight: u32,
 }
 
@@ -30,6 +30,7 @@ pub struct Sightings {
 
 // As include/ldvbi.h has them.
 const _: () = prove!(size_of::<Sighting>() == 8);
+
 const _: () = prove!(size_of::<Sightings>() == 20);
 
 impl Sighting {
@@ -46,5 +47,14 @@ impl Sighting {
         ensures range { result ≤ 2 }
     {
         self.weight.min(2)
+    }
+}
+
+impl Sightings {
+    /// Whether a code stands there in place of a number.
+    pub(crate) fn shows_instead(&self) -> bool
+        ensures { (result ≡ true) ↔ (1 ≤ self.now.instead) }
+    {
+        self.instead != 0
     }
 }

@@ -1,0 +1,46 @@
+-- Counting the fields of which a number is believed.
+use Rattle.std.proofs.Common.{◌≡◌, ℕ, zero, suc, ◌+◌, List, length, refl, ap, sym, ◌∙◌, subst, add-one, inl, inr}
+use Rattle.std.specs.Prelude.{Option, Some, None, ◌↔◌, is_some, true, false, nat_lt, if◌then◌else◌}
+use Rattle.vbi_side.specs.declared.sighting.Sightings.{Sightings}
+use Rattle.vbi_side.specs.declared.pace.Pace.{Pace}
+use Rattle.vbi_side.specs.declared.pace.Pace.TheVariants.{Video, Film}
+use Rattle.vbi_side.specs.Beliefs.{Believed}
+use Rattle.vbi_side.specs.Found.{IsCount, IsFound}
+
+-- one more
+pub one_more : (pace : Pace) (fields : List Sightings) (i count : ℕ) (found : Option ℕ)
+    → ((n : ℕ) → (found ≡ Some n) ↔ Believed pace fields i n) → is_some found ≡ true → IsCount pace fields i count
+    → IsCount pace fields (i + 1) (count + 1)
+one_more pace fields i count None tells some counted = absurd (let clash : false ≡ true → ⊥ = λ h. cc in clash some)
+one_more pace fields i count (Some n) tells some counted =
+    subst (λ k. IsCount pace fields k (count + 1)) (sym (add-one i))
+    (inl (n, count, (tells n).0 refl, counted, add-one count))
+
+-- no more
+pub no_more : (pace : Pace) (fields : List Sightings) (i count : ℕ) (found : Option ℕ)
+    → ((n : ℕ) → (found ≡ Some n) ↔ Believed pace fields i n) → is_some found ≡ false → IsCount pace fields i count
+    → IsCount pace fields (i + 1) count
+no_more pace fields i count (Some n) tells none counted = absurd (let clash : true ≡ false → ⊥ = λ h. cc in clash none)
+no_more pace fields i count None tells none counted =
+    subst (λ k. IsCount pace fields k count) (sym (add-one i)) (inr (λ n b. clash n ((tells n).1 b), counted))
+  where
+    clash : (n : ℕ) → None ≡ Some n → ⊥
+    clash n e = cc
+
+-- ---- one count, and one pace
+
+one_count : (pace : Pace) (fields : List Sightings) (n a b : ℕ) → IsCount pace fields n a
+    → IsCount pace fields n b → a ≡ b
+one_count pace fields zero a b one other = one ∙ sym other
+one_count pace fields (suc n) a b (inl (m, fewer, believed, counted, is)) (inl (k, less, others, counts, are)) =
+    is ∙ ap suc (one_count pace fields n fewer less counted counts) ∙ sym are
+one_count pace fields (suc n) a b (inl (m, fewer, believed, counted, is)) (inr (none, counts)) =
+    absurd (none m believed)
+one_count pace fields (suc n) a b (inr (none, counted)) (inl (k, less, others, counts, are)) = absurd (none k others)
+one_count pace fields (suc n) a b (inr (none, counted)) (inr (nones, counts)) =
+    one_count pace fields n a b counted counts
+
+pub one_found : (fields : List Sightings) (one other : Pace) → IsFound fields one → IsFound fields other → one ≡ other
+one_found fields one other (video, film, videos, films, is) (v, f, vs, fs, are) =
+    is ∙ ap (λ n. if nat_lt n film then Film else Video) (one_count Video fields (length fields) video v videos vs)
+    ∙ ap (λ n. if nat_lt v n then Film else Video) (one_count Film fields (length fields) film f films fs) ∙ sym are

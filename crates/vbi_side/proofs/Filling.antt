@@ -1,0 +1,274 @@
+-- How the answers come about: marked first, then filled with what is due, from the first field on.
+use Rattle.std.proofs.Common.{◌≡◌, ◌≢◌, ℕ, ◌+◌, ◌<◌, ◌≤◌, Bool, true, false, List}
+use Rattle.std.proofs.Common.{refl, arith, ap, sym, ◌∙◌, subst, inl, inr, get_or}
+use Rattle.std.specs.Prelude.{Option, Some, None, slice_get, slice_set, length}
+use Rattle.std.specs.Prelude.{◌⊎◌, ◌↔◌, unwrap_or, nat_le, if◌then◌else◌}
+use Rattle.std.proofs.lemmas.Bool.Decides.{eqb_tells}
+use Rattle.std.proofs.lemmas.List.{length-set, get_or-set_other}
+use Rattle.std.proofs.lemmas.Grind.{get_or-set_at}
+use Rattle.std.proofs.lemmas.Option.{slice_get-get_or, slice_get_within}
+use Rattle.std.proofs.Math.Dec.{eqb}
+use Rattle.vbi_side.specs.declared.number.Number.{Number}
+use Rattle.vbi_side.specs.declared.sighting.Sightings.{Sightings}
+use Rattle.vbi_side.specs.declared.pace.Pace.{Pace}
+use Rattle.vbi_side.specs.declared.pace.Pace.TheVariants.{Video}
+use Rattle.vbi_side.specs.Sightings.{Shows}
+use Rattle.vbi_side.specs.Beliefs.{Believed}
+use Rattle.vbi_side.specs.Due.{Due}
+use Rattle.vbi_side.specs.Numbers.{nothing, believed, due, doubtful, doubtful_of, IsMarked, IsMark, AreMarks}
+use Rattle.vbi_side.specs.Numbers.{IsAnswer, AreAnswers, IsKnown}
+use Rattle.vbi_side.specs.Truth.{IsSound, IsSoundStill}
+use Rattle.vbi_side.proofs.Ahead.{one_believed}
+use Rattle.vbi_side.proofs.Truth.{sound, sound_still}
+use Rattle.vbi_side.proofs.DueLemmas.{one_due}
+
+-- ---- answers that differ
+
+state_of : (one other : Number) → one ≡ other → one.state ≡ other.state
+state_of one other e = ap (λ (n : Number). n.state) e
+
+number_of : (one other : Number) → one ≡ other → one.number ≡ other.number
+number_of one other e = ap (λ (n : Number). n.number) e
+
+-- what is in doubt is neither believed nor due
+doubtful_state : (field : Sightings) → ((doubtful_of field).state ≤ 2) × ((doubtful_of field).state ≢ 1)
+doubtful_state field = go (nat_le 1 field.line_17.weight) (nat_le 1 field.line_18.weight)
+  where
+    in_doubt : Bool → Bool → Number
+    in_doubt = λ a b. if a then doubtful field.line_17.number
+        else (if b then doubtful field.line_18.number else nothing)
+
+    go : (a b : Bool) → ((in_doubt a b).state ≤ 2) × ((in_doubt a b).state ≢ 1)
+    go true b = (omega arith, λ e. absurd (omega (arith, e)))
+    go false true = (omega arith, λ e. absurd (omega (arith, e)))
+    go false false = (omega arith, λ e. absurd (omega (arith, e)))
+
+unlike : (field : Sightings) (n : ℕ) → doubtful_of field ≡ believed n → ⊥
+unlike field n e = (doubtful_state field).1 (state_of (doubtful_of field) (believed n) e)
+
+not_due : (field : Sightings) (n : ℕ) → doubtful_of field ≡ due n → ⊥
+not_due field n e =
+    absurd (omega (arith, (doubtful_state field).0, state_of (doubtful_of field) (due n) e))
+
+apart : (m n : ℕ) → due m ≡ believed n → ⊥
+apart m n e = absurd (omega (arith, state_of (due m) (believed n) e))
+
+-- ---- marks
+
+some_is : {A : Type 0} (a b : A) → Some a ≡ Some b → a ≡ b
+some_is a b e = ap (λ o. unwrap_or o a) e
+
+-- a mark says that a number is believed just where it is
+pub mark_tells : (pace : Pace) (fields : List Sightings) (i n : ℕ) (answer : Number) → IsMark pace fields i answer
+    → (answer ≡ believed n) ↔ Believed pace fields i n
+mark_tells pace fields i n answer (inl (m, b, is)) = (
+  λ e. subst (Believed pace fields i) (number_of (believed m) (believed n) (sym is ∙ e)) b,
+  λ other. is ∙ ap believed (one_believed pace fields i m n b other),
+)
+mark_tells pace fields i n answer (inr (none, (field, at, is))) =
+    (λ e. absurd (unlike field n (sym is ∙ e)), λ b. absurd (none n b))
+
+-- a number that is believed is of a field that is there
+shown_within : (fields : List Sightings) (i n : ℕ) → Shows (slice_get fields i) n → i < length fields
+shown_within fields i n shown = go (slice_get fields i) refl shown
+  where
+    go : (field : Option Sightings) → slice_get fields i ≡ field → Shows field n → i < length fields
+    go None e shows = absurd shows
+    go (Some field) e shows = slice_get_within fields i field e
+
+pub marks_tell : (pace : Pace) (fields : List Sightings) (numbers : List Number) → AreMarks pace fields numbers
+    → (i n : ℕ) → IsMarked numbers i n ↔ Believed pace fields i n
+marks_tell pace fields numbers marks i n = (
+  λ e. (mark_tells pace fields i n (believed n) (marks.each i (believed n) e)).0 refl,
+  λ b.
+      let within : i < length numbers = omega (arith, marks.count, shown_within fields i n b.shown) in
+      let at = slice_get-get_or numbers i nothing within in
+      at ∙ ap Some ((mark_tells pace fields i n (get_or numbers i nothing)
+      (marks.each i (get_or numbers i nothing) at)).1 b),
+)
+
+-- ---- filling
+
+-- the fields before this one are answered, those from it on are marked
+pub record Filling (pace : Pace) (fields : List Sightings) (numbers : List Number) (field : ℕ) : Type 0 where
+  pub count : length numbers ≡ length fields
+  pub marked : (i n : ℕ) → IsMarked numbers i n ↔ Believed pace fields i n
+  pub done : (i : ℕ) (answer : Number) → i < field → slice_get numbers i ≡ Some answer → IsAnswer pace fields i answer
+  pub rest : (i : ℕ) (answer : Number) → field ≤ i → slice_get numbers i ≡ Some answer → IsMark pace fields i answer
+
+pub filling_begins : (pace : Pace) (fields : List Sightings) (numbers : List Number) → AreMarks pace fields numbers
+    → Filling pace fields numbers 0
+filling_begins pace fields numbers marks = record {
+  count = marks.count;
+  marked = marks_tell pace fields numbers marks;
+  done = λ i answer less at. absurd (omega (arith, less));
+  rest = λ i answer less at. marks.each i answer at;
+}
+
+pub filling_ends : (pace : Pace) (fields : List Sightings) (numbers : List Number) (field : ℕ) → length numbers ≤ field
+    → Filling pace fields numbers field → AreAnswers pace fields numbers
+filling_ends pace fields numbers field past filling = record {
+  count = filling.count;
+  each = λ i answer at. filling.done i answer (omega (arith, past, slice_get_within numbers i answer at)) at;
+}
+
+-- where nothing is due, a mark is the answer
+mark_answers : (pace : Pace) (fields : List Sightings) (i : ℕ) (answer : Number) → ((n : ℕ) → Due pace fields i n → ⊥)
+    → IsMark pace fields i answer → IsAnswer pace fields i answer
+mark_answers pace fields i answer none (inl b) = inl b
+mark_answers pace fields i answer none (inr (others, field)) = inr (inr (others, none, field))
+
+pub filling_kept : (pace : Pace) (fields : List Sightings) (numbers : List Number) (field : ℕ)
+    → ((n : ℕ) → Due pace fields field n → ⊥) → Filling pace fields numbers field
+    → Filling pace fields numbers (field + 1)
+filling_kept pace fields numbers field none filling = record {
+  count = filling.count;
+  marked = filling.marked;
+  done = λ i answer less at. elim (eqb_tells i field) [
+    | inl (t, e) ↦ mark_answers pace fields i answer (subst (λ k. (n : ℕ) → Due pace fields k n → ⊥) (sym e) none)
+        (filling.rest i answer (omega (arith, e)) at)
+    | inr (f, other) ↦ filling.done i answer (omega (arith, less, other)) at
+  ];
+  rest = λ i answer less at. filling.rest i answer (omega (arith, less)) at;
+}
+
+-- what stands in a list of which one place was written
+written : (numbers : List Number) (field i : ℕ) (number answer : Number)
+    → slice_get (slice_set numbers field number) i ≡ Some answer
+    → ((i ≡ field) × (answer ≡ number)) ⊎ ((i ≢ field) × (slice_get numbers i ≡ Some answer))
+written numbers field i number answer at = go (eqb_tells i field)
+  where
+    within : i < length numbers
+    within =
+        omega (
+          arith,
+          length-set numbers field number,
+          slice_get_within (slice_set numbers field number) i answer at,
+        )
+
+    is : get_or (slice_set numbers field number) i nothing ≡ answer
+    is = some_is (get_or (slice_set numbers field number) i nothing) answer
+        (sym (slice_get-get_or (slice_set numbers field number) i nothing
+        (omega (arith, within, length-set numbers field number))) ∙ at)
+
+    go : ((eqb i field ≡ true) × (i ≡ field)) ⊎ ((eqb i field ≡ false) × (i ≢ field))
+        → ((i ≡ field) × (answer ≡ number)) ⊎ ((i ≢ field) × (slice_get numbers i ≡ Some answer))
+    go (inl (t, e)) =
+        inl (e, sym is ∙ get_or-set_at numbers field i number nothing e (omega (arith, within, e)))
+    go (inr (f, other)) = inr (
+      other,
+      slice_get-get_or numbers i nothing within
+          ∙ ap Some (sym (get_or-set_other numbers field i number nothing other) ∙ is),
+    )
+
+-- what stands there stays where another place is written
+unwritten : (numbers : List Number) (field i : ℕ) (number answer : Number) → i ≢ field
+    → slice_get numbers i ≡ Some answer → slice_get (slice_set numbers field number) i ≡ Some answer
+unwritten numbers field i number answer other at =
+    let within = slice_get_within numbers i answer at in
+    slice_get-get_or (slice_set numbers field number) i nothing (omega (arith, within, length-set numbers field number))
+    ∙ ap Some (get_or-set_other numbers field i number nothing other
+    ∙ some_is (get_or numbers i nothing) answer (sym (slice_get-get_or numbers i nothing within) ∙ at))
+
+pub filling_due : (pace : Pace) (fields : List Sightings) (numbers : List Number) (field n : ℕ)
+    → Due pace fields field n → Filling pace fields numbers field
+    → Filling pace fields (slice_set numbers field (due n)) (field + 1)
+filling_due pace fields numbers field n is_due filling = record {
+  count = length-set numbers field (due n) ∙ filling.count;
+  marked = λ i m. (there i m, back i m);
+  done = λ i answer less at. elim (written numbers field i (due n) answer at) [
+    | inl (e, is) ↦ inr (inl (n, subst (λ k. Due pace fields k n) (sym e) is_due, is))
+    | inr (other, kept) ↦ filling.done i answer (omega (arith, less, other)) kept
+  ];
+  rest = λ i answer less at. elim (written numbers field i (due n) answer at) [
+    | inl (e, is) ↦ absurd (omega (arith, e, less))
+    | inr (other, kept) ↦ filling.rest i answer (omega (arith, less)) kept
+  ];
+}
+  where
+    there : (i m : ℕ) → IsMarked (slice_set numbers field (due n)) i m → Believed pace fields i m
+    there i m at = elim (written numbers field i (due n) (believed m) at) [
+      | inl (e, is) ↦ absurd (apart n m (sym is))
+      | inr (other, kept) ↦ (filling.marked i m).0 kept
+    ]
+
+    back : (i m : ℕ) → Believed pace fields i m → IsMarked (slice_set numbers field (due n)) i m
+    back i m b = elim (eqb_tells i field) [
+      | inl (t, e) ↦ absurd (is_due.unbelieved m (subst (λ k. Believed pace fields k m) e b))
+      | inr (f, other) ↦ unwritten numbers field i (due n) (believed m) other ((filling.marked i m).1 b)
+    ]
+
+-- ---- answers
+
+-- what is answered as believed is
+pub answer_believed : (pace : Pace) (fields : List Sightings) (i n : ℕ) (answer : Number)
+    → IsAnswer pace fields i answer → answer ≡ believed n → Believed pace fields i n
+answer_believed pace fields i n answer (inl (m, b, is)) e =
+    subst (Believed pace fields i) (number_of (believed m) (believed n) (sym is ∙ e)) b
+answer_believed pace fields i n answer (inr (inl (m, d, is))) e = absurd (apart m n (sym is ∙ e))
+answer_believed pace fields i n answer (inr (inr (none, others, (field, at, is)))) e =
+    absurd (unlike field n (sym is ∙ e))
+
+-- what is answered as due is
+pub answer_due : (pace : Pace) (fields : List Sightings) (i n : ℕ) (answer : Number)
+    → IsAnswer pace fields i answer → answer ≡ due n → Due pace fields i n
+answer_due pace fields i n answer (inl (m, b, is)) e = absurd (apart n m (sym e ∙ is))
+answer_due pace fields i n answer (inr (inl (m, d, is))) e =
+    subst (Due pace fields i) (number_of (due m) (due n) (sym is ∙ e)) d
+answer_due pace fields i n answer (inr (inr (none, others, (field, at, is)))) e = absurd (not_due field n (sym is ∙ e))
+
+-- what is believed or due is what the answer says
+pub known_numbers : (pace : Pace) (fields : List Sightings) (i n : ℕ) (answer : Number) → IsAnswer pace fields i answer
+    → IsKnown answer n ↔ (Believed pace fields i n ⊎ Due pace fields i n)
+known_numbers pace fields i n answer is = (
+  λ known. elim known [
+    | inl e ↦ inl (answer_believed pace fields i n answer is e)
+    | inr e ↦ inr (answer_due pace fields i n answer is e)
+  ],
+  back is,
+)
+  where
+    back : IsAnswer pace fields i answer → Believed pace fields i n ⊎ Due pace fields i n → IsKnown answer n
+    back (inl (m, b, e)) (inl other) = inl (e ∙ ap believed (one_believed pace fields i m n b other))
+    back (inl (m, b, e)) (inr other) = absurd (other.unbelieved m b)
+    back (inr (inl (m, d, e))) (inl other) = absurd (d.unbelieved n other)
+    back (inr (inl (m, d, e))) (inr other) = inr (e ∙ ap due (one_due pace fields i m n d other))
+    back (inr (inr (none, others, field))) (inl other) = absurd (none n other)
+    back (inr (inr (none, others, field))) (inr other) = absurd (others n other)
+
+-- a field has one answer
+pub one_answer : (pace : Pace) (fields : List Sightings) (i : ℕ) (one other : Number)
+    → IsAnswer pace fields i one → IsAnswer pace fields i other → one ≡ other
+one_answer pace fields i one other (inl (m, b, e)) is = go ((known_numbers pace fields i m other is).1 (inl b))
+  where
+    go : IsKnown other m → one ≡ other
+    go (inl f) = e ∙ sym f
+    go (inr f) = absurd ((answer_due pace fields i m other is f).unbelieved m b)
+one_answer pace fields i one other (inr (inl (m, d, e))) is = go ((known_numbers pace fields i m other is).1 (inr d))
+  where
+    go : IsKnown other m → one ≡ other
+    go (inl f) = absurd (d.unbelieved m (answer_believed pace fields i m other is f))
+    go (inr f) = e ∙ sym f
+one_answer pace fields i one other (inr (inr (none, others, (field, at, e)))) is = go is
+  where
+    go : IsAnswer pace fields i other → one ≡ other
+    go (inl (m, b, f)) = absurd (none m b)
+    go (inr (inl (m, d, f))) = absurd (others m d)
+    go (inr (inr (nones, rest, (same, there, f)))) =
+        e ∙ ap doubtful_of (some_is field same (sym at ∙ there)) ∙ sym f
+
+-- a number that is answered as believed is the recorded one
+pub answers_sound : (pace : Pace) (fields : List Sightings) (answers : List Number) → AreAnswers pace fields answers
+    → (recorded : ℕ → Option ℕ) (i m n : ℕ) → slice_get answers i ≡ Some (believed n)
+    → IsSound pace recorded fields i m → n ≡ m
+answers_sound pace fields answers are recorded i m n at is =
+    sound pace recorded fields i m n is
+    (answer_believed pace fields i n (believed n) (are.each i (believed n) at) refl)
+
+-- where the player stood still, it is that of the still
+pub answers_sound_still : (pace : Pace) (fields : List Sightings) (answers : List Number)
+    → AreAnswers pace fields answers → (recorded : ℕ → Option ℕ) (i m n : ℕ) → slice_get answers i ≡ Some (believed n)
+    → pace ≡ Video → IsSoundStill recorded fields i m → n ≡ m
+answers_sound_still pace fields answers are recorded i m n at video is =
+    sound_still recorded fields i m n is (subst (λ p. Believed p fields i n) video
+    (answer_believed pace fields i n (believed n) (are.each i (believed n) at) refl))

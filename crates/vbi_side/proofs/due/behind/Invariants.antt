@@ -1,0 +1,6 @@
+use Rattle.std.proofs.Common.{ℕ, ◌<◌, ◌+◌}
+use Rattle.vbi_side.specs.Numbers.{IsMarked}
+use Rattle.vbi_side.proofs.due.behind.Given as goal
+
+abbrev pub invariant-loop-distance : goal.invariant-loop-distance
+invariant-loop-distance l = (j n : ℕ) → l.field < j → j < l.field + l.distance → IsMarked l.numbers j n → ⊥
