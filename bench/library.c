@@ -5,18 +5,10 @@
 #include "plain.h"
 
 enum { LINES = 1024, FIELDS = 64, WORDS = 4096, DRAWN = 128, ROUNDS = 41 };
+#include "compare.h"
 
-/* What a call returns is what the rest of a program goes on with. */
 static uint8_t lines[LINES][LINE], pal_lines[LINES][PAL_LINE], *fields;
-static uint32_t words[WORDS], sum;
-
-static void done(uint32_t status)
-{
-    if (status != LDVBI_DONE) {
-        fprintf(stderr, "bench: %s\n", ldvbi_status_text(status));
-        exit(1);
-    }
-}
+static uint32_t words[WORDS];
 
 /* ---- Lines and fields */
 
@@ -162,32 +154,6 @@ static void draw_plain_lines(void)
         plain_draw(words[i], lines[i]);
         sum += sum_of(lines[i]);
     }
-}
-
-/* Nanoseconds of two ways to do the same, in turn, and the median of the rounds' ratios. */
-static void compare(const char *name, size_t count, void (*ours)(void), void (*plain)(void))
-{
-    double library[ROUNDS], beside[ROUNDS], ratios[ROUNDS];
-
-    for (size_t i = 0; i < ROUNDS; i++) {
-        uint32_t before = sum, found;
-        double begin = seconds(), middle;
-
-        ours();
-        middle = seconds();
-        found = sum - before;
-        plain();
-        beside[i] = (seconds() - middle) * 1e9 / (double)count;
-        library[i] = (middle - begin) * 1e9 / (double)count;
-        ratios[i] = library[i] / beside[i];
-        if (sum - before != 2 * found) {
-            fprintf(stderr, "bench: %s: the two differ\n", name);
-            exit(1);
-        }
-    }
-    double middle_of_ours = median(library, ROUNDS), middle_of_theirs = median(beside, ROUNDS);
-    printf("%-28s best %6.1f ns, median %6.1f; plain %6.1f, %6.1f; ratio %.2f\n", name, library[0], middle_of_ours,
-           beside[0], middle_of_theirs, median(ratios, ROUNDS));
 }
 
 /* Turns the level of so many columns in the middle of a half cell, which is about columns 436 to 450. */

@@ -2,11 +2,16 @@
 // stop. It prints the field, from 1, at which each command ends. Status 1: a command found nothing; 2: the side can't
 // be read so, and standard error says why. It also says where the file ends inside a field.
 //
+// A picture's number is one that the library believes by the fields around it, or that is due between such fields, and
+// never one that was misread. What a chapter's field shows is taken as it is.
+//
 //     c++ -std=c++17 -o player player.cpp -lldvbi
 //     ./player side.tbc NTSC 16384 51200 search 12345 play chapter 3 play
+#include <algorithm>
 #include <cstdint>
 #include <cstdlib>
 #include <fcntl.h>
+#include <functional>
 #include <iostream>
 #include <ldvbi.h>
 #include <optional>
@@ -15,6 +20,7 @@
 #include <sys/mman.h>
 #include <sys/stat.h>
 #include <unistd.h>
+#include <vector>
 
 namespace {
 
@@ -64,6 +70,7 @@ public:
     ~Side() { munmap(const_cast<std::uint8_t *>(bytes_), fields_ * field_bytes_); }
 
     std::size_t fields() const { return fields_; }
+    std::uint32_t system() const { return system_; }
 
     LdvbiFieldReadings read(std::size_t field) const {
         const std::size_t line = ldvbi_line_bytes(system_);
@@ -98,25 +105,80 @@ bool has_stop(const LdvbiFieldReadings &field) {
     return false;
 }
 
-// The first field with this number, where numbers rise along the side: by halving, in some 20 looks. A number that was
+// The numbers of a side's pictures, of which those around the field that is asked for are judged.
+class Pictures {
+public:
+    explicit Pictures(const Side &side) : side_(side), are_judged_(is_any_believed()) {}
+
+    // The number that is believed of a field, or due there. A side of which no number is believed is too short to be
+    // judged, or has too few: of that, and of that alone, what the lines say is taken as it is.
+    std::optional<std::uint32_t> at(std::size_t field) {
+        if (!are_judged_) return number_of(side_.read(field), LDVBI_PICTURE);
+        const LdvbiNumber number = judged(field);
+        if (number.state != LDVBI_BELIEVED && number.state != LDVBI_DUE) return std::nullopt;
+        return number.number;
+    }
+
+private:
+    // So many fields are answered at once. A number is due by what is believed within LDVBI_REACH fields, and that by
+    // what is read within as many more: of a field that has so many judged on either side, the whole side would be
+    // answered the same. But the pace is found for these fields alone, since a side may have both film and video.
+    static constexpr std::size_t block = 64, margin = 2 * LDVBI_REACH;
+
+    LdvbiNumber judged(std::size_t field) {
+        if (field < first_ || field - first_ >= numbers_.size()) judge(field);
+        return numbers_[field - first_];
+    }
+
+    // Judges the block from a field on, and forgets what is beside it.
+    void judge(std::size_t field) {
+        const std::size_t begin = field - std::min(field, margin);
+        const std::size_t end = field + std::min(side_.fields() - field, block + margin), count = end - begin;
+        std::vector<LdvbiFieldReadings> readings;
+        for (std::size_t i = begin; i < end; i++) readings.push_back(side_.read(i));
+        std::vector<LdvbiSightings> seen(count);
+        std::vector<LdvbiNumber> numbers(count);
+        check(ldvbi_judge(side_.system(), LDVBI_PICTURES, LDVBI_FIND_PACE, readings.data(), count, seen.data(), count,
+                          numbers.data(), count));
+        const std::size_t length = std::min(block, side_.fields() - field);
+        first_ = field;
+        numbers_.assign(numbers.begin() + (field - begin), numbers.begin() + (field - begin + length));
+    }
+
+    // Looks no further than to the first one, which is near the beginning of most sides.
+    bool is_any_believed() {
+        for (std::size_t field = 0; field < side_.fields(); field++)
+            if (judged(field).state == LDVBI_BELIEVED) return true;
+        return false;
+    }
+
+    const Side &side_;
+    std::size_t first_ = 0;
+    std::vector<LdvbiNumber> numbers_; // those of the fields from first_ on
+    bool are_judged_;                  // the last, since what finds it out needs the others
+};
+
+using NumberAt = std::function<std::optional<std::uint32_t>(std::size_t)>;
+
+// The first field with this number, where numbers rise along the side: by halving, in some 20 looks. A chapter that was
 // misread can lead astray, so where nothing is found so, each field is looked at.
-std::optional<std::size_t> search(const Side &side, std::uint32_t kind, std::uint32_t number) {
-    std::size_t low = 0, high = side.fields(); // it isn't before `low`, and a field from `high` on has it or more
+std::optional<std::size_t> search(std::size_t fields, const NumberAt &number_at, std::uint32_t number) {
+    std::size_t low = 0, high = fields; // it isn't before `low`, and a field from `high` on has it or more
     while (low < high) {
         const std::size_t middle = low + (high - low) / 2;
         std::size_t field = middle; // the first one from there on that has a number
         std::optional<std::uint32_t> here;
-        while (field < high && !(here = number_of(side.read(field), kind))) field++;
+        while (field < high && !(here = number_at(field))) field++;
         if (here && *here < number) low = field + 1;
         else high = middle;
     }
-    for (std::size_t field = low; field < side.fields(); field++)
-        if (const auto here = number_of(side.read(field), kind)) {
+    for (std::size_t field = low; field < fields; field++)
+        if (const auto here = number_at(field)) {
             if (*here == number) return field;
             break;
         }
-    for (std::size_t field = 0; field < side.fields(); field++)
-        if (number_of(side.read(field), kind) == number) return field;
+    for (std::size_t field = 0; field < fields; field++)
+        if (number_at(field) == number) return field;
     return std::nullopt;
 }
 
@@ -127,9 +189,9 @@ std::optional<std::size_t> play(const Side &side, std::size_t from) {
     return std::nullopt;
 }
 
-void print(const std::string &what, const Side &side, std::size_t field) {
+void print(const std::string &what, Pictures &pictures, std::size_t field) {
     std::cout << what << ": field " << field + 1;
-    if (const auto picture = number_of(side.read(field), LDVBI_PICTURE)) std::cout << " picture " << *picture;
+    if (const auto picture = pictures.at(field)) std::cout << " picture " << *picture;
     std::cout << '\n';
 }
 
@@ -139,6 +201,9 @@ int main(int count, char **words) try {
     if (ldvbi_abi() != LDVBI_ABI) throw std::runtime_error("the library has another interface");
     if (count < 6) throw std::invalid_argument("usage: player FILE NTSC|PAL BLACK WHITE [search N|chapter N|play]..");
     const Side side(words[1], parse_system(words[2]), parse_number("black", words[3]), parse_number("white", words[4]));
+    Pictures pictures(side);
+    const NumberAt picture_at = [&](std::size_t at) { return pictures.at(at); };
+    const NumberAt chapter_at = [&](std::size_t at) { return number_of(side.read(at), LDVBI_CHAPTER); };
     std::size_t field = 0;
     for (int i = 5; i < count; i++) {
         const std::string command = words[i];
@@ -146,14 +211,14 @@ int main(int count, char **words) try {
         if (command == "play") {
             found = play(side, field);
         } else if ((command == "search" || command == "chapter") && i + 1 < count) {
-            const std::uint32_t kind = command == "search" ? LDVBI_PICTURE : LDVBI_CHAPTER;
-            found = search(side, kind, parse_number(command, words[++i]));
+            const std::uint32_t number = parse_number(command, words[++i]);
+            found = search(side.fields(), command == "search" ? picture_at : chapter_at, number);
         } else {
             throw std::invalid_argument("no such command: " + command);
         }
         if (!found) return std::cout << command << ": not found\n", 1;
         field = *found;
-        print(command, side, field);
+        print(command, pictures, field);
     }
     return 0;
 } catch (const std::exception &error) {

@@ -2,6 +2,9 @@
  * that of a CLV disc by its time, as 0:59:29.07 for picture 7 of its second. Status 0: found; 1: not found; 2: what was
  * asked for can't be read, and standard error says why. It also says where the file ends inside a field.
  *
+ * The library judges the numbers of all fields: a field is found where its number is believed, or where the believed
+ * numbers around it leave no other, and never by a number that was misread.
+ *
  *     cc -o seek seek.c -lldvbi && ./seek side.tbc NTSC 16384 51200 12345 */
 #define _DEFAULT_SOURCE
 #include <errno.h>
@@ -85,6 +88,16 @@ static int shows(const LdvbiFieldReadings *field, const Wanted *wanted) {
     return find_code(&field->lines[0], LDVBI_CLV_PICTURE, &code) && is_same(&code, &wanted->seconds);
 }
 
+/* The number by which the library judges what is wanted: a time is one of pictures from the disc's beginning, and has
+ * none where its minutes or its picture are beyond those of a disc. */
+static int judged_number(uint32_t system, const Wanted *wanted, uint32_t *number) {
+    uint32_t rate = system == LDVBI_NTSC ? 30 : 25;
+    *number = wanted->number.first;
+    if (wanted->number.kind == LDVBI_PICTURE) return 1;
+    *number = ((*number * 60 + wanted->number.second) * 60 + wanted->seconds.first) * rate + wanted->seconds.second;
+    return wanted->number.second < 60 && wanted->seconds.second < rate;
+}
+
 /* ---- The file */
 
 typedef struct {
@@ -103,22 +116,19 @@ static void fetch(const Side *side, size_t from, size_t to) {
     }
 }
 
-/* The number of the first field that shows it, or 0. */
-static size_t find(const Side *side, const Wanted *wanted) {
-    LdvbiFieldReadings readings[BLOCK];
+/* Reads lines 16 to 18 of all fields. */
+static uint32_t read_side(const Side *side, LdvbiFieldReadings *readings) {
     size_t field = ldvbi_field_bytes(side->system), fetched = 0;
     for (size_t begin = 0; begin < side->fields; begin += BLOCK) {
         size_t left = side->fields - begin, count = left < BLOCK ? left : BLOCK;
         size_t ahead = left < 2 * BLOCK ? side->fields : begin + 2 * BLOCK;
         fetch(side, fetched, ahead);
         fetched = ahead;
-        if (ldvbi_read_fields(side->system, side->black, side->white, side->bytes + begin * field, count * field,
-                              readings, count) != LDVBI_DONE)
-            return 0; /* not after main's test of the same numbers */
-        for (size_t i = 0; i < count; i++)
-            if (shows(&readings[i], wanted)) return begin + i + 1;
+        uint32_t status = ldvbi_read_fields(side->system, side->black, side->white, side->bytes + begin * field,
+                                            count * field, readings + begin, count);
+        if (status != LDVBI_DONE) return status;
     }
-    return 0;
+    return LDVBI_DONE;
 }
 
 static int fail(const char *path) {
@@ -151,9 +161,87 @@ static int map_side(const char *path, Side *side) {
     return 1;
 }
 
+/* ---- The search. Fields are counted from 0; where none is found, it is the number of all fields. */
+
+/* What is read and judged of each field, 52 bytes a field: 6 MB for half an hour. */
+typedef struct {
+    LdvbiFieldReadings *readings;
+    LdvbiSightings *seen;
+    LdvbiNumber *numbers;
+} Room;
+
+/* calloc refuses what overflows. */
+static int allocate(Room *room, size_t fields) {
+    room->readings = calloc(fields, sizeof *room->readings);
+    room->seen = calloc(fields, sizeof *room->seen);
+    room->numbers = calloc(fields, sizeof *room->numbers);
+    return room->readings != NULL && room->seen != NULL && room->numbers != NULL;
+}
+
+static void release(Room *room) {
+    free(room->readings);
+    free(room->seen);
+    free(room->numbers);
+}
+
+/* Judges the side, at the pace that is found: that of video, or that of film, whose pictures last two and three fields
+ * by turns. Says whether any number is believed. */
+static uint32_t judge(const Side *side, uint32_t counted, const Room *room, int *is_any_believed) {
+    uint32_t status = ldvbi_judge(side->system, counted, LDVBI_FIND_PACE, room->readings, side->fields, room->seen,
+                                  side->fields, room->numbers, side->fields);
+    *is_any_believed = 0;
+    for (size_t i = 0; status == LDVBI_DONE && i < side->fields; i++)
+        *is_any_believed |= room->numbers[i].state == LDVBI_BELIEVED;
+    return status;
+}
+
+/* The first field that shows what is wanted, as its lines were read. */
+static size_t first_shown(const Side *side, const Wanted *wanted, const Room *room) {
+    size_t field = 0;
+    while (field < side->fields && !shows(&room->readings[field], wanted)) field++;
+    return field;
+}
+
+/* The first field whose number is believed or due, and is the one that is wanted. A side of which no number is
+ * believed, neither as a picture's nor as a time, is too short to be judged, or has too few: of that, and of that
+ * alone, what the lines say is taken as it is. */
+static uint32_t find(const Side *side, const Wanted *wanted, const Room *room, size_t *found) {
+    int is_picture = wanted->number.kind == LDVBI_PICTURE, is_judged, is_other_disc;
+    uint32_t number, status = read_side(side, room->readings);
+    if (status == LDVBI_DONE) status = judge(side, is_picture ? LDVBI_PICTURES : LDVBI_TIMES, room, &is_judged);
+    if (status != LDVBI_DONE) return status;
+    if (is_judged) {
+        if (judged_number(side->system, wanted, &number))
+            *found = ldvbi_first_of(room->numbers, side->fields, number);
+        return LDVBI_DONE;
+    }
+    status = judge(side, is_picture ? LDVBI_TIMES : LDVBI_PICTURES, room, &is_other_disc);
+    if (status == LDVBI_DONE && !is_other_disc) *found = first_shown(side, wanted, room);
+    return status;
+}
+
+/* ---- The program */
+
 static int refuse(const char *why) {
     fprintf(stderr, "seek: %s\n", why);
     return 2;
+}
+
+/* Searches a side that is mapped, and says what was found. Returns the program's status. */
+static int search(const Side *side, const Wanted *wanted) {
+    Room room;
+    size_t found = side->fields;
+    uint32_t status = LDVBI_DONE;
+    if (side->fields > 0) { /* of no field there is nothing to allocate */
+        int is_allocated = allocate(&room, side->fields);
+        if (is_allocated) status = find(side, wanted, &room, &found);
+        release(&room);
+        if (!is_allocated) return refuse(strerror(ENOMEM));
+    }
+    if (status != LDVBI_DONE) return refuse(ldvbi_status_text(status));
+    if (found == side->fields) return puts("not found"), 1;
+    printf("field %zu\n", found + 1);
+    return 0;
 }
 
 int main(int count, char **words) {
@@ -169,9 +257,7 @@ int main(int count, char **words) {
     uint32_t status = ldvbi_read_fields(side.system, side.black, side.white, NULL, 0, NULL, 0);
     if (status != LDVBI_DONE) return refuse(ldvbi_status_text(status));
     if (!map_side(words[1], &side)) return 2;
-    size_t found = find(&side, &wanted);
+    int ended = search(&side, &wanted);
     if (side.fields > 0) munmap(side.bytes, side.size);
-    if (found == 0) return puts("not found"), 1;
-    printf("field %zu\n", found);
-    return 0;
+    return ended;
 }

@@ -1,7 +1,11 @@
 // Lists the picture stops of a TBC stream on standard input, field by field, as a player would meet them. Status 2: the
 // stream can't be read so, and standard error says why. It also says where the stream ends inside a field.
 //
+// A picture's number is one that the library believes by the fields around it, or that is due between such fields, so
+// the list is printed when the stream has ended; it keeps 52 bytes of each field until then.
+//
 //     c++ -std=c++17 -o stops stops.cpp -lldvbi && ./stops NTSC 16384 51200 < side.tbc
+#include <algorithm>
 #include <cerrno>
 #include <cstdint>
 #include <cstdio>
@@ -77,26 +81,54 @@ std::optional<std::uint32_t> find_picture(const LdvbiFieldReadings &field) {
     return std::nullopt;
 }
 
+// The picture of each field, as far as it is known. A stream of which no number is believed is too short to be judged,
+// or has too few: of that, and of that alone, what the lines say is taken as it is.
+std::vector<std::optional<std::uint32_t>> find_pictures(std::uint32_t system,
+                                                        const std::vector<LdvbiFieldReadings> &fields) {
+    std::vector<LdvbiSightings> seen(fields.size());
+    std::vector<LdvbiNumber> numbers(fields.size());
+    check(ldvbi_judge(system, LDVBI_PICTURES, LDVBI_FIND_PACE, fields.data(), fields.size(), seen.data(), seen.size(),
+                      numbers.data(), numbers.size()));
+    const bool are_judged = std::any_of(numbers.begin(), numbers.end(),
+                                        [](const LdvbiNumber &number) { return number.state == LDVBI_BELIEVED; });
+    std::vector<std::optional<std::uint32_t>> pictures(fields.size());
+    for (std::size_t i = 0; i < fields.size(); i++) {
+        if (!are_judged) pictures[i] = find_picture(fields[i]);
+        else if (numbers[i].state == LDVBI_BELIEVED || numbers[i].state == LDVBI_DUE) pictures[i] = numbers[i].number;
+    }
+    return pictures;
+}
+
+// Prints the fields with a stop, from 1, and how many they are.
+void print_stops(std::uint32_t system, const std::vector<LdvbiFieldReadings> &fields) {
+    const auto pictures = find_pictures(system, fields);
+    std::size_t stops = 0;
+    for (std::size_t i = 0; i < fields.size(); i++) {
+        if (!has_stop(fields[i])) continue;
+        stops++;
+        std::cout << "field " << i + 1;
+        if (pictures[i]) std::cout << " picture " << *pictures[i];
+        std::cout << '\n';
+    }
+    std::cout << stops << " stops\n";
+}
+
 } // namespace
 
 int main(int count, char **words) try {
     if (count != 4) throw std::invalid_argument("usage: stops NTSC|PAL BLACK WHITE < FILE");
-    const Reader reader(parse_system(words[1]), parse_number("black", words[2]), parse_number("white", words[3]));
+    const std::uint32_t system = parse_system(words[1]);
+    const Reader reader(system, parse_number("black", words[2]), parse_number("white", words[3]));
     std::vector<std::uint8_t> field(reader.field_bytes());
-    std::size_t stops = 0, number = 1, length;
-    for (; (length = std::fread(field.data(), 1, field.size(), stdin)) == field.size(); number++) {
-        const LdvbiFieldReadings readings = reader.read(field);
-        if (!has_stop(readings)) continue;
-        stops++;
-        std::cout << "field " << number;
-        if (const auto picture = find_picture(readings)) std::cout << " picture " << *picture;
-        std::cout << '\n';
-    }
+    std::vector<LdvbiFieldReadings> fields;
+    std::size_t length;
+    while ((length = std::fread(field.data(), 1, field.size(), stdin)) == field.size())
+        fields.push_back(reader.read(field));
     if (std::ferror(stdin)) throw std::runtime_error(std::string("standard input: ") + std::strerror(errno));
     if (length > 0)
-        std::cerr << "stops: the last field is cut: field " << number << " has " << length << " of " << field.size()
-                  << " bytes\n";
-    std::cout << stops << " stops\n";
+        std::cerr << "stops: the last field is cut: field " << fields.size() + 1 << " has " << length << " of "
+                  << field.size() << " bytes\n";
+    print_stops(system, fields);
     return 0;
 } catch (const std::exception &error) {
     std::cerr << "stops: " << error.what() << '\n';

@@ -44,8 +44,8 @@
  * picture or a chapter has two words each, since the first bit of its first digit says nothing (F12345 and F92345 are
  * picture 12345). A stop counts on line 16 or 17, or on 18 if it is there; its picture is that of its field, else the
  * latest before it. A time of a CLV disc is in two places: hours and minutes on lines 17 and 18, seconds and picture on
- * line 16. Words are wrong at times, those of pass 2 more often. Whoever can look at the fields around takes a number
- * only where it fits theirs, as `ldvbi-side` does.
+ * line 16. Words are wrong at times, those of pass 2 more often. Whoever has the fields around takes a number only
+ * where it fits theirs: ldvbi_judge does that for picture numbers and times, `ldvbi-side` for all that a side has.
  *
  * Some words, as digits: F and 5 decimal digits is a picture (F00123 is picture 123), 8 and two decimal digits and DDD
  * a chapter (807DDD is chapter 7), 82CFFF a stop, 87FFFF the CLV mark, 88FFFF lead-in, 80EEEE lead-out.

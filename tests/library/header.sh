@@ -49,12 +49,14 @@ check 'the header in two parts of a program' ended 0 empty empty
 
 # called_as STATEMENT: makes a file in which a call stands as this statement. What it reads can't be written.
 called_as() {
-    taken='const void *samples, void *drawn, LdvbiReading *reading, LdvbiFieldReadings *readings'
+    taken='const void *samples, void *drawn, LdvbiReading *reading, LdvbiFieldReadings *readings, LdvbiCode *code,
+uint32_t *format, const LdvbiFieldReadings *read, LdvbiSightings *seen, LdvbiNumber *numbers'
     cat > called.c << END
 #include <ldvbi.h>
-uint32_t called($taken, LdvbiCode *code, uint32_t *format);
-uint32_t called($taken, LdvbiCode *code, uint32_t *format) {
+uint32_t called($taken);
+uint32_t called($taken) {
     (void)samples; (void)drawn; (void)reading; (void)readings; (void)code; (void)format;
+    (void)read; (void)seen; (void)numbers;
     $1;
     return 0;
 }
@@ -74,6 +76,8 @@ ldvbi_read_fields(1, 1, 2, NULL, 0, NULL, 0)
 ldvbi_classify(0xF12345, code)
 ldvbi_format(0, 0xF12345, 0, format)
 ldvbi_draw_line(1, 1, 2, 0xF12345, drawn, 1820)
+ldvbi_judge(1, 1, 1, read, 9, seen, 9, numbers, 9)
+ldvbi_judge(1, 1, 1, NULL, 0, NULL, 0, NULL, 0)
 END
 while read -r call; do
     called_as "return $call"

@@ -251,16 +251,18 @@ static void test_texts(void)
 {
     static const char *statuses[] = {"done", "system is neither NTSC nor PAL",
                                      "black is not below white, or one of them is above 65535",
-                                     "length does not fit the system", "number is no code word"};
+                                     "length does not fit the system", "number is no code word",
+                                     "neither pictures nor times are counted",
+                                     "pace is neither that of video nor of film, nor to be found"};
     static const uint32_t unknown[] = {256, 257, 65536, UINT32_MAX};
 
     CHECK(strcmp(ldvbi_cause_text(LDVBI_WORD), "word") == 0);
-    for (uint32_t status = 0; status < 5; status++)
+    for (uint32_t status = 0; status <= LDVBI_BAD_PACE; status++)
         CHECK(strcmp(ldvbi_status_text(status), statuses[status]) == 0);
     for (uint32_t number = 0; number < 256 + 4; number++) {
         uint32_t any = number < 256 ? number : unknown[number - 256];
 
-        CHECK((strcmp(ldvbi_status_text(any), "unknown") == 0) == (any > LDVBI_BAD_WORD));
+        CHECK((strcmp(ldvbi_status_text(any), "unknown") == 0) == (any > LDVBI_BAD_PACE));
         CHECK((strcmp(ldvbi_cause_text(any), "unknown") == 0) == (any > LDVBI_HOLD));
         CHECK((strcmp(ldvbi_kind_text(any), "unknown") == 0) == (any > LDVBI_CLV_MARK));
         CHECK((strcmp(ldvbi_format_text(any), "unknown") == 0) == (any > LDVBI_BOTH));

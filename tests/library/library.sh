@@ -93,6 +93,11 @@ for part in fields lines; do
         -o library_$part "$here/library_$part.c" "$built/libldvbi.a"
     check "the tests of $part" prints 0 '0 wrong' ./library_$part
 done
+for part in sightings numbers; do
+    check "the tests of $part are built" does $cc -std=c99 $strict -Wno-unused-function \
+        -fsanitize=address,undefined -I"$top/include" -o library_$part "$here/library_$part.c" "$built/libldvbi.a"
+    check "the tests of $part" prints 0 '0 wrong' ./library_$part
+done
 check 'the tests of pages are built' does $cc -std=c99 $strict -Wno-unused-function -fsanitize=undefined \
     -I"$top/include" -o library_pages "$here/library_pages.c" "$built/libldvbi.a"
 check 'the tests of pages' prints 0 '0 wrong' ./library_pages
@@ -106,7 +111,8 @@ cp out clv.tbc
 on_cav='NTSC 16384 51200'
 on_clv='PAL 16384 54016'
 
-# Discs by the standards' lines: stops and marks where the number is on line 18 alone, and lines 17 and 18 that differ
+# Discs by the standards' lines: stops and marks where the number is on line 18 alone, and lines 17 and 18 that differ,
+# on a side whose numbers can be judged, and on two that have too few for that
 run_inheriting draw $ntsc - << 'WORDS'
 - F00001 F00001
 - 800DDD 800DDD
@@ -130,6 +136,12 @@ run_inheriting draw $pal - << 'WORDS'
 8AE003 87FFFF F1DD09
 WORDS
 cp out marks.tbc
+run_inheriting draw $ntsc - << 'WORDS'
+- F00001 F00001
+- 800DDD 800DDD
+- F00002 F00007
+WORDS
+cp out few.tbc
 : > empty.tbc
 
 # The examples, of which those in C and C++ are linked with the shared library
@@ -145,8 +157,8 @@ for seek in ./seek "python3 $top/examples/seek.py"; do
     check "$seek: no such time" prints 1 'not found' $seek clv.tbc $on_clv 0:02:00.00
     check "$seek: the number on line 18 alone" prints 0 'field 5' $seek stops.tbc $on_cav 3
     check "$seek: the number on line 17 alone" prints 0 'field 7' $seek stops.tbc $on_cav 4
-    check "$seek: lines 17 and 18 differ, the one" prints 1 'not found' $seek stops.tbc $on_cav 2
-    check "$seek: lines 17 and 18 differ, the other" prints 1 'not found' $seek stops.tbc $on_cav 7
+    check "$seek: lines 17 and 18 differ, the one" prints 1 'not found' $seek few.tbc $on_cav 2
+    check "$seek: lines 17 and 18 differ, the other" prints 1 'not found' $seek few.tbc $on_cav 7
     check "$seek: a mark on line 17" prints 0 'field 1' $seek marks.tbc $on_clv 0:00:00.00
     check "$seek: minutes that differ" prints 1 'not found' $seek marks.tbc $on_clv 0:00:00.02
     check "$seek: hours" prints 0 'field 5' $seek marks.tbc $on_clv 1:09:00.03
@@ -213,7 +225,7 @@ play: field 8' ./player stops.tbc $on_cav search 4 play play chapter 1 play
 check 'player: the first picture' prints 0 'search: field 1 picture 1' ./player stops.tbc $on_cav search 1
 check 'player: the last one' prints 0 'search: field 9 picture 5' ./player stops.tbc $on_cav search 5
 check 'player: the last chapter' prints 0 'chapter: field 10' ./player stops.tbc $on_cav chapter 2
-check 'player: lines 17 and 18 differ' prints 1 'search: not found' ./player stops.tbc $on_cav search 2
+check 'player: lines 17 and 18 differ' prints 1 'search: not found' ./player few.tbc $on_cav search 2
 check 'player: no chapter' prints 1 'chapter: not found' ./player stops.tbc $on_cav chapter 3
 check 'player: no stop ahead' prints 1 'search: field 9 picture 5
 play: field 11

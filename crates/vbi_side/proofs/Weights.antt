@@ -1,6 +1,6 @@
 -- Sums of weights over the window.
 use Rattle.std.proofs.Common.{◌≡◌, ◌≢◌, ℕ, zero, suc, ◌+◌, ◌-◌, ◌<◌, ◌≤◌, Bool, true}
-use Rattle.std.proofs.Common.{false, List, refl, arith, ap, ◌*◌, add-one, inl, inr}
+use Rattle.std.proofs.Common.{false, List, refl, arith, ap, subst, ◌*◌, add-one, inl, inr}
 use Rattle.std.specs.Prelude.{Option, Some, None, slice_get, if◌then◌else◌, nat_le, ◌⊎◌}
 use Rattle.std.proofs.lemmas.Bool.Decides.{leb_tells, eqb_tells}
 use Rattle.vbi_side.specs.declared.sighting.Sighting.{Sighting}
@@ -18,6 +18,24 @@ pub weight_below-more : (test : ℕ → ℕ → Bool) (fields : List Sightings) 
     → weight_below test fields i (n + 1) ≡ weight_below test fields i n + weight_at test fields i n
 unfolding weight_below
 weight_below-more test fields i n = ap (weight_below test fields i) (add-one n)
+
+-- more of the window weighs no less
+grows_by : (test : ℕ → ℕ → Bool) (fields : List Sightings) (i m k : ℕ)
+    → weight_below test fields i m ≤ weight_below test fields i (m + k)
+grows_by test fields i m zero =
+    let same : m ≡ m + zero = omega arith in
+    subst (λ n. weight_below test fields i m ≤ weight_below test fields i n) same (omega arith)
+grows_by test fields i m (suc k) =
+    let next : m + k + 1 ≡ m + suc k = omega (arith, add-one k) in
+    let more : weight_below test fields i m ≤ weight_below test fields i (m + k + 1)
+    = omega (arith, grows_by test fields i m k, weight_below-more test fields i (m + k)) in
+    subst (λ n. weight_below test fields i m ≤ weight_below test fields i n) next more
+
+pub weight_below-grows : (test : ℕ → ℕ → Bool) (fields : List Sightings) (i m n : ℕ) → m ≤ n
+    → weight_below test fields i m ≤ weight_below test fields i n
+weight_below-grows test fields i m n less =
+    let whole : m + (n - m) ≡ n = omega (arith, less) in
+    subst (λ x. weight_below test fields i m ≤ weight_below test fields i x) whole (grows_by test fields i m (n - m))
 
 -- ---- a narrower test weighs no more
 

@@ -11,6 +11,9 @@ use crate::sighting::{Sighting, Sightings};
 /// The fields that are looked at on either side of one.
 pub const REACH: usize = 24;
 
+/// The fields that are looked at for one, itself among them.
+const WINDOW: usize = 2 * REACH + 1;
+
 /// The weight from which on a number is believed.
 pub const ENOUGH: u32 = 10;
 
@@ -84,7 +87,7 @@ fn weight_around(fields: &[Sightings], kin: Kin, field: usize, number: u32) -> u
     ensures { result ≡ window_weight (is_akin kin field number) fields.now field }
 {
     let mut weight = 0;
-    for offset in 0..2 * REACH + 1 {
+    for offset in 0..WINDOW {
         weight += weight_of_other(fields, kin, field, number, offset);
     }
     weight
@@ -101,14 +104,30 @@ pub fn support(fields: &[Sightings], pace: Pace, field: usize, number: u32) -> u
     running.max(still.saturating_sub(FIELD_MOST))
 }
 
-/// Whether enough supports this number in a field. The stills are looked at only where it doesn't run, which takes half
-/// the time.
+/// Whether the sightings within reach of a field that are akin to this number there weigh so much.
+fn reaches(fields: &[Sightings], kin: Kin, field: usize, number: u32, wanted: u32) -> bool
+    requires inside { field < length fields.now }
+    requires some { 1 ≤ wanted }
+    ensures { (result ≡ true) ↔ (wanted ≤ window_weight (is_akin kin field number) fields.now field) }
+{
+    let mut weight = 0;
+    for offset in 0..WINDOW {
+        weight += weight_of_other(fields, kin, field, number, offset);
+        // A right number mostly has enough long before the window's end.
+        if weight >= wanted {
+            return true;
+        }
+    }
+    false
+}
+
+/// Whether enough supports this number in a field. The stills are looked at only where it doesn't run.
 fn is_supported(fields: &[Sightings], pace: Pace, field: usize, number: u32) -> bool
     requires { field < length fields.now }
     ensures { (result ≡ true) ↔ (enough ≤ support_of pace fields.now field number) }
 {
-    weight_around(fields, Kin::Runs(pace), field, number) >= ENOUGH
-        || weight_around(fields, Kin::Stays, field, number) >= ENOUGH + FIELD_MOST
+    reaches(fields, Kin::Runs(pace), field, number, ENOUGH)
+        || reaches(fields, Kin::Stays, field, number, ENOUGH + FIELD_MOST)
 }
 
 /// Whether another number that the field shows has less support.
