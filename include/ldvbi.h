@@ -8,8 +8,8 @@
  * memcpy and memset at most, which a program without one can define itself. It runs under Linux on x86-64 processors of
  * level v2 (with SSE4.2, from about 2009 on). It has no unwind tables (.eh_frame): nothing is thrown out of a call, and
  * no call calls back, but a debugger finds no way back out of one. What is proved of each call stands in
- * docs/PROMISES.md; that this header says the same as the library, and its functions that are defined here, are shown by
- * tests alone.
+ * docs/PROMISES.md; that this header says the same as the library, and its functions that are defined here, are shown
+ * by tests alone.
  *
  * Samples have 16 bits, the low byte first, as in ld-decode's TBC files: line after line, field after field. So an
  * array of uint16_t goes in as it is on a little-endian machine, as x86-64 is; it need not be aligned. Black and white
@@ -245,8 +245,8 @@ uint32_t ldvbi_format(uint32_t first, uint32_t second, uint32_t third, uint32_t 
  * long as what was misread weighs less than 6.
  *
  * What it doesn't do: it knows no minutes without their seconds, sees no lost fields, and judges no chapters.
- * `ldvbi-side` does all of that. Where the disc was made to jump within LDVBI_REACH fields, or film stands still, nothing
- * is promised, though it seldom errs there. */
+ * `ldvbi-side` does all of that. Where the disc was made to jump within LDVBI_REACH fields, or film stands still,
+ * nothing is promised, though it seldom errs there. A number that is due rests on the believed ones beside it. */
 
 /* The fields that are looked at on either side of one. */
 enum { LDVBI_REACH = 24 };
@@ -271,7 +271,7 @@ typedef struct LdvbiSighting {
 /* What a field shows: the numbers of lines 17 and 18. A time belongs to line 16 as well. */
 typedef struct LdvbiSightings {
     LdvbiSighting line_17, line_18;
-    uint32_t instead; /* 1: one of them shows a chapter, the lead-in, the lead-out or a number of the other disc; else 0 */
+    uint32_t instead; /* 1: one of them shows a chapter, lead-in, lead-out or a number of the other kind; else 0 */
 } LdvbiSightings;
 
 enum LdvbiState {

@@ -13,7 +13,7 @@ set -eu
 # What the gate tried when it last grew. With less of any it fails, so what is taken out is taken out here as well.
 crates=13
 unit_tests=109
-wrong_bodies=287
+wrong_bodies=288
 # Memory in kB with which the proofs and the build can run side by side
 memory_of_both=14000000
 

@@ -37,6 +37,27 @@
 //! # Ok(())
 //! # }
 //! ```
+//!
+//! Which number of its disc each field shows, judged by the fields around it:
+//!
+//! ```
+//! use ldvbi::side::{first_of, judge, Number, Pace, Sighting, Sightings};
+//!
+//! // Picture n begins in field 2 * n. Of picture 10 another number was read.
+//! let shows = |field: u32| match field {
+//!     20 => Sighting { number: 79999, weight: 2 },
+//!     _ => Sighting { number: field / 2, weight: 2 * ((field + 1) % 2) },
+//! };
+//! let none = Sighting { number: 0, weight: 0 };
+//! let field = |field| Sightings { line_17: shows(field), line_18: none, instead: 0 };
+//! let fields: Vec<Sightings> = (0..60).map(field).collect();
+//!
+//! // It is due in its field, since the believed numbers before and behind leave no other.
+//! let mut numbers = vec![Number { number: 0, state: 0 }; fields.len()];
+//! judge(&fields, Pace::Video, &mut numbers);
+//! assert_eq!(first_of(&numbers, 10), Some(20));
+//! assert_eq!(first_of(&numbers, 79999), None);
+//! ```
 #![deny(unsafe_code)]
 // Names that contracts alone speak of
 #![allow(unused_labels, unused_variables)]
