@@ -183,7 +183,7 @@ proved() {
 }
 proves none ldvbi
 program_crates='vbi_words vbi_line vbi_field vbi_meta vbi_cli ldvbi'
-library_crates='vbi_words vbi_line vbi_c'
+library_crates='vbi_words vbi_line vbi_side vbi_c'
 # shellcheck disable=SC2086
 proved $program_crates > wanted_text
 judge 'make says one line of a crate' 0 wanted_text ''
