@@ -65,8 +65,11 @@
 #![allow(
     clippy::identity_op,
     clippy::large_enum_variant,
+    clippy::manual_find,
     clippy::manual_is_multiple_of,
+    clippy::manual_map,
     clippy::manual_range_contains,
+    clippy::match_like_matches_macro,
     clippy::module_inception,
     clippy::needless_range_loop,
     clippy::question_mark,
