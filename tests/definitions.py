@@ -1,12 +1,14 @@
 #!/usr/bin/env python3
 """Lists what one has to believe for the headline: each definition of specs/ on which the contract of `extract` rests.
 
-Read in this order, each rests only on those above it. Two lists: of the contract alone, in which the function that
-gives a line's reading (`reading_of`) is taken by its name; and with its meaning, in which a relation stands for each
-function of RELATIONS, of which a law says that it is the same.
+Read in this order, each rests only on those above it. Three lists: of the contract alone, in which the function that
+gives a line's reading (`reading_of`) is taken by its name; with its meaning, in which a relation stands for each
+function of RELATIONS, of which a law says that it is the same; and with what the counts mean, which the contracts of
+COUNTING say. The words of the standard library that all of these use are listed as well, but for operators.
 
-Each DOCUMENT has to say both counts, as `N in M lines` and `N in M`. A table that stands in one behind the line
-`<!-- definitions -->` is compared with the source: each definition once, in this order, with its file and its comment.
+Each DOCUMENT has to say the three counts, as `N in M lines` and `N in M`. A table that stands in one behind the line
+`<!-- definitions -->` or `<!-- counts -->` is compared with the source: each definition once, in this order, with its
+file and its comment; so are the words of the standard library behind `<!-- words -->`.
 
 usage: python3 tests/definitions.py [--table] [DOCUMENT..]     (at the top of the repository)
 """
@@ -18,6 +20,11 @@ import sys
 
 # Where the contract stands; and by function, the relation that stands for it and the law by which they are one
 CONTRACT = ("crates/vbi_field/src/run.rt", "extract")
+# The contracts that say what is counted: failed calls of a device, and samples looked at
+COUNTING = [
+    ("crates/vbi_line/src/counted.rt", ("read_once", "write_once")),
+    ("crates/vbi_line/src/line.rt", ("clear", "start_pass", "next_sample", "next_block")),
+]
 RELATIONS = {
     ("vbi_line", "OneReading", "reading_of"): (("vbi_words", "Readings", "IsReading"), "one_reading"),
     ("vbi_words", "Smooth", "smooth_of"): (("vbi_words", "Smooth", "IsSmooth"), "one_smooth"),
@@ -127,18 +134,36 @@ class Definitions:
                     self.below(other, with_meaning, order, seen)
         order.append(key)
 
-    def order(self, with_meaning):
-        source = read(CONTRACT[0])
-        clauses = re.search(r"pub fn " + CONTRACT[1] + r"<.*?\n\{", source, re.S)[0]
+    def contract(self, path, function):
+        """Returns what the names in a source file stand for, and the text of a function's contract."""
+        source = read(path)
+        clauses = re.search(rf"pub fn {function}\b.*?\n *\{{\n", source, re.S)[0]
         head = Module.__new__(Module)
         head.names, head.modules, head.definitions = {}, {}, {}
-        head.crate, head.name = "vbi_field", ""
+        head.crate, head.name = path.split("/")[1], ""
         for line in re.findall(r"ghost (use .*);", source):
             head.take_import(line)
+        return head, clauses
+
+    def order(self, with_meaning, with_counts=False):
         order, seen = [], set()
-        for key in self.cited(head, clauses):
-            self.below(key, with_meaning, order, seen)
+        contracts = [CONTRACT] + [(path, one) for path, functions in COUNTING for one in functions if with_counts]
+        for path, function in contracts:
+            for key in self.cited(*self.contract(path, function)):
+                self.below(key, with_meaning, order, seen)
         return order
+
+    def words_of_std(self, order):
+        """Returns the words of the standard library that these definitions use, by their module, but for operators."""
+        found = {}
+        for key in order:
+            module = self.module(*key[:2])
+            for word in re.findall(r"[^\s(){},;.]+", "\n".join(module.definitions[key[2]][0])):
+                place, name = module.names.get(word, ("", ""))
+                if place.startswith("Rattle.std.specs.") and name.isidentifier() and name not in "ℕ⊤⊥":
+                    found.setdefault(place.removeprefix("Rattle.std.specs."), set()).add(name)
+        return ["of `" + place + "` " + ", ".join(f"`{name}`" for name in sorted(names, key=str.lower))
+                for place, names in sorted(found.items())]
 
     def lines(self, order):
         return sum(len(self.module(*key[:2]).definitions[key[2]][0]) for key in order)
@@ -151,30 +176,43 @@ def rows(definitions, order):
         yield f"| `{word}` | `{crate}/specs/{name}.antt` | {comment} |"
 
 
-def fault_of(document, counts, wanted):
+def behind(text, mark):
+    """Returns what stands behind a mark, up to an empty line; or None where the mark isn't there."""
+    _, found, rest = text.partition(f"<!-- {mark} -->\n")
+    return rest.split("\n\n")[0].split("\n") if found else None
+
+
+def fault_of(document, counts, tables, words):
     """Says what this document has otherwise than the source, or nothing."""
     text = read(document)
     for count in counts:
         if not re.search(rf"\b{count}\b", text.replace("\n", " ")):
             return f"doesn't say {count}"
-    _, mark, behind = text.partition("<!-- definitions -->\n")
-    found = [line for line in behind.split("\n\n")[0].split("\n")[2:] if line]
-    for one, other in itertools.zip_longest(found, wanted, fillvalue="no more"):
-        if mark and one != other:
-            return f"has\n{one}\nand the source\n{other}"
+    for mark, wanted in tables.items():
+        found = behind(text, mark)
+        for one, other in itertools.zip_longest(found[2:] if found else [], wanted, fillvalue="no more"):
+            if found and one != other:
+                return f"has\n{one}\nand the source\n{other}"
+    found = behind(text, "words")
+    if found and " ".join(found) != ("; ".join(words) + "."):
+        return f"has the words of the standard library\n{' '.join(found)}\nand the source\n{'; '.join(words)}."
     return None
 
 
 def main():
-    words = [word for word in sys.argv[1:] if word != "--table"]
+    names = [word for word in sys.argv[1:] if word != "--table"]
     definitions = Definitions()
-    alone, whole = definitions.order(False), definitions.order(True)
-    counts = (f"{len(alone)} in {definitions.lines(alone)} lines", f"{len(whole)} in {definitions.lines(whole)}")
-    wanted = list(rows(definitions, whole))
-    print(f"definitions: {counts[0]} for the contract alone, {counts[1]} with the meaning of a reading")
+    alone, whole, counting = definitions.order(False), definitions.order(True), definitions.order(True, True)
+    counts = (f"{len(alone)} in {definitions.lines(alone)} lines", f"{len(whole)} in {definitions.lines(whole)}",
+              f"{len(counting)} in {definitions.lines(counting)}")
+    tables = {"definitions": list(rows(definitions, whole)),
+              "counts": list(rows(definitions, [key for key in counting if key not in whole]))}
+    words = definitions.words_of_std(counting)
+    print(f"definitions: {counts[0]} for the contract alone, {counts[1]} with the meaning of a reading, {counts[2]} with "
+          "the meaning of the counts")
     if "--table" in sys.argv[1:]:
-        print("\n".join(wanted))
-    faults = [f"definitions: {word} {fault}" for word in words if (fault := fault_of(word, counts, wanted))]
+        print("\n\n".join(["\n".join(table) for table in tables.values()] + ["; ".join(words) + "."]))
+    faults = [f"definitions: {name} {fault}" for name in names if (fault := fault_of(name, counts, tables, words))]
     print("\n".join(faults), file=sys.stderr, end="\n" * bool(faults))
     return 1 if faults else 0
 

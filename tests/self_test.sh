@@ -72,12 +72,12 @@ docs|include/ldvbi.h|s/263 lines to/262 lines to/
 docs|docs/RECIPES.md|s/^```text$/```test/
 docs|docs/RECIPES.md|s/^```sh lib$/```sh/
 docs|docs/RECIPES.md|s,](SIDES.md),](https://example.org/SIDES.md),
-docs|docs/PROMISES.md|s/](#by-crate)/](#by-crates)/
+docs|docs/PROMISES.md|s/](#laws)/](#by-crate)/
 docs|docs/PROMISES.md|s/`laws::drawn_rows`/`laws::drawn_lines`/
 docs|docs/PROMISES.md|s/`unwritten`, `failed`, `fault`/`unwritten`, `refailed`, `fault`/
 docs|docs/PROMISES.md|s/`Ran.consumed`/`Ran.eaten`/
 docs|docs/PROMISES.md|s/`StopsAtRow`/`StopsAtRows`/
-docs|docs/PROMISES.md|s/`show` \(.\) The same with the report/`settings` \1 The same with the report/
+docs|docs/PROMISES.md|s/`show` is the same with the report/`shows` is the same with the report/
 docs|docs/DECISIONS.md|s/`Progress::add_row`/`Progress::added_row`/
 docs|CONTRIBUTING.md|s/Geometry.antt/Geometries.antt/
 docs|CONTRIBUTING.md|s,docs/SIGNAL.md,docs/SIGNALS.md,
