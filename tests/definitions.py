@@ -179,7 +179,7 @@ def rows(definitions, order):
 def behind(text, mark):
     """Returns what stands behind a mark, up to an empty line; or None where the mark isn't there."""
     _, found, rest = text.partition(f"<!-- {mark} -->\n")
-    return rest.split("\n\n")[0].split("\n") if found else None
+    return rest.split("\n\n")[0].rstrip("\n").split("\n") if found else None
 
 
 def fault_of(document, counts, tables, words):

@@ -24,7 +24,7 @@ from side_sentences import sentences_of
 from source_names import read
 
 # The least that each check has to look at. A check that finds less no longer understands the documents.
-LEAST = {"links": 40, "paths": 95, "names": 640, "faults": 28, "causes": 20, "sizes": 28, "rules": 28}
+LEAST = {"links": 40, "paths": 95, "names": 475, "faults": 28, "causes": 20, "sizes": 28, "rules": 28}
 # The links to the net, of which nothing else is looked at
 NET = ["https://github.com/happycube/ld-decode"]
 PAGE = "share/man/ldvbi.1"
@@ -332,9 +332,7 @@ def names(faults):
                     faults.append(f"PROMISES.md: {code} isn't in {crate}")
     in_prose = 0
     for path in PROSE:
-        # The words of the standard library are compared by definitions.py.
-        text = re.sub(r"^<!-- words -->\n.*?\n\n", "", prose(path), flags=re.M | re.S)
-        for code in codes(re.sub(r"^\|.*", "", text, flags=re.M)):
+        for code in codes(re.sub(r"^\|.*", "", prose(path), flags=re.M)):
             if IS_NAME.fullmatch(code):
                 in_prose += 1
                 if not source.has_somewhere(code):

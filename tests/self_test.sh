@@ -78,6 +78,8 @@ docs|docs/PROMISES.md|s/`unwritten`, `failed`, `fault`/`unwritten`, `refailed`, 
 docs|docs/PROMISES.md|s/`Ran.consumed`/`Ran.eaten`/
 docs|docs/PROMISES.md|s/`StopsAtRow`/`StopsAtRows`/
 docs|docs/PROMISES.md|s/`show` is the same with the report/`shows` is the same with the report/
+docs|docs/DEFINITIONS.md|s/no level is high/no level is low/
+docs|docs/DEFINITIONS.md|s/`decimal`, //
 docs|docs/DECISIONS.md|s/`Progress::add_row`/`Progress::added_row`/
 docs|CONTRIBUTING.md|s/Geometry.antt/Geometries.antt/
 docs|CONTRIBUTING.md|s,docs/SIGNAL.md,docs/SIGNALS.md,

@@ -144,8 +144,8 @@ for what in links paths names faults causes sizes rules; do
     in_folder "$top" python3 tests/documents.py $what
     check "the documents and the source: $what" [ "$status" = 0 ]
 done
-in_folder "$top" python3 tests/definitions.py README.md docs/PROMISES.md docs/DECISIONS.md
-check 'the definitions of PROMISES.md are those of the source' [ "$status" = 0 ]
+in_folder "$top" python3 tests/definitions.py README.md docs/DEFINITIONS.md docs/PROMISES.md docs/DECISIONS.md
+check 'the definitions of DEFINITIONS.md are those of the source' [ "$status" = 0 ]
 
 # The real examples of causes in FORMATS.md, of which these are the lines in the order of its rows
 signal NTSC 1 << 'END' | ntsc_samples > causes.tbc
