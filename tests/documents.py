@@ -308,7 +308,19 @@ def rules(faults):
 # Documents whose prose names what is in the source, and the form of such a name: a path, a name with its crate or type,
 # one of several words, or that of a type
 PROSE = ["docs/PROMISES.md", "docs/DECISIONS.md", "docs/SIGNAL.md"]
+# A sentence that says what a record has: each field stands first in its parentheses, up to the end of the paragraph
+OF_RECORD = re.compile(r"`(\w+)` in `[\w/]+\.antt`(?: says|:)(.*?)(?:\n\n|\Z)", re.S)
 IS_NAME = re.compile(r"[\w/-]+(?:\.\w+|/)|\w+(?:::\w+)+|[a-z]+_\w+|[A-Z][a-z]\w*")
+
+
+def fields_of_records(source, faults):
+    """Returns how many fields the prose of PROMISES.md names as those of one record; each has to be one of it."""
+    text = re.sub(r"^\|.*", "", prose("docs/PROMISES.md"), flags=re.M)
+    named = [(record, field) for record, text in OF_RECORD.findall(text)
+             for field in re.findall(r"\(`([a-z]\w*)`", text)]
+    faults += [f"PROMISES.md: {field} is no field of {record}" for record, field in named
+               if field not in source.members.get(record, ())]
+    return len(named)
 
 
 def names(faults):
@@ -330,7 +342,7 @@ def names(faults):
                     faults.append(f"PROMISES.md: {code} isn't in the source, in the row: {' | '.join(row)[:80]}")
                 elif head[0] == "Crate" and code in codes(row[1]) and not source.is_in(code, crate):
                     faults.append(f"PROMISES.md: {code} isn't in {crate}")
-    in_prose = 0
+    in_prose = fields_of_records(source, faults)
     for path in PROSE:
         for code in codes(re.sub(r"^\|.*", "", prose(path), flags=re.M)):
             if IS_NAME.fullmatch(code):

@@ -78,6 +78,7 @@ docs|docs/PROMISES.md|s/`unwritten`, `failed`, `fault`/`unwritten`, `refailed`, 
 docs|docs/PROMISES.md|s/`Ran.consumed`/`Ran.eaten`/
 docs|docs/PROMISES.md|s/`StopsAtRow`/`StopsAtRows`/
 docs|docs/PROMISES.md|s/`show` is the same with the report/`shows` is the same with the report/
+docs|docs/PROMISES.md|s/the drawing came (`came`)/the drawing came (`ended`)/
 docs|docs/DEFINITIONS.md|s/no level is high/no level is low/
 docs|docs/DEFINITIONS.md|s/`decimal`, //
 docs|docs/DECISIONS.md|s/`Progress::add_row`/`Progress::added_row`/
