@@ -4,7 +4,7 @@ use Rattle.std.proofs.Common.{cond, refl, sym, ap, ◌∙◌, subst, inl, inr, �
 use Rattle.std.proofs.Math.Dec.{eqb-suc-zero}
 use Rattle.std.proofs.lemmas.Bool.{cases_lt}
 use Rattle.std.specs.List.{range_with_len}
-use Rattle.std.specs.Prelude.{codes, length}
+use Rattle.std.specs.Prelude.{codes}
 use Rattle.serde_json.specs.Data.{Data, null}
 use Rattle.serde_json.specs.Find.{at, get_item, as_str}
 use Rattle.serde_json.specs.Read.{read}
@@ -25,14 +25,10 @@ use Rattle.vbi_words.specs.Rows.{line_at}
 use Rattle.vbi_field.specs.Stream.{fields_of, rest_of, reading_at, readings_at}
 use Rattle.vbi_field.specs.Texts.{whole_text}
 use Rattle.vbi_meta.specs.DocumentValue.{IsOfRun, document_value, field_value, cut_field_value, cut_value}
-use Rattle.vbi_meta.specs.Metadata.{most_bytes, IsMetadata, IsUnread}
 use Rattle.vbi_meta.specs.ReadBack.{IsReadAs, field_in, word_in, cut_in, HasReading, HasCut, ReadsWord, HasReadings}
 use Rattle.vbi_meta.specs.ReadBack.{ReadsBack}
 use Rattle.vbi_meta.specs.Settings.{whole, member_of}
-use Rattle.vbi_meta.specs.declared.fault.MetaFault.{MetaFault}
-use Rattle.vbi_meta.specs.declared.fault.MetaFault.TheVariants.{TooLarge, NotJson, OutOfMemory}
-use Rattle.vbi_meta.proofs.DocumentReads.{document_is_read, is_metadata}
-use Rattle.vbi_meta.proofs.Lengths.{document_short}
+use Rattle.vbi_meta.proofs.DocumentReads.{document_is_read}
 
 -- ---- lists
 
@@ -213,10 +209,6 @@ module _ (c : ConfigView) (z text : List ℕ) (is : read text ≡ Some (document
 
 -- ---- a text that is the document of a stream
 
-short_enough : (c : ConfigView) (z text : List ℕ) → IsOfRun c z → text ≡ whole_text document c z
-    → length text ≤ most_bytes
-short_enough c z text run e = subst (λ t. length t ≤ most_bytes) (sym e) (document_short c z run)
-
 pub extracted : (c : ConfigView) (z text : List ℕ) → IsOfRun c z → text ≡ whole_text document c z → ReadsBack c z text
 extracted c z text run e =
     let is : IsReadAs text (document_value c z) = subst (λ t. IsReadAs t (document_value c z)) (sym e)
@@ -224,26 +216,4 @@ extracted c z text run e =
     record {
       is_read = is;
       readings = has_readings c z text is.value_of_text;
-      metadata = is_metadata text (document_value c z) is (short_enough c z text run e);
     }
-
-pub document_is_metadata : (c : ConfigView) (z text : List ℕ) → IsOfRun c z → text ≡ whole_text document c z
-    → IsMetadata text (document_value c z)
-document_is_metadata c z text run e = (extracted c z text run e).metadata
-
-same_some : (a b : Data) → Some a ≡ Some b → a ≡ b
-same_some a b e = cc
-
-pub only_value : (c : ConfigView) (z text : List ℕ) (value : Data) → IsOfRun c z → text ≡ whole_text document c z
-    → IsMetadata text value → value ≡ document_value c z
-only_value c z text value run e is =
-    same_some value (document_value c z) (sym is.reading ∙ (extracted c z text run e).is_read.value_of_text)
-
--- the reasons for which a document isn't read
-pub only_memory : (c : ConfigView) (z text : List ℕ) (fault : MetaFault) → IsOfRun c z → text ≡ whole_text document c z
-    → IsUnread text fault → fault ≡ OutOfMemory
-only_memory c z text TooLarge run e unread = absurd (omega (arith, short_enough c z text run e))
-only_memory c z text NotJson run e unread =
-    absurd (unread.1 (document_value c z) (document_is_metadata c z text run e))
-only_memory c z text OutOfMemory run e unread = refl
-only_memory c z text _ run e unread = absurd unread

@@ -11,7 +11,6 @@ use Rattle.json.specs.Lex.{tokens}
 use Rattle.json.specs.Print.{ArePrintable}
 use Rattle.json.specs.Spaced.{AreGaps, print_spaced}
 use Rattle.json.specs.Tree.{json_tokens, depth}
-use Rattle.serde_json.proofs.Nesting.{depth-read}
 use Rattle.serde_json.specs.Data.{Data}
 use Rattle.serde_json.specs.Read.{of_json, max_depth, read}
 use Rattle.vbi_words.specs.declared.system.System.{System}
@@ -23,7 +22,6 @@ use Rattle.vbi_field.specs.Limits.{most_fields}
 use Rattle.vbi_field.specs.Stream.{fields_of, rest_of, readings_at}
 use Rattle.vbi_field.specs.Texts.{text_before_tail, whole_text}
 use Rattle.vbi_meta.specs.DocumentValue.{IsOfRun, document_value}
-use Rattle.vbi_meta.specs.Metadata.{most_bytes, IsMetadata}
 use Rattle.vbi_meta.specs.ReadBack.{IsReadAs}
 use Rattle.vbi_meta.proofs.DocumentTexts.{tokens_of, document_json, pieces, pieces_tokens, pieces_gaps, pieces_print}
 use Rattle.vbi_meta.proofs.LineFeeds.{tokens-line_feed}
@@ -81,7 +79,7 @@ fields_within Pal fields bytes h = omega arith
 pub few_fields : (c : ConfigView) (z : List ℕ) → IsOfRun c z → fields_of c z ≤ most_fields
 few_fields c z run = omega (arith, fields_within c.system c.max_fields (length z) run.within, run.config.max_fields)
 
-pub small_rest : (system : System) (bytes : ℕ) → bytes % field_bytes system < 2 ^ 64
+small_rest : (system : System) (bytes : ℕ) → bytes % field_bytes system < 2 ^ 64
 small_rest Ntsc bytes = omega arith
 small_rest Pal bytes = omega arith
 
@@ -105,15 +103,3 @@ document_is_read c z run =
     (line_is_read (pieces c readings fields rest is) (pieces_gaps c readings fields rest is)
     (document_json c readings fields rest is) (document_value c z)
     (pieces_tokens c readings fields rest is) reads (stream_depth c readings fields rest is))
-
--- ---- as metadata
-
-pub is_metadata : (text : List ℕ) (value : Data) → IsReadAs text value → length text ≤ most_bytes
-    → IsMetadata text value
-is_metadata text value is short =
-    record {
-      short = short;
-      utf8 = is.utf8;
-      reading = is.value_of_text;
-      nested = depth-read text value is.value_of_text;
-    }

@@ -1,7 +1,6 @@
 pub mod DocumentReadings
 pub mod DocumentReads
 pub mod DocumentTexts
-pub mod Lengths
 pub mod LineFeeds
 pub mod PlainBytes
 pub mod PlainDocument

@@ -1,8 +1,8 @@
 -- What a line's reading gives to a document: numbers of 64 bits, and a cause in UTF-8 with nothing to escape.
 use Rattle.std.proofs.Common.{◌≡◌, ℕ, ◌+◌, ◌*◌, ◌<◌, ◌≤◌, ◌^◌, Bool, List, [], ◌∷◌, ◌++◌, length, drop, decimal, IsUtf8}
-use Rattle.std.proofs.Common.{◌∙◌, refl, ap, ap₂, inl, inr, arith, lit<, lit≤, true}
-use Rattle.std.proofs.lemmas.List.{length-append, length-take, length-map}
-use Rattle.std.proofs.lemmas.Fmt.{decimal_is_IsNumeral, IsAscii-decimal, length-decimal-le}
+use Rattle.std.proofs.Common.{◌∙◌, refl, ap, ap₂, inl, inr, arith, lit<, true}
+use Rattle.std.proofs.lemmas.List.{length-take, length-map}
+use Rattle.std.proofs.lemmas.Fmt.{decimal_is_IsNumeral, IsAscii-decimal}
 use Rattle.std.proofs.lemmas.Str.{IsUtf8-append, IsUtf8-from_ascii}
 use Rattle.std.proofs.lemmas.Str.Parse.{digit_from_value}
 use Rattle.std.specs.Prelude.{codes}
@@ -33,8 +33,6 @@ pub record IsShown (reading : Reading) : Type 0 where
   pub pass : reading.pass < 2 ^ 64
   pub free : escape (cause_text_of reading.outcome) ≡ cause_text_of reading.outcome
   pub utf8 : IsUtf8 (cause_text_of reading.outcome)
-  pub digit : reading.pass < 10
-  pub brief : length (cause_text_of reading.outcome) ≤ 27
 
 -- all three of a field's
 pub record AreShown (readings : FieldReadings) : Type 0 where
@@ -68,10 +66,6 @@ column_free name column named h = named ∙ ap (λ l. name ++ l) (escape_decimal
 column_utf8 : (name : List ℕ) (column : ℕ) → are_ascii name ≡ true → column < 2 ^ 64 → IsUtf8 (name ++ decimal column)
 column_utf8 name column e h = IsUtf8-append name (decimal column) (IsUtf8-are_ascii name e) (decimal_utf8 column h)
 
-column_brief : (name : List ℕ) (column : ℕ) → length name ≤ 7 → column < 2 ^ 64 → length (name ++ decimal column) ≤ 27
-column_brief name column short h =
-    omega (arith, short, length-append name (decimal column), length-decimal-le 20 column (lit< tt) (omega arith) h)
-
 small_column : (system : System) (levels : List Bool) (column : ℕ) → length levels < 2 ^ 64
     → FirstHopeless system levels column
     → column < 2 ^ 64
@@ -86,8 +80,6 @@ is_shown system levels short (Word w) pass (inl (p, shows)) =
       pass = omega arith;
       free = refl;
       utf8 = IsUtf8-are_ascii _ refl;
-      digit = omega arith;
-      brief = lit≤ tt;
     }
 is_shown system levels short (Word w) pass (inr (p, none, high, shows)) =
     record {
@@ -95,8 +87,6 @@ is_shown system levels short (Word w) pass (inr (p, none, high, shows)) =
       pass = omega arith;
       free = refl;
       utf8 = IsUtf8-are_ascii _ refl;
-      digit = omega arith;
-      brief = lit≤ tt;
     }
 is_shown system levels short Blank pass (p, is, none) =
     record {
@@ -104,8 +94,6 @@ is_shown system levels short Blank pass (p, is, none) =
       pass = omega arith;
       free = refl;
       utf8 = IsUtf8-are_ascii _ refl;
-      digit = omega arith;
-      brief = lit≤ tt;
     }
 is_shown system levels short Unfinished pass (p, is, none) =
     record {
@@ -113,8 +101,6 @@ is_shown system levels short Unfinished pass (p, is, none) =
       pass = omega arith;
       free = refl;
       utf8 = IsUtf8-are_ascii _ refl;
-      digit = omega arith;
-      brief = lit≤ tt;
     }
 is_shown system levels short (Change c) pass (p, is, none) =
     let small = small_column system levels c short is.2 in
@@ -123,8 +109,6 @@ is_shown system levels short (Change c) pass (p, is, none) =
       pass = omega arith;
       free = column_free (codes "change ") c refl small;
       utf8 = column_utf8 (codes "change ") c refl small;
-      digit = omega arith;
-      brief = column_brief (codes "change ") c (lit≤ tt) small;
     }
 is_shown system levels short (Hold c) pass (p, is, none) =
     let small = small_column system levels c short is.2 in
@@ -133,8 +117,6 @@ is_shown system levels short (Hold c) pass (p, is, none) =
       pass = omega arith;
       free = column_free (codes "hold ") c refl small;
       utf8 = column_utf8 (codes "hold ") c refl small;
-      digit = omega arith;
-      brief = column_brief (codes "hold ") c (lit≤ tt) small;
     }
 
 -- ---- the rows of a stream

@@ -7,6 +7,7 @@ use Rattle.std.specs.Prelude.{codes}
 use Rattle.std.specs.Str.Parse.{AllDigits, digits_value}
 use Rattle.json.specs.Lex.{lex, punctuate, tokens}
 use Rattle.json.specs.Text.{content}
+use Rattle.json.specs.Word.{word, after_number}
 use Rattle.json.specs.Token.{number}
 use Rattle.vbi_meta.specs.Plain.{IsPlain, IsSmall, IsPlainText}
 use Rattle.vbi_meta.proofs.PlainBytes.{known}
@@ -64,6 +65,10 @@ no_control (inr e) = omega (arith, e)
 
 pub no_escape : IsPlainText (codes "\"\\n\"") → ⊥
 no_escape p = no_backslash (recursion_from_All IsPlain (codes "\"\\n\"") p.bytes).1.0
+
+pub no_point_in_text : IsPlainText (codes "[1.5]") → ⊥
+unfolding lex punctuate content word after_number
+no_point_in_text p = no_point (recursion_from_All IsSmall (tokens (codes "[1.5]")) p.numbers).1.0
 
 pub not_printed : (IsPlainText (34 ∷ 127 ∷ 34 ∷ []) → ⊥) × (IsPlainText (34 ∷ 31 ∷ 34 ∷ []) → ⊥)
 not_printed = (

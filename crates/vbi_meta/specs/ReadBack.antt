@@ -13,7 +13,6 @@ use Rattle.vbi_field.specs.ConfigView.{ConfigView}
 use Rattle.vbi_field.specs.Document.{value_of}
 use Rattle.vbi_field.specs.Stream.{fields_of, rest_of}
 use Rattle.vbi_meta.specs.DocumentValue.{document_value}
-use Rattle.vbi_meta.specs.Metadata.{IsMetadata}
 use Rattle.vbi_meta.specs.Settings.{whole, member_of}
 
 -- the text is JSON in UTF-8, this is its value, and no object in it has a key twice: readers that keep the first of two
@@ -93,8 +92,7 @@ pub record HasReadings (c : ConfigView) (z text : List ℕ) : Type 0 where
   pub words : (i k word : ℕ) → word_in text i k ≡ Some word → 0 < word → ReadsWord c z text i k word
   pub cut : HasCut text (fields_of c z) (rest_of c z)
 
--- the text is read as the stream's document, has the readings of its lines, and is metadata of that value
+-- the text is read as the stream's document, and has the readings of its lines
 pub record ReadsBack (c : ConfigView) (z text : List ℕ) : Type 0 where
   pub is_read : IsReadAs text (document_value c z)
   pub readings : HasReadings c z text
-  pub metadata : IsMetadata text (document_value c z)

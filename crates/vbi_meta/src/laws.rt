@@ -1,7 +1,6 @@
 //! Laws over the definitions: each function's contract is one, for every config and stream.
 
-ghost use Rattle.std.specs.Prelude.{◌≡◌, ℕ, List, Option};
-ghost use Rattle.serde_json.specs.Data.{Data};
+ghost use Rattle.std.specs.Prelude.{ℕ, List, Option};
 ghost use Rattle.vbi_field.specs.ConfigView.{ConfigView};
 ghost use Rattle.vbi_field.specs.Extracts.{ExtractsAll};
 ghost use Rattle.vbi_field.specs.Kinds.{document};
@@ -11,10 +10,7 @@ ghost use Rattle.std.specs.Prelude.{[], ◌∷◌, codes};
 ghost use Rattle.vbi_field.specs.Texts.{whole_text};
 ghost use Rattle.vbi_field.specs.declared.summary.Summary.{Summary};
 ghost use Rattle.vbi_meta.specs.DocumentValue.{IsConfig, IsOfRun, document_value};
-ghost use Rattle.vbi_meta.specs.Metadata.{IsMetadata, IsUnread};
 ghost use Rattle.vbi_meta.specs.ReadBack.{IsReadAs, HasReadings, ReadsBack};
-ghost use Rattle.vbi_meta.specs.declared.fault.MetaFault.{MetaFault};
-ghost use Rattle.vbi_meta.specs.declared.fault.MetaFault.TheVariants.{OutOfMemory};
 
 /// The document of a stream is JSON in UTF-8, its value is the one that `specs/DocumentValue` names member by member,
 /// and no object in it has a key twice.
@@ -35,17 +31,6 @@ pub fn extracted_words()
         → IsConfig c → ExtractsAll document c input z text summary → ReadsBack c z text }
 {}
 
-/// Our own reader takes the document of every stream with the same value: it is never longer than metadata may be, and
-/// by its clauses `read_meta` answers that value, or was refused memory.
-pub fn document_is_metadata()
-    ensures value { (c : ConfigView) (z text : List ℕ) → IsOfRun c z → text ≡ whole_text document c z
-        → IsMetadata text (document_value c z) }
-    ensures only { (c : ConfigView) (z text : List ℕ) (value : Data) → IsOfRun c z → text ≡ whole_text document c z
-        → IsMetadata text value → value ≡ document_value c z }
-    ensures fault { (c : ConfigView) (z text : List ℕ) (fault : MetaFault) → IsOfRun c z
-        → text ≡ whole_text document c z → IsUnread text fault → fault ≡ OutOfMemory }
-{}
-
 /// The document of a stream is plain: its bytes are printed ASCII without a backslash, so without escapes, and line
 /// feeds; each number in it is written in decimal digits alone and is below 2 ^ 24. So a reader that knows ASCII alone,
 /// or keeps numbers as floats of 32 bits or more, loses nothing.
@@ -56,7 +41,8 @@ pub fn plain_document()
 {}
 
 /// Numbers that are small, and such as aren't: one with a point, an exponent or a sign, and 2 ^ 24. A text that is
-/// plain, and such as aren't: one with an escape, and one with a byte that isn't printed.
+/// plain, and such as aren't: one with a number that isn't small, one with an escape, and one with a byte that isn't
+/// printed.
 pub fn worked_plain()
     ensures small { IsSmall (number (codes "0")) × IsSmall (number (codes "16777215")) }
     ensures point { IsSmall (number (codes "1.5")) → ⊥ }
@@ -64,6 +50,7 @@ pub fn worked_plain()
     ensures sign { IsSmall (number (codes "-1")) → ⊥ }
     ensures big { IsSmall (number (codes "16777216")) → ⊥ }
     ensures plain { IsPlainText (codes "[\" ~\"]\n") }
+    ensures numbers { IsPlainText (codes "[1.5]") → ⊥ }
     ensures escape { IsPlainText (codes "\"\\n\"") → ⊥ }
     ensures unprinted { (IsPlainText (34 ∷ 127 ∷ 34 ∷ []) → ⊥) × (IsPlainText (34 ∷ 31 ∷ 34 ∷ []) → ⊥) }
 {}

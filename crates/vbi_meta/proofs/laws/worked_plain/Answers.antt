@@ -9,6 +9,7 @@ returns c = record {
   sign = worked.no_sign;
   big = worked.too_big;
   plain = worked.list_is_plain;
+  numbers = worked.no_point_in_text;
   escape = worked.no_escape;
   unprinted = worked.not_printed;
 }
