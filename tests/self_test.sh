@@ -67,6 +67,7 @@ docs|out|picture stop|picture step
 docs|hangs
 docs|README.md|s/^18 F00003 picture 00003$/18 F00003 picture 00004/
 docs|README.md|s/^```sh skip$/```sh skipped/
+docs|README.md|0,/^```sh$/s//&\nfalse \x7c true  # not by pipefail/
 docs|README.md|s/](docs/](dogs/
 docs|include/ldvbi.h|s/263 lines to/262 lines to/
 docs|docs/RECIPES.md|s/^```text$/```test/

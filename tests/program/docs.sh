@@ -53,11 +53,12 @@ END { if (inside) print "a block without its end" > "/dev/stderr" }
 AWK
 
 # What runs a block, in a folder: each command of a pipe has to succeed, too, as bash can see to. A block that is about
-# the statuses in a pipe is left to itself; what is marked `sh` has to be of that shell's grammar.
+# the statuses in a pipe is left to itself, but a comment that names them isn't such a block. What is marked `sh` has to
+# be of that shell's grammar.
 # usage: sh ../strictly KIND FILE
 cat > strictly << 'END'
 [ "$1" = bash ] || sh -n "$2" || exit
-if grep -q -e pipefail -e PIPESTATUS "$2"; then
+if sed 's/\(^\|[[:space:]]\)#.*//' "$2" | grep -q -e pipefail -e PIPESTATUS; then
     exec bash -e "$2"
 fi
 exec bash -e -o pipefail "$2"
