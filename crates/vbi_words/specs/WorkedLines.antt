@@ -1,5 +1,6 @@
 -- A few lines, run by run, at which the definitions can be seen at work.
-use Rattle.std.specs.Prelude.{ℕ, Bool, true, false, List, ◌++◌, replicate}
+use Rattle.std.specs.Prelude.{ℕ, ◌-◌, Bool, true, false, not, List, [], ◌∷◌, ◌++◌, replicate}
+use Rattle.std.specs.Prelude.{Option, Some, None, nat_eq, if◌then◌else◌}
 use Rattle.std.specs.List.{flat_map}
 
 -- n low columns
@@ -66,3 +67,18 @@ little_late = low 5 ++ (high 2 ++ low 3)
 -- 24 ones, each low half cell of m columns and each high one of n, and five lows
 abbrev pub ones_and_five : ℕ → ℕ → List Bool
 ones_and_five m n = flat_map (λ (cell : Bool). low m ++ high n) (replicate 24 true) ++ low 5
+
+-- ---- drawn rows and fields
+
+-- from this column on, the level up to the first of these columns, then the other level up to the next, and so on
+abbrev pub changing : Bool → ℕ → List ℕ → List Bool
+changing level from [] = []
+changing level from (column ∷ columns) = replicate (column - from) level ++ changing (not level) column columns
+
+-- a word, or none for 0
+abbrev pub word_or_none : ℕ → Option ℕ
+word_or_none word = if nat_eq word 0 then None else Some word
+
+-- the words of a field's three lines
+abbrev pub of_three : ℕ → ℕ → ℕ → List (Option ℕ)
+of_three first second third = word_or_none first ∷ word_or_none second ∷ word_or_none third ∷ []

@@ -1,31 +1,36 @@
 //! Laws of the definitions in `specs/`. A function here does nothing: its contract is a law, which holds of every
 //! system, every list of levels, every word and every black and white.
 
-ghost use Rattle.std.specs.Prelude.{◌≡◌, ℕ, suc, ◌≤◌, ◌<◌, ◌+◌, ◌-◌, List, Bool, false};
-ghost use Rattle.std.specs.Prelude.{[], ◌∷◌, ◌++◌, replicate, length, Option, Some, None};
+ghost use Rattle.std.specs.Prelude.{◌≡◌, ℕ, suc, ◌≤◌, ◌<◌, ◌+◌, ◌-◌, List, Bool, true, false};
+ghost use Rattle.std.specs.Prelude.{[], ◌∷◌, ◌++◌, replicate, length, map, Option, Some, None};
+ghost use Rattle.std.specs.List.{range_with_len};
 ghost use Rattle.vbi_words.specs.declared.system.System.{System};
 ghost use Rattle.vbi_words.specs.declared.system.System.TheVariants.{Ntsc, Pal};
 ghost use Rattle.vbi_words.specs.declared.outcome.Outcome.TheVariants.{Word, Unfinished, Change, Hold};
-ghost use Rattle.vbi_words.specs.Levels.{LevelsView, levels_of, level_at, samples_of, row_levels};
+ghost use Rattle.vbi_words.specs.Levels.{LevelsView, is_high_of, levels_of, level_at, samples_of, row_levels};
 ghost use Rattle.vbi_words.specs.Words.{IsWord, IsWordOrNone};
 ghost use Rattle.vbi_words.specs.Shows.{Shows, ShowsNone, Viable};
 ghost use Rattle.vbi_words.specs.Outcomes.{AllLow, IsOutcome};
 ghost use Rattle.vbi_words.specs.RunLimits.{EndsOtherwise, HasRunLimit};
 ghost use Rattle.vbi_words.specs.Smooth.{IsSmooth, smooth_of, Glitch};
 ghost use Rattle.vbi_words.specs.Readings.{IsReading};
-ghost use Rattle.vbi_words.specs.Drawn.{IsDrawnRow, drawn_row_of, drawn_line_of, drawn_reading};
+ghost use Rattle.vbi_words.specs.Drawn.{IsDrawnRow, is_drawn_high, drawn_row_of, drawn_line_of, drawn_reading};
 ghost use Rattle.vbi_words.specs.Distance.{differences, least_distance, near_first, near_second};
 ghost use Rattle.vbi_words.specs.Distance.{turned_once, turned_twice, turned_there};
 ghost use Rattle.vbi_words.specs.Geometry.{width_of, line_bytes};
 ghost use Rattle.vbi_words.specs.Jitter.{ShowsAmply, IsBlurred, IsJittered, NoneAlone, ReadsWord, HasGlitches};
 ghost use Rattle.vbi_words.specs.declared.code.Code.{Code};
+ghost use Rattle.vbi_words.specs.declared.code.Code.TheVariants.{Picture, Chapter, Time, ClvPicture, CxOn, CxOff};
+ghost use Rattle.vbi_words.specs.declared.code.Code.TheVariants.{Users, LeadIn, LeadOut, PictureStop, ClvMark, Other};
 ghost use Rattle.vbi_words.specs.declared.format.Format.{Format};
+ghost use Rattle.vbi_words.specs.declared.format.Format.TheVariants.{Cav, Clv, Both, Neither};
 ghost use Rattle.vbi_words.specs.Codes.{IsCode};
 ghost use Rattle.vbi_words.specs.Formats.{IsFormat, format_of_lines};
 ghost use Rattle.vbi_words.specs.CodeTable.{code_of};
 ghost use Rattle.vbi_words.specs.WorkedLines.{run_of_20, low_cell, long_lows, late_high, ones_of_11};
 ghost use Rattle.vbi_words.specs.WorkedLines.{ones_ending, zeros_behind, low, high, ones_and_five};
 ghost use Rattle.vbi_words.specs.WorkedLines.{little_row, little_early, little_spiked, little_late};
+ghost use Rattle.vbi_words.specs.WorkedLines.{changing, of_three};
 
 /// A list of levels shows at most one word.
 pub fn one_word()
@@ -207,4 +212,103 @@ pub fn worked_tolerance()
     ensures not_amply { ShowsAmply Ntsc (ones_and_five 11 11) 16777215 → ⊥ }
     ensures read { ReadsWord Ntsc ones_of_11 16777215 }
     ensures not_read { (word : ℕ) → ReadsWord Ntsc run_of_20 word → ⊥ }
+{}
+
+/// The codes of a dozen words of each class, written down by hand from the table of codes: the ends of each pattern,
+/// some words within it, and some that miss it by one digit. NTSC and PAL have one table.
+pub fn worked_codes()
+    ensures single { map code_of (0x88FFFF ∷ 0x80EEEE ∷ 0x82CFFF ∷ 0x87FFFF ∷ [])
+        ≡ LeadIn ∷ LeadOut ∷ PictureStop ∷ ClvMark ∷ [] }
+    ensures pictures { map code_of (
+        0xF00000 ∷ 0xF00001 ∷ 0xF00010 ∷ 0xF00100 ∷ 0xF01000 ∷ 0xF10000 ∷ 0xF12345 ∷ 0xF54321 ∷ 0xF79999 ∷ 0xF80000
+        ∷ 0xF92345 ∷ 0xFA0000 ∷ 0xFF9999 ∷ [])
+        ≡ map Picture (0 ∷ 1 ∷ 10 ∷ 100 ∷ 1000 ∷ 10000 ∷ 12345 ∷ 54321 ∷ 79999 ∷ 0 ∷ 12345 ∷ 20000 ∷ 79999 ∷ []) }
+    ensures chapters { map code_of (
+        0x800DDD ∷ 0x801DDD ∷ 0x809DDD ∷ 0x810DDD ∷ 0x812DDD ∷ 0x835DDD ∷ 0x879DDD ∷ 0x880DDD ∷ 0x887DDD ∷ 0x894DDD
+        ∷ 0x8A3DDD ∷ 0x8F9DDD ∷ [])
+        ≡ map Chapter (0 ∷ 1 ∷ 9 ∷ 10 ∷ 12 ∷ 35 ∷ 79 ∷ 0 ∷ 7 ∷ 14 ∷ 23 ∷ 79 ∷ []) }
+    ensures times { map code_of (
+        0xF0DD00 ∷ 0xF0DD09 ∷ 0xF0DD59 ∷ 0xF0DD60 ∷ 0xF0DD99 ∷ 0xF1DD23 ∷ 0xF2DD34 ∷ 0xF3DD10 ∷ 0xF5DD45 ∷ 0xF8DD07
+        ∷ 0xF9DD59 ∷ 0xF9DD99 ∷ [])
+        ≡ Time 0 0 ∷ Time 0 9 ∷ Time 0 59 ∷ Time 0 60 ∷ Time 0 99 ∷ Time 1 23 ∷ Time 2 34 ∷ Time 3 10 ∷ Time 5 45
+        ∷ Time 8 7 ∷ Time 9 59 ∷ Time 9 99 ∷ [] }
+    ensures clv_pictures { map code_of (
+        0x8AE000 ∷ 0x8AE001 ∷ 0x8AE010 ∷ 0x8AE029 ∷ 0x8AE712 ∷ 0x8AE999 ∷ 0x8BE000 ∷ 0x8BE124 ∷ 0x8CE225 ∷ 0x8DE329
+        ∷ 0x8EE424 ∷ 0x8FE525 ∷ 0x8FE999 ∷ [])
+        ≡ ClvPicture 0 0 ∷ ClvPicture 0 1 ∷ ClvPicture 0 10 ∷ ClvPicture 0 29 ∷ ClvPicture 7 12 ∷ ClvPicture 9 99
+        ∷ ClvPicture 10 0 ∷ ClvPicture 11 24 ∷ ClvPicture 22 25 ∷ ClvPicture 33 29 ∷ ClvPicture 44 24 ∷ ClvPicture 55 25
+        ∷ ClvPicture 59 99 ∷ [] }
+    ensures cx_on { map code_of (
+        0x8DC000 ∷ 0x8DC001 ∷ 0x8DC010 ∷ 0x8DC0A1 ∷ 0x8DC100 ∷ 0x8DC123 ∷ 0x8DC7FF ∷ 0x8DC800 ∷ 0x8DCABC ∷ 0x8DCDDD
+        ∷ 0x8DCEEE ∷ 0x8DCFFF ∷ [])
+        ≡ map CxOn (0 ∷ 1 ∷ 0x10 ∷ 0xA1 ∷ 0x100 ∷ 0x123 ∷ 0x7FF ∷ 0x800 ∷ 0xABC ∷ 0xDDD ∷ 0xEEE ∷ 0xFFF ∷ []) }
+    ensures cx_off { map code_of (
+        0x8BA000 ∷ 0x8BA001 ∷ 0x8BA010 ∷ 0x8BA0A1 ∷ 0x8BA100 ∷ 0x8BA123 ∷ 0x8BA7FF ∷ 0x8BA800 ∷ 0x8BAABC ∷ 0x8BADDD
+        ∷ 0x8BAEEE ∷ 0x8BAFFF ∷ [])
+        ≡ map CxOff (0 ∷ 1 ∷ 0x10 ∷ 0xA1 ∷ 0x100 ∷ 0x123 ∷ 0x7FF ∷ 0x800 ∷ 0xABC ∷ 0xDDD ∷ 0xEEE ∷ 0xFFF ∷ []) }
+    ensures users { map code_of (
+        0x80D000 ∷ 0x80D001 ∷ 0x80DDDD ∷ 0x80DEEE ∷ 0x81D010 ∷ 0x82DFFF ∷ 0x83D0A1 ∷ 0x84D123 ∷ 0x85DABC ∷ 0x86D800
+        ∷ 0x87DDDD ∷ 0x87DFFF ∷ [])
+        ≡ Users 0 0x000 ∷ Users 0 0x001 ∷ Users 0 0xDDD ∷ Users 0 0xEEE ∷ Users 1 0x010 ∷ Users 2 0xFFF ∷ Users 3 0x0A1
+        ∷ Users 4 0x123 ∷ Users 5 0xABC ∷ Users 6 0x800 ∷ Users 7 0xDDD ∷ Users 7 0xFFF ∷ [] }
+    ensures no_mark { map code_of (
+        0x88FFFE ∷ 0x88EFFF ∷ 0x89FFFF ∷ 0x80EEED ∷ 0x80EEEF ∷ 0x80EEDE ∷ 0x81EEEE ∷ 0x82CFFE ∷ 0x82BFFF ∷ 0x83CFFF
+        ∷ 0x86FFFF ∷ 0x87FFFE ∷ 0x87EFFF ∷ []) ≡ replicate 13 Other }
+    ensures no_number { map code_of (
+        0xE12345 ∷ 0xF1A345 ∷ 0xF12A45 ∷ 0xF123A5 ∷ 0xF1234A ∷ 0xFFFFFF ∷ 0x80ADDD ∷ 0x800CDD ∷ 0x800DDC ∷ 0x800DDE
+        ∷ 0x800EDD ∷ 0x900DDD ∷ 0xFADD00 ∷ 0xF0CD00 ∷ 0xF0DE00 ∷ 0xF0DDA0 ∷ 0xF0DD0A ∷ []) ≡ replicate 17 Other }
+    ensures no_status { map code_of (
+        0x89E000 ∷ 0x8AEA00 ∷ 0x8AE0A0 ∷ 0x8AE00A ∷ 0x8AF000 ∷ 0x9AE000 ∷ 0x8CC000 ∷ 0x8DB000 ∷ 0x8DD000 ∷ 0x8EC000
+        ∷ 0x8AA000 ∷ 0x8BB000 ∷ 0x8CA000 ∷ 0x88D000 ∷ 0x88DFFF ∷ 0x80C000 ∷ 0x80E000 ∷ 0x90D000 ∷ [])
+        ≡ replicate 18 Other }
+{}
+
+/// The formats of fields by the words of their lines 16, 17 and 18, written down by hand; 0 stands for no word.
+pub fn worked_formats()
+    ensures cav { map format_of_lines (
+        of_three 0x82CFFF 0xF12345 0xF12345 ∷ of_three 0xF00000 0 0 ∷ of_three 0 0xF79999 0 ∷ of_three 0 0 0xF80000
+        ∷ of_three 0x82CFFF 0 0 ∷ of_three 0 0x82CFFF 0 ∷ of_three 0 0 0x82CFFF ∷ of_three 0x88FFFF 0xF12345 0x80EEEE
+        ∷ of_three 0x800DDD 0xFF9999 0x80D000 ∷ of_three 0x8DC0A1 0x8BA0A1 0x82CFFF ∷ []) ≡ replicate 10 Cav }
+    ensures clv { map format_of_lines (
+        of_three 0x8AE712 0xF0DD59 0xF0DD59 ∷ of_three 0x87FFFF 0 0 ∷ of_three 0 0x87FFFF 0 ∷ of_three 0 0 0x87FFFF
+        ∷ of_three 0xF0DD00 0 0 ∷ of_three 0 0xF9DD99 0 ∷ of_three 0 0 0x8AE000 ∷ of_three 0x88FFFF 0x87FFFF 0x80EEEE
+        ∷ of_three 0x800DDD 0x8FE999 0x80D000 ∷ of_three 0x8DC0A1 0x8BA0A1 0xF1DD23 ∷ []) ≡ replicate 10 Clv }
+    ensures both { map format_of_lines (
+        of_three 0x82CFFF 0x87FFFF 0 ∷ of_three 0xF12345 0 0xF0DD00 ∷ of_three 0 0x8AE712 0xF12345
+        ∷ of_three 0x87FFFF 0x82CFFF 0xF12A45 ∷ of_three 0x8FE999 0xFF9999 0x88FFFF
+        ∷ of_three 0xF9DD99 0xF00000 0xF00000 ∷ []) ≡ replicate 6 Both }
+    ensures neither { map format_of_lines (
+        of_three 0 0 0 ∷ of_three 0x88FFFF 0x88FFFF 0x88FFFF ∷ of_three 0x80EEEE 0x80EEEE 0x80EEEE
+        ∷ of_three 0x800DDD 0x8F9DDD 0 ∷ of_three 0x8DC000 0x8BAFFF 0 ∷ of_three 0x80D000 0 0x87DFFF
+        ∷ of_three 0xF12A45 0xFFFFFF 0x800000 ∷ []) ≡ replicate 7 Neither }
+{}
+
+/// The columns in which words are drawn, worked out by hand from the length of a half cell: each list has the columns at
+/// which the level changes, and the width of a line. The level of 24 ones changes at the end of each of the half cells.
+pub fn worked_columns()
+    ensures ntsc_ones { map (is_drawn_high Ntsc 0xFFFFFF) (range_with_len 0 910) ≡ changing false 0 (
+        164 ∷ 178 ∷ 192 ∷ 207 ∷ 221 ∷ 235 ∷ 250 ∷ 264 ∷ 278 ∷ 293 ∷ 307 ∷ 321 ∷ 336 ∷ 350 ∷ 364 ∷ 379 ∷ 393 ∷ 407 ∷ 422
+        ∷ 436 ∷ 450 ∷ 465 ∷ 479 ∷ 493 ∷ 507 ∷ 522 ∷ 536 ∷ 550 ∷ 565 ∷ 579 ∷ 593 ∷ 608 ∷ 622 ∷ 636 ∷ 651 ∷ 665 ∷ 679
+        ∷ 694 ∷ 708 ∷ 722 ∷ 737 ∷ 751 ∷ 765 ∷ 780 ∷ 794 ∷ 808 ∷ 822 ∷ 837 ∷ 910 ∷ []) }
+    ensures ntsc_stop { map (is_drawn_high Ntsc 0x82CFFF) (range_with_len 0 910) ≡ changing false 0 (
+        164 ∷ 192 ∷ 207 ∷ 221 ∷ 235 ∷ 250 ∷ 264 ∷ 278 ∷ 293 ∷ 307 ∷ 336 ∷ 364 ∷ 393 ∷ 407 ∷ 422 ∷ 450 ∷ 465 ∷ 479 ∷ 507
+        ∷ 522 ∷ 536 ∷ 550 ∷ 565 ∷ 579 ∷ 593 ∷ 608 ∷ 622 ∷ 636 ∷ 651 ∷ 665 ∷ 679 ∷ 694 ∷ 708 ∷ 722 ∷ 737 ∷ 751 ∷ 765
+        ∷ 780 ∷ 794 ∷ 808 ∷ 822 ∷ 837 ∷ 910 ∷ []) }
+    ensures pal_ones { map (is_drawn_high Pal 0xFFFFFF) (range_with_len 0 1135) ≡ changing false 0 (
+        207 ∷ 225 ∷ 243 ∷ 260 ∷ 278 ∷ 296 ∷ 314 ∷ 331 ∷ 349 ∷ 367 ∷ 385 ∷ 402 ∷ 420 ∷ 438 ∷ 456 ∷ 473 ∷ 491 ∷ 509 ∷ 526
+        ∷ 544 ∷ 562 ∷ 580 ∷ 597 ∷ 615 ∷ 633 ∷ 651 ∷ 668 ∷ 686 ∷ 704 ∷ 722 ∷ 739 ∷ 757 ∷ 775 ∷ 792 ∷ 810 ∷ 828 ∷ 846
+        ∷ 863 ∷ 881 ∷ 899 ∷ 917 ∷ 934 ∷ 952 ∷ 970 ∷ 988 ∷ 1005 ∷ 1023 ∷ 1041 ∷ 1135 ∷ []) }
+    ensures pal_time { map (is_drawn_high Pal 0x8AE012) (range_with_len 0 1135) ≡ changing false 0 (
+        207 ∷ 243 ∷ 260 ∷ 278 ∷ 296 ∷ 314 ∷ 349 ∷ 385 ∷ 420 ∷ 456 ∷ 491 ∷ 509 ∷ 526 ∷ 544 ∷ 562 ∷ 597 ∷ 615 ∷ 633 ∷ 651
+        ∷ 668 ∷ 686 ∷ 704 ∷ 722 ∷ 739 ∷ 757 ∷ 775 ∷ 792 ∷ 810 ∷ 828 ∷ 846 ∷ 881 ∷ 917 ∷ 934 ∷ 952 ∷ 988 ∷ 1023
+        ∷ 1135 ∷ []) }
+{}
+
+/// A sample midway between black and white is low, and the next one above is high. A sample's low byte comes first.
+pub fn worked_samples()
+    ensures ntsc { map (is_high_of (record { black = 16384; white = 51200 })) (0 ∷ 33791 ∷ 33792 ∷ 33793 ∷ 65535 ∷ [])
+        ≡ false ∷ false ∷ false ∷ true ∷ true ∷ [] }
+    ensures pal { map (is_high_of (record { black = 16384; white = 54016 })) (0 ∷ 35199 ∷ 35200 ∷ 35201 ∷ 65535 ∷ [])
+        ≡ false ∷ false ∷ false ∷ true ∷ true ∷ [] }
+    ensures bytes { samples_of (0x00 ∷ 0x40 ∷ 0x01 ∷ 0x84 ∷ 0xFF ∷ 0x00 ∷ []) ≡ 16384 ∷ 33793 ∷ 255 ∷ [] }
 {}
