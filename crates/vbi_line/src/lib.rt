@@ -19,8 +19,9 @@ mod packed;
 mod reading;
 mod store;
 mod straight;
+mod tries;
 
-pub use counted::{Counted, Fail, RETRIES};
+pub use counted::{Counted, Fail};
 pub use in_place::slice_bytes;
 pub use intake::{Filled, Intake, IntakeFault};
 pub use lanes::slice_lanes;
@@ -28,3 +29,4 @@ pub use line::LineBuf;
 pub use outcome::{read_line, read_packed};
 pub use packed::Packed;
 pub use reading::{read_bytes_twice, read_packed_twice, read_twice};
+pub use tries::RETRIES;
