@@ -49,21 +49,25 @@ const ALL: Overrides = Overrides {
 };
 
 /// What settings hold: system, black, white and limit.
-type Settled = (System, u16, u16, u32);
+pub(crate) type Settled = (System, u16, u16, u32);
 
 fn held(system: System, levels: Levels, max_fields: u32) -> Settled {
     (system, levels.black(), levels.white(), max_fields)
 }
 
 /// The settings of a document.
-fn settled(alloc: Global, text: &str, overrides: &Overrides) -> Result<Settled, MetaFault> {
+pub(crate) fn settled(
+    alloc: Global,
+    text: &str,
+    overrides: &Overrides,
+) -> Result<Settled, MetaFault> {
     let value = read_meta(alloc, text.as_bytes())?;
     let config = settings(Some(&value), overrides)?;
     Ok(held(config.system(), config.levels(), config.max_fields()))
 }
 
 /// The document with this inner text of `videoParameters`.
-fn document(alloc: Global, members: &str) -> Result<String, AllocError> {
+pub(crate) fn document(alloc: Global, members: &str) -> Result<String, AllocError> {
     format!(in alloc; "{{\"videoParameters\":{{{members}}}}}")
 }
 
@@ -100,7 +104,7 @@ fn documents_without_parameters_are_refused(rt: HostRuntime) -> Result<(), Fail>
 
 /// Fails where metadata with these members aren't refused for this with some overrides, or with a limit of no field
 /// besides, which is the last of all faults.
-fn refuses(
+pub(crate) fn refuses(
     alloc: Global,
     members: &str,
     overrides: &Overrides,
