@@ -1,7 +1,7 @@
 #!/bin/sh
 # The whole gate, at the top of the repository: every proof, test and stored run by `rt ci`, each wrong body by
-# tests/wrong_bodies.py, then the scripts on the built program and library, and the scripts tried themselves; then the
-# same source is built by cargo, and compared with what was proved.
+# tests/wrong_bodies.py, then the scripts on the built program and library, and the scripts tried themselves (this one by
+# tests/gate_trials.sh); then the same source is built by cargo, and compared with what was proved.
 #
 # `rt ci` works on a copy without must-fail/, whose edits it would try one at a time, while program and library are
 # built here; what these keep, the wrong bodies are tried over. So the program is proved and built twice, and the two
@@ -14,6 +14,9 @@ set -eu
 crates=13
 unit_tests=109
 wrong_bodies=288
+# Scripts on what was proved, and on the Rust program
+scripts=24
+rust_scripts=14
 # Memory in kB with which the proofs and the build can run side by side
 memory_of_both=14000000
 
@@ -48,6 +51,17 @@ part() {
     began=$now
 }
 
+# runs_scripts NAME WANTED PROGRAM [--rust]: runs the scripts, and fails where one of them does or where fewer ran
+runs_scripts() {
+    name=$1
+    wanted=$2
+    shift 2
+    sh tests/scripts.sh "$@" > "$work/scripts" || { cat "$work/scripts"; fails "of the $name one failed"; }
+    cat "$work/scripts"
+    ran=$(tail -n 1 "$work/scripts" | sed -n 's/^scripts: all \([0-9]*\) passed$/\1/p')
+    at_least "$name" "${ran:-0}" "$wanted"
+}
+
 # ends_proofs: waits for `rt ci`, and looks at its status, its last line and what it ran
 ends_proofs() {
     wait "$proofs" || { cat "$work/log"; fails 'rt ci failed'; }
@@ -77,23 +91,23 @@ if [ "$(awk '/^MemAvailable/ { print $2 }' /proc/meminfo)" -lt "$memory_of_both"
     ends_proofs
     part 'proofs and tests'
 fi
-make ldvbi lib
+make ldvbi lib || fails 'program and library are not built'
 part 'program and library'
 python3 tests/wrong_bodies.py > "$work/wrong" || { cat "$work/wrong"; fails 'a wrong body was not refused'; }
 cat "$work/wrong"
 refused=$(tail -n 1 "$work/wrong" | sed -n 's/^wrong bodies: \([0-9]*\) refused .* 0 not$/\1/p')
 at_least 'wrong bodies' "${refused:-0}" "$wrong_bodies"
-python3 tests/wrong_bodies_trials.py
+python3 tests/wrong_bodies_trials.py || fails 'the script that tries wrong bodies takes what it has to refuse'
 part 'wrong bodies'
 if [ -n "$proofs" ]; then
     ends_proofs
     part 'proofs and tests, where they took longer'
 fi
-cmp ldvbi "$work/copy/crates/ldvbi/out/ldvbi"
-sh tests/scripts.sh ./ldvbi
+cmp ldvbi "$work/copy/crates/ldvbi/out/ldvbi" || fails 'the program was built twice, and the two differ'
+runs_scripts 'scripts' "$scripts" ./ldvbi
 part 'scripts'
-make -s rust
-sh tests/scripts.sh rust/ldvbi --rust
+make -s rust || fails 'the Rust program is not built'
+runs_scripts 'scripts on the Rust program' "$rust_scripts" rust/ldvbi --rust
 part 'the Rust program and its library'
 cat "$work/times"
 echo "$((passed + refused)) passed, 0 failed"

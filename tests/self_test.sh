@@ -157,6 +157,28 @@ plots|out|change 170|change 171
 plots|hangs
 plots|contrib/plot_line.py|s/(pass 2)/(pass 3)/
 plots|docs/pictures/word.svg|s/82CFFF/82CFFE/
+gate_trials|tests/gate.sh|s/^    wait "$proofs" .*/    wait "$proofs"/
+gate_trials|tests/gate.sh|/^    last=/{N;d}
+gate_trials|tests/gate.sh|s/ "$2" -ge "$3" / "$2" -ge 1 /
+gate_trials|tests/gate.sh|/^    at_least 'unit tests'/d
+gate_trials|tests/gate.sh|/^at_least 'wrong bodies'/d
+gate_trials|tests/gate.sh|s/^cmp .*/:/
+gate_trials|tests/gate.sh|s/^\(python3 tests.wrong_bodies_trials.py\) .*/\1 \x7c\x7c :/
+gate_trials|tests/gate.sh|s/ "$scripts" .\/ldvbi$/ 1 .\/ldvbi lines/
+gate_trials|tests/gate.sh|/^runs_scripts 'scripts on the Rust program'/d
+gate_trials|tests/gate.sh|s/{ cat "$work.scripts"; .*/:/
+gate_trials|tests/gate.sh|s/ --exclude='.\/crates\/\*\/out'//
+gate_trials|tests/gate.sh|s/kill -- "-$proofs"/:/
+gate_trials|tests/gate.sh|s/^without_edits=.*/without_edits=/
+scripts_trials|tests/scripts.sh|s/^    \[ "$(cat .*status.*= 0 \] .*/    :/
+scripts_trials|tests/scripts.sh|s/wanted = $2 + $8 == checks/wanted = 1/
+scripts_trials|tests/scripts.sh|s/timeout -k 30 "$1" //
+scripts_trials|tests/scripts.sh|s/ checks " of " checks / $2 " of " $2 /
+scripts_trials|tests/scripts.sh|s/rows whole > .*/: > "$work\/then"/
+scripts_trials|tests/scripts.sh|s/rows everywhere library >/rows everywhere >/
+scripts_trials|tests/scripts.sh|s/ -o -name '\*.py'//
+scripts_trials|tests/scripts.sh|s/^        failed="$failed $name"/        failed=/
+scripts_trials|tests/scripts.sh|s/fault "no script, or/: "no script, or/
 END
 
 # Each row: what scripts.sh has to say where it runs one script, this script, what is altered of its program (as above;
@@ -179,10 +201,29 @@ lines failed: status 0|lines|status|1|0|tests/helpers.sh|s/^    \[ "$judged $pas
 scripts.txt doesn't name lines.sh|lines|nothing|||tests/scripts.txt|/^lines /d
 scripts.txt doesn't name streams.py|lines|nothing|||tests/scripts.txt|/^streams/d
 no script, or more than one, has the name absent|absent|nothing
-all 1 passed|lines|err|short line|shirt line|tests/helpers.sh|s/elif "$@"; then/elif "$@" || :; then/
+all 1 passed|lines|err|short line|shirt line|tests/helpers.sh|s/elif "$@"; then/elif "$@" \x7c\x7c :; then/
 all 1 passed|lines|err|short line|shirt line|tests/helpers.sh|s/ && cmp -s err "$3"//
 all 1 passed|lines|out|82CFFF|82CFFE|tests/helpers.sh|s/ && cmp -s out "$2"//
 all 1 passed|lines|status|1|0|tests/helpers.sh|s/\[ "$status" = "$1" \] && //
+END
+
+# Each row: one of the tables above, and a row of it that may not be as wanted. The script `stub` stands in a tree of its
+# own: it ends with the status that begins the file `says`, and says the rest of it.
+cat > refused << 'END'
+alteration|stub|tests/says|s/no such text//
+alteration|stub|tests/says|s/^1/2/
+alteration|stub|tests/says|s/^1/0/
+alteration|stub|tests/says|s/the first check/another check/
+alteration|stub|tests/says|s/stub/another/
+alteration|stub|tests/absent|s/^/1/
+alteration|lines|share/man/ldvbi.1|s/1000000/1000001/
+alteration|lines|out|no such text|no such texT
+frame|all 1 passed|lines|err|short line|shirt line
+frame|all 1 passed|lines|out|no such text|no such texT
+frame|all 1 passed|lines|nothing|||Makefile|s/no such text//
+frame|lines failed: status 1|lines|nothing
+frame|lines failed: status 1|lines|status|1|0|tests/program/lines.sh|s/^finish/exit 3/
+frame|checks as wanted|lines|nothing
 END
 
 compiler=${CC:-cc}
@@ -190,6 +231,13 @@ mkdir altered tree
 "$compiler" -std=c99 -O2 -Wall -shared -fPIC -o alter.so "$here/alter.c" -ldl || exit 1
 "$compiler" -std=c99 -O2 -Wall -static -DLAUNCHER -o altered/ldvbi "$here/alter.c" || exit 1
 (cd "$top" && tar --exclude=.git --exclude=out --exclude=./dist -cf - .) | tar -xf - -C tree
+mkdir -p stub_tree/tests
+echo '1 stub: stopped at the first check that failed' > stub_tree/tests/says
+cat > stub_tree/tests/stub.sh << 'END'
+read -r status text < "$(dirname "$0")/says"
+echo "$text"
+exit "$status"
+END
 ALTER_PROGRAM=$program
 ALTER_LIBRARY=$work/alter.so
 export ALTER ALTER_FROM ALTER_TO ALTER_MARK ALTER_PROGRAM ALTER_LIBRARY
@@ -205,16 +253,17 @@ program_with() {
 
 # tree_with TRIAL FILE PROGRAM: makes a copy of the repository, by links, with this file as the program for sed makes it
 tree_with() {
-    cp -al tree "$1/tree"
-    rm "$1/tree/$2"
-    sed "$3" "tree/$2" > "$1/tree/$2"
-    ! cmp -s "$1/tree/$2" "tree/$2" && : > "$1/mark"
+    cp -al "$base" "$1/tree"
+    [ -f "$base/$2" ] && rm "$1/tree/$2" && sed "$3" "$base/$2" > "$1/tree/$2" && ! cmp -s "$1/tree/$2" "$base/$2" &&
+        : > "$1/mark"
 }
 
 # alteration TRIAL SCRIPT WHAT FROM TO: whether a script stops at its first failed check, where this is altered
 alteration() {
     folder=$tests
     tried=$program
+    base=tree
+    [ "$2" != stub ] || base=stub_tree
     why='the first check that failed'
     case $3 in
         out | err | bit | status) program_with "$1" "$3" "$4" "$5" ;;
@@ -223,7 +272,7 @@ alteration() {
     esac
     STOP_AT_FIRST=yes
     export STOP_AT_FIRST RUN_SECONDS
-    timeout -k 30 600 sh "$folder"/*/"$2.sh" "$tried" < empty > "$1/said" 2>&1
+    timeout -k 30 600 sh "$(find "$folder" -name "$2.sh")" "$tried" < empty > "$1/said" 2>&1
     echo $? > "$1/status"
     [ -e "$1/mark" ] || echo 'nothing was altered' >> "$1/said"
     [ "$(cat "$1/status")" = 1 ] && tail -n 1 "$1/said" | grep -qx "$2: stopped at $why"
@@ -233,6 +282,7 @@ alteration() {
 # is altered of the program and of the repository; its status is 0 where it says that all passed
 frame() {
     folder=$tests
+    base=tree
     ended_with=1
     [ "$2" != 'all 1 passed' ] || ended_with=0
     [ -z "$7" ] || { tree_with "$1" "$7" "$8" && folder=$1/tree/tests; } || return
@@ -244,18 +294,27 @@ frame() {
     [ "$(cat "$1/status")" = "$ended_with" ] && grep -qF "$2" "$1/said" && { [ "$4" = nothing ] || [ -e "$1/mark" ]; }
 }
 
+# refused TRIAL KIND..: whether a row of one of the tables isn't as wanted
+refused() {
+    trial=$1
+    kind=$2
+    shift 2
+    ! "$kind" "$trial" "$@"
+}
+
 # Trials are made side by side: each worker takes a row that no other has taken.
-{ sed 's/^/alteration|/' alterations; sed 's/^/frame|/' frames; } > rows
+{ sed 's/^/alteration|/' alterations; sed 's/^/frame|/' frames; sed 's/^/refused|/' refused; } > rows
 worker() {
     number=0
     while read -r row; do
         number=$((number + 1))
         mkdir "trial.$number" 2> /dev/null || continue
         : > "trial.$number/said"
+        echo none > "trial.$number/status"
         printf '%s\n' "$row" > "trial.$number/row"
         (
-            IFS='|' read -r kind a b c d e f g < "trial.$number/row"
-            "$kind" "trial.$number" "$a" "$b" "$c" "$d" "$e" "$f" "$g" && : > "trial.$number/as_wanted"
+            IFS='|' read -r kind a b c d e f g h < "trial.$number/row"
+            "$kind" "trial.$number" "$a" "$b" "$c" "$d" "$e" "$f" "$g" "$h" && : > "trial.$number/as_wanted"
         )
         rm -rf "trial.$number/tree"
     done < rows
@@ -272,7 +331,7 @@ while read -r row; do
     check "$row" [ -e "trial.$number/as_wanted" ]
 done < rows
 
-awk '$3 ~ /^(everywhere|library|python)$/ { print $1 }' "$tests/scripts.txt" | sort > listed
+awk '$3 ~ /^(everywhere|library|python|whole)$/ && $1 != "self_test" { print $1 }' "$tests/scripts.txt" | sort > listed
 cut -d '|' -f 1 alterations | sort -u > altered_scripts
 status=none
 check 'each script is tried' cmp listed altered_scripts
