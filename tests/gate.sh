@@ -98,6 +98,7 @@ cat "$work/wrong"
 refused=$(tail -n 1 "$work/wrong" | sed -n 's/^wrong bodies: \([0-9]*\) refused .* 0 not$/\1/p')
 at_least 'wrong bodies' "${refused:-0}" "$wrong_bodies"
 python3 tests/wrong_bodies_trials.py || fails 'the script that tries wrong bodies takes what it has to refuse'
+python3 tests/public_functions.py || fails 'a public function has no wrong body'
 part 'wrong bodies'
 if [ -n "$proofs" ]; then
     ends_proofs
