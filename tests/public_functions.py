@@ -26,7 +26,7 @@ STRUCT = re.compile(r"(?:pub(?:\([^)]*\))? )?struct (\w+)[^;{]*\{(.*?)^\}", re.M
 FIELD = re.compile(rf"^ +(?:pub(?:\([^)]*\))? )?(\w+): {TYPE}", re.M)
 IMPORT = re.compile(r"^(?:pub )?use (\w+)(?:::\w+)*::(?:\{([^}]*)\}|(\w+));", re.M)
 # A name behind what it belongs to, as in `self.line.held(`, `LineBuf::new(` and `hex_text(`, or a constant
-NAMED = re.compile(r"(?:((?:\w+\.)+)|(?:\w+::)*(\w+)::)?(\w+)(?:::<[^>]*>)?(\()?")
+NAMED = re.compile(r"(?<![\w.])(?:((?:\w+\.)+)|(?:\w+::)*(\w+)::)?(\w+)(?:::<[^>]*>)?(\()?")
 # Texts, characters and comments, which name nothing
 SILENT = re.compile(r'"(?:\\.|[^"\\])*"|\'(?:\\.|[^\'\\])\'|//[^\n]*', re.S)
 
@@ -242,6 +242,10 @@ pub fn far() -> u32 {
     near()
 }
 
+pub fn strange(near: impl Strange) -> u32 {
+    near.rows() + near.next().rows()
+}
+
 fn near() -> u32 {
     rows()
 }
@@ -264,7 +268,7 @@ TRIAL_EDITS = [
     ("    pub fn windows(&self)", "    pub fn panes(&self)"),
 ]
 # The functions that no edit changes
-TRIAL_NAMES = ["Room::new", "Room::walls", "Room::windows", "far"]
+TRIAL_NAMES = ["Room::new", "Room::walls", "Room::windows", "far", "strange"]
 
 
 def trial():
