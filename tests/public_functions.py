@@ -243,7 +243,11 @@ pub fn far() -> u32 {
 }
 
 pub fn strange(near: impl Strange) -> u32 {
-    near.rows() + near.next().rows()
+    near.five() + near.next().five()
+}
+
+fn five() -> u32 {
+    5
 }
 
 fn near() -> u32 {
@@ -263,7 +267,8 @@ pub fn law()
 TRIAL_EDITS = [
     ("    (3, '['),", "    (4, '['),"),
     ("const LIMIT: u32 = 9;", "const LIMIT: u32 = 5;"),
-    ("        4", "        5"),
+    ("        4", "        6"),
+    ("    5", "    6"),
     ("    pub fn doors(&self)", "    pub fn doors(&self) -> u32 { 5 } pub fn two_doors(&self)"),
     ("    pub fn windows(&self)", "    pub fn panes(&self)"),
 ]
