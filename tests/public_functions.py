@@ -165,11 +165,11 @@ class Repository:
             if not opens and not name.isupper():
                 continue
             kind = self.kind_of(item, dots.rstrip(".").split(".")) if dots else before
-            kind = item.owner if kind == "Self" else kind
+            kind = item.owner if kind == "Self" else kind or ""
+            # What stands before a function may be its module, but a method has a type
+            kind = kind if kind[:1].isupper() else ""
             if dots and not kind:
                 continue
-            # What stands before a function may be its module
-            kind = kind if kind[:1].isupper() else ""
             crate = item.source.imports.get(kind or name, item.source.crate)
             found += self.find(crate, f"{kind}::{name}" if kind else name)
         return found
