@@ -26,7 +26,7 @@ STRUCT = re.compile(r"(?:pub(?:\([^)]*\))? )?struct (\w+)[^;{]*\{(.*?)^\}", re.M
 FIELD = re.compile(rf"^ +(?:pub(?:\([^)]*\))? )?(\w+): {TYPE}", re.M)
 IMPORT = re.compile(r"^(?:pub )?use (\w+)(?:::\w+)*::(?:\{([^}]*)\}|(\w+));", re.M)
 # A name behind what it belongs to, as in `self.line.held(`, `LineBuf::new(` and `hex_text(`, or a constant
-NAMED = re.compile(r"(?:((?:\w+\.)+)|(?:\w+::)*(\w+)::)?(\w+)(?:::<[^>]*>)?(\()?")
+NAMED = re.compile(r"(?<![\w.])(?:((?:\w+\.)+)|(?:\w+::)*(\w+)::)?(\w+)(?:::<[^>]*>)?(\()?")
 # Texts, characters and comments, which name nothing
 SILENT = re.compile(r'"(?:\\.|[^"\\])*"|\'(?:\\.|[^\'\\])\'|//[^\n]*', re.S)
 
@@ -165,11 +165,11 @@ class Repository:
             if not opens and not name.isupper():
                 continue
             kind = self.kind_of(item, dots.rstrip(".").split(".")) if dots else before
-            kind = item.owner if kind == "Self" else kind
+            kind = item.owner if kind == "Self" else kind or ""
+            # What stands before a function may be its module, but a method has a type
+            kind = kind if kind[:1].isupper() else ""
             if dots and not kind:
                 continue
-            # What stands before a function may be its module
-            kind = kind if kind[:1].isupper() else ""
             crate = item.source.imports.get(kind or name, item.source.crate)
             found += self.find(crate, f"{kind}::{name}" if kind else name)
         return found
@@ -242,6 +242,14 @@ pub fn far() -> u32 {
     near()
 }
 
+pub fn strange(near: impl Strange) -> u32 {
+    near.five() + near.next().five()
+}
+
+fn five() -> u32 {
+    5
+}
+
 fn near() -> u32 {
     rows()
 }
@@ -259,12 +267,13 @@ pub fn law()
 TRIAL_EDITS = [
     ("    (3, '['),", "    (4, '['),"),
     ("const LIMIT: u32 = 9;", "const LIMIT: u32 = 5;"),
-    ("        4", "        5"),
+    ("        4", "        6"),
+    ("    5", "    6"),
     ("    pub fn doors(&self)", "    pub fn doors(&self) -> u32 { 5 } pub fn two_doors(&self)"),
     ("    pub fn windows(&self)", "    pub fn panes(&self)"),
 ]
 # The functions that no edit changes
-TRIAL_NAMES = ["Room::new", "Room::walls", "Room::windows", "far"]
+TRIAL_NAMES = ["Room::new", "Room::walls", "Room::windows", "far", "strange"]
 
 
 def trial():
