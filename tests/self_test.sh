@@ -15,9 +15,10 @@ cat > alterations << 'END'
 large|out|field 8981|field 8980
 library|out|"vbiPass"|"vbiPaSS"
 library|include/ldvbi.h|s/LDVBI_HOLD = 4/LDVBI_HOLD = 5/
-library|include/ldvbi.h|s/LDVBI_DUE = 3/LDVBI_DUE = 4/
 library|tests/library/library_numbers.c|s/(105) . 106..110/(106) . 106..110/
 library|tests/library/library_sightings.c|s/SEEN(1079999, 2, 1079999, 2, 0)/SEEN(1079999, 2, 1079999, 1, 0)/
+examples|examples/seek.py|s/<= 79999/<= 80000/
+staged|Makefile|s/-m 755 $(BUILT)libldvbi.so/-m 700 $(BUILT)libldvbi.so/
 misread|examples/seek.c|s/if (is_judged) {/if (!is_judged) {/
 misread|examples/seek.c|s/ \&\& !is_other_disc//
 misread|examples/seek.c|s/seconds.second < rate/seconds.second < 100/
@@ -27,7 +28,6 @@ misread|examples/stops.cpp|s/LDVBI_FIND_PACE/LDVBI_VIDEO/
 header|include/ldvbi.h|s/^#define LDVBI_H$/#define LDVBI_H_/
 header|include/ldvbi.h|/^LDVBI_RESULT$/{N;s/.*\n\(uint32_t ldvbi_judge\)/\1/}
 header|include/ldvbi.h|s/^LDVBI_RESULT LDVBI_POINTER(4)$/LDVBI_RESULT/
-library|python/ldvbi_side/library.py|s/is no code word/is not a word/
 python|python/ldvbi_side/analysis.py|s/^def analyse(/def analyze(/
 python|tests/python/python.sh|s/\$3 == "python"/$1 == "side_schema"/
 python_unit|python/ldvbi_side/missing.py|s/"lost", fields/"last", fields/

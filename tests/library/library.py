@@ -1,13 +1,12 @@
 #!/usr/bin/env python3
-"""Checks the library in Python: what it refuses, and that its readings of a TBC file make the very document that the
-program's `extract` writes. The module is found by PYTHONPATH, the library by LDVBI_LIBRARY.
+"""Checks that the readings of a TBC file by the library in Python make the very document that the program's `extract`
+writes. The module is found by PYTHONPATH, the library by LDVBI_LIBRARY.
 
-usage: library.py refusals | document SYSTEM BLACK WHITE FILE < DOCUMENT"""
+usage: library.py SYSTEM BLACK WHITE FILE < DOCUMENT"""
 
 import mmap
 import os
 import sys
-import unittest
 
 import ldvbi
 
@@ -35,7 +34,7 @@ def document(system, black, white, readings, rest):
     return head + ",\n".join(records) + '\n],"cutField":%s}\n' % cut
 
 
-def test_document(system, black, white, path):
+def check_document(system, black, white, path):
     """The file by its path, mapped, as bytes, field by field, by three lines and line by line."""
     wanted = sys.stdin.read()
     width, height = SIZES[system]
@@ -56,19 +55,6 @@ def test_document(system, black, white, path):
         assert document(system, black, white, readings, rest) == wanted
 
 
-def test_refusals():
-    """The rows of tests/python/test_refusals.py."""
-    sys.path.insert(0, os.path.join(os.path.dirname(os.path.abspath(__file__)), os.pardir, "python"))
-    unittest.main("test_refusals", argv=sys.argv[:1])
-
-
-def main():
-    if sys.argv[1:] == ["refusals"]:
-        test_refusals()
-    else:
-        system, black, white, path = sys.argv[2:]
-        test_document(system, int(black), int(white), path)
-
-
 if __name__ == "__main__":
-    main()
+    SYSTEM, BLACK, WHITE, PATH = sys.argv[1:]
+    check_document(SYSTEM, int(BLACK), int(WHITE), PATH)

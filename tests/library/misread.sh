@@ -7,26 +7,8 @@
 
 # shellcheck source=tests/helpers.sh
 . "$(dirname "$0")/../helpers.sh"
-
-strict='-Wall -Wextra -Wpedantic -Werror -O1 -g'
-linked="-I$top/include -L$built -lldvbi -Wl,-rpath,$built"
-
-# does COMMAND..: checks that a command succeeds, and says nothing of what it writes unless it fails
-does() {
-    status=0
-    bounded "$@" < empty > out 2> err || status=$?
-    [ "$status" = 0 ]
-}
-
-# prints STATUS TEXT COMMAND..: checks that a command writes this text and ends with this status
-prints() {
-    wanted_status=$1
-    printf '%s\n' "$2" > wanted
-    shift 2
-    status=0
-    bounded "$@" < empty > out 2> err || status=$?
-    [ "$status" = "$wanted_status" ] && cmp -s out wanted
-}
+# shellcheck source=tests/library/library_helpers.sh
+. "$here/library_helpers.sh"
 
 # draws NAME < WORDS: draws NAME.tbc
 draws() {
@@ -34,9 +16,9 @@ draws() {
     cp out "$1.tbc"
 }
 
-check 'seek is built' does ${CC:-cc} -std=c99 $strict -o seek "$top/examples/seek.c" $linked
-check 'stops is built' does ${CXX:-c++} -std=c++17 $strict -o stops "$top/examples/stops.cpp" $linked
-check 'player is built' does ${CXX:-c++} -std=c++17 $strict -o player "$top/examples/player.cpp" $linked
+check 'seek is built' does $cc -std=c99 $strict -o seek "$top/examples/seek.c" $linked
+check 'stops is built' does $cxx -std=c++17 $strict -o stops "$top/examples/stops.cpp" $linked
+check 'player is built' does $cxx -std=c++17 $strict -o player "$top/examples/player.cpp" $linked
 
 # Pictures 94 to 157, of which 100 reads 79999 and 151 reads 5, on both lines, and 110 reads 7 on one, with a stop at
 # 100, 120 and 151; and a stop with a chapter where picture 130 would have its number.
@@ -92,9 +74,8 @@ draws times << 'WORDS'
 WORDS
 rm out
 
-on='NTSC 16384 51200'
 while read -r side number ended text; do
-    check "seek: $number of $side" prints $ended "$text" ./seek $side.tbc $on $number
+    check "seek: $number of $side" prints $ended "$text" ./seek $side.tbc $on_cav $number
 done << 'END'
 video 100 0 field 13
 video 151 0 field 115
@@ -121,7 +102,8 @@ times 1:00:00.03 1 not found
 video 0:00:03.10 1 not found
 END
 while read -r side number ended text; do
-    check "player: a search for $number of $side" prints $ended "search: $text" ./player $side.tbc $on search $number
+    check "player: a search for $number of $side" prints $ended "search: $text" \
+        ./player $side.tbc $on_cav search $number
 done << 'END'
 video 100 0 field 13 picture 100
 video 151 0 field 115 picture 151
@@ -139,21 +121,21 @@ END
 check 'player: the stops' prints 0 'play: field 13 picture 100
 play: field 53 picture 120
 play: field 73
-play: field 115 picture 151' ./player video.tbc $on play play play play
-check 'player: a chapter is taken as it is' prints 0 'chapter: field 2' ./player video.tbc $on chapter 3
+play: field 115 picture 151' ./player video.tbc $on_cav play play play play
+check 'player: a chapter is taken as it is' prints 0 'chapter: field 2' ./player video.tbc $on_cav chapter 3
 check 'stops: pictures that were misread' prints 0 'field 13 picture 100
 field 53 picture 120
 field 73
 field 115 picture 151
-4 stops' sh -c "./stops $on < video.tbc"
+4 stops' sh -c "./stops $on_cav < video.tbc"
 check 'stops: of film' prints 0 'field 13 picture 6
-1 stops' sh -c "./stops $on < film.tbc"
-check 'stops: no field' prints 0 '0 stops' sh -c "./stops $on < empty"
+1 stops' sh -c "./stops $on_cav < film.tbc"
+check 'stops: no field' prints 0 '0 stops' sh -c "./stops $on_cav < empty"
 
 # Without memory for what is read and judged of 220,000 fields, of which the file has no block
 truncate -s $((478660 * 220000)) great.tbc
 printf '%s\n' 'seek: Cannot allocate memory' > wanted
 status=0
-bounded sh -c "ulimit -d 4000 && exec ./seek great.tbc $on 3" < empty > out 2> err || status=$?
+bounded sh -c "ulimit -d 4000 && exec ./seek great.tbc $on_cav 3" < empty > out 2> err || status=$?
 check 'seek: no memory' ended 2 empty wanted
 finish

@@ -1,0 +1,47 @@
+# shellcheck shell=sh disable=SC2016,SC2034,SC2086,SC2154
+# What the tests of the library share. They read this in after tests/helpers.sh.
+
+cc=${CC:-cc}
+cxx=${CXX:-c++}
+strict='-Wall -Wextra -Wpedantic -Werror -O1 -g'
+# What links a program with the shared library beside the program that is tested
+linked="-I$top/include -L$built -lldvbi -Wl,-rpath,$built"
+on_cav='NTSC 16384 51200'
+on_clv='PAL 16384 54016'
+
+# does COMMAND..: checks that a command succeeds, and says nothing of what it writes unless it fails
+does() {
+    status=0
+    bounded "$@" < empty > out 2> err || status=$?
+    [ "$status" = 0 ]
+}
+
+# prints STATUS TEXT COMMAND..: checks that a command writes this text and ends with this status
+prints() {
+    wanted_status=$1
+    printf '%s\n' "$2" > wanted
+    shift 2
+    status=0
+    bounded "$@" < empty > out 2> err || status=$?
+    [ "$status" = "$wanted_status" ] && cmp -s out wanted
+}
+
+# header_version: the version of ldvbi.h
+header_version() {
+    sed -n 's/^#define LDVBI_VERSION_TEXT "\(.*\)"$/\1/p' "$top/include/ldvbi.h"
+}
+
+# program_in_readme: makes say.c of the program in README, and the line that it reads
+program_in_readme() {
+    sed -n '/^```c$/,/^```$/{/^```/d;p;}' "$top/README.md" > say.c
+    echo '- F12345 -' | bounded "$program" draw $ntsc > said.tbc
+    tail -c +29121 said.tbc | head -c 1820 > line.raw
+}
+
+# discs: makes cav.tbc and clv.tbc of the words in examples/
+discs() {
+    run draw $ntsc "$top/examples/cav.words"
+    cp out cav.tbc
+    run draw $pal "$top/examples/clv.words"
+    cp out clv.tbc
+}
