@@ -54,6 +54,7 @@ stub bin/python3 << 'END'
 echo "python3 $*" >> "$RAN"
 case $1 in
     *trials*) exit "${TRIALS_STATUS:-0}" ;;
+    *public_functions*) exit "${PUBLIC_STATUS:-0}" ;;
 esac
 echo "wrong bodies: $((BODIES + ${MORE_BODIES:-0})) refused (all by a goal), ${NOT_REFUSED:-0} not"
 exit "${BODIES_STATUS:-0}"
@@ -108,6 +109,7 @@ rt ci in copy, 0 edits, 0 kept
 make ldvbi lib
 python3 tests/wrong_bodies.py
 python3 tests/wrong_bodies_trials.py
+python3 tests/public_functions.py
 scripts.sh ./ldvbi
 make -s rust
 scripts.sh rust/ldvbi --rust
@@ -137,6 +139,7 @@ BODIES_STATUS=1|a wrong body was not refused
 NOT_REFUSED=1|0 wrong bodies, and there were
 MORE_BODIES=-1|wrong bodies, and there were
 TRIALS_STATUS=1|the script that tries wrong bodies takes what it has to refuse
+PUBLIC_STATUS=1|a public function has no wrong body
 SCRIPTS_STATUS=1|of the scripts one failed
 MORE_SCRIPTS=-1|scripts, and there were
 RUST_STATUS=2|the Rust program is not built
