@@ -22,7 +22,7 @@ import sys
 CONTRACT = ("crates/vbi_field/src/run.rt", "extract")
 # The contracts that say what is counted: failed calls of a device, and samples looked at
 COUNTING = [
-    ("crates/vbi_line/src/counted.rt", ("read_once", "write_once")),
+    ("crates/vbi_line/src/tries.rt", ("read_once", "write_once")),
     ("crates/vbi_line/src/line.rt", ("clear", "start_pass", "next_sample", "next_block")),
 ]
 RELATIONS = {
