@@ -19,5 +19,5 @@ pub record Since {R : Type 0} (remaining : R → Option (List ℕ)) (old now : I
   pub no_error : NoError (counted_of old) (counted_of now)
   pub longest : (failures_of (counted_of now)).streak ≤ (failures_of (counted_of old)).streak
   pub kept : KeepsPasses old.line now.line
-  pub same : IsSameDevice (counted_of old) (counted_of now)
+  pub same_reader : IsSameDevice (counted_of old) (counted_of now)
   pub short : length (held_of now) < line_bytes now.line.system

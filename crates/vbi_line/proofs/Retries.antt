@@ -10,5 +10,5 @@ pub record Interrupted {D : Type 0} (known : D → Option (List ℕ)) (old now :
   pub all : (failures_of now).all ≡ (failures_of old).all + calls
   pub errors : (failures_of now).errors ≡ (failures_of old).errors
   pub streak : (failures_of now).streak ≡ (failures_of old).streak + calls
-  pub same : IsSameDevice old now
+  pub same_device : IsSameDevice old now
   pub kept : Keeps (known (device_of old)) (known (device_of now))

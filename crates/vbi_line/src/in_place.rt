@@ -1,29 +1,16 @@
 //! Slicing a line into levels where its bytes lie, without a buffer of its own.
 
-ghost use Rattle.std.specs.Prelude.{◌≡◌, ℕ, ◌+◌, ◌*◌, ◌^◌, ◌<◌, ◌≤◌, [], length, slice_index};
+ghost use Rattle.std.specs.Prelude.{◌≡◌, ◌+◌, ◌*◌, ◌^◌, ◌<◌, ◌≤◌, [], length};
 ghost use Rattle.vbi_words.specs.Geometry.{width_of, line_bytes};
 ghost use Rattle.vbi_words.specs.Levels.{row_levels};
-ghost use Rattle.vbi_line.specs.Line.{sample_at};
 ghost use Rattle.vbi_line.specs.Packing.{TellsAbove};
 
-use crate::lanes::{LANES, bits_above, greatest_low};
+use crate::blocks::{LANES, bits_above, block_at, greatest_low};
 use crate::packed::Packed;
-use byteorder::{ByteOrder, LittleEndian};
 use vbi_words::{Levels, System};
 
 /// The columns of a word of a packed line.
 const WORD: usize = 64;
-
-/// Sixteen samples of a line's bytes, from a column on.
-pub(crate) fn block_at(bytes: &[u8], column: usize) -> [u16; 16]
-    requires { 2 * column + 32 ≤ length bytes.now }
-    ensures long { length result ≡ 16 }
-    ensures each { (k : ℕ) → k < 16 → slice_index result k ≡ sample_at bytes.now (column + k) }
-{
-    let mut block = [0; 16];
-    LittleEndian::read_u16_into(&bytes[2 * column..2 * column + 32], &mut block);
-    block
-}
 
 /// One bit for each of sixteen samples from a column on, the lowest for the first: set where the sample is above `low`.
 fn block_bits_at(bytes: &[u8], column: usize, low: u16) -> u64
@@ -50,7 +37,7 @@ fn last_bits_at(bytes: &[u8], column: usize, count: usize, low: u16) -> u64
 
 /// One bit for each of `count` samples of a line's bytes from a column on, the lowest bit for the first: set where the
 /// sample is above `low`.
-// Inlined, so that a whole word's blocks need no loop.
+// Inlined, so that a call with a `count` of 64 is compiled to four blocks one after the other, without the loop.
 #[inline(always)]
 fn bits_at(bytes: &[u8], column: usize, count: usize, low: u16) -> u64
     requires inside { 2 * (column + count) ≤ length bytes.now }

@@ -3,8 +3,6 @@
 ghost use Rattle.std.specs.Prelude.{◌≡◌, ◌+◌, ◌*◌, ◌^◌, ◌<◌, ◌≤◌, [], ◌∷◌, length, IfOk, OnOk, OnErr};
 ghost use Rattle.vbi_words.specs.Geometry.{width_of, line_bytes};
 ghost use Rattle.vbi_words.specs.Levels.{row_levels};
-ghost use Rattle.vbi_words.specs.Outcomes.{IsOutcome};
-ghost use Rattle.vbi_words.specs.Readings.{IsReading};
 ghost use Rattle.vbi_line.specs.Line.{IsFull, KeepsBytes, IsCleared};
 ghost use Rattle.vbi_line.specs.OneOutcome.{outcome_of};
 ghost use Rattle.vbi_line.specs.OneReading.{reading_of};
@@ -60,7 +58,7 @@ impl<'a, R: Read> Intake<'a, R> {
 
     /// An intake for lines of this system. It holds no byte and has not called the reader.
     pub fn new(reader: &'a mut R, system: System) -> Self
-        ensures same { name_of (counted_of result) ≡ reader.entry.ghost_name }
+        ensures same_reader { name_of (counted_of result) ≡ reader.entry.ghost_name }
         ensures reader { device_of (counted_of result) ≡ reader.old }
         ensures fresh { IsFresh result system }
     {
@@ -73,7 +71,7 @@ impl<'a, R: Read> Intake<'a, R> {
 
     /// Gives the borrowed reader back, as the calls have left it.
     pub fn into_reader(self) -> &'a mut R
-        ensures same { result.ghost_name ≡ name_of (counted_of self.entry) }
+        ensures same_reader { result.ghost_name ≡ name_of (counted_of self.entry) }
         ensures reader { result.now ≡ device_of (counted_of self.entry) }
     {
         let Intake {
@@ -91,7 +89,7 @@ impl<'a, R: Read> Intake<'a, R> {
         requires room { length (held_of self.old) < line_bytes (line_of self.old).system }
         requires fetched { fetched_of self.old ≤ 2 ^ 62 }
         requires failures { (failures_of (counted_of self.old)).all ≤ 2 ^ 62 }
-        ensures same { IsSameDevice (counted_of self.old) (counted_of self.new) }
+        ensures same_reader { IsSameDevice (counted_of self.old) (counted_of self.new) }
         ensures bytes { Fetches R.remaining self.old self.new }
         ensures fits { length (held_of self.new) ≤ line_bytes (line_of self.old).system }
         ensures ok { IfOk result (λ f. IsFilled R.remaining f self.new) }
@@ -124,8 +122,7 @@ impl<'a, R: Read> Intake<'a, R> {
         requires full { IsFull (line_of self.old) }
         requires passes { (line_of self.old).cursors ≡ [] }
         requires looked { (line_of self.old).looked ≤ 2 ^ 61 }
-        ensures outcome { IsOutcome (line_of self.old).system (row_levels slicing (held_of self.old)) result }
-        ensures same { result ≡ outcome_of (line_of self.old).system (row_levels slicing (held_of self.old)) }
+        ensures outcome { result ≡ outcome_of (line_of self.old).system (row_levels slicing (held_of self.old)) }
 
         // One pass has looked at each sample once.
         ensures reader { KeepsReader self.old self.new }
@@ -143,8 +140,7 @@ impl<'a, R: Read> Intake<'a, R> {
         requires full { IsFull (line_of self.old) }
         requires passes { (line_of self.old).cursors ≡ [] }
         requires looked { (line_of self.old).looked ≤ 2 ^ 61 }
-        ensures reading { IsReading (line_of self.old).system (row_levels slicing (held_of self.old)) result }
-        ensures same { result ≡ reading_of (line_of self.old).system (row_levels slicing (held_of self.old)) }
+        ensures reading { result ≡ reading_of (line_of self.old).system (row_levels slicing (held_of self.old)) }
 
         // One pass has looked at each sample once.
         ensures reader { KeepsReader self.old self.new }

@@ -7,6 +7,7 @@
 //! callers that have a line's bytes and need no counts there are `slice_bytes` and `read_bytes_twice`.
 #![tactic(auto)]
 
+mod blocks;
 mod counted;
 mod decoder;
 mod in_place;

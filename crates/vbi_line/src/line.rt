@@ -4,7 +4,7 @@ ghost use Rattle.std.specs.Prelude.{◌≡◌, ◌+◌, ◌*◌, ◌^◌, ◌<�
 ghost use Rattle.std.specs.Borrow.{sem};
 ghost use Rattle.vbi_words.specs.Geometry.{width_of, line_bytes};
 
-use crate::in_place::block_at;
+use crate::blocks::block_at;
 use crate::store::LineBytes;
 use byteorder::{ByteOrder, LittleEndian};
 use std::marker::Model;

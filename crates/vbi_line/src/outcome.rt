@@ -21,8 +21,7 @@ pub fn read_line(line: &mut LineBuf, system: System, slicing: Levels) -> Outcome
     requires system { line.old.system ≡ system }
     requires passes { line.old.cursors ≡ [] }
     requires looked { line.old.looked ≤ 2 ^ 61 }
-    ensures outcome { IsOutcome system (row_levels slicing line.old.held) result }
-    ensures same { result ≡ outcome_of system (row_levels slicing line.old.held) }
+    ensures outcome { result ≡ outcome_of system (row_levels slicing line.old.held) }
 
     // One pass has looked at each sample once.
     ensures bytes { KeepsBytes line.old line.new }
@@ -36,8 +35,15 @@ pub fn read_line(line: &mut LineBuf, system: System, slicing: Levels) -> Outcome
 /// The outcome of a line's levels. Columns in it are counted from 0.
 pub fn read_packed(packed: &Packed, system: System) -> Outcome
     requires { length packed.now ≡ width_of system }
-    ensures outcome { IsOutcome system packed.now result }
-    ensures same { result ≡ outcome_of system packed.now }
+    ensures { result ≡ outcome_of system packed.now }
+{
+    find_outcome(packed, system)
+}
+
+/// The outcome of the levels, as the relation between the two.
+pub(crate) fn find_outcome(packed: &Packed, system: System) -> Outcome
+    requires { length packed.now ≡ width_of system }
+    ensures { IsOutcome system packed.now result }
 {
     match straight_word(packed, system) {
         Some(word) => Outcome::Word(word),

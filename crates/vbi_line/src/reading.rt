@@ -13,7 +13,7 @@ use crate::decoder::Decoder;
 use crate::in_place::slice_into;
 use crate::lanes::slice_lanes;
 use crate::line::LineBuf;
-use crate::outcome::read_packed;
+use crate::outcome::find_outcome;
 use crate::packed::Packed;
 use vbi_words::{Levels, Outcome, Reading, System, Word24};
 
@@ -25,8 +25,7 @@ pub fn read_twice(line: &mut LineBuf, system: System, slicing: Levels) -> Readin
     requires system { line.old.system ≡ system }
     requires passes { line.old.cursors ≡ [] }
     requires looked { line.old.looked ≤ 2 ^ 61 }
-    ensures reading { IsReading system (row_levels slicing line.old.held) result }
-    ensures same { result ≡ reading_of system (row_levels slicing line.old.held) }
+    ensures reading { result ≡ reading_of system (row_levels slicing line.old.held) }
 
     // One pass has looked at each sample once.
     ensures bytes { KeepsBytes line.old line.new }
@@ -41,8 +40,7 @@ pub fn read_twice(line: &mut LineBuf, system: System, slicing: Levels) -> Readin
 /// counts how often a sample is looked at.
 pub fn read_bytes_twice(bytes: &[u8], system: System, slicing: Levels) -> Reading
     requires { length bytes.now ≡ line_bytes system }
-    ensures reading { IsReading system (row_levels slicing bytes.now) result }
-    ensures same { result ≡ reading_of system (row_levels slicing bytes.now) }
+    ensures { result ≡ reading_of system (row_levels slicing bytes.now) }
 {
     let mut packed = Packed::new();
     slice_into(&mut packed, bytes, system, slicing);
@@ -53,8 +51,7 @@ pub fn read_bytes_twice(bytes: &[u8], system: System, slicing: Levels) -> Readin
 /// show no word and one of them is high.
 pub fn read_packed_twice(packed: &Packed, system: System) -> Reading
     requires { length packed.now ≡ width_of system }
-    ensures reading { IsReading system packed.now result }
-    ensures same { result ≡ reading_of system packed.now }
+    ensures { result ≡ reading_of system packed.now }
 {
     read_both(packed, system)
 }
@@ -65,7 +62,7 @@ fn read_both(packed: &Packed, system: System) -> Reading
     requires { length packed.now ≡ width_of system }
     ensures { IsReading system packed.now result }
 {
-    let plain = read_packed(packed, system);
+    let plain = find_outcome(packed, system);
     match plain {
         Outcome::Word(_) => {
             Reading {

@@ -19,7 +19,7 @@ impl<R: Read> Counted<'_, R> {
         ensures fits { IfOk result (λ n. n ≤ length buf.new) }
         ensures bytes { ReadConsumes (R.remaining (device_of self.old))
             (R.remaining (device_of self.new)) result buf.new }
-        ensures same { IsSameDevice self.old self.new }
+        ensures same_device { IsSameDevice self.old self.new }
         ensures counted { IsCounted result (failures_of self.old) (failures_of self.new) }
     {
         let answer = self.ask_to_read(buf);
@@ -32,7 +32,7 @@ impl<R: Read> Counted<'_, R> {
         ensures fits { IfOk result (λ n. n ≤ length buf.new) }
         ensures bytes { ReadConsumes (R.remaining (device_of self.old))
             (R.remaining (device_of self.new)) result buf.new }
-        ensures same { IsSameDevice self.old self.new }
+        ensures same_device { IsSameDevice self.old self.new }
         ensures asked { IsAsked result self.old self.new }
     {
         for _ in 0..RETRIES {
@@ -56,7 +56,7 @@ impl<W: Write> Counted<'_, W> {
         ensures some { IfOk result (λ n. 0 < length bytes.now → 0 < n) }
         ensures bytes { WriteAppends (W.contents (device_of self.old))
             (W.contents (device_of self.new)) result bytes.now }
-        ensures same { IsSameDevice self.old self.new }
+        ensures same_device { IsSameDevice self.old self.new }
         ensures counted { IsCounted result (failures_of self.old) (failures_of self.new) }
     {
         let answer = self.ask_to_write(bytes);
@@ -72,7 +72,7 @@ impl<W: Write> Counted<'_, W> {
         ensures some { IfOk result (λ n. 0 < length bytes.now → 0 < n) }
         ensures bytes { WriteAppends (W.contents (device_of self.old))
             (W.contents (device_of self.new)) result bytes.now }
-        ensures same { IsSameDevice self.old self.new }
+        ensures same_device { IsSameDevice self.old self.new }
         ensures asked { IsAsked result self.old self.new }
     {
         for _ in 0..RETRIES {

@@ -1,6 +1,6 @@
 use Rattle.std.proofs.Common.{◌≡◌, length, rules}
 use Rattle.vbi_line.proofs.Slicing.{levels_above, above-lt}
-use Rattle.vbi_line.proofs.lanes.bits_above.Goals as goal
+use Rattle.vbi_line.proofs.blocks.bits_above.Goals as goal
 
 pub returns-clause-levels : goal.returns-clause-levels
 returns-clause-levels c =
