@@ -13,6 +13,7 @@ pub mod FeedSteps
 pub mod FeedTexts
 pub mod Growing
 pub mod OneDocument
+pub mod Pieces
 pub mod Positions
 pub mod PullEnds
 pub mod PullFaults

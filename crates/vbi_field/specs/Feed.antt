@@ -1,5 +1,6 @@
 -- What a feeder does with a stream in pieces. The pieces before are the stream z so far.
-use Rattle.std.specs.Prelude.{◌≡◌, ℕ, ◌<◌, ◌≤◌, false, List, ◌++◌, length, take, Option, Result, Ok, Err}
+use Rattle.std.specs.Prelude.{◌≡◌, ◌↔◌, ℕ, ◌<◌, ◌≤◌, ◌⊎◌, false, IsTrue, List, [], ◌∷◌, ◌++◌, length, take, Option}
+use Rattle.std.specs.Prelude.{Result, Ok, Err, IsErr}
 use Rattle.vbi_field.specs.Kinds.{document}
 use Rattle.vbi_line.specs.Counted.{NoError, HasCause}
 use Rattle.vbi_field.specs.Outlet.{counted_of, written_of, Wrote, WrotePart}
@@ -43,6 +44,44 @@ module _ {W : Type 0} (contents : W → Option (List ℕ)) (c : ConfigView) (o o
   IsFinished (Err (Read field offset)) = ⊥
   IsFinished (Err TooManyFields) = ⊥
   IsFinished (Err Failed) = ⊥
+
+-- ---- what a call says, and what a caller has who makes one for each piece
+
+module _ {W : Type 0} (contents : W → Option (List ℕ)) where
+  -- `begin` that is Ok: nothing was pushed yet, and the head was written
+  pub record Begins (c : ConfigView) (o o' : Outlet W) (f : Feeding) : Type 0 where
+    pub config : f.config ≡ c
+    pub stands : StandsAt f []
+    pub head : Wrote contents o o' (document.head c)
+
+  -- `feed`, for whatever stream z had come to the feeder's position before; it has failed afterwards where this call did
+  pub record Feeds (f f' : Feeding) (o o' : Outlet W) (piece : List ℕ) (result : Result (Unit {0}) RunFault) : Type 0
+    where
+      pub config : f'.config ≡ f.config
+      pub failed : IsTrue f'.has_failed ↔ IsErr result
+      pub fed : (z : List ℕ) → StandsAt f z → IsFed contents f.config o o' z piece f'.position result
+
+  -- `finish`, for whatever stream z had come to the feeder's position before
+  abbrev pub Finishes : Feeding → Outlet W → Outlet W → Result Summary RunFault → Type 0
+  Finishes f o o' result = (z : List ℕ) → StandsAt f z → IsFinished contents f.config o o' z result
+
+  -- a `feed` of each piece in order, up to the first that fails, with that one's answer
+  abbrev pub FeedsAll : Feeding → Feeding → Outlet W → Outlet W → List (List ℕ) → Result (Unit {0}) RunFault → Type 0
+  FeedsAll f f' o o' [] result = (f' ≡ f) × (o' ≡ o) × (result ≡ Ok tt)
+  FeedsAll f f' o o' (piece ∷ pieces) result =
+      (IsErr result × Feeds f f' o o' piece result)
+      ⊎ ((next : Feeding) × (outlet : Outlet W) × Feeds f next o outlet piece (Ok tt)
+      × FeedsAll next f' outlet o' pieces result)
+
+  -- `begin`, a `feed` of each piece in order and `finish`, none of which failed
+  pub record Pushes (c : ConfigView) (o o' : Outlet W) (pieces : List (List ℕ)) (s : Summary) : Type 0 where
+    pub first : Feeding
+    pub last : Feeding
+    pub begun : Outlet W
+    pub fed : Outlet W
+    pub begins : Begins c o begun first
+    pub feeds : FeedsAll first last begun fed pieces (Ok tt)
+    pub finishes : Finishes last fed o' (Ok s)
 
 module _ {W : Type 0} (o o' : Outlet W) where
   -- a piece answers `Write` where the writer failed, and never `Read`

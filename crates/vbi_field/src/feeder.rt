@@ -1,6 +1,6 @@
 //! A stream that is pushed in pieces.
 ghost use Rattle.std.specs.Prelude.{◌≡◌, ◌≢◌, ℕ, List, ◌+◌, ◌*◌, ◌^◌, ◌<◌, ◌≤◌, ◌↔◌, [], ◌++◌, length, take};
-ghost use Rattle.std.specs.Prelude.{if◌then◌else◌, IsTrue, IsErr, OnOk, OnErr, IfOk, IfErr, Err};
+ghost use Rattle.std.specs.Prelude.{IsTrue, OnOk, OnErr, IfOk, IfErr, Err};
 ghost use Rattle.vbi_words.specs.Geometry.{width_of, line_bytes};
 ghost use Rattle.vbi_line.specs.Line.{IsFull, KeepsPasses};
 ghost use Rattle.vbi_field.specs.Document.{head_of};
@@ -120,16 +120,14 @@ impl Model for Feeder {
 }
 
 impl Feeder {
-    ghost use Rattle.vbi_field.specs.Feed.{IsEndFault, IsFed, IsFinished, StandsAt};
+    ghost use Rattle.vbi_field.specs.Feed.{IsEndFault, Begins, Feeds, Finishes};
 
     /// Writes the head, and begins a stream of which nothing has come. Where the writer fails there is no feeder.
     pub fn begin<W: Write>(config: Config, outlet: &mut Outlet<W>) -> Result<Feeder, RunFault>
         requires { IsFresh outlet.old }
         ensures same { IsSameDevice (counted_of outlet.old) (counted_of outlet.new) }
         ensures rises { Rises outlet.old outlet.new 0 1 }
-        ensures config { IfOk result (λ f. f.config ≡ config) }
-        ensures stands { IfOk result (λ f. StandsAt f []) }
-        ensures head { OnOk result (Wrote W.contents outlet.old outlet.new (head_of config)) }
+        ensures begins { IfOk result (λ f. Begins W.contents config outlet.old outlet.new f) }
         ensures write { IfErr result (λ e. e ≡ RunFault.Write (written_of outlet.new)) }
         ensures no_error { OnOk result (NoError (counted_of outlet.old) (counted_of outlet.new)) }
         ensures failed { OnErr result (HasCause (counted_of outlet.old) (counted_of outlet.new)) }
@@ -156,19 +154,16 @@ impl Feeder {
         requires failures { (failures_of (counted_of outlet.old)).all ≤ 2 ^ 61 }
         ensures same { IsSameDevice (counted_of outlet.old) (counted_of outlet.new) }
         ensures rises { Rises outlet.old outlet.new self.old.position.fields self.new.position.fields }
-        ensures config { self.new.config ≡ self.old.config }
         ensures short { length self.new.position.held < line_bytes self.new.config.system }
 
+        // What it wrote, its position in the stream afterwards, and whether it has failed.
+        ensures feeds { Feeds W.contents self.old self.new outlet.old outlet.new piece.now result }
+
         // When it fails, and that it does so for good.
-        ensures failed { IsTrue self.new.has_failed ↔ IsErr result }
         ensures refused { IsTrue self.old.has_failed ↔ (result ≡ Err RunFault.Failed) }
         ensures unwritten { IsTrue self.old.has_failed → outlet.new ≡ outlet.old }
         ensures no_error { OnOk result (NoError (counted_of outlet.old) (counted_of outlet.new)) }
         ensures fault { IfErr result (IsFeedFault outlet.old outlet.new) }
-
-        // What it wrote, and its position in the stream afterwards.
-        ensures fed { (z : List ℕ) → StandsAt self.old z
-            → IsFed W.contents self.old.config outlet.old outlet.new z piece.now self.new.position result }
     {
         if self.has_failed {
             return Err(RunFault::Failed);
@@ -203,8 +198,7 @@ impl Feeder {
         ensures few_looks { IfOk result (λ s. s.looked ≤ 6 * width_of self.config.system * (s.fields + 1)) }
         ensures no_error { OnOk result (NoError (counted_of outlet.old) (counted_of outlet.new)) }
         ensures fault { IfErr result (IsEndFault outlet.old outlet.new) }
-        ensures finished { (z : List ℕ) → StandsAt self z
-            → IsFinished W.contents self.config outlet.old outlet.new z result }
+        ensures finishes { Finishes W.contents self outlet.old outlet.new result }
     {
         if self.has_failed {
             return Err(RunFault::Failed);

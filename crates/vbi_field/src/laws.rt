@@ -1,10 +1,16 @@
 //! Laws over the definitions: each function's contract is one, for every config, stream and text of words.
 
 ghost use Rattle.std.specs.Prelude.{◌≡◌, ◌↔◌, ℕ, ◌+◌, ◌*◌, ◌<◌, ◌≤◌, ◌⊎◌, List, length, take, Option, Some, slice_get};
+ghost use Rattle.std.specs.Prelude.{Result};
+ghost use Rattle.std.specs.List.{concat};
 ghost use Rattle.std.specs.Io.KnownBytes.{Consumes, IsAtEnd};
 ghost use Rattle.vbi_words.specs.Geometry.{width_of, field_bytes};
 ghost use Rattle.vbi_field.specs.ByLines.{FieldReads, IsWholeText};
-ghost use Rattle.vbi_field.specs.Extracts.{EndsWithin};
+ghost use Rattle.vbi_field.specs.Extracts.{EndsWithin, ExtractsAll};
+ghost use Rattle.vbi_field.specs.Feed.{StandsAt, IsFed, FeedsAll, Pushes};
+ghost use Rattle.vbi_field.specs.Feeding.{Feeding};
+ghost use Rattle.vbi_field.specs.Kinds.{document};
+ghost use Rattle.vbi_field.specs.Outlet.{Wrote};
 ghost use Rattle.vbi_field.specs.Ran.{IsFirstOf};
 ghost use Rattle.vbi_field.specs.ConfigView.{ConfigView};
 ghost use Rattle.vbi_field.specs.Stream.{fields_of, rest_of, looks_of};
@@ -12,7 +18,12 @@ ghost use Rattle.vbi_field.specs.Texts.{Texts, text_before_tail, whole_text};
 ghost use Rattle.vbi_field.specs.WordRows.{IsWordRow, AreRows, word_row_of};
 ghost use Rattle.vbi_field.specs.Drawing.{draw_out};
 ghost use Rattle.vbi_field.specs.DrawnReadings.{AreDrawable, drawn_readings, drawn_text};
+ghost use Rattle.vbi_field.specs.declared.outlet.Outlet.{Outlet};
+ghost use Rattle.vbi_field.specs.declared.summary.RunFault.{RunFault};
+ghost use Rattle.vbi_field.specs.declared.summary.Summary.{Summary};
 ghost use Rattle.vbi_field.specs.declared.word_row.WordRow.{WordRow};
+
+use std::io::Write;
 
 /// A stream has one document and one report, fixed by the config and the bytes alone: those that its lines' readings
 /// give.
@@ -75,4 +86,23 @@ pub fn first_of_text()
 pub fn prompt()
     ensures { (t : Texts) (c : ConfigView) (input : Option (List ℕ)) (z text : List ℕ) → EndsWithin t c input z text
         → (rest_of c z ≡ 0) ⊎ (IsAtEnd input × (length (text_before_tail t c z) ≤ length text)) }
+{}
+
+/// However a stream is cut, what `feed` promises of all pieces joined holds of a `feed` of each piece in order, up to
+/// the first that fails: of its answer, of what is appended, and of the position afterwards.
+pub fn pieces_join<W: Write>()
+    ensures { (f f' : Feeding) (o o' : Outlet W) (z : List ℕ) (pieces : List (List ℕ))
+        (result : Result (Unit {0}) RunFault) → StandsAt f z → FeedsAll W.contents f f' o o' pieces result
+        → IsFed W.contents f.config o o' z (concat pieces) f'.position result }
+{}
+
+/// A stream that is pushed in pieces, however cut, has the document of the joined stream: `begin`, a `feed` of each
+/// piece and `finish`, where none fails, append its whole text and no more. An `extract` of the same bytes that is Ok
+/// writes this text, and answers the same summary.
+pub fn pushed_document<W: Write>()
+    ensures text { (c : ConfigView) (o o' : Outlet W) (pieces : List (List ℕ)) (s : Summary)
+        → Pushes W.contents c o o' pieces s → Wrote W.contents o o' (whole_text document c (concat pieces)) }
+    ensures pulled { (c : ConfigView) (o o' : Outlet W) (pieces : List (List ℕ)) (s s' : Summary)
+        (input : Option (List ℕ)) (text : List ℕ) → Pushes W.contents c o o' pieces s
+        → ExtractsAll document c input (concat pieces) text s' → Wrote W.contents o o' text × (s ≡ s') }
 {}

@@ -1,4 +1,4 @@
-use Rattle.std.proofs.Common.{◌≡◌, ◌≤◌, length, refl, ap, arith}
+use Rattle.std.proofs.Common.{◌≡◌, ◌≤◌, length, refl, ap, arith, rules}
 use Rattle.std.specs.Prelude.{Err}
 use Rattle.vbi_field.proofs.FeedLoop.{taken_none, taken_more, taken_fault, taken_whole, fault_since}
 use Rattle.vbi_field.specs.declared.summary.RunFault.TheVariants.{Failed}
@@ -28,12 +28,19 @@ returns-in-Err-clause-fault g c =
     c.loop-at.invariant
     c.in-Err.fault c.in-Err.ensures.fault
 
-pub returns-in-Err-clause-fed : goal.returns-in-Err-clause-fed
-returns-in-Err-clause-fed g c = λ z s.
-    taken_fault _ _ c.loop-at.self-inside _ c.loop-at.outlet c.take_bytes.new.outlet c.args.piece.now _ c.loop-at.at
-    c.loop-at.invariant refl
-    c.take_bytes.new.line c.take_bytes.new.progress _ c.take_bytes.ensures.step c.in-Err.fault c.in-Err.is z s
+pub returns-in-Err-clause-feeds : goal.returns-in-Err-clause-feeds
+returns-in-Err-clause-feeds g c = record {
+  config = search rules;
+  failed = search rules;
+  fed = λ z s.
+      taken_fault _ _ c.loop-at.self-inside _ c.loop-at.outlet c.take_bytes.new.outlet c.args.piece.now _ c.loop-at.at
+      c.loop-at.invariant refl
+      c.take_bytes.new.line c.take_bytes.new.progress _ c.take_bytes.ensures.step c.in-Err.fault c.in-Err.is z s;
+}
 
-pub returns-clause-fed : goal.returns-clause-fed
-returns-clause-fed g c =
-    λ z s. taken_whole _ _ c.loop-at.self-inside _ _ _ _ c.loop-at.invariant c.loop-at-test.false z s
+pub returns-clause-feeds : goal.returns-clause-feeds
+returns-clause-feeds g c = record {
+  config = search rules;
+  failed = search rules;
+  fed = λ z s. taken_whole _ _ c.loop-at.self-inside _ _ _ _ c.loop-at.invariant c.loop-at-test.false z s;
+}
