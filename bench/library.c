@@ -1,5 +1,5 @@
-/* Times the library for C, NTSC but for one row, each call beside a plain way to do the same, in turn: the two have to
-   agree.
+/* Times the library for C, each call beside a plain way to do the same, and calls over PAL beside those over NTSC with
+   the same words, in turn: the two have to agree.
    usage: library */
 #define _GNU_SOURCE
 #include "plain.h"
@@ -7,7 +7,7 @@
 enum { LINES = 1024, FIELDS = 64, WORDS = 4096, DRAWN = 128, ROUNDS = 41 };
 #include "compare.h"
 
-static uint8_t lines[LINES][LINE], pal_lines[LINES][PAL_LINE], *fields;
+static uint8_t lines[LINES][LINE], pal_lines[LINES][PAL_LINE], *fields, *pal_fields;
 static uint32_t words[WORDS];
 
 /* ---- Lines and fields */
@@ -76,13 +76,23 @@ static void read_rows_one_by_one(void)
     }
 }
 
-static void read_fields_in_a_block(void)
+static void read_block(uint32_t system, const uint8_t *bytes, size_t field_bytes)
 {
     static LdvbiFieldReadings readings[FIELDS];
 
-    done(ldvbi_read_fields(LDVBI_NTSC, 16384, 51200, fields, (size_t)FIELDS * FIELD, readings, FIELDS));
+    done(ldvbi_read_fields(system, 16384, 51200, bytes, FIELDS * field_bytes, readings, FIELDS));
     for (size_t i = 0; i < FIELDS; i++)
         add_words(&readings[i]);
+}
+
+static void read_fields_in_a_block(void)
+{
+    read_block(LDVBI_NTSC, fields, FIELD);
+}
+
+static void read_pal_fields_in_a_block(void)
+{
+    read_block(LDVBI_PAL, pal_fields, PAL_FIELD);
 }
 
 static void read_plain_fields(void)
@@ -148,6 +158,25 @@ static void draw_lines(void)
     }
 }
 
+/* Draws them and hands on the word that each is, so that what is drawn for PAL sums up to what is drawn for NTSC. */
+static void draw_for(uint32_t system, uint8_t *line, size_t line_bytes)
+{
+    for (size_t i = 0; i < DRAWN; i++) {
+        done(ldvbi_draw_line(system, 16384, 51200, words[i], line, line_bytes));
+        sum += words[i] + line[line_bytes - 1];
+    }
+}
+
+static void draw_ntsc_lines(void)
+{
+    draw_for(LDVBI_NTSC, lines[0], LINE);
+}
+
+static void draw_pal_lines(void)
+{
+    draw_for(LDVBI_PAL, pal_lines[0], PAL_LINE);
+}
+
 static void draw_plain_lines(void)
 {
     for (size_t i = 0; i < DRAWN; i++) {
@@ -156,10 +185,10 @@ static void draw_plain_lines(void)
     }
 }
 
-/* Turns the level of so many columns in the middle of a half cell, which is about columns 436 to 450. */
-static void damage(uint8_t *line, size_t columns)
+/* Turns the level of so many columns from this one on, which stand in the middle of a half cell. */
+static void damage(uint8_t *line, size_t from, size_t columns)
 {
-    for (size_t column = 442; column < 442 + columns; column++) {
+    for (size_t column = from; column < from + columns; column++) {
         unsigned sample = (line[2 * column] | line[2 * column + 1] << 8) == 16384 ? 51200 : 16384;
 
         line[2 * column] = (uint8_t)sample;
@@ -167,40 +196,78 @@ static void damage(uint8_t *line, size_t columns)
     }
 }
 
-/* Lines that are drawn, and then damaged in so many columns; and those whose level changes at every column. */
-static void fill_lines(size_t damaged)
+/* Lines of both systems with the same words, or of none. They are drawn, and then damaged in so many columns of a half
+   cell that has columns 436 to 449, or 544 to 561 for PAL. */
+static void fill_lines(int have_words, size_t damaged)
 {
     for (size_t i = 0; i < LINES; i++) {
-        draw(random_word(), lines[i]);
-        damage(lines[i], damaged);
+        uint32_t word = have_words ? random_word() : 0;
+
+        draw(word, lines[i]);
+        damage(lines[i], 442, damaged);
+        done(ldvbi_draw_line(LDVBI_PAL, 16384, 51200, word, pal_lines[i], PAL_LINE));
+        damage(pal_lines[i], 551, damaged);
+    }
+}
+
+/* Lines whose level changes at every column. */
+static void alternate(uint8_t *line, size_t line_bytes)
+{
+    for (size_t at = 0; at < line_bytes; at += 2) {
+        line[at] = 0;
+        line[at + 1] = at % 4 == 0 ? 0x40 : 0xC8;
     }
 }
 
 static void alternate_lines(void)
 {
-    for (size_t i = 0; i < LINES; i++)
-        for (size_t at = 0; at < LINE; at += 2) {
-            lines[i][at] = 0;
-            lines[i][at + 1] = at % 4 == 0 ? 0x40 : 0xC8;
-        }
+    for (size_t i = 0; i < LINES; i++) {
+        alternate(lines[i], LINE);
+        alternate(pal_lines[i], PAL_LINE);
+    }
 }
 
 static void compare_lines(void)
 {
-    fill_lines(0);
+    fill_lines(1, 0);
     compare("a drawn line", LINES, read_lines, read_plain_lines);
-    fill_lines(3);
+    compare("a line of PAL", LINES, read_pal_lines, read_plain_pal_lines);
+    compare("PAL beside NTSC, drawn lines", LINES, read_pal_lines, read_lines);
+    fill_lines(1, 3);
     compare("a line with a glitch", LINES, read_lines, read_plain_lines_in_two);
-    fill_lines(5);
+    compare("PAL beside NTSC, glitches", LINES, read_pal_lines, read_lines);
+    fill_lines(1, 5);
     compare("a damaged line", LINES, read_lines, read_plain_lines_in_two);
+    compare("PAL beside NTSC, damaged lines", LINES, read_pal_lines, read_lines);
     alternate_lines();
     compare("the worst line", LINES, read_lines, read_plain_lines_in_two);
-    for (size_t i = 0; i < LINES; i++)
-        draw(0, lines[i]);
+    compare("PAL beside NTSC, worst lines", LINES, read_pal_lines, read_lines);
+    fill_lines(0, 0);
     compare("a blank line", LINES, read_lines, read_plain_lines);
-    for (size_t i = 0; i < LINES; i++)
-        done(ldvbi_draw_line(LDVBI_PAL, 16384, 51200, random_word(), pal_lines[i], PAL_LINE));
-    compare("a line of PAL", LINES, read_pal_lines, read_plain_pal_lines);
+    compare("PAL beside NTSC, blank lines", LINES, read_pal_lines, read_lines);
+}
+
+/* Fields of both systems with the same words on their lines 16 to 18. */
+static void fill_fields(void)
+{
+    memset(fields, 0, (size_t)FIELDS * FIELD);
+    memset(pal_fields, 0, (size_t)FIELDS * PAL_FIELD);
+    for (size_t i = 0; i < FIELDS; i++)
+        for (size_t row = 15; row < 18; row++) {
+            uint32_t word = random_word();
+
+            draw(word, fields + i * FIELD + row * LINE);
+            done(ldvbi_draw_line(LDVBI_PAL, 16384, 51200, word, pal_fields + i * PAL_FIELD + row * PAL_LINE, PAL_LINE));
+        }
+}
+
+static void compare_fields(void)
+{
+    fill_fields();
+    compare("a field", FIELDS, read_fields_one_by_one, read_plain_fields);
+    compare("its three lines alone", FIELDS, read_rows_one_by_one, read_plain_fields);
+    compare("a field of a block", FIELDS, read_fields_in_a_block, read_plain_fields);
+    compare("PAL beside NTSC, fields", FIELDS, read_pal_fields_in_a_block, read_fields_in_a_block);
 }
 
 /* The words of real sides in turn, then random ones. */
@@ -216,14 +283,11 @@ static void fill_words(int is_random)
 int main(void)
 {
     fields = malloc((size_t)FIELDS * FIELD);
-    if (fields == NULL)
+    pal_fields = malloc((size_t)FIELDS * PAL_FIELD);
+    if (fields == NULL || pal_fields == NULL)
         return 2;
     compare_lines();
-    for (size_t i = 0; i < FIELDS; i++)
-        draw_field(fields + i * FIELD);
-    compare("a field", FIELDS, read_fields_one_by_one, read_plain_fields);
-    compare("its three lines alone", FIELDS, read_rows_one_by_one, read_plain_fields);
-    compare("a field of a block", FIELDS, read_fields_in_a_block, read_plain_fields);
+    compare_fields();
     fill_words(0);
     compare("classify, a side's words", WORDS, classify_words, classify_plainly);
     compare("format, a side's words", WORDS - 2, find_formats, find_formats_plainly);
@@ -231,6 +295,8 @@ int main(void)
     compare("classify, random words", WORDS, classify_words, classify_plainly);
     compare("format, random words", WORDS - 2, find_formats, find_formats_plainly);
     compare("draw_line", DRAWN, draw_lines, draw_plain_lines);
+    compare("PAL beside NTSC, draw_line", DRAWN, draw_pal_lines, draw_ntsc_lines);
+    free(pal_fields);
     free(fields);
     return 0;
 }

@@ -6,7 +6,7 @@
 #include <string.h>
 #include <time.h>
 
-enum { LINE = 1820, ROWS = 263, FIELD = LINE * ROWS, PAL_LINE = 2270 };
+enum { LINE = 1820, ROWS = 263, FIELD = LINE * ROWS, PAL_LINE = 2270, PAL_FIELD = PAL_LINE * 313 };
 
 static double seconds(void)
 {

@@ -1,6 +1,7 @@
 #!/bin/sh
 # Refuses each allocation of the built program in turn. Each answer has to be the whole one, or `ldvbi: out of memory`
-# with status 1, nothing written, and nothing read from the input.
+# with status 1, nothing written, and nothing read from the input. Where no allocation was refused, that is never said,
+# whatever the length of the metadata; metadata of 10 MB is read with 20 times its bytes of memory.
 # usage: sh tests/program/want_of_memory.sh PROGRAM
 
 # shellcheck source=tests/helpers.sh
@@ -84,4 +85,70 @@ each 'the stored run with metadata' "$stored/stdin" line --meta line.json
 echo '-|-|-' | signal NTSC 1 | ntsc_samples > black.tbc
 metadata 16384 51200 > full.json
 each 'the joined run' black.tbc extract --meta full.json
+
+# said_of_texts NAME TAIL SAID: checks what the program says of metadata of each length, which is a quote, letters and
+# this tail. No allocation may be refused then.
+powers='1024 2048 4096 8192 16384 32768 65536 131072 262144 524288 1048576 2097152 4194304 8388608 16777216 33554432'
+# shellcheck disable=SC2086
+{ seq 0 1000; printf '%s\n' $powers; } > lengths
+{ printf '"'; head -c 33554432 /dev/zero | tr '\000' a; } > letters
+said_of_texts() {
+    rm -f mark
+    status=0
+    # One shell for all, since to bound each run by itself takes longer than the runs do
+    # shellcheck disable=SC2016
+    bounded sh -c '
+        while read -r length; do
+            { head -c $((length - ${#3})) letters; printf %s "$3"; } > text.json
+            code=0
+            LD_PRELOAD=$2 REFUSE_MARK=mark "$1" line --meta text.json < empty > out 2> said || code=$?
+            said=
+            read -r said < said
+            echo "$length $code $said"
+            cat out
+        done' sh "$program" "$work/refuse.so" "$2" < lengths > answers || status=$?
+    sed "s/\$/ 1 $3/" lengths > wanted
+    diff wanted answers > err
+    check "$1: what is said at each length" is_said
+    check "$1: no allocation is refused" [ ! -e mark ]
+}
+is_said() {
+    [ "$status" = 0 ] && [ ! -s err ]
+}
+said_of_texts 'a text without its end' '' 'ldvbi: metadata is not JSON'
+sed -i 1,2d lengths
+said_of_texts 'a text' '"' 'ldvbi: metadata has no videoParameters'
+
+# Metadata of 10 MB, as ld-decode has them: what is wanted stands behind the records of fields
+awk 'BEGIN {
+    printf "{\"fields\":["
+    for (field = 1; written < 10000000; field++) {
+        record = "%s{\"audioSamples\":735,\"diskLoc\":%d.1,\"isFirstField\":true,\"medianBurstIRE\":19.7,\"seqNo\":%d,"
+        record = sprintf(record "\"syncConf\":100,\"vitsMetrics\":{\"bPSNR\":38.1}}", field > 1 ? "," : "", field, field)
+        written += length(record)
+        printf "%s", record
+    }
+    printf "],\"videoParameters\":{\"system\":\"NTSC\",\"black16bIre\":8224,\"white16bIre\":16448}}"
+}' > long.json
+bytes=$(wc -c < long.json)
+
+# within TIMES: runs the program over it with this many times its bytes of memory at most, and checks that want of
+# memory is said exactly where an allocation was refused
+within() {
+    rm -f mark
+    status=0
+    bounded sh -c 'ulimit -v $1; shift; LD_PRELOAD=$1 REFUSE_MARK=mark "$2" line --meta long.json "$3"' \
+        sh $((bytes * $1 / 1024)) "$work/refuse.so" "$program" "$stored/stdin" > out 2> err || status=$?
+    if [ -e mark ]; then
+        judge "10 MB of metadata within $1 times its bytes" 1 empty 'ldvbi: out of memory'
+    else
+        judge "10 MB of metadata within $1 times its bytes" 0 "$stored/stdout" ''
+    fi
+}
+within 2
+check 'twice the bytes of metadata are too few' [ -e mark ]
+for times in 4 6 8 10 12 14 16 18 20; do
+    within $times
+done
+check '20 times the bytes of metadata are enough' [ ! -e mark ]
 finish
