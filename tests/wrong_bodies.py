@@ -10,8 +10,9 @@ An edit has lines 'file: src/x.rt', 'old: TEXT' (once in that file) and 'new: TE
 changes more than bodies, as a constant or a head, gets a round of its own; a line 'refuses: a::b' may name the function
 that the prover has to refuse, and else it is any of the crate.
 
-Each crate is proved by `rt lib` first, as it stands. That takes a second where it was proved before, and what it keeps is
-what the rounds begin from. A round looks at the edited functions alone (`--only`), since no other is judged by it.
+Each crate is proved by `rt lib` first, as it stands, and a program by `rt check`. That takes a second where it was
+proved before, and what it keeps is what the rounds begin from. A round looks at the edited functions alone (`--only`),
+since no other is judged by it.
 
 usage: python3 tests/wrong_bodies.py [--lanes N] [--only WORD] [--plan] [CRATE..]    (at the top, `rt` on the PATH)
 """
@@ -250,9 +251,11 @@ class Crate:
         return found[1] if found else some and ("proved" if some[1] == some[2] else "not-proved")
 
     def fault(self):
-        """Proves and builds the crate as it stands, which keeps what the rounds begin from, and returns the end of what
-        the toolchain says where it isn't proved, else None."""
-        ran = subprocess.run(["rt", "lib"], cwd=self.folder, stdin=subprocess.DEVNULL, stdout=subprocess.PIPE,
+        """Proves the crate as it stands, and builds it where it is a library, which keeps what the rounds begin from.
+        Returns the end of what the toolchain says where it isn't proved, else None."""
+        program = os.path.exists(f"{self.folder}/src/main.rt")
+        command = ["rt", "check", "--jobs", "1"] if program else ["rt", "lib"]
+        ran = subprocess.run(command, cwd=self.folder, stdin=subprocess.DEVNULL, stdout=subprocess.PIPE,
                              stderr=subprocess.STDOUT, errors="replace", check=False)
         return ran.stdout[-300:] if ran.returncode else None
 

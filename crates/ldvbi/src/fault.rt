@@ -1,5 +1,7 @@
 //! Why the program fails outside a job.
 
+ghost use Rattle.std.specs.Prelude.{◌≡◌, ◌≢◌};
+
 use std::fmt;
 use vbi_meta::MetaFault;
 
@@ -20,7 +22,10 @@ pub(crate) enum MainFault {
 
 impl MainFault {
     /// The status that the program ends with: words that aren't text count as refused.
-    pub(crate) fn status(self) -> u8 {
+    pub(crate) fn status(self) -> u8
+        ensures refused { self ≡ MainFault.NotUtf8 → result ≡ 2 }
+        ensures fault { self ≢ MainFault.NotUtf8 → result ≡ 1 }
+    {
         match self {
             MainFault::NotUtf8 => 2,
             _ => 1,
