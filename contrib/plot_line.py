@@ -272,7 +272,11 @@ def main():
         line = file.read(2 * SYSTEMS[arguments.system].width)
     answer = answer_of(line, arguments)
     samples = [low + 256 * high for low, high in zip(line[::2], line[1::2])]
-    sys.stdout.write(picture(samples, answer, arguments))
+    try:
+        drawn = picture(samples, answer, arguments)
+    except ValueError as error:
+        sys.exit(f"plot_line: {error}")
+    sys.stdout.write(drawn)
 
 
 if __name__ == "__main__":

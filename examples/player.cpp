@@ -199,7 +199,7 @@ void print(const std::string &what, Pictures &pictures, std::size_t field) {
 
 int main(int count, char **words) try {
     if (ldvbi_abi() != LDVBI_ABI) throw std::runtime_error("the library has another interface");
-    if (count < 6) throw std::invalid_argument("usage: player FILE NTSC|PAL BLACK WHITE [search N|chapter N|play]..");
+    if (count < 6) throw std::invalid_argument("usage: player FILE NTSC|PAL BLACK WHITE search N|chapter N|play ..");
     const Side side(words[1], parse_system(words[2]), parse_number("black", words[3]), parse_number("white", words[4]));
     Pictures pictures(side);
     const NumberAt picture_at = [&](std::size_t at) { return pictures.at(at); };

@@ -24,6 +24,31 @@ refuses() {
     [ "$status" = 2 ] && [ ! -s out ] && cmp -s err wanted
 }
 
+# prints_and_says TEXT LINE COMMAND..: checks that a command writes this text, and this line to standard error
+prints_and_says() {
+    printf '%s\n' "$2" > wanted_line
+    text=$1
+    shift 2
+    prints 0 "$text" "$@" && cmp -s err wanted_line
+}
+
+# tail_of_stops COUNT: what stops says of the beginning of stops.tbc that has so many stops
+tail_of_stops() {
+    [ "$1" -lt 1 ] || echo 'field 5 picture 3'
+    [ "$1" -lt 2 ] || echo 'field 8'
+    echo "$1 stops"
+}
+
+# refuses_with STATUS COMMAND..: checks that a command ends with this status, finds nothing, and writes the line in the
+# file `wanted` to standard error
+refuses_with() {
+    wanted_status=$1
+    shift
+    status=0
+    bounded "$@" < empty > out 2> err || status=$?
+    [ "$status" = "$wanted_status" ] && grep -q 'not found$' out && cmp -s err wanted
+}
+
 # refuses_in_a_line NAME COMMAND..: the same for any line that begins with this name and a colon
 refuses_in_a_line() {
     name=$1
@@ -120,6 +145,48 @@ empty.tbc NTSC 51200 16384 3
 cav.tbc NTSC 16384 51200
 WORDS
 done
+
+# Sides as long as one block of fields or two, or a field shorter or longer: the last field is found
+awk 'BEGIN { for (field = 1; field <= 129; field++) printf "- F%05d -\n", (field + 1) / 2 }' |
+    bounded "$program" draw $ntsc - > long.tbc
+for fields in 63 65 127 129; do
+    head -c $((478660 * fields)) long.tbc > part.tbc
+    for seek in ./seek "python3 $top/examples/seek.py"; do
+        check "$seek: the last of $fields fields" prints 0 "field $fields" $seek part.tbc $on_cav $(((fields + 1) / 2))
+    done
+    check "player: the last of $fields fields" prints 0 "search: field $fields picture $(((fields + 1) / 2))" \
+        ./player part.tbc $on_cav search $(((fields + 1) / 2))
+done
+for fields in 64 128; do
+    head -c $((478660 * fields)) long.tbc > part.tbc
+    for seek in ./seek "python3 $top/examples/seek.py"; do
+        check "$seek: the last picture of $fields fields" prints 0 "field $((fields - 1))" \
+            $seek part.tbc $on_cav $((fields / 2))
+    done
+done
+
+# A side's pages are asked for a block of 64 fields ahead, those with lines 16 to 18 of each field once, and the last
+# block is as long as what is left
+check 'what looks on is built' does $cc -std=c99 -Wall -Wextra -Werror -shared -fPIC -I"$top/include" -o advised.so \
+    "$here/advised.c" -ldl
+awk -v fields=129 'BEGIN {
+    for (begin = 0; begin < fields; begin += 64) {
+        for (; asked < fields && asked < begin + 128; asked++) {
+            rows = 478660 * asked + 15 * 1820
+            print "asks", rows - rows % 4096, rows + 3 * 1820
+        }
+        print "reads", 478660 * begin, fields - begin < 64 ? fields - begin : 64
+    }
+}' > wanted_advice
+check 'seek finds the last field so' prints 0 'field 129' \
+    env ADVISED=advice LD_PRELOAD=./advised.so ./seek long.tbc $on_cav 65
+check 'seek asks for a block ahead' cmp advice wanted_advice
+grep '^asks' wanted_advice > wanted_asked
+check 'seek.py finds the last field so' prints 0 'field 129' \
+    env ADVISED=asked LD_PRELOAD=./advised.so python3 "$top/examples/seek.py" long.tbc $on_cav 65
+check 'seek.py asks for each field once' cmp asked wanted_asked
+rm long.tbc part.tbc
+
 check 'seek: what is refused is said' refuses 'seek: black is not below white, or one of them is above 65535' \
     ./seek cav.tbc NTSC 51200 16384 3
 check 'seek: a system is named exactly' refuses 'seek: system is neither NTSC nor PAL' ./seek cav.tbc pal 1 2 3
@@ -181,6 +248,45 @@ NTSC 16384 4294967297
 NTSC 16384 99999999999999999999
 NTSC 16384
 WORDS
+# A field that is cut isn't read, whatever has come of it: here its three lines, all of it but one byte, and one byte,
+# behind a field with a stop
+while read -r fields bytes stops; do
+    head -c $((478660 * fields + bytes)) stops.tbc > part.tbc
+    cut="the last field is cut: field $((fields + 1)) has $bytes of 478660 bytes"
+    check "stops: $bytes bytes of field $((fields + 1))" prints_and_says "$(tail_of_stops $stops)" "stops: $cut" \
+        sh -c "./stops $on_cav < part.tbc"
+done << 'END'
+4 32760 0
+4 478659 0
+5 1 1
+8 32760 2
+8 478659 2
+0 1 0
+END
+head -c $((478660 * 4 + 478659)) stops.tbc > part.tbc
+cut='the last field is cut: field 5 has 478659 of 478660 bytes'
+said_line "seek: $cut"
+check 'seek: a number in a cut field' refuses_with 1 ./seek part.tbc $on_cav 3
+said_line "seek.py: $cut"
+check 'seek.py: a number in a cut field' refuses_with 1 python3 "$top/examples/seek.py" part.tbc $on_cav 3
+said_line "player: $cut"
+check 'player: a stop in a cut field' refuses_with 1 ./player part.tbc $on_cav play
+check 'player: a number in a cut field' refuses_with 1 ./player part.tbc $on_cav search 3
+
+# How each is called
+player_usage='player: usage: player FILE NTSC|PAL BLACK WHITE search N|chapter N|play ..'
+check 'player: without words' refuses "$player_usage" ./player
+check 'player: without a command' refuses "$player_usage" ./player cav.tbc $on_cav
+check 'player: without levels' refuses "$player_usage" ./player cav.tbc NTSC play
+stops_usage='stops: usage: stops NTSC|PAL BLACK WHITE < FILE'
+check 'stops: without words' refuses "$stops_usage" ./stops
+check 'stops: with a word too many' refuses "$stops_usage" ./stops $on_cav cav.tbc
+seek_usage='usage: seek FILE NTSC|PAL BLACK WHITE NUMBER|H:MM:SS.PP'
+check 'seek: without words' refuses "seek: $seek_usage" ./seek
+check 'seek: with a word too many' refuses "seek: $seek_usage" ./seek cav.tbc $on_cav 3 4
+seek_usage="seek.py: $(echo "$seek_usage" | sed 's/seek/seek.py/')"
+check 'seek.py: without words' refuses "$seek_usage" python3 "$top/examples/seek.py"
+check 'seek.py: with a word too many' refuses "$seek_usage" python3 "$top/examples/seek.py" cav.tbc $on_cav 3 4
 check 'player: no such command' refuses 'player: no such command: stop' ./player cav.tbc $on_cav stop
 check 'player: a search for nothing' refuses 'player: no such command: search' ./player cav.tbc $on_cav search
 check 'player: a picture that is no number' refuses 'player: search is not a whole number' \

@@ -2,7 +2,7 @@
 # Makes the pictures of docs/SIGNAL.md again and compares them with those that stand there; and has contrib/plot_line.py
 # draw lines of each kind, and compares what it marks with what the lines are made of.
 # usage: sh tests/program/plots.sh PROGRAM
-# shellcheck disable=SC2086
+# shellcheck disable=SC2016,SC2086
 
 # shellcheck source=tests/helpers.sh
 . "$(dirname "$0")/../helpers.sh"
@@ -16,9 +16,10 @@ for name in word second-reading change-170; do
     check "SIGNAL.md shows $name" grep -q "(pictures/$name.svg)" "$top/docs/SIGNAL.md"
 done
 
-# What a picture of a whole line has: its title, digits and bits, the columns at which cells begin and end, and the
-# columns that are marked. It is read as XML.
+# What a picture of a whole line has: its title, digits and bits, the columns at which cells begin and end, the columns
+# that are marked, and what reaches out of the frame. It is read as XML.
 cat > found.py << 'END'
+import re
 import sys
 import xml.etree.ElementTree as xml
 
@@ -33,11 +34,34 @@ def column_of(x):
     return round((float(x) - 70) * columns / 1000)
 
 
+def places(part):
+    """The places of a part, as x and y; of a text that of its anchor."""
+    known, kind = part.attrib, part.tag.rpartition("}")[2]
+    if kind == "line":
+        return [(known["x1"], known["y1"]), (known["x2"], known["y2"])]
+    if kind == "rect" and known["width"] != "100%":
+        return [(known["x"], known["y"]), (float(known["x"]) + float(known["width"]), known["y"])]
+    if kind == "path":
+        steps = re.findall("([MVH])([0-9.-]+)(?: ([0-9.-]+))?", known["d"])
+        return [(value, second or 200) if step in "MH" else (500, value) for step, value, second in steps]
+    return [(known["x"], known["y"])] if kind == "text" else []
+
+
+def is_outside(part):
+    is_text = part.tag.endswith("text")
+    least, most = (0, 1090) if is_text else (70, 1070)
+    top, bottom = (0, 326) if is_text else (72, 281)
+    # a part of a pixel is rounded
+    return any(not (least - 0.1 <= float(x) <= most + 0.1 and top - 0.1 <= float(y) <= bottom + 0.1)
+               for x, y in places(part))
+
+
 print(*[part.text for part in of_class("title")])
 print(*[part.text for part in of_class("digit")], sep="")
 print(*[part.text for part in of_class("bit")], sep="")
 print("cells", *sorted({column_of(part.get("x1")) for part in of_class("cell")}))
 print("marked", *[column_of(part.get("x")) for part in of_class("marked")])
+print("outside", *[part.tag.rpartition("}")[2] for part in picture.iter() if is_outside(part)])
 END
 # plotted COLUMNS OPTION..: draws the line in the file `line.raw`, and finds what is in its picture
 plotted() {
@@ -98,6 +122,7 @@ while IFS='|' read -r system description title digits marked; do
     check "$system: $description: title" [ "$(head -n 1 found | cut -c 1-${#title})" = "$title" ]
     check "$system: $description: digits" [ "$(sed -n 2p found)" = "$digits" ]
     check "$system: $description: marked" [ "$(sed -n '/^marked/s/^marked *//p' found)" = "$marked" ]
+    check "$system: $description: in its frame" grep -qx outside found
 done << 'END'
 NTSC|82CFFF|82CFFF, by the samples as they are (pass 1)|82CFFF|
 NTSC|82CFFF @170-171L|82CFFF, by the smoothed levels (pass 2)|82CFFF|170 171
@@ -121,6 +146,79 @@ PAL|FFFFFF/14/48|FFFFFF, by the samples|FFFFFF|
 PAL|800000/22/48|800000, by the samples|800000|
 PAL|L207 H928|no word: hold 251||251
 END
+
+# Where only a part of the line is seen, nothing is drawn beside that part
+while IFS='|' read -r description columns marked; do
+    echo "$description" | signal NTSC 0 | ntsc_samples > line.raw
+    plotted 910 $ntsc $columns
+    check "$description, $columns: in its frame" [ "$status $(tail -n 1 found)" = '0 outside' ]
+    check "$description, $columns: marks" [ "$(grep -c '^<rect.* class="marked"/>$' out)" = "$marked" ]
+done << 'END'
+82CFFF|--first 300 --last 400|0
+82CFFF|--last 10|0
+82CFFF|--first 909|0
+82CFFF|--first 837|0
+82CFFF @170-171L|--first 170 --last 171|2
+82CFFF @170-171L|--first 171 --last 300|1
+82CFFF @170-171L|--first 172 --last 300|0
+82CFFF @170-171L|--last 169|0
+82CFFF @170-174L|--first 170 --last 170|1
+82CFFF @170-174L|--first 171|0
+82CFFF @170-174L|--last 169|0
+L164 H746|--last 200|1
+L164 H746|--first 201|0
+END
+# Samples beyond black and white are in the frame as well: 0 and 65535
+echo 82CFFF | signal NTSC 0 | tr 'zLyH' '\000\000\377\377' > line.raw
+plotted 910 --system NTSC --black 20000 --white 40000
+check 'samples beyond black and white: in the frame' [ "$status $(tail -n 1 found)" = '0 outside' ]
+
+# The script reads a word itself, to find its half cells: those of the lengths of its system, and no others. This program
+# says a word of each line, also of one that shows none.
+printf '#!/bin/sh\ncat > rest\necho "$WORD"\n' > says_word
+chmod +x says_word
+{
+    cat << 'END'
+NTSC|FFFFFF|FFFFFF/8/48|1
+NTSC|FFFFFF|FFFFFF/10/48|1
+NTSC|FFFFFF|FFFFFF/11/48|0
+NTSC|FFFFFF|FFFFFF/18/48|0
+NTSC|AAAAAA|AAAAAA/10/48|1
+NTSC|AAAAAA|AAAAAA/11/48|0
+NTSC|AAAAAA|AAAAAA/18/48|0
+PAL|FFFFFF|FFFFFF/13/48|1
+PAL|FFFFFF|FFFFFF/14/48|0
+PAL|FFFFFF|FFFFFF/22/48|0
+PAL|AAAAAA|AAAAAA/13/48|1
+PAL|AAAAAA|AAAAAA/14/48|0
+PAL|AAAAAA|AAAAAA/22/48|0
+END
+    # 48 half cells that are too long have no room in a line: one of them stands among the shortest, and two of one level
+    rest() {
+        printf " L$1 H$1%.0s" 1 2 3 4 5 6 7 8 9 10 11 12 13 14 15 16 17 18 19 20 21
+    }
+    echo "NTSC|800000|L111 H22 L18 H11$(rest 11)|0"
+    echo "NTSC|800000|L111 H22 L19 H11$(rest 11)|1"
+    echo "NTSC|800000|L111 H36 L11 H11$(rest 11)|0"
+    echo "NTSC|800000|L111 H37 L11 H11$(rest 11)|1"
+    echo "PAL|800000|L114 H28 L22 H14$(rest 14)|0"
+    echo "PAL|800000|L114 H28 L23 H14$(rest 14)|1"
+    echo "PAL|800000|L114 H44 L14 H14$(rest 14)|0"
+    echo "PAL|800000|L114 H45 L14 H14$(rest 14)|1"
+} > said_words
+while IFS='|' read -r system word description ended; do
+    export WORD="$word"
+    echo "$description" | signal $system 0 > line.text
+    case $system in
+        NTSC) ntsc_samples < line.text > line.raw; options=$ntsc ;;
+        PAL) pal_samples < line.text > line.raw; options=$pal ;;
+    esac
+    status=0
+    bounded python3 "$top/contrib/plot_line.py" --program ./says_word $options line.raw < empty > out 2> err || status=$?
+    [ $ended = 0 ] || echo "plot_line: these samples don't show $word" > wanted
+    [ $ended = 1 ] || cp empty wanted
+    check "$system: $(echo "$description" | cut -c 1-24) as $word" [ "$status $(cmp err wanted)" = "$ended " ]
+done < said_words
 
 # A title of one's own, above what is said of the line; a long one loses its middle
 echo 82CFFF | signal NTSC 0 | ntsc_samples > line.raw
