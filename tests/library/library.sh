@@ -307,8 +307,8 @@ check 'the texts are built' does $cc -std=c99 $strict -I"$top/include" -o texts 
     "$built/libldvbi.a"
 check "the header's texts" prints 0 "$(cat reported)" sh -c "./texts $on_cav < texts.tbc"
 
-# The program in README.md
-sed -n '/^```c$/,/^```$/{/^```/d;p;}' "$top/README.md" > say.c
+# The program of which README has five lines
+cp "$top/examples/say.c" say.c
 check 'the program in README is built' does $cc -std=c99 $strict -o say say.c $linked
 echo '- F12345 -' | bounded "$program" draw $ntsc > said.tbc
 tail -c +29121 said.tbc | head -c 1820 > line.raw
