@@ -65,7 +65,7 @@ jq_module|hangs
 jq_module|contrib/ldvbi.jq|s/kind: "chapter"/kind: "chaptre"/
 docs|out|picture stop|picture step
 docs|hangs
-docs|README.md|s/^18 F00003 picture 00003$/18 F00003 picture 00004/
+docs|README.md|s/^field 87, frame 44/field 88, frame 44/
 docs|README.md|s/^```sh skip$/```sh skipped/
 docs|README.md|0,/^```sh$/s//&\nfalse \x7c true  # not by pipefail/
 docs|README.md|s/](docs/](dogs/
@@ -104,8 +104,10 @@ docs|docs/RECIPES.md|s/478,660 bytes/478,650 bytes/
 docs|share/man/ldvbi.1|s/is not below white level/is not under white level/
 docs|share/man/ldvbi.1|s/^.Sq unfinished/.Sq unfinish/
 docs|share/man/ldvbi.1|s/1820 for NTSC/1810 for NTSC/
-docs|README.md|s/Of [0-9]* wrong bodies/Of 1 wrong bodies/
-docs|README.md|s/in [0-9]* lines, or/in 1 lines, or/
+docs|docs/PROMISES.md|s/Of [0-9]* wrong bodies/Of 1 wrong bodies/
+docs|docs/DECISIONS.md|s/are 55 in 197 lines/are 55 in 198 lines/
+docs|README.md|s/^    printf("picture/    printf("pictures/
+docs|README.md|s/`classify(read/`classify(\&read/
 wheel|packaging/make_wheel.py|s/entry_points.txt/entry_point.txt/
 wheel|packaging/make_wheel.py|s/-v\[2-9\]/-w/
 wheel|contrib/plot_line.py|s/change, ldvbi.Cause.hold/change,/

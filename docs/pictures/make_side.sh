@@ -1,8 +1,7 @@
 #!/bin/sh
 # Makes README's pictures of sides, both drawn by the standards' lines. It needs the library.
 #
-# side.svg: a CAV disc of some fifty pictures with stops on lines 16 and 17, on which things went wrong. Pictures 10 to
-# 13 are skipped, 21 stands still, 30 reads 79999, and the lines of ten fields are damaged.
+# side.svg: the CAV disc with faults that examples/side.sh draws.
 # clv.svg: a CLV disc around the end of its first hour, with its mark on line 17; five pictures are lost.
 # usage: sh docs/pictures/make_side.sh PROGRAM FOLDER
 set -eu
@@ -16,42 +15,15 @@ trap 'rm -rf "$work"' EXIT
 cav_levels='--system NTSC --black 16384 --white 51200'
 clv_levels='--system PAL --black 16384 --white 54016'
 
+# The CAV disc is the side of examples/side.sh.
+(cd "$work" && sh "$top/examples/side.sh" "$program")
+
 # ends CODE: eight fields of lead-in or lead-out
 ends() {
     for field in 1 2 3 4 5 6 7 8; do
         printf -- '- %s %s\n' "$1" "$1"
     done
 }
-{
-    ends 88FFFF
-    for number in $(seq 1 9) $(seq 14 21) 21 21 21 $(seq 22 52); do
-        digits=$(printf %05d "$number")
-        case $number in
-            7) echo "82CFFF F$digits F$digits" ;;
-            17 | 46) echo "82CFFF 82CFFF F$digits" ;;
-            30) echo '- F79999 F79999' ;;
-            *) echo "- F$digits F$digits" ;;
-        esac
-        echo "- 80$((number / 18))DDD 80$((number / 18))DDD"
-    done
-    ends 80EEEE
-} > "$work/side.words"
-# shellcheck disable=SC2086
-"$program" draw $cav_levels "$work/side.words" > "$work/side.tbc"
-
-# black FIELD LINE COLUMN COUNT: turns so many columns of a line black
-black() {
-    awk -v count="$4" 'BEGIN { for (column = 0; column < count; column++) printf "z@" }' | tr z '\000' |
-        dd of="$work/side.tbc" bs=2 seek=$(((($1 - 1) * 263 + $2 - 1) * 910 + $3)) conv=notrunc 2> /dev/null
-}
-for field in 81 82 83 84 85 86 87 88 89 90; do
-    case $field in
-        81 | 85 | 90) black $field 17 330 2; black $field 18 400 30 ;;
-        82 | 88) black $field 17 150 760; black $field 18 200 5 ;;
-        *) black $field 17 430 40; black $field 18 600 45 ;;
-    esac
-done
-
 {
     ends 88FFFF
     awk 'BEGIN {

@@ -294,7 +294,7 @@ check 'player: a picture that is no number' refuses 'player: search is not a who
 check 'player: no file' refuses "player: can't open nowhere.tbc" ./player nowhere.tbc $on_cav play
 check 'player: no field' refuses 'player: no field in empty.tbc' ./player empty.tbc $on_cav play
 
-# The program in README.md
+# The program of which README has five lines
 program_in_readme
 check 'the program in README is built' does $cc -std=c99 $strict -o say say.c $linked
 check 'the program in README' prints 0 'picture 12345' sh -c './say < line.raw'

@@ -49,7 +49,7 @@ rm user/ldvbi 2> empty
 ln -s "$program" user/ldvbi
 
 # The lines of README, of somebody at home
-sed -n '/^```c$/,/^```$/{/^```/d;p;}' "$top/README.md" > user/say.c
+cp "$top/examples/say.c" user/say.c
 echo '- F12345 -' | bounded "$program" draw $ntsc > said.tbc
 tail -c +29121 said.tbc | head -c 1820 > user/line.raw
 sed -n '/^make install-lib /,/^```$/{/^```/d;p;}' "$top/README.md" > lines.sh

@@ -31,9 +31,9 @@ header_version() {
     sed -n 's/^#define LDVBI_VERSION_TEXT "\(.*\)"$/\1/p' "$top/include/ldvbi.h"
 }
 
-# program_in_readme: makes say.c of the program in README, and the line that it reads
+# program_in_readme: makes say.c, of which README has five lines, and the line that it reads
 program_in_readme() {
-    sed -n '/^```c$/,/^```$/{/^```/d;p;}' "$top/README.md" > say.c
+    cp "$top/examples/say.c" say.c
     echo '- F12345 -' | bounded "$program" draw $ntsc > said.tbc
     tail -c +29121 said.tbc | head -c 1820 > line.raw
 }

@@ -5,7 +5,8 @@
 # A block marked ```sh or ```bash is run, and has to succeed, each of its commands in turn and each part of a pipe. A
 # block marked ```text that comes next is what it prints, on standard output and standard error. A block marked `skip`
 # as well (```sh skip) is left out. One marked `lib` (```sh lib) is left out where the library isn't built; every other
-# block runs where no library is found, so what needs it has that mark.
+# block runs where no library is found, so what needs it has that mark. A block marked ```console has commands and what
+# they print by turns: a command begins with `$ `, each further line of it with `> `.
 # usage: sh tests/program/docs.sh PROGRAM
 # shellcheck disable=SC2086
 
@@ -24,18 +25,19 @@ library=
 # Cuts a document into files: NAME.NUMBER.sh or .bash, and NAME.NUMBER.text for what is printed. Prints each file that
 # is to be run, with its mark. What is said on standard error is a fault of the document.
 cat > cut.awk << 'AWK'
-/^```/ && inside { inside = 0; close(file); next }
+/^```/ && inside { inside = 0; close(file); close(printed); next }
 /^```/ {
     inside = 1
     kind = substr($1, 4)
-    is_command = kind == "sh" || kind == "bash"
+    is_command = kind == "sh" || kind == "bash" || kind == "console"
     is_marked = NF == 2 && is_command && ($2 == "skip" || $2 == "lib")
-    if (kind !~ /^(sh|bash|text|c|words)$/ || NF > 1 && !is_marked)
+    if (kind !~ /^(sh|bash|console|text|c|words)$/ || NF > 1 && !is_marked)
         print "a block with the mark " substr($0, 4) > "/dev/stderr"
     if (is_command) {
         number++
         run = $2 != "skip" && ($2 != "lib" || library)
-        file = run ? sprintf("%s.%02d.%s", name, number, kind) : "/dev/null"
+        file = run ? sprintf("%s.%02d.%s", name, number, kind == "bash" ? kind : "sh") : "/dev/null"
+        printed = run && kind == "console" ? sprintf("%s.%02d.text", name, number) : "/dev/null"
         if (run)
             print file, $2
     } else {
@@ -47,7 +49,8 @@ cat > cut.awk << 'AWK'
     printf "" > file
     next
 }
-inside { print > file; next }
+inside && kind == "console" && sub(/^[$>] /, "") { print > file; next }
+inside { print > (kind == "console" ? printed : file); next }
 /```/ { print "a mark of a block that doesn't begin its line" > "/dev/stderr" }
 END { if (inside) print "a block without its end" > "/dev/stderr" }
 AWK
@@ -102,7 +105,7 @@ END
 
 # marked PATH MARK: how many command blocks of a document have this mark
 marked() {
-    grep -c '^```\(sh\|bash\) '"$2"'$' "$top/$1"
+    grep -c '^```\(sh\|bash\|console\) '"$2"'$' "$top/$1"
 }
 
 # document PATH FOLDER: runs the blocks of this document in this folder
@@ -119,7 +122,7 @@ document() {
         leave_out "$needy"
     fi
     check "$1: each block is run or marked as one that isn't" \
-        [ "$(grep -c '^```\(sh\|bash\)\>' "$top/$1")" = $(($(wc -l < blocks) + left)) ]
+        [ "$(grep -c '^```\(sh\|bash\|console\)\>' "$top/$1")" = $(($(wc -l < blocks) + left)) ]
     while read -r block mark; do
         # what rounds the side's levels is run on levels with a decimal point
         if grep -q "white16bIre|=round' side.tbc.json" $block; then
@@ -145,7 +148,7 @@ for what in links paths names faults causes sizes rules; do
     in_folder "$top" python3 tests/documents.py $what
     check "the documents and the source: $what" [ "$status" = 0 ]
 done
-in_folder "$top" python3 tests/definitions.py README.md docs/DEFINITIONS.md docs/PROMISES.md docs/DECISIONS.md
+in_folder "$top" python3 tests/definitions.py docs/DEFINITIONS.md docs/PROMISES.md docs/DECISIONS.md
 check 'the definitions of DEFINITIONS.md are those of the source' [ "$status" = 0 ]
 
 # The real examples of causes in FORMATS.md, of which these are the lines in the order of its rows
@@ -168,12 +171,28 @@ output_of show $ntsc classes.tbc | sed -n 's/^16 ...... //p' > classes
 sed -n '/^| Pattern |/,/^$/s/^| [8Fa].*| `\(.*\)` |$/\1/p' "$top/docs/SIGNAL.md" > out
 check 'the classes of SIGNAL.md are those of the report' cmp out classes
 
-folder recipes
-document docs/RECIPES.md recipes
+for document in README RECIPES; do
+    folder $document
+done
+document README.md README
+document docs/RECIPES.md RECIPES
 folder trial
 sides trial
-document README.md trial
 document docs/FORMATS.md trial
+
+# The lines of README that it takes from a program in examples/
+# shows FILE < LINES: whether each of these stands in this file, but for how far it is indented
+shows() {
+    sed 's/^ *//' "$top/$1" > lines
+    sed 's/^ *//' | grep -vxF -f lines > err
+    [ ! -s err ]
+}
+sed -n '/^```c$/,/^```$/{/^```/d;p;}' "$top/README.md" > out
+check 'README has five lines of C' [ "$(wc -l < out)" = 5 ]
+check 'they are of examples/say.c' shows examples/say.c < out
+# shellcheck disable=SC2016
+in_rust=$(grep -o 'classify(read[^`]*' "$top/README.md")
+check 'what README has of Rust is of examples/rust' grep -qF "${in_rust:-none}" "$top/examples/rust/src/main.rs"
 
 # The examples of the manual page, one script; the last line that it prints is of the drawn field
 mandoc -T ascii -O width=200 "$top/share/man/ldvbi.1" | sed 's/.'"$(printf '\010')"'//g' |

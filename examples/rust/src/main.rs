@@ -7,8 +7,7 @@ use std::io::Read;
 
 /// The picture that a field's line shows, if it shows one.
 fn picture_of(line: &[u8], system: System, levels: Levels) -> Option<u32> {
-    let word = read_bytes_twice(line, system, levels).outcome.word()?;
-    match classify(word) {
+    match classify(read_bytes_twice(line, system, levels).outcome.word()?) {
         Code::Picture(number) => Some(number),
         _ => None,
     }
