@@ -1,13 +1,12 @@
 -- A word has one code: no two patterns have a word in common.
 use Rattle.std.proofs.Common.{◌≡◌, ℕ, suc, zero, ◌≤◌, ◌<◌, ◌+◌, Bool, true, false, ltb, leb, ◌&&◌, ◌||◌, List, []}
-use Rattle.std.proofs.Common.{◌∷◌, length, get_or, cond, ◌⊎◌, inl, inr, refl, ap, subst, sym, ◌∙◌, arith, lit<}
+use Rattle.std.proofs.Common.{◌∷◌, cond, Any, ◌⊎◌, inl, inr, refl, ap, subst, sym, ◌∙◌, arith}
 use Rattle.std.proofs.lemmas.Bool.{ltb-true, leb-true, le-leb, and_parts, and_from, or_cases, cases_eq}
 use Rattle.std.specs.List.{list_all, list_any, range_with_len}
 use Rattle.vbi_words.specs.declared.code.Code.{Code}
-use Rattle.vbi_words.specs.declared.code.Code.TheVariants.{Picture, Chapter, Time, ClvPicture, CxOn, CxOff}
-use Rattle.vbi_words.specs.declared.code.Code.TheVariants.{Users, LeadIn, LeadOut, PictureStop, ClvMark, Other}
-use Rattle.vbi_words.specs.Codes.{digit_of, IsBetween, HasPattern, IsCode}
-use Rattle.vbi_words.specs.CodeTable.{Pattern, patterns_of, first_code, fits_at, fits, code_of}
+use Rattle.vbi_words.specs.declared.code.Code.TheVariants.{Other}
+use Rattle.vbi_words.specs.Codes.{digit_of, Pattern, patterns_of, HasPattern, HasCodeOf, IsCode}
+use Rattle.vbi_words.specs.CodeTable.{first_code, fits_at, fits, code_of}
 
 -- ---- tests of consecutive numbers
 
@@ -39,10 +38,6 @@ some_passes p a (suc n) e = elim (or_cases (p a) (list_any p (range_with_len (a 
 
 -- ---- no word matches two patterns
 
--- the word matches the pattern
-abbrev pub Fits : ℕ → Pattern → Type 0
-Fits word pattern = IsBetween pattern.least pattern.greatest word
-
 -- at this place one pattern's digits are below the other's
 abbrev below_at : ℕ → Pattern → Pattern → Bool
 below_at place a b = ltb (digit_of a.greatest place) (digit_of b.least place)
@@ -51,15 +46,15 @@ below_at place a b = ltb (digit_of a.greatest place) (digit_of b.least place)
 abbrev apart : Pattern → Pattern → Bool
 apart a b = list_any (λ place. below_at place a b || below_at place b a) (range_with_len 1 6)
 
-below-not : (word place : ℕ) (a b : Pattern) → 1 ≤ place → place ≤ 6 → below_at place a b ≡ true → Fits word a
-    → Fits word b → ⊥
+below-not : (word place : ℕ) (a b : Pattern) → 1 ≤ place → place ≤ 6 → below_at place a b ≡ true → HasPattern word a
+    → HasPattern word b → ⊥
 below-not word place a b low high e x y =
     let l : digit_of a.greatest place < digit_of b.least place = ltb-true _ _ e in
     let p : digit_of word place ≤ digit_of a.greatest place = (x place low high).1 in
     let q : digit_of b.least place ≤ digit_of word place = (y place low high).0 in
     omega arith
 
-apart-not : (word : ℕ) (a b : Pattern) → apart a b ≡ true → Fits word a → Fits word b → ⊥
+apart-not : (word : ℕ) (a b : Pattern) → apart a b ≡ true → HasPattern word a → HasPattern word b → ⊥
 apart-not word a b e x y =
     let r = some_passes (λ place. below_at place a b || below_at place b a) 1 6 e in
     let last : r.0 ≤ 6 = omega (arith, r.2) in
@@ -77,148 +72,112 @@ abbrev all_apart : List Pattern → Bool
 all_apart [] = true
 all_apart (r ∷ patterns) = apart_from r patterns && all_apart patterns
 
--- what a list of patterns has past its end
-abbrev none : Pattern
-none = record { least = 0; greatest = 0; code = Other }
-
--- the word matches the pattern at this place of the list
-abbrev FitsAt : ℕ → List Pattern → ℕ → Type 0
-FitsAt word patterns i = (i < length patterns) × Fits word (get_or patterns i none)
-
 later-not : (word : ℕ) (pattern : Pattern) (patterns : List Pattern) → apart_from pattern patterns ≡ true
-    → Fits word pattern → (i : ℕ) → FitsAt word patterns i → ⊥
-later-not word pattern [] e x i (l, y) = omega arith
-later-not word pattern (r ∷ patterns) e x zero (l, y) =
-    apart-not word pattern r (and_parts (apart pattern r) (apart_from pattern patterns) e).0 x y
-later-not word pattern (r ∷ patterns) e x (suc i) (l, y) =
-    later-not word pattern patterns (and_parts (apart pattern r) (apart_from pattern patterns) e).1 x i (omega arith, y)
+    → HasPattern word pattern → Any (HasPattern word) patterns → ⊥
+later-not word pattern [] e x (i, q, l, here, y) = omega arith
+later-not word pattern (r ∷ patterns) e x (zero, q, l, here, y) =
+    apart-not word pattern r (and_parts (apart pattern r) (apart_from pattern patterns) e).0 x
+    (subst (HasPattern word) (sym here) y)
+later-not word pattern (r ∷ patterns) e x (suc i, q, l, here, y) =
+    later-not word pattern patterns (and_parts (apart pattern r) (apart_from pattern patterns) e).1 x
+    (i, q, omega arith, here, y)
 
-one_pattern : (word : ℕ) (patterns : List Pattern) → all_apart patterns ≡ true → (i j : ℕ) → FitsAt word patterns i
-    → FitsAt word patterns j → i ≡ j
-one_pattern word [] e i j (k, x) (l, y) = omega arith
-one_pattern word (r ∷ patterns) e zero zero x y = refl
-one_pattern word (r ∷ patterns) e zero (suc j) (k, x) (l, y) =
-    let parts = and_parts (apart_from r patterns) (all_apart patterns) e in
-    absurd (later-not word r patterns parts.0 x j (omega arith, y))
-one_pattern word (r ∷ patterns) e (suc i) zero (k, x) (l, y) =
-    let parts = and_parts (apart_from r patterns) (all_apart patterns) e in
-    absurd (later-not word r patterns parts.0 y i (omega arith, x))
-one_pattern word (r ∷ patterns) e (suc i) (suc j) (k, x) (l, y) =
-    let parts = and_parts (apart_from r patterns) (all_apart patterns) e in
-    ap suc (one_pattern word patterns parts.1 i j (omega arith, x) (omega arith, y))
+-- the pattern without its code
+matched : (word : ℕ) (code : Code) (patterns : List Pattern) → HasCodeOf patterns word code
+    → Any (HasPattern word) patterns
+matched word code patterns (i, p, l, here, (x, e)) = (i, p, l, here, x)
 
--- ---- a word has one code
+one_of : (word : ℕ) (c d : Code) (patterns : List Pattern) → all_apart patterns ≡ true → HasCodeOf patterns word c
+    → HasCodeOf patterns word d → c ≡ d
+one_of word c d [] far (i, p, l, here, x) y = absurd (omega arith)
+one_of word c d (r ∷ patterns) far (zero, p, l, here, (x, e)) (zero, q, m, there, (y, f)) =
+    e ∙ ap (λ (t : Pattern). t.code) (sym here ∙ there) ∙ sym f
+one_of word c d (r ∷ patterns) far (zero, p, l, here, (x, e)) (suc j, q, m, there, (y, f)) =
+    let parts = and_parts (apart_from r patterns) (all_apart patterns) far in
+    absurd (later-not word r patterns parts.0 (subst (HasPattern word) (sym here) x) (j, q, omega arith, there, y))
+one_of word c d (r ∷ patterns) far (suc i, p, l, here, (x, e)) (zero, q, m, there, (y, f)) =
+    let parts = and_parts (apart_from r patterns) (all_apart patterns) far in
+    absurd (later-not word r patterns parts.0 (subst (HasPattern word) (sym there) y) (i, p, omega arith, here, x))
+one_of word c d (r ∷ patterns) far (suc i, p, l, here, x) (suc j, q, m, there, y) =
+    let parts = and_parts (apart_from r patterns) (all_apart patterns) far in
+    one_of word c d patterns parts.1 (i, p, omega arith, here, x) (j, q, omega arith, there, y)
 
--- the code is that of a pattern that the word matches
-abbrev Found : ℕ → Code → Type 0
-Found word code = (i : ℕ) × FitsAt word (patterns_of word) i × (code ≡ (get_or (patterns_of word) i none).code)
-
--- the word matches no pattern
-abbrev MatchesNone : ℕ → Type 0
-MatchesNone word = (c : Code) → HasPattern word c → ⊥
-
--- the code stands in the table, or it is `Other` and the word matches no pattern
-abbrev FoundOrNone : ℕ → Code → Type 0
-FoundOrNone word code = ((code ≡ Other) × MatchesNone word) ⊎ (HasPattern word code × Found word code)
-
-found : (word : ℕ) (code : Code) → IsCode word code → FoundOrNone word code
-found word LeadIn x = inr (x.0, (0, (lit< tt, x.0), refl))
-found word LeadOut x = inr (x.0, (1, (lit< tt, x.0), refl))
-found word (Picture n) x = inr (x.0, (2, (lit< tt, x.0), cc))
-found word PictureStop x = inr (x.0, (3, (lit< tt, x.0), refl))
-found word (Chapter n) x = inr (x.0, (4, (lit< tt, x.0), cc))
-found word ClvMark x = inr (x.0, (5, (lit< tt, x.0), refl))
-found word (Time h m) x = inr (x.0, (6, (lit< tt, x.0), cc))
-found word (ClvPicture s p) x = inr (x.0, (7, (lit< tt, x.0), cc))
-found word (CxOn n) x = inr (x.0, (8, (lit< tt, x.0), cc))
-found word (CxOff n) x = inr (x.0, (9, (lit< tt, x.0), cc))
-found word (Users d n) x = inr (x.0, (10, (lit< tt, x.0), cc))
-found word Other x = inl (refl, x)
-
-pub one_code : (word : ℕ) (c d : Code) → IsCode word c → IsCode word d → c ≡ d
-one_code word c d x y = go (found word c x) (found word d y)
-  where
-    go : FoundOrNone word c → FoundOrNone word d → c ≡ d
-    go (inl a) (inl b) = a.0 ∙ sym b.0
-    go (inl a) (inr b) = absurd (a.1 d b.0)
-    go (inr a) (inl b) = absurd (b.1 c a.0)
-    go (inr (p, (i, x, ci))) (inr (q, (j, y, cj))) =
-        let same : i ≡ j = one_pattern word (patterns_of word) refl i j x y in
-        ci ∙ ap (λ (n : ℕ). (get_or (patterns_of word) n none).code) same ∙ sym cj
+-- a word has one code
+one_code : (word : ℕ) (c d : Code) → IsCode word c → IsCode word d → c ≡ d
+one_code word c d (inl x) (inl y) = one_of word c d (patterns_of word) refl x y
+one_code word c d (inl x) (inr y) = absurd (y.0 (matched word c (patterns_of word) x))
+one_code word c d (inr x) (inl y) = absurd (x.0 (matched word d (patterns_of word) y))
+one_code word c d (inr x) (inr y) = x.1 ∙ sym y.1
 
 -- ---- the code as a function
 
 -- the test is that of the relation
-fits-between : (word : ℕ) (pattern : Pattern) → fits word pattern ≡ true → Fits word pattern
+fits-between : (word : ℕ) (pattern : Pattern) → fits word pattern ≡ true → HasPattern word pattern
 fits-between word pattern e place low high =
     let parts = and_parts (leb (digit_of pattern.least place) (digit_of word place))
     (leb (digit_of word place) (digit_of pattern.greatest place))
     (each_passes (fits_at word pattern) 1 6 e place low (omega arith)) in
     (leb-true _ _ parts.0, leb-true _ _ parts.1)
 
-between-fits : (word : ℕ) (pattern : Pattern) → Fits word pattern → fits word pattern ≡ true
+between-fits : (word : ℕ) (pattern : Pattern) → HasPattern word pattern → fits word pattern ≡ true
 between-fits word pattern x = all_pass (fits_at word pattern) 1 6 (λ place low high.
     let here = x place low (omega arith) in
     and_from (leb (digit_of pattern.least place) (digit_of word place))
     (leb (digit_of word place) (digit_of pattern.greatest place)) (le-leb _ _ here.0) (le-leb _ _ here.1))
 
--- P holds of each pattern, one after the other
-abbrev Each : (Pattern → Type 0) → List Pattern → Type 0
-Each P [] = Unit {0}
-Each P (pattern ∷ patterns) = P pattern × Each P patterns
+-- the word doesn't match the first of the patterns, nor the second, and so on
+abbrev Unmatched : ℕ → List Pattern → Type 0
+Unmatched word [] = Unit {0}
+Unmatched word (pattern ∷ patterns) = (HasPattern word pattern → ⊥) × Unmatched word patterns
 
--- what holds of the code of each pattern that the word fits, and of `Other` where it fits none, holds of the first code
-first_has : (P : Code → Type 0) (word : ℕ) (patterns : List Pattern)
-    → Each (λ pattern. Fits word pattern → P pattern.code) patterns
-    → (Each (λ pattern. Fits word pattern → ⊥) patterns → P Other) → P (first_code word patterns)
-first_has P word [] each other = other tt
-first_has P word (pattern ∷ patterns) each other =
-    go (λ f. first_has P word patterns each.1 (λ none. other (f, none))) (fits word pattern) refl
+none_of : (word : ℕ) (patterns : List Pattern) → Unmatched word patterns → Any (HasPattern word) patterns → ⊥
+none_of word [] unmatched (i, q, l, here, x) = omega arith
+none_of word (pattern ∷ patterns) unmatched (zero, q, l, here, x) =
+    unmatched.0 (subst (HasPattern word) (sym here) x)
+none_of word (pattern ∷ patterns) unmatched (suc i, q, l, here, x) =
+    none_of word patterns unmatched.1 (i, q, omega arith, here, x)
+
+-- the goal, where the word doesn't match the first of the patterns, nor the second, and so on
+abbrev pub Unless : ℕ → List Pattern → Type 0 → Type 0
+Unless word [] goal = goal
+Unless word (pattern ∷ patterns) goal = (HasPattern word pattern → ⊥) → Unless word patterns goal
+
+unless : (word : ℕ) (patterns : List Pattern) (goal : Type 0) → (Unmatched word patterns → goal)
+    → Unless word patterns goal
+unless word [] goal shown = shown tt
+unless word (pattern ∷ patterns) goal shown = λ first. unless word patterns goal (λ others. shown (first, others))
+
+pub other : (word : ℕ) → Unless word (patterns_of word) (IsCode word Other)
+other word = unless word (patterns_of word) (IsCode word Other)
+    (λ unmatched. inr (none_of word (patterns_of word) unmatched, refl))
+
+-- the code of the first pattern is one that the word has
+first_is : (word : ℕ) (patterns : List Pattern)
+    → HasCodeOf patterns word (first_code word patterns)
+    ⊎ (Unmatched word patterns × (first_code word patterns ≡ Other))
+first_is word [] = inr (tt, refl)
+first_is word (pattern ∷ patterns) = go (fits word pattern) refl (first_is word patterns)
   where
-    go : ((Fits word pattern → ⊥) → P (first_code word patterns)) → (b : Bool) → fits word pattern ≡ b
-        → P (cond b pattern.code (first_code word patterns))
-    go later true e = each.0 (fits-between word pattern e)
-    go later false e = later (λ x. absurd (let h : fits word pattern ≡ true = between-fits word pattern x in cc))
+    go : (b : Bool) → fits word pattern ≡ b
+        → HasCodeOf patterns word (first_code word patterns)
+        ⊎ (Unmatched word patterns × (first_code word patterns ≡ Other))
+        → HasCodeOf (pattern ∷ patterns) word (cond b pattern.code (first_code word patterns))
+        ⊎ (Unmatched word (pattern ∷ patterns) × (cond b pattern.code (first_code word patterns) ≡ Other))
+    go true e later = inl (0, pattern, omega arith, refl, (fits-between word pattern e, refl))
+    go false e (inl (i, q, l, here, x)) = inl (suc i, q, omega arith, here, x)
+    go false e (inr (none, other)) =
+        inr ((λ x. let h : fits word pattern ≡ true = between-fits word pattern x in cc, none), other)
 
 -- the function gives the word's code
 pub code_of_is : (word : ℕ) → IsCode word (code_of word)
 unfolding code_of
-code_of_is word = first_has (IsCode word) word (patterns_of word) (
-  (λ x. (x, tt)),
-  (
-    (λ x. (x, tt)),
-    (
-      (λ x. (x, refl)),
-      (
-        (λ x. (x, tt)),
-        (
-          (λ x. (x, refl)),
-          (
-            (λ x. (x, tt)),
-            (
-              (λ x. (x, (refl, refl))),
-              ((λ x. (x, (refl, refl))), ((λ x. (x, refl)), ((λ x. (x, refl)), ((λ x. (x, (refl, refl))), tt)))),
-            ),
-          ),
-        ),
-      ),
-    ),
-  ),
-) other
+code_of_is word = go (first_is word (patterns_of word))
   where
-    other : Each (λ pattern. Fits word pattern → ⊥) (patterns_of word) → MatchesNone word
-    other unfit LeadIn x = unfit.0 x
-    other unfit LeadOut x = unfit.1.0 x
-    other unfit (Picture n) x = unfit.1.1.0 x
-    other unfit PictureStop x = unfit.1.1.1.0 x
-    other unfit (Chapter n) x = unfit.1.1.1.1.0 x
-    other unfit ClvMark x = unfit.1.1.1.1.1.0 x
-    other unfit (Time h m) x = unfit.1.1.1.1.1.1.0 x
-    other unfit (ClvPicture s p) x = unfit.1.1.1.1.1.1.1.0 x
-    other unfit (CxOn n) x = unfit.1.1.1.1.1.1.1.1.0 x
-    other unfit (CxOff n) x = unfit.1.1.1.1.1.1.1.1.1.0 x
-    other unfit (Users d n) x = unfit.1.1.1.1.1.1.1.1.1.1.0 x
-    other unfit Other x = x
+    go : HasCodeOf (patterns_of word) word (code_of word)
+        ⊎ (Unmatched word (patterns_of word) × (code_of word ≡ Other))
+        → IsCode word (code_of word)
+    go (inl x) = inl x
+    go (inr (none, other)) = inr (none_of word (patterns_of word) none, other)
 
 pub only_code_of : (word : ℕ) (code : Code) → IsCode word code → code ≡ code_of word
 only_code_of word code x = one_code word code (code_of word) x (code_of_is word)

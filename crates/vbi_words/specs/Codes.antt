@@ -1,6 +1,6 @@
 -- The classes of code words and the numbers that they carry: this project's own table of the codes of IEC 60857 and
 -- IEC 60856.
-use Rattle.std.specs.Prelude.{◌≡◌, ℕ, ◌≤◌, ◌+◌, ◌-◌, ◌*◌, ◌/◌, ◌%◌, ◌^◌}
+use Rattle.std.specs.Prelude.{◌≡◌, ℕ, ◌≤◌, ◌+◌, ◌-◌, ◌*◌, ◌/◌, ◌%◌, ◌^◌, ◌⊎◌, List, [], ◌∷◌, Any}
 use Rattle.vbi_words.specs.declared.code.Code.{Code}
 use Rattle.vbi_words.specs.declared.code.Code.TheVariants.{Picture, Chapter, Time, ClvPicture, CxOn, CxOff}
 use Rattle.vbi_words.specs.declared.code.Code.TheVariants.{Users, LeadIn, LeadOut, PictureStop, ClvMark, Other}
@@ -14,21 +14,6 @@ abbrev pub IsBetween : ℕ → ℕ → ℕ → Type 0
 IsBetween least greatest word =
     (place : ℕ) → 1 ≤ place → place ≤ 6
     → (digit_of least place ≤ digit_of word place) × (digit_of word place ≤ digit_of greatest place)
-
--- the word's digits match the pattern of the code's class; `Other` has none
-abbrev pub HasPattern : ℕ → Code → Type 0
-HasPattern word LeadIn = IsBetween 0x88FFFF 0x88FFFF word
-HasPattern word LeadOut = IsBetween 0x80EEEE 0x80EEEE word
-HasPattern word (Picture number) = IsBetween 0xF00000 0xFF9999 word
-HasPattern word PictureStop = IsBetween 0x82CFFF 0x82CFFF word
-HasPattern word (Chapter number) = IsBetween 0x800DDD 0x8F9DDD word
-HasPattern word ClvMark = IsBetween 0x87FFFF 0x87FFFF word
-HasPattern word (Time hours minutes) = IsBetween 0xF0DD00 0xF9DD99 word
-HasPattern word (ClvPicture seconds picture) = IsBetween 0x8AE000 0x8FE999 word
-HasPattern word (CxOn number) = IsBetween 0x8DC000 0x8DCFFF word
-HasPattern word (CxOff number) = IsBetween 0x8BA000 0x8BAFFF word
-HasPattern word (Users digit number) = IsBetween 0x80D000 0x87DFFF word
-HasPattern word Other = ⊥
 
 -- the five last digits of a picture's word as a number; digit 2 counts without its top bit
 abbrev pub picture_of : ℕ → ℕ
@@ -52,22 +37,39 @@ last_two word = 10 * digit_of word 5 + digit_of word 6
 abbrev pub last_three : ℕ → ℕ
 last_three word = 256 * digit_of word 4 + 16 * digit_of word 5 + digit_of word 6
 
--- the code's numbers are those of the word's digits
-abbrev pub HasNumbers : ℕ → Code → Type 0
-HasNumbers word LeadIn = Unit {0}
-HasNumbers word LeadOut = Unit {0}
-HasNumbers word (Picture number) = number ≡ picture_of word
-HasNumbers word PictureStop = Unit {0}
-HasNumbers word (Chapter number) = number ≡ chapter_of word
-HasNumbers word ClvMark = Unit {0}
-HasNumbers word (Time hours minutes) = (hours ≡ digit_of word 2) × (minutes ≡ last_two word)
-HasNumbers word (ClvPicture seconds picture) = (seconds ≡ seconds_of word) × (picture ≡ last_two word)
-HasNumbers word (CxOn number) = number ≡ last_three word
-HasNumbers word (CxOff number) = number ≡ last_three word
-HasNumbers word (Users digit number) = (digit ≡ digit_of word 2) × (number ≡ last_three word)
-HasNumbers word Other = Unit {0}
+-- a pattern of code words: a word matches it if each of its digits is from that of least to that of greatest, and then
+-- has this code
+pub record Pattern : Type 0 where
+  pub least : ℕ
+  pub greatest : ℕ
+  pub code : Code
 
--- the word has this code: its digits match the pattern of the class and give the numbers, or they match no pattern
+-- the patterns, with the numbers of this word in their codes
+abbrev pub patterns_of : ℕ → List Pattern
+patterns_of word =
+    record { least = 0x88FFFF; greatest = 0x88FFFF; code = LeadIn }
+    ∷ record { least = 0x80EEEE; greatest = 0x80EEEE; code = LeadOut }
+    ∷ record { least = 0xF00000; greatest = 0xFF9999; code = Picture (picture_of word) }
+    ∷ record { least = 0x82CFFF; greatest = 0x82CFFF; code = PictureStop }
+    ∷ record { least = 0x800DDD; greatest = 0x8F9DDD; code = Chapter (chapter_of word) }
+    ∷ record { least = 0x87FFFF; greatest = 0x87FFFF; code = ClvMark }
+    ∷ record { least = 0xF0DD00; greatest = 0xF9DD99; code = Time (digit_of word 2) (last_two word) }
+    ∷ record { least = 0x8AE000; greatest = 0x8FE999; code = ClvPicture (seconds_of word) (last_two word) }
+    ∷ record { least = 0x8DC000; greatest = 0x8DCFFF; code = CxOn (last_three word) }
+    ∷ record { least = 0x8BA000; greatest = 0x8BAFFF; code = CxOff (last_three word) }
+    ∷ record { least = 0x80D000; greatest = 0x87DFFF; code = Users (digit_of word 2) (last_three word) }
+    ∷ []
+
+-- the word matches the pattern
+abbrev pub HasPattern : ℕ → Pattern → Type 0
+HasPattern word pattern = IsBetween pattern.least pattern.greatest word
+
+-- the word matches one of the patterns, and this is its code
+abbrev pub HasCodeOf : List Pattern → ℕ → Code → Type 0
+HasCodeOf patterns word code = Any (λ pattern. HasPattern word pattern × (code ≡ pattern.code)) patterns
+
+-- the code of the word: that of a pattern which it matches, or `Other` if it matches none; each word has exactly one,
+-- which `code_of` gives, as `laws::one_code` says
 abbrev pub IsCode : ℕ → Code → Type 0
-IsCode word Other = (code : Code) → HasPattern word code → ⊥
-IsCode word code = HasPattern word code × HasNumbers word code
+IsCode word code =
+    HasCodeOf (patterns_of word) word code ⊎ ((Any (HasPattern word) (patterns_of word) → ⊥) × (code ≡ Other))

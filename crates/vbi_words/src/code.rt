@@ -1,7 +1,6 @@
 //! The classes of code words (IEC 60857 for NTSC discs, IEC 60856 for PAL discs).
 
 ghost use Rattle.std.specs.Prelude.{◌≡◌, ◌↔◌, ◌≤◌, ◌<◌, IsTrue};
-ghost use Rattle.vbi_words.specs.declared.code.Code.{Code};
 ghost use Rattle.vbi_words.specs.CodeTable.{code_of};
 ghost use Rattle.vbi_words.specs.Codes.{digit_of, IsBetween, picture_of, chapter_of, seconds_of, last_two};
 ghost use Rattle.vbi_words.specs.Codes.{last_three, IsCode};
@@ -159,11 +158,9 @@ fn code_of_number(word: u32) -> Code
     }
 }
 
-/// The code of a word: each word has exactly one.
+/// The code of a word: the only one that it has, as the law `one_code` says.
 pub fn classify(word: Word24) -> Code
-    ensures is { IsCode word result }
-    ensures only { (code : Code) → IsCode word code → code ≡ result }
-    ensures value { result ≡ code_of word }
+    ensures { result ≡ code_of word }
 {
     code_of_number(word.value())
 }

@@ -2,7 +2,7 @@
 
 ghost use Rattle.std.specs.Prelude.{◌≡◌};
 ghost use Rattle.std.specs.List.{list_any};
-ghost use Rattle.vbi_words.specs.Formats.{is_cav_code, is_clv_code, has_code, IsFormat, format_from, format_of_lines};
+ghost use Rattle.vbi_words.specs.Formats.{is_cav_code, is_clv_code, has_code, format_from, format_of_lines};
 
 use crate::code::{Code, classify};
 use crate::word::Word24;
@@ -69,10 +69,11 @@ fn naming(cav: bool, clv: bool) -> Format
     }
 }
 
-/// The format of a field whose lines 16, 17 and 18 have these words; lines without a word count for nothing.
+/// The format of a field whose lines 16, 17 and 18 have these words: the only one that it has, as the law `one_format`
+/// says. Lines without a word count for nothing.
+#[tactic(auto, unfolding(crate::specs::Formats::format_of_lines))]
 pub fn format_of(words: &[Option<Word24>; 3]) -> Format
-    ensures is { IsFormat words.now result }
-    ensures value { result ≡ format_of_lines words.now }
+    ensures { result ≡ format_of_lines words.now }
 {
     naming(any_cav(words), any_clv(words))
 }

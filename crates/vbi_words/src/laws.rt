@@ -283,8 +283,8 @@ pub fn worked_formats()
         ∷ of_three 0xF12A45 0xFFFFFF 0x800000 ∷ []) ≡ replicate 7 Neither }
 {}
 
-/// The columns in which words are drawn, worked out by hand from the length of a half cell: each list has the columns at
-/// which the level changes, and the width of a line. The level of 24 ones changes at the end of each of the half cells.
+/// The columns in which words are drawn, worked out by hand from the length of a half cell. Each list has the columns
+/// at which the level changes, and the width of a line. The level of 24 ones changes at the end of every half cell.
 pub fn worked_columns()
     ensures ntsc_ones { map (is_drawn_high Ntsc 0xFFFFFF) (range_with_len 0 910) ≡ changing false 0 (
         164 ∷ 178 ∷ 192 ∷ 207 ∷ 221 ∷ 235 ∷ 250 ∷ 264 ∷ 278 ∷ 293 ∷ 307 ∷ 321 ∷ 336 ∷ 350 ∷ 364 ∷ 379 ∷ 393 ∷ 407 ∷ 422
