@@ -8,6 +8,7 @@
      ALTER=eats           standard input is read to its end, or for 16 MiB, before the program begins, which then has a
                           copy of it
      ALTER=hangs          the program never begins
+     ALTER=trims          the program gets its words without the space at their end
      ALTER=nothing
 
    The file ALTER_MARK is made where something was altered. Built with LAUNCHER and linked statically, so that no other
@@ -22,12 +23,33 @@
 #include <sys/syscall.h>
 #include <unistd.h>
 
+static void mark(void)
+{
+    const char *path = getenv("ALTER_MARK");
+
+    if (path != NULL)
+        syscall(SYS_close, syscall(SYS_open, path, O_WRONLY | O_CREAT, 0600));
+}
+
 #ifdef LAUNCHER
+
+static void trim(char **words)
+{
+    size_t length;
+
+    for (; *words != NULL; words++) {
+        length = strlen(*words);
+        if (length > 0 && (*words)[length - 1] == ' ') {
+            (*words)[length - 1] = '\0';
+            mark();
+        }
+    }
+}
 
 int main(int count, char **words)
 {
     const char *program = getenv("ALTER_PROGRAM"), *library = getenv("ALTER_LIBRARY");
-    const char *others = getenv("LD_PRELOAD");
+    const char *others = getenv("LD_PRELOAD"), *what = getenv("ALTER");
     char libraries[4096];
 
     (void)count;
@@ -35,6 +57,8 @@ int main(int count, char **words)
         return 125;
     snprintf(libraries, sizeof libraries, "%s:%s", library, others == NULL ? "" : others);
     setenv("LD_PRELOAD", libraries, 1);
+    if (what != NULL && strcmp(what, "trims") == 0)
+        trim(words);
     execv(program, words);
     return 125;
 }
@@ -45,14 +69,6 @@ typedef ssize_t (*writer)(int, const void *, size_t);
 
 static const char *what = "nothing", *from = "", *to = "";
 static size_t output_bytes;
-
-static void mark(void)
-{
-    const char *path = getenv("ALTER_MARK");
-
-    if (path != NULL)
-        syscall(SYS_close, syscall(SYS_open, path, O_WRONLY | O_CREAT, 0600));
-}
 
 /* The bytes that a write lets out: those of the program, or an altered copy of them. */
 static const void *altered(int descriptor, const void *bytes, size_t size)

@@ -17,6 +17,7 @@ library|out|"vbiPass"|"vbiPaSS"
 library|include/ldvbi.h|s/LDVBI_HOLD = 4/LDVBI_HOLD = 5/
 library|tests/library/library_numbers.c|s/(105) . 106..110/(106) . 106..110/
 library|tests/library/library_sightings.c|s/SEEN(1079999, 2, 1079999, 2, 0)/SEEN(1079999, 2, 1079999, 1, 0)/
+examples|tests/library/examples.sh|s/^SECAM 16384 51200$/NTSC 16384 51200/
 examples|examples/seek.py|s/<= 79999/<= 80000/
 staged|Makefile|s/-m 755 $(BUILT)libldvbi.so/-m 700 $(BUILT)libldvbi.so/
 misread|examples/seek.c|s/if (is_judged) {/if (!is_judged) {/
@@ -26,6 +27,7 @@ misread|examples/seek.c|s/refuse(strerror(ENOMEM))/1/
 misread|examples/player.cpp|s/ \&\& number.state != LDVBI_DUE//
 misread|examples/stops.cpp|s/LDVBI_FIND_PACE/LDVBI_VIDEO/
 header|include/ldvbi.h|s/^#define LDVBI_H$/#define LDVBI_H_/
+header|tests/library/header.sh|s/^ldvbi_classify(0xF12345, NULL)$/ldvbi_classify(0xF12345, code)/
 header|include/ldvbi.h|/^LDVBI_RESULT$/{N;s/.*\n\(uint32_t ldvbi_judge\)/\1/}
 header|include/ldvbi.h|s/^LDVBI_RESULT LDVBI_POINTER(4)$/LDVBI_RESULT/
 python|python/ldvbi_side/analysis.py|s/^def analyse(/def analyze(/
@@ -125,11 +127,13 @@ program|status|3|0
 settings|out|82CFFF|82CFFE
 settings|err|field height|field heighT
 settings|status|1|0
+settings|tests/program/settings.sh|s/^{}.*040.{}$/{}\x7c\\040\x7c/
 words|out|<N>|<M>
 words|err|similar subcommand|similar subkommand
 words|tests/program/help/draw-short.txt|s/Turns rows/Turns words/
 words|status|2|1
 words|hangs
+words|trims
 device_faults|out|],"cutField"|],"cutfield"
 device_faults|err|write failed|write foiled
 device_faults|status|3|0
@@ -182,6 +186,43 @@ scripts_trials|tests/scripts.sh|s/ -o -name '\*.py'//
 scripts_trials|tests/scripts.sh|s/^        failed="$failed $name"/        failed=/
 scripts_trials|tests/scripts.sh|s/fault "no script, or/: "no script, or/
 END
+
+# turned.awk: a script with two rows of a table turned. The table begins behind the line `begin`; of its first two rows,
+# one behind the other, whose last fields differ, each gets the last field of the other.
+cat > turned.awk << 'END'
+{ line[NR] = $0 }
+END {
+    for (row = begin + 1; row < NR && line[row + 1] !~ /^[A-Z_]+$/; row++) {
+        last = index(line[row], "|") ? "[^|]*$" : "[^ ]*$"
+        place = match(line[row], last)
+        other = match(line[row + 1], last)
+        this = substr(line[row], place)
+        that = substr(line[row + 1], other)
+        if (this != that) {
+            line[row] = substr(line[row], 1, place - 1) that
+            line[row + 1] = substr(line[row + 1], 1, other - 1) this
+            break
+        }
+    }
+    for (row = 1; row <= NR; row++) print line[row]
+}
+END
+# Tables without a wanted value, by a script and the first row: all of their rows are refused, or compared with what
+# the library says. Rows of the table above turn these.
+cat > unturned << 'END'
+library|cav NTSC 16384 51200
+examples|NTSC 51200 16384
+header|ldvbi_read_line(1, 1, 2, samples, 1820, NULL)
+settings|x|x|
+END
+# Each row: a script that isn't about the Rust program alone, and the line before a table of it. A table is what a loop
+# reads that makes a check of each row.
+awk '$3 ~ /^(everywhere|library)$/ { print $1 }' "$tests/scripts.txt" | while read -r name; do
+    awk -v name="$name" '
+        FILENAME == "unturned" { unturned[$0]; next }
+        begin && !(name "|" $0 in unturned) { print name "|" begin }
+        { begin = /^ *done << .?[A-Z_]+/ ? FNR : 0 }' unturned "$(find "$tests" -name "$name.sh")"
+done > turns
 
 # Each row: what scripts.sh has to say where it runs one script, this script, what is altered of its program (as above;
 # three columns), and the file that is altered, by this program for sed. That all passed beside an altered program is
@@ -268,7 +309,7 @@ alteration() {
     [ "$2" != stub ] || base=stub_tree
     why='the first check that failed'
     case $3 in
-        out | err | bit | status) program_with "$1" "$3" "$4" "$5" ;;
+        out | err | bit | status | trims) program_with "$1" "$3" "$4" "$5" ;;
         hangs) program_with "$1" hangs '' ''; RUN_SECONDS=2; why='a run that takes too long' ;;
         *) tree_with "$1" "$3" "$4"; folder=$1/tree/tests ;;
     esac
@@ -296,6 +337,13 @@ frame() {
     [ "$(cat "$1/status")" = "$ended_with" ] && grep -qF "$2" "$1/said" && { [ "$4" = nothing ] || [ -e "$1/mark" ]; }
 }
 
+# turned TRIAL SCRIPT LINE: whether a script stops at its first failed check, where the table behind this line is turned
+turned() {
+    awk -v begin="$3" -f turned.awk "$(find "$tests" -name "$2.sh")" > "$1/turned.sh"
+    alteration "$1" "$2" "tests/$(cd "$tests" && find . -name "$2.sh")" "1r $1/turned.sh
+d"
+}
+
 # refused TRIAL KIND..: whether a row of one of the tables isn't as wanted
 refused() {
     trial=$1
@@ -305,7 +353,8 @@ refused() {
 }
 
 # Trials are made side by side: each worker takes a row that no other has taken.
-{ sed 's/^/alteration|/' alterations; sed 's/^/frame|/' frames; sed 's/^/refused|/' refused; } > rows
+{ sed 's/^/alteration|/' alterations; sed 's/^/frame|/' frames; sed 's/^/refused|/' refused
+    sed 's/^/turned|/' turns; } > rows
 worker() {
     number=0
     while read -r row; do
@@ -326,12 +375,19 @@ for number in $(seq "$(nproc)"); do
 done
 wait
 number=0
+: > not_seen
 while read -r row; do
     number=$((number + 1))
     cp "trial.$number/said" err
     status=$(cat "trial.$number/status")
-    check "$row" [ -e "trial.$number/as_wanted" ]
+    case $row in
+        turned*) [ -e "trial.$number/as_wanted" ] || echo "$row: $(tail -n 1 err)" >> not_seen ;;
+        *) check "$row" [ -e "trial.$number/as_wanted" ] ;;
+    esac
 done < rows
+cp not_seen err
+check 'each table with two rows turned is seen' [ ! -s not_seen ]
+check 'there are tables to turn' [ "$(wc -l < turns)" -ge 14 ]
 
 awk '$3 ~ /^(everywhere|library|python|whole)$/ && $1 != "self_test" { print $1 }' "$tests/scripts.txt" | sort > listed
 cut -d '|' -f 1 alterations | sort -u > altered_scripts
