@@ -20,12 +20,10 @@ END
 (cd "$work/crates/field_bench" && rt run > "$work/log" 2>&1) || { cat "$work/log" >&2; exit 1; }
 "$work/crates/field_bench/out/field_bench" > "$work/said"
 for name in feeder draw; do
-    awk -v name=$name '$1 == name { print $2 / ($3 > 0 ? $3 : 1), $2, $3 }' "$work/said" | sort -n | awk -v name=$name '
-        { ratio[NR] = $1 }
-        NR == 1 || $2 < ours { ours = $2 }
-        NR == 1 || $3 < plain { plain = $3 }
-        END {
-            printf "%s in memory: best %d us beside %d us, median ratio %.2f\n",
-                name, ours, plain, ratio[int((NR + 1) / 2)]
-        }'
+    awk -v name=$name '
+        $1 != name { next }
+        !rounds++ || $2 < ours { ours = $2 }
+        rounds == 1 || $3 < plain { plain = $3 }
+        END { printf "%s in memory: best %d us beside %d us, ratio %.2f\n", name, ours, plain, ours / plain }' \
+        "$work/said"
 done

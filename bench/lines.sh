@@ -1,5 +1,5 @@
 #!/bin/sh
-# Nanoseconds per line of `read_line` beside a plain reader in Rust on the same lines, in one run. Works in a folder of
+# Nanoseconds per line of `read_line` beside a plain reader in Rust on the same lines, in turn. Works in a folder of
 # its own.
 set -eu
 here=$(cd "$(dirname "$0")" && pwd)
@@ -15,13 +15,15 @@ printf 'vbi_words:\nvbi_line: vbi_words byteorder\nline_bench: vbi_words vbi_lin
 rustc -O -o "$work/plain" "$here/plain_lines.rs"
 (cd "$work/crates/line_bench" && rt run > "$work/log" 2>&1) || { cat "$work/log" >&2; exit 1; }
 for turn in 1 2 3; do
-    "$work/crates/line_bench/out/line_bench" > "$work/ours"
-    "$work/plain" > "$work/theirs"
-    cat "$work/ours" "$work/theirs" | awk '
-        NR == 1 { lines = $1; ours = $2; sum = $3 }
-        NR == 2 {
-            if ($3 != sum) { print "bench: the readers differ"; exit 1 }
-            printf "read_line %.0f ns a line, plain reader %.0f ns a line, ratio %.2f\n",
-                ours * 1e6 / lines, $2 * 1e6 / lines, ours / $2
-        }'
+    "$work/crates/line_bench/out/line_bench" | sed 's/^/ours /' >> "$work/said"
+    "$work/plain" | sed 's/^/plain /' >> "$work/said"
 done
+awk '
+    NR > 1 && $4 != sum { differ = 1 }
+    { lines = $2; sum = $4 }
+    !turns[$1]++ || $3 < best[$1] { best[$1] = $3 }
+    END {
+        if (differ || turns["ours"] != turns["plain"]) { print "bench: the readers differ"; exit 1 }
+        printf "read_line best %.0f ns a line, plain reader %.0f ns a line, ratio %.2f\n",
+            best["ours"] * 1000 / lines, best["plain"] * 1000 / lines, best["ours"] / best["plain"]
+    }' "$work/said"

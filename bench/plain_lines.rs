@@ -1,10 +1,11 @@
 //! The plain reader that `read_line` is measured beside: sample by sample, a run machine with the same tolerances, in
-//! Rust. Prints the lines read, the milliseconds, and a sum of the words.
+//! Rust. Prints of each turn the lines read, the microseconds, and a sum of the words.
 use std::time::Instant;
 
 const WIDTH: usize = 910;
 const LINES: u32 = 64;
-const ROUNDS: u32 = 20_000;
+const ROUNDS: u32 = 200;
+const TURNS: u32 = 100;
 
 fn drawn_line(word: u32) -> Vec<u8> {
     let mut bytes = Vec::new();
@@ -56,17 +57,19 @@ fn word_of(line: &[u8], low: u16) -> u32 {
 
 fn main() {
     let lines: Vec<Vec<u8>> = (0..LINES).map(|i| drawn_line(0xF0_0000 + i * 0x357)).collect();
-    let start = Instant::now();
-    let mut sum = 0u32;
-    for _ in 0..ROUNDS {
-        for line in &lines {
-            // As the intake does: the bytes come into a buffer of one line. The volatile read keeps the compiler from
-            // seeing that each round has the same lines.
-            let line: &[u8] = unsafe { std::ptr::read_volatile(&line.as_slice()) };
-            let mut buffer = [0u8; 2270];
-            buffer[..line.len()].copy_from_slice(line);
-            sum = sum.wrapping_add(word_of(&buffer[..line.len()], 33792));
+    for _ in 0..TURNS {
+        let start = Instant::now();
+        let mut sum = 0u32;
+        for _ in 0..ROUNDS {
+            for line in &lines {
+                // As the intake does: the bytes come into a buffer of one line. The volatile read keeps the compiler
+                // from seeing that each round has the same lines.
+                let line: &[u8] = unsafe { std::ptr::read_volatile(&line.as_slice()) };
+                let mut buffer = [0u8; 2270];
+                buffer[..line.len()].copy_from_slice(line);
+                sum = sum.wrapping_add(word_of(&buffer[..line.len()], 33792));
+            }
         }
+        println!("{} {} {sum}", LINES * ROUNDS, start.elapsed().as_micros());
     }
-    println!("{} {} {sum}", LINES * ROUNDS, start.elapsed().as_millis());
 }

@@ -1,14 +1,15 @@
-//! The plain reader that a run of `ldvbi extract` is measured beside: it reads a stream in reads of one NTSC line's
-//! bytes, and does nothing with them. Prints how many bytes came.
+//! The plain reader that a run of `ldvbi extract` is measured beside: it reads a stream in reads of one line, and does
+//! nothing with them. Its first word is the number of a line's bytes. Prints how many bytes came.
 use std::fs::File;
 use std::io::Read;
 
 fn main() -> std::io::Result<()> {
-    let mut input: Box<dyn Read> = match std::env::args().nth(1) {
+    let length = std::env::args().nth(1).and_then(|words| words.parse().ok()).unwrap_or(1820);
+    let mut input: Box<dyn Read> = match std::env::args().nth(2) {
         Some(path) => Box::new(File::open(path)?),
         None => Box::new(std::io::stdin()),
     };
-    let mut line = [0u8; 1820];
+    let mut line = vec![0u8; length];
     let mut held = 0;
     let mut bytes = 0u64;
     loop {

@@ -3,7 +3,7 @@
 stream in memory, and the library on the lines of its fields, drawn and damaged.
 usage: python3 bench/rust.py PROVED RUST    (the two folders that have program and library)
 
-Prints for each the median times and the median of the ratios, Rust to proved."""
+Prints for each the best times and their ratio, Rust to proved, and the medians."""
 import ctypes
 import pathlib
 import statistics
@@ -27,9 +27,10 @@ def timed(work):
 def compare(name, unit, scale, proved, rust):
     """Runs both in turn, and prints what they took."""
     pairs = [(timed(proved), timed(rust)) for _ in range(ROUNDS)]
-    ratio = statistics.median(other / one for one, other in pairs)
-    one, other = (statistics.median(column) * scale for column in zip(*pairs))
-    print(f"rust {name}: {other:.1f} {unit} beside {one:.1f} {unit} of the proved build, median ratio {ratio:.2f}")
+    one, other = (min(column) * scale for column in zip(*pairs))
+    middle_of_one, middle_of_other = (statistics.median(column) * scale for column in zip(*pairs))
+    print(f"rust {name}: best {other:.1f} {unit} beside {one:.1f} {unit} of the proved build, ratio {other / one:.2f}; "
+          f"medians {middle_of_other:.1f}, {middle_of_one:.1f}")
 
 
 def reader(folder, stream):

@@ -1,9 +1,10 @@
 #!/usr/bin/env python3
 """Time and peak memory of `ldvbi extract` beside a plain reader of the same stream in reads of one line's bytes, from a
 file and from a pipe, of `ldvbi draw` beside `head -c` of zeros and a plain writer of as many lines into the same sink,
-and of metadata beside `jq`, all in one run. Works in a folder of its own.
+of both over as many bytes of PAL beside NTSC, and of metadata beside `jq`, all in one run. Works in a folder of its
+own.
 
-usage: stream.py PROGRAM [FIELDS]"""
+usage: stream.py PROGRAM [FIELDS]    (of NTSC)"""
 
 import os
 import statistics
@@ -12,9 +13,10 @@ import sys
 import tempfile
 import time
 
-LEVELS = ["--system", "NTSC", "--black", "16384", "--white", "51200"]
-FIELD = 478660
-LINE = 1820
+LEVELS = ["--black", "16384", "--white", "51200"]
+# The bytes of a line and of a field
+LINE = {"NTSC": 1820, "PAL": 2270}
+FIELD = {"NTSC": 1820 * 263, "PAL": 2270 * 313}
 ROUNDS = 25
 
 
@@ -72,8 +74,8 @@ def peak_memory(command):
 
 def compared(name, ours, theirs, size):
     """Runs both in turn, now the one first and now the other, so that both see the same machine, and prints how their
-    times compare. What to go by is the median of the rounds' ratios: a machine that others share is fast for one run by
-    chance."""
+    times compare. What to go by is the ratio of the best: a machine that others share slows any run down by chance, and
+    the more the longer it takes."""
     rounds = []
     for number in range(ROUNDS):
         if number % 2 == 0:
@@ -82,10 +84,9 @@ def compared(name, ours, theirs, size):
             other = theirs()
             rounds.append((ours(), other))
     spent, other = zip(*rounds)
-    ratio = statistics.median(mine / plain for mine, plain in rounds)
-    print(f"{name}: median ratio {ratio:.3f}; medians {statistics.median(spent):.3f} s "
-          f"({size / statistics.median(spent) / 1e9:.2f} GB/s) beside {statistics.median(other):.3f} s; "
-          f"best {min(spent):.3f} s beside {min(other):.3f} s, ratio {min(spent) / min(other):.3f}", flush=True)
+    print(f"{name}: best {min(spent):.3f} s ({size / min(spent) / 1e9:.2f} GB/s) beside {min(other):.3f} s, "
+          f"ratio {min(spent) / min(other):.3f}; "
+          f"medians {statistics.median(spent):.3f} s beside {statistics.median(other):.3f} s", flush=True)
 
 
 def write_metadata(path, size):
@@ -99,35 +100,59 @@ def write_metadata(path, size):
     return os.path.getsize(path)
 
 
+def built(name, work):
+    """The plain program of this name, built in this folder."""
+    path = os.path.join(work, name)
+    source = os.path.join(os.path.dirname(os.path.abspath(__file__)), name + ".rs")
+    subprocess.run(["rustc", "-O", "-o", path, source], check=True)
+    return path
+
+
+class Stream:
+    """A drawn stream of a system, in files of a folder: its words, and its samples."""
+
+    def __init__(self, program, system, size, work):
+        fields = size // FIELD[system]
+        self.size = fields * FIELD[system]
+        self.words = os.path.join(work, system + ".words")
+        self.samples = os.path.join(work, system + ".tbc")
+        options = ["--system", system, *LEVELS]
+        with open(self.words, "w", encoding="ascii") as rows:
+            for field in range(fields):
+                rows.write(f"82CFFF F{field % 80000:05d} -\n")
+        self.draw = [program, "draw", *options, self.words]
+        self.extract = [program, "extract", *options]
+        with open(self.samples, "wb") as sink:
+            subprocess.run(self.draw, stdout=sink, check=True)
+        if os.path.getsize(self.samples) != self.size:
+            sys.exit("bench: draw wrote another number of bytes")
+        print(f"a stream of {fields} fields of {system}, {self.size / 1e9:.2f} GB", flush=True)
+
+
+def compare_streams(ntsc, pal, work):
+    """The program over streams, beside plain programs and beside itself."""
+    reader = [built("plain_stream", work), str(LINE["NTSC"])]
+    lines = [built("plain_writer", work), str(ntsc.size // LINE["NTSC"])]
+    zeros = ["head", "-c", str(ntsc.size), "/dev/zero"]
+    from_file = [*ntsc.extract, ntsc.samples]
+    compared("extract from a file", lambda: timed(from_file), lambda: timed([*reader, ntsc.samples]), ntsc.size)
+    compared("extract from a pipe", lambda: piped(ntsc.extract, ntsc.samples), lambda: piped(reader, ntsc.samples),
+             ntsc.size)
+    held = peak_memory(from_file), peak_memory([*reader, ntsc.samples])
+    print(f"peak memory of extract: {held[0]}; of the plain reader: {held[1]}", flush=True)
+    for name, other in (("head", zeros), ("lines of zeros", lines)):
+        compared(f"draw into a pipe, beside {name}", lambda: into_pipe(ntsc.draw),
+                 lambda other=other: into_pipe(other), ntsc.size)
+    compared("PAL beside NTSC, extract", lambda: timed([*pal.extract, pal.samples]), lambda: timed(from_file), pal.size)
+    compared("PAL beside NTSC, draw into a pipe", lambda: into_pipe(pal.draw), lambda: into_pipe(ntsc.draw), pal.size)
+
+
 def main():
     program = os.path.abspath(sys.argv[1])
     fields = int(sys.argv[2]) if len(sys.argv) > 2 else 4400
-    here = os.path.dirname(os.path.abspath(__file__))
-    size = fields * FIELD
     with tempfile.TemporaryDirectory() as work:
-        plain = os.path.join(work, "plain")
-        subprocess.run(["rustc", "-O", "-o", plain, os.path.join(here, "plain_stream.rs")], check=True)
-        writer = os.path.join(work, "writer")
-        subprocess.run(["rustc", "-O", "-o", writer, os.path.join(here, "plain_writer.rs")], check=True)
-        words = os.path.join(work, "words")
-        with open(words, "w", encoding="ascii") as rows:
-            for field in range(fields):
-                rows.write(f"82CFFF F{field % 80000:05d} -\n")
-        stream = os.path.join(work, "side.tbc")
-        with open(stream, "wb") as sink:
-            subprocess.run([program, "draw", *LEVELS, words], stdout=sink, check=True)
-        assert os.path.getsize(stream) == size
-        print(f"a stream of {fields} fields, {size / 1e9:.2f} GB", flush=True)
-        extract = [program, "extract", *LEVELS]
-        compared("extract from a file", lambda: timed([*extract, stream]), lambda: timed([plain, stream]), size)
-        compared("extract from a pipe", lambda: piped(extract, stream), lambda: piped([plain], stream), size)
-        held = peak_memory([*extract, stream]), peak_memory([plain, stream])
-        print(f"peak memory of extract: {held[0]}; of the plain reader: {held[1]}", flush=True)
-        draw = [program, "draw", *LEVELS, words]
-        zeros = ["head", "-c", str(size), "/dev/zero"]
-        lines = [writer, str(size // LINE)]
-        compared("draw into a pipe, beside head", lambda: into_pipe(draw), lambda: into_pipe(zeros), size)
-        compared("draw into a pipe, beside lines of zeros", lambda: into_pipe(draw), lambda: into_pipe(lines), size)
+        size = fields * FIELD["NTSC"]
+        compare_streams(Stream(program, "NTSC", size, work), Stream(program, "PAL", size, work), work)
         metadata = os.path.join(work, "side.tbc.json")
         size = write_metadata(metadata, 10**7)
         extract = [program, "extract", "--meta", metadata, os.devnull]

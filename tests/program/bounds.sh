@@ -1,0 +1,99 @@
+#!/bin/sh
+# Tries the bounds of `make bench` on made measurements, which take no time: a ratio over its bound, a line that is
+# missing and a measurement that fails each end it with status 1.
+# usage: sh tests/program/bounds.sh PROGRAM
+
+# shellcheck source=tests/helpers.sh
+. "$(dirname "$0")/../helpers.sh"
+bench=$top/bench
+grep -v '^#' "$bench/bounds.txt" > bounds
+count=$(wc -l < bounds)
+check 'no bound is gone' [ "$count" = 38 ]
+
+# A bound's line is known by how it begins
+sort bounds | awk -F '|' 'NR > 1 && index($1, before) == 1 { print before ", " $1 } { before = $1 }' > err
+check 'no name of a bound begins another' [ ! -s err ]
+
+# measured [NAME CHANGE]: a line for each bound with the ratio that it allows, and for this name one that is so much
+# larger, or no line where there is no change. A second ratio on a line doesn't count.
+measured() {
+    awk -F '|' -v name="${1:-}" -v change="${2:-}" '
+        $1 != name || change != "" {
+            printf "%s best 3 ms beside 4 ms, ratio %.3f; medians 5, 6, ratio 9\n", $1, $2 + ($1 == name ? change : 0)
+        }' bounds
+}
+
+# held: what is said of the measurements in the file `said`
+held() {
+    status=0
+    bounded awk -f "$bench/bounds.awk" "$bench/bounds.txt" said > out 2> err || status=$?
+}
+
+# held_of NAME WANTED: notes a fault where not all bounds but this one hold, or where this isn't said of it
+held_of() {
+    held
+    { echo "bench: $1: $2"; echo "bench: $((count - 1)) of $count bounds hold"; } > wanted
+    ended 1 wanted empty || echo "$1: $2: status $status" >> wrong
+}
+
+measured > said
+held
+echo "bench: $count of $count bounds hold" > all
+check 'each ratio is the most that it may be' ended 0 all empty
+: > wrong
+while IFS='|' read -r name most; do
+    measured "$name" 0.01 > said
+    held_of "$name" "ratio $(awk -v most="$most" 'BEGIN { print most + 0.01 }'), which is over $most"
+done < bounds
+cp wrong err
+check 'a ratio over its bound, each in turn' [ ! -s wrong ]
+while IFS='|' read -r name most; do
+    measured "$name" > said
+    held_of "$name" 'not measured'
+done < bounds
+cp wrong err
+check 'a line that is missing, each in turn' [ ! -s wrong ]
+{ measured 'read_line' 1; measured; } > said
+held
+check 'of several lines the least ratio counts' ended 0 all empty
+: > said
+held
+check 'nothing was measured' [ "$status" = 1 ]
+
+# The whole of it, with a stub in place of each measurement: it writes each fifth line of the file `lines`, and fails
+# where the file `fails` has its name
+mkdir stubs
+cp "$bench/all.sh" "$bench/bounds.awk" "$bench/bounds.txt" stubs
+measured > lines
+number=0
+for name in lines fields library stream rust; do
+    echo "awk 'NR % 5 == $number' lines; ! grep -qx $name fails" > stubs/$name.sh
+    awk -v number=$number 'NR % 5 == number' lines >> in_turn
+    number=$((number + 1))
+done
+for name in stream rust; do
+    echo "import subprocess, sys; sys.exit(subprocess.call(['sh', 'stubs/$name.sh']))" > stubs/$name.py
+done
+
+# whole: runs it
+whole() {
+    status=0
+    bounded sh stubs/all.sh "$program" > out 2> err || status=$?
+}
+: > fails
+whole
+cat in_turn all > wanted
+check 'all measurements are run, and hold' ended 0 wanted empty
+measured 'rust show' 0.01 > lines
+whole
+check 'with a ratio over its bound it fails' [ "$status" = 1 ]
+check 'with a ratio over its bound it says which' grep -qx 'bench: rust show: ratio 1.51, which is over 1.5' out
+measured > lines
+for name in lines fields library stream rust; do
+    echo $name > fails
+    whole
+    [ "$status" = 1 ] && grep -q "^bench: .*$name.* failed\$" err || echo "$name" >> wrong
+done
+cp wrong err
+check 'a measurement that fails, each in turn' [ ! -s wrong ]
+finish
