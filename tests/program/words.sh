@@ -59,7 +59,8 @@ for command in line extract show draw; do
     refused "$command: two inputs" "unexpected argument 'line.raw' found
 
 Usage: ldvbi $command [OPTIONS] [INPUT]"
-    for word in --met --sys --bl --whi --max --maxfields --max_fields --hel -m -s -b -w -l -n -V --version; do
+    # One of each kind: other words that name no option are refused in the crate's tests
+    for word in --met -m --version; do
         run $command $levels $word line.raw
         refused_first "$command: $word, no name of an option" "unexpected argument '$word' found"
     done
