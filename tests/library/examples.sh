@@ -179,11 +179,11 @@ awk -v fields=129 'BEGIN {
     }
 }' > wanted_advice
 check 'seek finds the last field so' prints 0 'field 129' \
-    env ADVISED=advice LD_PRELOAD=./advised.so ./seek long.tbc $on_cav 65
+    env ADVISED=advice LD_PRELOAD="$work/advised.so" ./seek long.tbc $on_cav 65
 check 'seek asks for a block ahead' cmp advice wanted_advice
 grep '^asks' wanted_advice > wanted_asked
 check 'seek.py finds the last field so' prints 0 'field 129' \
-    env ADVISED=asked LD_PRELOAD=./advised.so python3 "$top/examples/seek.py" long.tbc $on_cav 65
+    env ADVISED=asked LD_PRELOAD="$work/advised.so" python3 "$top/examples/seek.py" long.tbc $on_cav 65
 check 'seek.py asks for each field once' cmp asked wanted_asked
 rm long.tbc part.tbc
 
