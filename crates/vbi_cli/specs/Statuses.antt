@@ -6,7 +6,7 @@ use Rattle.vbi_cli.specs.declared.job.Ended.TheVariants.{Whole, CutField}
 use Rattle.vbi_cli.specs.declared.command_line.WordsFault.{WordsFault}
 use Rattle.vbi_cli.specs.declared.command_line.WordsFault.TheVariants.{Refused, Help, OutOfMemory}
 
--- where the command line gives no job: 2 where it is refused, 0 where help is asked for, 1 for want of memory
+-- where the command line gives no job: 2 where it is refused, 0 where help is asked for, 1 where memory runs out
 abbrev pub words_status : WordsFault → ℕ
 words_status (Refused text) = 2
 words_status (Help text) = 0

@@ -1,4 +1,4 @@
-//! Jobs in want of memory. No device here takes any, so that each allocation of a run is the job's own.
+//! Jobs that run out of memory. No device here takes any, so that each allocation of a run is the job's own.
 
 use crate::jobs::{BLACK_FIELD, FULL};
 use crate::runs::{NONE, STORED, job};
@@ -30,8 +30,8 @@ impl Write for Stencil<'_> {
     }
 }
 
-/// To be run with each allocation failing in turn: the answer is that of ample memory, or want of memory with nothing
-/// read and nothing written.
+/// To be run with each allocation failing in turn: the answer is that of ample memory, or that memory ran out, and
+/// then nothing was read or written.
 #[test]
 fn the_joined_run_answers_want_of_memory_as_such(rt: HostRuntime) -> Result<(), Fail> {
     let mut field = Zeros.take(478_660);

@@ -244,10 +244,10 @@ fn want_of_memory_has_its_text_and_status(rt: HostRuntime) -> Result<(), Fail> {
     let fault = WordsFault::OutOfMemory;
     let text = fault.to_string(rt.alloc())?;
     let found = (text.as_str(), fault.status());
-    same(found, ("out of memory", 1), "want of memory")
+    same(found, ("out of memory", 1), "memory ran out")
 }
 
-/// To be run with each allocation failing in turn: the answer is that of ample memory, or want of memory.
+/// To be run with each allocation failing in turn: the answer is that of ample memory, or that memory ran out.
 #[test]
 fn answers_want_of_memory_as_such(rt: HostRuntime) -> Result<(), Fail> {
     match read(rt.alloc(), &["ldvbi", "line", "--black", "8224"]) {

@@ -94,7 +94,7 @@ fn faults_have_their_texts(rt: HostRuntime) -> Result<(), Fail> {
     Ok(())
 }
 
-/// To be run with each allocation failing in turn: the answer is that of ample memory, or want of memory.
+/// To be run with each allocation failing in turn: the answer is that of ample memory, or that memory ran out.
 #[test]
 fn want_of_memory_is_answered_as_such(rt: HostRuntime) -> Result<(), Fail> {
     let alloc = rt.alloc();

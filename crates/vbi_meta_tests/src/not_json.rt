@@ -1,5 +1,5 @@
 //! Texts that are no JSON, short and long ones of each kind. No clause can say that memory was refused, so these rows
-//! alone see a reader that reports want of memory of a wrong text.
+//! alone see a reader that says of a wrong text that memory ran out.
 
 use crate::documents::refusal;
 use std::alloc::{AllocError, Global};
