@@ -12,13 +12,12 @@ use Rattle.vbi_line.specs.Line.{Line}
 use Rattle.vbi_line.specs.OneReading.{reading_of}
 use Rattle.vbi_field.specs.Kinds.{document}
 use Rattle.vbi_field.specs.Feed.{IsAt, IsFed}
-use Rattle.vbi_field.specs.Position.{Position}
 use Rattle.vbi_field.specs.Progress.{IsProgress, IsLineOf, MovesOneRow, AddsRow}
 use Rattle.vbi_field.specs.ConfigView.{ConfigView, allowed_bytes}
 use Rattle.vbi_field.specs.FeederState.{IsFeederState, IsStep, position_in}
 use Rattle.vbi_field.specs.Limits.{most_fields}
 use Rattle.vbi_field.specs.Stream.{fields_of}
-use Rattle.vbi_field.specs.Texts.{IsTextBetween, ExtendsInPart, text_before_tail}
+use Rattle.vbi_field.specs.Texts.{ExtendsInPart, IsTextBetween, text_before_tail}
 use Rattle.vbi_field.specs.declared.outlet.Outlet.{Outlet}
 use Rattle.vbi_field.specs.declared.progress.Progress.{Progress}
 use Rattle.vbi_field.specs.declared.summary.RunFault.{RunFault}
@@ -33,7 +32,7 @@ pub not_full : (b : Bool) (P : Type 0) → (IsTrue b ↔ P) → b ≡ false → 
 not_full b P iff e p = let t = iff.1 p in cc
 
 -- the line that is held is a row
-pub row_held : (c : ConfigView) (s : System) (is_selected : Bool) (b : List ℕ) (row : ℕ) (o : Option Reading)
+row_held : (c : ConfigView) (s : System) (is_selected : Bool) (b : List ℕ) (row : ℕ) (o : Option Reading)
     → (IsTrue is_selected ↔ ((15 ≤ row) × (row ≤ 17))) → s ≡ c.system → length b ≡ line_bytes s
     → o ≡ cond is_selected (Some (reading_of s (row_levels c.levels b))) None → IsLineOf c b row o
 row_held c s is_selected b row o selects ss whole shows =
@@ -71,11 +70,9 @@ stand_next c l l' p p' is_selected selects st system cursors held inside next le
     more p p' (inl (fields, row)) = omega arith
     more p p' (inr (fields, row, last)) = omega arith
 
-module _ {W : Type 0} (contents : W → Option (List ℕ)) (c : ConfigView) (l : Line) (p : Progress)
-    (st : IsFeederState c l p)
-    (z : List ℕ)
-    (at : IsAt c z (position_in c l p)) where
-  pub before : Split c z l.held p
+module _ {W : Type 0} (contents : W → Option (List ℕ)) {c : ConfigView} {l : Line} {p : Progress}
+    (st : IsFeederState c l p) {z : List ℕ} (at : IsAt c z (position_in c l p)) where
+  before : Split c z l.held p
   before = split_of c z l p st.short st.inside at
 
   -- no byte more is allowed
@@ -97,7 +94,8 @@ module _ {W : Type 0} (contents : W → Option (List ℕ)) (c : ConfigView) (l :
         },
       )
 
-  module _ (more b : List ℕ) (bs : b ≡ l.held ++ more) (le : length b ≤ line_bytes c.system)
+  -- the line holds b now
+  module _ (more b : List ℕ) (bs : b ≡ l.held ++ more) (le : length b ≤ line_bytes l.system)
       (left : p.fields < c.max_fields) where
     cut : z ++ more ≡ before.rows ++ b
     cut = ap (λ x. x ++ more) before.split ∙ append_assoc before.rows l.held more ∙ ap (λ x. before.rows ++ x) (sym bs)
@@ -108,7 +106,7 @@ module _ {W : Type 0} (contents : W → Option (List ℕ)) (c : ConfigView) (l :
         let long = ap length cut ∙ length-append before.rows b ∙ ap (λ n. n + length b) whole.whole in
         rw long
         (row_fits c.system _ c.max_fields (length b)
-        (row_before c.system p.fields p.row c.max_fields left st.inside) le)
+        (row_before c.system p.fields p.row c.max_fields left st.inside) (rw (← st.system) le))
 
     -- nothing is written where no field is whole now
     still : (l' : Line) (p' : Progress) → Split c (z ++ more) l'.held p' → p'.fields ≡ p.fields → (o : Outlet W)
@@ -125,19 +123,21 @@ module _ {W : Type 0} (contents : W → Option (List ℕ)) (c : ConfigView) (l :
     )
 
     -- the line isn't whole yet
-    pub fed_inside : (l' : Line) (o : Outlet W) → l'.held ≡ b → length b < line_bytes c.system
-        → IsFed contents c o o z more (position_in c l' p) (Ok tt)
-    fed_inside l' o e short =
-        let l1 = ap length e in
+    pub fed_inside : (l' : Line) (o : Outlet W) → l'.held ≡ b → l'.system ≡ l.system
+        → (length b ≡ line_bytes l'.system → ⊥) → IsFed contents c o o z more (position_in c l' p) (Ok tt)
+    fed_inside l' o e same part =
+        let held = ap length e in
+        let size = ap line_bytes same in
+        let sized = ap line_bytes st.system in
         still l' p (record {
           rows = before.rows;
           split = cut ∙ ap (λ x. before.rows ++ x) (sym e);
           position = before.position;
-          short = omega arith;
+          short = omega (arith, part);
         }) refl o
 
     -- the row is whole
-    pub after_row : (l' : Line) (p' : Progress) → l'.held ≡ [] → IsProgress c (before.rows ++ b) p'
+    after_row : (l' : Line) (p' : Progress) → l'.held ≡ [] → IsProgress c (before.rows ++ b) p'
         → Split c (z ++ more) l'.held p'
     after_row l' p' e whole =
         let sizes = sizes_of c.system in
@@ -160,43 +160,43 @@ module _ {W : Type 0} (contents : W → Option (List ℕ)) (c : ConfigView) (l :
         ap (text_before_tail document c) before.split ∙ sym (begun_same document c before.rows l.held same) in
         ap (λ x. x ++ text) begun ∙ due ∙ ap (text_before_tail document c) (sym cut)
 
-    -- the text that is due with the row was written
-    pub fed_row : (l' : Line) (p' : Progress) (o o' : Outlet W) → l'.held ≡ []
-        → AddsRow document contents c o o' before.rows b p' (Ok tt)
-        → IsFed contents c o o' z more (position_in c l' p') (Ok tt)
-    fed_row l' p' o o' e (position, added) = (
-      at_of c (z ++ more) l'.held p' (after_row l' p' e position) l' refl fits,
-      record { text = added.text; due = due_more added.text added.due; wrote = added.wrote },
-    )
+    -- the row was read, and it is added
+    module _ {s : System} (ss : s ≡ l.system) (whole : length b ≡ line_bytes s) {is_selected : Bool}
+        (selects : IsTrue is_selected ↔ ((15 ≤ p.row) × (p.row ≤ 17))) {reading : Option Reading}
+        (shows : reading ≡ cond is_selected (Some (reading_of s (row_levels c.levels b))) None) where
+      came : IsLineOf c b p.row reading
+      came = row_held c s is_selected b p.row reading selects (ss ∙ st.system) whole shows
 
-    -- the text that is due with the row was written in part
-    pub fed_in_part : (now : Progress) (l' : Line) (o o' : Outlet W)
-        → ExtendsInPart document contents c o o' before.rows (before.rows ++ b)
-        → (bytes : List ℕ) (n : ℕ) (fault : RunFault) (written : ℕ) → more ≡ take n bytes
-        → fault ≡ Write written → IsFed contents c o o' z bytes (position_in c l' now) (Err fault)
-    fed_in_part now l' o o' added bytes n fault written front fails =
-        let text : List ℕ = added.text in
-        let all : (z ++ more) ++ drop n bytes ≡ z ++ bytes =
-        append_assoc z more (drop n bytes) ∙ ap (λ x. z ++ (x ++ drop n bytes)) front
-        ∙ ap (λ x. z ++ x) (take-append-drop n bytes) in
-        let further = cut_longer (z ++ more) (drop n bytes) (allowed_bytes c) fits in
-        let grown = begun_grows document c (z ++ more) further.0 in
-        let longer : text_before_tail document c ((z ++ more) ++ further.0) ≡ text_before_tail document c
-        (take (allowed_bytes c) (z ++ bytes)) =
-        ap (text_before_tail document c) (further.1 ∙ ap (take (allowed_bytes c)) all) in
-        rw fails (record {
-          text = text ++ grown.0;
-          due = completes_twice document c z (z ++ more) ((z ++ more) ++ further.0) text grown.0
-              (due_more text added.due) grown.1
-              ∙ longer;
-          wrote = longer_part contents o o' text grown.0 added.wrote;
-        })
+      -- the text that is due with the row was written
+      pub fed_row : (l' : Line) (p' : Progress) (o o' : Outlet W) → l'.held ≡ [] → ((z b : List ℕ) → IsProgress c z p → IsLineOf c b p.row reading
+          → AddsRow document contents c o o' z b p' (Ok tt)) → IsFed contents c o o' z more (position_in c l' p') (Ok tt)
+      fed_row l' p' o o' held adds =
+          let done = adds before.rows b before.position came in
+          let added = done.1 in (
+            at_of c (z ++ more) l'.held p' (after_row l' p' held done.0) l' refl fits,
+            record { text = added.text; due = due_more added.text added.due; wrote = added.wrote },
+          )
 
--- a fault that was passed on
-pub step_fault : {W : Type 0} (contents : W → Option (List ℕ)) (c : ConfigView) (o o' : Outlet W) (z bytes : List ℕ)
-    (now : Position)
-    (written : ℕ) (r : Result ℕ RunFault) → IsErrAnd r (λ e. e ≡ Write written)
-    → ((fault : RunFault) → fault ≡ Write written → IsFed contents c o o' z bytes now (Err fault))
-    → IsStep contents c o o' z bytes now r
-step_fault contents c o o' z bytes now written (Ok n) is says = absurd is
-step_fault contents c o o' z bytes now written (Err fault) is says = says fault is
+      -- the text that is due with the row was written in part
+      pub fed_in_part : (l' : Line) (p' : Progress) (o o' : Outlet W) → ((z b : List ℕ) → IsProgress c z p → IsLineOf c b p.row reading
+          → IsProgress c (z ++ b) p' × ExtendsInPart document contents c o o' z (z ++ b))
+          → (bytes : List ℕ) (n : ℕ) (written : ℕ) (r : Result ℕ RunFault) → more ≡ take n bytes
+          → IsErrAnd r (λ e. e ≡ Write written) → IsStep contents c o o' z bytes (position_in c l' p') r
+      fed_in_part l' p' o o' adds bytes n written (Ok m) front is = absurd is
+      fed_in_part l' p' o o' adds bytes n written (Err fault) front is =
+          let added = (adds before.rows b before.position came).1 in
+          let all : (z ++ more) ++ drop n bytes ≡ z ++ bytes =
+          append_assoc z more (drop n bytes) ∙ ap (λ x. z ++ (x ++ drop n bytes)) front
+          ∙ ap (λ x. z ++ x) (take-append-drop n bytes) in
+          let further = cut_longer (z ++ more) (drop n bytes) (allowed_bytes c) fits in
+          let grown = begun_grows document c (z ++ more) further.0 in
+          let longer : text_before_tail document c ((z ++ more) ++ further.0) ≡ text_before_tail document c
+          (take (allowed_bytes c) (z ++ bytes)) =
+          ap (text_before_tail document c) (further.1 ∙ ap (take (allowed_bytes c)) all) in
+          rw is (record {
+            text = added.text ++ grown.0;
+            due = completes_twice document c z (z ++ more) ((z ++ more) ++ further.0) added.text grown.0
+                (due_more added.text added.due) grown.1
+                ∙ longer;
+            wrote = longer_part contents o o' added.text grown.0 added.wrote;
+          })
