@@ -1,5 +1,5 @@
 -- A row that is blurred at its changes of level, without its columns that stand alone.
-use Rattle.std.proofs.Common.{◌≡◌, ◌≤◌, ◌+◌, ◌-◌, Bool, false, List, ◌++◌, length, drop, subst, sym, ap, ◌∙◌, arith}
+use Rattle.std.proofs.Common.{◌≡◌, ◌≤◌, ◌+◌, ◌-◌, Bool, false, List, ◌++◌, length, drop, sym, ap, ◌∙◌, arith}
 use Rattle.std.proofs.Common.{ℕ, refl}
 use Rattle.std.proofs.Math.ListN.{replicate}
 use Rattle.std.proofs.lemmas.List.{length-append}
@@ -10,7 +10,7 @@ use Rattle.vbi_words.specs.Geometry.{least_half, greatest_half}
 use Rattle.vbi_words.specs.Words.{IsWord, halves_of, cell_of}
 use Rattle.vbi_words.specs.Smooth.{smooth_of}
 use Rattle.vbi_words.specs.Shows.{Shows}
-use Rattle.vbi_words.specs.Jitter.{ShowsAmply, IsBlurred, NoneAlone, IsJittered}
+use Rattle.vbi_words.specs.Jitter.{ShowsAmply, IsBlurred, NoneAlone}
 use Rattle.vbi_words.proofs.HalfCells.{first, whole_goes}
 use Rattle.vbi_words.proofs.Smoothing.{smooth_window}
 use Rattle.vbi_words.proofs.SmoothKeeps.{steady_same}
@@ -64,9 +64,3 @@ mend system drawn levels word s blurred =
     sizes_fit : (system : System) → (6 ≤ least_half system + 2) × (greatest_half system - 2 + 2 ≤ greatest_half system)
     sizes_fit Ntsc = (omega arith, omega arith)
     sizes_fit Pal = (omega arith, omega arith)
-
-pub jittered_shows : (system : System) (drawn levels : List Bool) (word : ℕ) → ShowsAmply system drawn word
-    → IsJittered drawn levels → Shows system levels word
-jittered_shows system drawn levels word s (blurred, none_alone) =
-    let m = mend system drawn levels word s blurred in
-    subst (λ (t : List Bool). Shows system t word) (sym (m.same none_alone)) m.shows

@@ -1,27 +1,13 @@
 -- Worked facts of the definitions of tolerance, computed on a few columns.
-use Rattle.std.proofs.Common.{◌≡◌, ℕ, suc, zero, ◌≤◌, ◌<◌, ◌+◌, ◌-◌, Bool, true, false, List, [], ◌∷◌, ◌++◌, ◌⊎◌, inl}
-use Rattle.std.proofs.Common.{inr}
-use Rattle.std.proofs.Common.{refl, sym, subst, ap, ◌∙◌, ◌*◌, arith, lit<, lit≤, length, append_assoc}
-use Rattle.std.proofs.Math.ListN.{replicate}
+use Rattle.std.proofs.Common.{◌≡◌, ℕ, suc, zero, ◌≤◌, ◌<◌, ◌+◌, ◌-◌, true, false, ◌++◌, ◌⊎◌, inl, inr}
+use Rattle.std.proofs.Common.{refl, sym, subst, ap, ◌∙◌, arith, lit≤}
 use Rattle.std.proofs.lemmas.Bool.{cases_lt}
-use Rattle.std.proofs.lemmas.List.{get_or_past, length-append, length-replicate}
+use Rattle.std.proofs.lemmas.List.{get_or_past}
 use Rattle.std.specs.Prelude.{not}
-use Rattle.std.specs.List.{flat_map}
-use Rattle.vbi_words.specs.declared.system.System.TheVariants.{Ntsc, Pal}
-use Rattle.vbi_words.specs.declared.outcome.Outcome.TheVariants.{Word}
-use Rattle.vbi_words.specs.Jitter.{ShowsAmply, IsBlurred, NoneAlone, IsJittered, ReadsWord, HasGlitches}
+use Rattle.vbi_words.specs.Jitter.{IsBlurred, NoneAlone, IsJittered, HasGlitches}
 use Rattle.vbi_words.specs.Levels.{level_at}
-use Rattle.vbi_words.specs.Readings.{Reads}
-use Rattle.vbi_words.specs.Shows.{Spells, ShowsNone}
-use Rattle.vbi_words.specs.Smooth.{smooth_of}
-use Rattle.vbi_words.specs.Words.{lowest_bits, cell_of, halves_of}
-use Rattle.vbi_words.specs.WorkedLines.{low, high, little_row, little_early, little_spiked, little_late, ones_and_five}
-use Rattle.vbi_words.specs.WorkedLines.{run_of_20, ones_of_11}
+use Rattle.vbi_words.specs.WorkedLines.{low, high, little_row, little_early, little_spiked, little_late}
 use Rattle.vbi_words.proofs.HalfCells.{in_run, past_run, all_low}
-use Rattle.vbi_words.proofs.NotAlone.{shown_not_alone}
-use Rattle.vbi_words.proofs.Outcomes.{dead_none}
-use Rattle.vbi_words.proofs.Smoothing.{window, smooth_window}
-use Rattle.vbi_words.proofs.WorkedLines.{ones_shown, run_of_20_changes}
 
 -- ---- a row and its changes of level
 
@@ -145,98 +131,3 @@ three_glitch = (
     over = three_over;
   },
 )
-
--- four are none
-pub four_no_glitch : HasGlitches 1 (low 11) (low 4 ++ (high 4 ++ low 3)) → ⊥
-four_no_glitch (before, e, x) = go (cases_lt 4 x.g) (cases_lt 7 (x.g + x.m))
-  where
-    low_before : (c : ℕ) → level_at before c ≡ false
-    low_before c = ap (λ (t : List Bool). level_at t c) e ∙ all_low 11 c
-
-    go : (4 < x.g) ⊎ (x.g ≤ 4) → (7 < x.g + x.m) ⊎ (x.g + x.m ≤ 7) → ⊥
-    go (inl l) b = let bad : true ≡ false = x.others 4 (inl l) ∙ low_before 4 in cc
-    go (inr l) (inr k) = let bad : true ≡ false = x.others 7 (inr k) ∙ low_before 7 in cc
-    go (inr l) (inl k) = omega (arith, x.few)
-
--- ---- words
-
-spelled_ones : (lo hi m n : ℕ) → lo ≤ m → m ≤ hi → lo ≤ n → n ≤ hi → (k : ℕ)
-    → Spells lo hi (flat_map cell_of (replicate k true))
-    (flat_map (λ (cell : Bool). low m ++ high n) (replicate k true))
-spelled_ones lo hi m n a b c d zero = refl
-spelled_ones lo hi m n a b c d (suc k) =
-    let rest : List Bool = flat_map (λ (cell : Bool). low m ++ high n) (replicate k true) in (
-      m,
-      high n ++ rest,
-      a,
-      b,
-      append_assoc (low m) (high n) rest,
-      (n, rest, c, d, refl, spelled_ones lo hi m n a b c d k),
-    )
-
--- half cells of two columns more than the fewest, and of two fewer than the most
-pub ntsc_amply : ShowsAmply Ntsc (ones_and_five 13 16) 16777215
-unfolding lowest_bits
-ntsc_amply = record {
-  is_word = (lit≤ tt, lit< tt);
-  before = 0;
-  drawn = flat_map (λ (cell : Bool). low 13 ++ high 16) (replicate 24 true);
-  after = 5;
-  lows = lit≤ tt;
-  spelled = spelled_ones 13 16 13 16 (lit≤ tt) (lit≤ tt) (lit≤ tt) (lit≤ tt) 24;
-  whole = refl;
-}
-
-pub pal_amply : ShowsAmply Pal (ones_and_five 16 20) 16777215
-unfolding lowest_bits
-pal_amply = record {
-  is_word = (lit≤ tt, lit< tt);
-  before = 0;
-  drawn = flat_map (λ (cell : Bool). low 16 ++ high 20) (replicate 24 true);
-  after = 5;
-  lows = lit≤ tt;
-  spelled = spelled_ones 16 20 16 20 (lit≤ tt) (lit≤ tt) (lit≤ tt) (lit≤ tt) 24;
-  whole = refl;
-}
-
--- ---- a list that shows amply is long
-
-spelled_long : (lo hi : ℕ) (halves drawn : List Bool) → Spells lo hi halves drawn → length halves * lo ≤ length drawn
-spelled_long lo hi [] drawn e = omega arith
-spelled_long lo hi (h ∷ halves) drawn (n, rest, low, high, e, spelled) =
-    let all : length drawn ≡ n + length rest = ap length e ∙ length-append (replicate n h) rest
-    ∙ ap (λ (i : ℕ). i + length rest) (length-replicate n h) in
-    omega (arith, all, spelled_long lo hi halves rest spelled)
-
--- half cells of the fewest columns show their word, and not amply
-pub ones_not_amply : ShowsAmply Ntsc (ones_and_five 11 11) 16777215 → ⊥
-unfolding lowest_bits
-ones_not_amply s =
-    let long : 48 * 13 ≤ length s.drawn = spelled_long 13 16 (halves_of 16777215) s.drawn s.spelled in
-    let whole : length (ones_and_five 11 11) ≡ s.before + (length s.drawn + s.after)
-    = ap length s.whole ∙ length-append (replicate s.before false) (s.drawn ++ replicate s.after false)
-    ∙ ap (λ (i : ℕ). i + length (s.drawn ++ replicate s.after false)) (length-replicate s.before false)
-    ∙ ap (λ (i : ℕ). s.before + i) (length-append s.drawn (replicate s.after false)
-    ∙ ap (λ (i : ℕ). length s.drawn + i) (length-replicate s.after false)) in
-    let count : length (ones_and_five 11 11) ≡ 533 = refl in
-    omega (arith, long, whole, count)
-
-pub ones_read : ReadsWord Ntsc ones_of_11 16777215
-ones_read = record {
-  pass = 1;
-  reading = inl (refl, ones_shown);
-  first = (λ e. shown_not_alone Ntsc ones_of_11 16777215 ones_shown, λ none_alone. refl);
-}
-
--- neither the levels nor the smoothed ones show a word
-pub run_of_20_not_read : (word : ℕ) → ReadsWord Ntsc run_of_20 word → ⊥
-unfolding window
-run_of_20_not_read word r = go r.reading
-  where
-    smooth_none : ShowsNone Ntsc (smooth_of run_of_20)
-    smooth_none = subst (ShowsNone Ntsc) (sym (smooth_window run_of_20))
-        (dead_none Ntsc (window false false false false run_of_20) refl)
-
-    go : Reads Ntsc run_of_20 (Word word) r.pass → ⊥
-    go (inl (p, shown)) = run_of_20_changes.0 word shown
-    go (inr (p, none, high, shown)) = smooth_none word shown

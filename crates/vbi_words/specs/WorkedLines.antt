@@ -64,10 +64,6 @@ little_spiked = low 2 ++ (high 1 ++ (low 1 ++ (high 3 ++ low 3)))
 abbrev pub little_late : List Bool
 little_late = low 5 ++ (high 2 ++ low 3)
 
--- 24 ones, each low half cell of m columns and each high one of n, and five lows
-abbrev pub ones_and_five : ℕ → ℕ → List Bool
-ones_and_five m n = flat_map (λ (cell : Bool). low m ++ high n) (replicate 24 true) ++ low 5
-
 -- ---- drawn rows and fields
 
 -- from this column on, the level up to the first of these columns, then the other level up to the next, and so on

@@ -15,9 +15,8 @@ ghost use Rattle.vbi_words.specs.RunLimits.{EndsOtherwise, HasRunLimit};
 ghost use Rattle.vbi_words.specs.Smooth.{IsSmooth, smooth_of, Glitch};
 ghost use Rattle.vbi_words.specs.Readings.{IsReading};
 ghost use Rattle.vbi_words.specs.Drawn.{IsDrawnRow, is_drawn_high, drawn_row_of, drawn_line_of, drawn_reading};
-ghost use Rattle.vbi_words.specs.Distance.{differences, least_distance, near_first, near_second};
-ghost use Rattle.vbi_words.specs.Distance.{turned_once, turned_twice, turned_there};
-ghost use Rattle.vbi_words.specs.Geometry.{width_of, line_bytes};
+ghost use Rattle.vbi_words.specs.Distance.{differences, least_distance};
+ghost use Rattle.vbi_words.specs.Geometry.{line_bytes};
 ghost use Rattle.vbi_words.specs.Jitter.{ShowsAmply, IsBlurred, IsJittered, NoneAlone, ReadsWord, HasGlitches};
 ghost use Rattle.vbi_words.specs.declared.code.Code.{Code};
 ghost use Rattle.vbi_words.specs.declared.code.Code.TheVariants.{Picture, Chapter, Time, ClvPicture, CxOn, CxOff};
@@ -28,7 +27,7 @@ ghost use Rattle.vbi_words.specs.Codes.{IsCode};
 ghost use Rattle.vbi_words.specs.Formats.{IsFormat, format_of_lines};
 ghost use Rattle.vbi_words.specs.CodeTable.{code_of};
 ghost use Rattle.vbi_words.specs.WorkedLines.{run_of_20, low_cell, long_lows, late_high, ones_of_11};
-ghost use Rattle.vbi_words.specs.WorkedLines.{ones_ending, zeros_behind, low, high, ones_and_five};
+ghost use Rattle.vbi_words.specs.WorkedLines.{ones_ending, zeros_behind, low, high};
 ghost use Rattle.vbi_words.specs.WorkedLines.{little_row, little_early, little_spiked, little_late};
 ghost use Rattle.vbi_words.specs.WorkedLines.{changing, of_three};
 
@@ -109,30 +108,12 @@ pub fn glitches_read()
         → g ≤ c + 4 → c < g + m + 4 → level_at blurred c ≡ level_at blurred g }
 {}
 
-/// Two lists of one length that show different words differ in 4 columns at least (NTSC), or 6 (PAL), and there are two
-/// that differ in no more. So fewer columns turned over, wherever they are, never make another word of one in the first
-/// pass. The second pass guards against less: two lists that differ in one column can be read as different words there,
-/// and one column (NTSC) or two (PAL) turned over in a list that shows a word can make it read as another.
+/// Two lists of one length that show different words differ in 4 columns at least (NTSC), or 6 (PAL). So fewer columns
+/// turned over, wherever they are, never make another word of one in the first pass. The second pass guards against less.
 pub fn words_apart()
-    ensures apart { (system : System) (levels others : List Bool) (v w : ℕ)
+    ensures { (system : System) (levels others : List Bool) (v w : ℕ)
         → Shows system levels v → Shows system others w → length levels ≡ length others
         → differences levels others < least_distance system → v ≡ w }
-    ensures first { (system : System) → Shows system (near_first system) 8388608 }
-    ensures second { (system : System) → Shows system (near_second system) 8388609 }
-    ensures near { (system : System)
-        → (length (near_first system) ≡ width_of system) × (length (near_second system) ≡ width_of system)
-        × (differences (near_first system) (near_second system) ≡ least_distance system) }
-    ensures once { (system : System)
-        → IsReading system (turned_once system) (record { outcome = Word 8388608; pass = 2 }) }
-    ensures twice { (system : System)
-        → IsReading system (turned_twice system) (record { outcome = Word 8388609; pass = 2 }) }
-    ensures turned { (system : System)
-        → (length (turned_once system) ≡ width_of system) × (length (turned_twice system) ≡ width_of system)
-        × (differences (near_first system) (turned_once system) ≡ 1)
-        × (differences (near_first system) (turned_twice system) ≡ 2)
-        × (differences (turned_once system) (turned_twice system) ≡ 1) }
-    ensures there { IsReading Ntsc turned_there (record { outcome = Word 8388609; pass = 2 })
-        × (length turned_there ≡ 910) × (differences (near_first Ntsc) turned_there ≡ 1) }
 {}
 
 /// A list of levels has exactly one list of smoothed levels.
@@ -201,17 +182,13 @@ pub fn worked_runs()
         × IsOutcome Pal (zeros_behind 14 45) (Hold 58) }
 {}
 
-/// Blurred rows, a glitch and lines with columns to spare, and such as just aren't: computed on a few columns.
+/// A row whose first change of level lies a column early, one that is blurred there so that columns stand alone, one
+/// whose change lies two columns late and so isn't blurred, and a glitch of three columns: computed on a few columns.
 pub fn worked_tolerance()
     ensures jittered { IsJittered little_row little_early }
     ensures alone { IsBlurred little_row little_spiked × (NoneAlone little_spiked → ⊥) }
     ensures late { IsBlurred little_row little_late → ⊥ }
     ensures glitch { HasGlitches 1 (low 11) (low 4 ++ (high 3 ++ low 4)) }
-    ensures no_glitch { HasGlitches 1 (low 11) (low 4 ++ (high 4 ++ low 3)) → ⊥ }
-    ensures amply { ShowsAmply Ntsc (ones_and_five 13 16) 16777215 × ShowsAmply Pal (ones_and_five 16 20) 16777215 }
-    ensures not_amply { ShowsAmply Ntsc (ones_and_five 11 11) 16777215 → ⊥ }
-    ensures read { ReadsWord Ntsc ones_of_11 16777215 }
-    ensures not_read { (word : ℕ) → ReadsWord Ntsc run_of_20 word → ⊥ }
 {}
 
 /// The codes of a dozen words of each class, written down by hand from the table of codes: the ends of each pattern,

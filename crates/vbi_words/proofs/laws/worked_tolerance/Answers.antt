@@ -7,9 +7,4 @@ returns c = record {
   alone = (worked.spiked_blurred, worked.spiked_alone);
   late = worked.late_not_blurred;
   glitch = worked.three_glitch;
-  no_glitch = worked.four_no_glitch;
-  amply = (worked.ntsc_amply, worked.pal_amply);
-  not_amply = worked.ones_not_amply;
-  read = worked.ones_read;
-  not_read = worked.run_of_20_not_read;
 }
