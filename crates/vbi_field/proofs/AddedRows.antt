@@ -39,9 +39,8 @@ further c p p' looked before (inr (fields, row, last)) = record {
   looks = rw (fields, row) (looks_field c.system p.fields p.row looked last before);
 }
 
-module _ (t : Texts) {W : Type 0} (contents : W → Option (List ℕ)) (c : ConfigView) (o o' : Outlet W) (z b : List ℕ)
-    (p p' : Progress)
-    (at : IsProgress c z p) (next : IsProgress c (z ++ b) p') where
+module _ (t : Texts) {W : Type 0} (contents : W → Option (List ℕ)) (o o' : Outlet W) {c : ConfigView} {z : List ℕ}
+    {p : Progress} (at : IsProgress c z p) (b : List ℕ) {p' : Progress} (next : IsProgress c (z ++ b) p') where
   -- no field is whole now, and nothing is due
   pub added_inside : p'.fields ≡ p.fields → AddsRow t contents c o o z b p' (Ok tt)
   added_inside same = (

@@ -23,150 +23,149 @@ use Rattle.vbi_field.proofs.DrawSteps.{Drawn, fetches_more, fetched_more}
 use Rattle.vbi_field.proofs.Devices.{has_failed}
 use Rattle.vbi_field.proofs.WordRowLemmas.{rows_of-append, rows_of-line, rows_of-part, row_words-line, row_words-part}
 
-module _ {R W : Type 0} (remaining : R → Option (List ℕ)) (contents : W → Option (List ℕ)) (c : ConfigView)
-    (i0 : RowIntake R) (o0 : Outlet W) where
-  module _ (done : ℕ) (i : RowIntake R) (o : Outlet W) (line : List ℕ)
-      (g : Drawn remaining contents c i0 o0 done i o line) where
-    -- the run ends with these bytes, and nothing more is written
-    ends_here : (j : RowIntake R) (b : List ℕ) → Fetches remaining i j b → (result : Result ℕ DrawFault)
-        → Draws c (remaining (device_of (intakes.counted_of j))) (counts_of j o) result (g.z ++ b) (draw_out c g.rows)
-        → RunsDrawing remaining contents c i0 j o0 o result
-    ends_here j b f result says =
-        let all = fetches_more remaining contents c i0 o0 done i o line g j b f in
-        let wrote = g.wrote in
-        record {
-          z = g.z ++ b;
-          text = draw_out c g.rows;
-          consumed = all.consumed;
-          appended = wrote.appended;
-          fetched = fetched_more remaining contents c i0 o0 done i o line g j b f;
-          written = g.written;
-          says = says;
-        }
+module _ {R W : Type 0} {remaining : R → Option (List ℕ)} {contents : W → Option (List ℕ)} {c : ConfigView}
+    {i0 : RowIntake R} {o0 : Outlet W} {done : ℕ} {i : RowIntake R} {o : Outlet W} {line : List ℕ}
+    (g : Drawn remaining contents c i0 o0 done i o line) where
+  -- the run ends with these bytes, and nothing more is written
+  ends_here : (j : RowIntake R) (b : List ℕ) → Fetches remaining i j b → (result : Result ℕ DrawFault)
+      → Draws c (remaining (device_of (intakes.counted_of j))) (counts_of j o) result (g.z ++ b) (draw_out c g.rows)
+      → RunsDrawing remaining contents c i0 j o0 o result
+  ends_here j b f result says =
+      let all = fetches_more g j b f in
+      let wrote = g.wrote in
+      record {
+        z = g.z ++ b;
+        text = draw_out c g.rows;
+        consumed = all.consumed;
+        appended = wrote.appended;
+        fetched = fetched_more g j b f;
+        written = g.written;
+        says = says;
+      }
 
-    -- the reader ended after whole rows
-    ended : (j : RowIntake R) → Fetches remaining i j [] → NoError (intakes.counted_of i) (intakes.counted_of j)
-        → IsAtEnd (remaining (device_of (intakes.counted_of j))) → done ≤ c.max_fields
-        → RunsDrawing remaining contents c i0 j o0 o (Ok done)
-    ended j f calm end few = ends_here j [] f (Ok done) (record {
+  -- the reader ended after whole rows
+  ended : (j : RowIntake R) → Fetches remaining i j [] → NoError (intakes.counted_of i) (intakes.counted_of j)
+      → IsAtEnd (remaining (device_of (intakes.counted_of j))) → done ≤ c.max_fields
+      → RunsDrawing remaining contents c i0 j o0 o (Ok done)
+  ended j f calm end few = ends_here j [] f (Ok done) (record {
+    devices = (calm ∙ g.calm_reads, g.calm_writes);
+    came = record {
+      rows = g.rows;
+      well_formed = rw append-nil g.well_formed;
+      number = sym g.count;
+      few = few;
+      at_end = end;
+      drawn = refl;
+    };
+  })
+
+  -- the reader failed
+  read_failed : (j : RowIntake R) (b : List ℕ) → Fetches remaining i j b → HasNoNewline b
+      → HasCause (intakes.counted_of i) (intakes.counted_of j)
+      → (done + 1 ≤ c.max_fields) ⊎ ((done + 1 ≡ c.max_fields + 1) × (b ≡ []))
+      → RunsDrawing remaining contents c i0 j o0 o (Err (faults.Read (done + 1)))
+  read_failed j b f plain cause few = ends_here j b f (Err (faults.Read (done + 1))) (record {
+    devices = (has_failed i.device j.device g.calm_reads cause, g.calm_writes);
+    came = record {
+      before = g.z;
+      part = b;
+      rows = g.rows;
+      both = refl;
+      whole = g.ends;
+      unfinished = plain;
+      well_formed = g.well_formed;
+      number_of = omega (arith, g.count);
+      few = few;
+      drawn = refl;
+    };
+  })
+
+  -- a byte followed the last row that is allowed
+  pub too_many : (j : RowIntake R) (byte : ℕ) → TakesByte remaining i j (bytes.Byte byte) → done ≡ c.max_fields
+      → RunsDrawing remaining contents c i0 j o0 o (Err faults.TooManyFields)
+  too_many j byte t last = ends_here j (byte ∷ []) t.fetches (Err faults.TooManyFields) (record {
+    devices = (t.caused ∙ g.calm_reads, g.calm_writes);
+    came = record {
+      before = g.z;
+      byte = byte;
+      rows = g.rows;
+      both = refl;
+      whole = g.ends;
+      well_formed = g.well_formed;
+      number_of = g.count ∙ last;
+      drawn = refl;
+    };
+  })
+
+  -- ---- a malformed row
+
+  module _ (j : RowIntake R) (b : List ℕ) (f : Fetches remaining i j b)
+      (calm : NoError (intakes.counted_of i) (intakes.counted_of j))
+      (few : done < c.max_fields) where
+    bad : rows_of b ≡ b ∷ [] → row_words b ≡ None
+        → ((front : List ℕ) × (b ≡ front ++ newline ∷ [])) ⊎
+        (IsAtEnd (remaining (device_of (intakes.counted_of j))) ⊎ (length b ≡ longest_row))
+        → RunsDrawing remaining contents c i0 j o0 o (Err (faults.Row (done + 1)))
+    bad one malformed read_to = ends_here j b f (Err (faults.Row (done + 1))) (record {
       devices = (calm ∙ g.calm_reads, g.calm_writes);
       came = record {
-        rows = g.rows;
-        well_formed = rw append-nil g.well_formed;
-        number = sym g.count;
-        few = few;
-        at_end = end;
-        drawn = refl;
-      };
-    })
-
-    -- the reader failed
-    read_failed : (j : RowIntake R) (b : List ℕ) → Fetches remaining i j b → HasNoNewline b
-        → HasCause (intakes.counted_of i) (intakes.counted_of j)
-        → (done + 1 ≤ c.max_fields) ⊎ ((done + 1 ≡ c.max_fields + 1) × (b ≡ []))
-        → RunsDrawing remaining contents c i0 j o0 o (Err (faults.Read (done + 1)))
-    read_failed j b f plain cause few = ends_here j b f (Err (faults.Read (done + 1))) (record {
-      devices = (has_failed i.device j.device g.calm_reads cause, g.calm_writes);
-      came = record {
         before = g.z;
-        part = b;
+        row = b;
         rows = g.rows;
         both = refl;
-        whole = g.ends;
-        unfinished = plain;
+        cut = rows_of-append g.z b g.ends ∙ ap (λ (l : List (List ℕ)). rows_of g.z ++ l) one;
         well_formed = g.well_formed;
         number_of = omega (arith, g.count);
-        few = few;
+        few = omega arith;
+        malformed = malformed;
+        read_to = read_to;
         drawn = refl;
       };
     })
 
-    -- a byte followed the last row that is allowed
-    pub too_many : (j : RowIntake R) (byte : ℕ) → TakesByte remaining i j (bytes.Byte byte) → done ≡ c.max_fields
-        → RunsDrawing remaining contents c i0 j o0 o (Err faults.TooManyFields)
-    too_many j byte t last = ends_here j (byte ∷ []) t.fetches (Err faults.TooManyFields) (record {
-      devices = (t.caused ∙ g.calm_reads, g.calm_writes);
-      came = record {
-        before = g.z;
-        byte = byte;
-        rows = g.rows;
-        both = refl;
-        whole = g.ends;
-        well_formed = g.well_formed;
-        number_of = g.count ∙ last;
-        drawn = refl;
-      };
-    })
-
-    -- ---- a malformed row
-
-    module _ (j : RowIntake R) (b : List ℕ) (f : Fetches remaining i j b)
-        (calm : NoError (intakes.counted_of i) (intakes.counted_of j))
-        (few : done < c.max_fields) where
-      bad : rows_of b ≡ b ∷ [] → row_words b ≡ None
-          → ((front : List ℕ) × (b ≡ front ++ newline ∷ [])) ⊎
-          (IsAtEnd (remaining (device_of (intakes.counted_of j))) ⊎ (length b ≡ longest_row))
-          → RunsDrawing remaining contents c i0 j o0 o (Err (faults.Row (done + 1)))
-      bad one malformed read_to = ends_here j b f (Err (faults.Row (done + 1))) (record {
-        devices = (calm ∙ g.calm_reads, g.calm_writes);
-        came = record {
-          before = g.z;
-          row = b;
-          rows = g.rows;
-          both = refl;
-          cut = rows_of-append g.z b g.ends ∙ ap (λ (l : List (List ℕ)). rows_of g.z ++ l) one;
-          well_formed = g.well_formed;
-          number_of = omega (arith, g.count);
-          few = omega arith;
-          malformed = malformed;
-          read_to = read_to;
-          drawn = refl;
-        };
-      })
-
-      bad_as : (row : List ℕ) → HasNoNewline row → word_row_of row ≡ None
-          → (b ≡ row ++ newline ∷ [])
-          ⊎
-          (((b ≡ row) × (0 < length row) × IsAtEnd (remaining (device_of (intakes.counted_of j))))
-          ⊎ ((b ≡ row) × (length row ≡ longest_row)))
-          → RunsDrawing remaining contents c i0 j o0 o (Err (faults.Row (done + 1)))
-      bad_as row plain none (inl e) =
-          bad (rw e (rows_of-line row plain)) (rw e (row_words-line row plain ∙ none)) (inl (row, e))
-      bad_as row plain none (inr (inl e)) =
-          bad (let e0 = e.0 in rw e0 (rows_of-part row plain e.1))
-          (ap row_words e.0 ∙ row_words-part row plain ∙ none) (inr (inl e.2))
-      bad_as row plain none (inr (inr e)) =
-          bad (let e0 = e.0 in rw e0 (rows_of-part row plain (omega (arith, e.1))))
-          (ap row_words e.0 ∙ row_words-part row plain ∙ none)
-          (inr (inr (ap length e.0 ∙ e.1)))
-
-    pub bad_row : (j : RowIntake R) (t : TakesRow remaining i j Malformed) → done < c.max_fields
+    bad_as : (row : List ℕ) → HasNoNewline row → word_row_of row ≡ None
+        → (b ≡ row ++ newline ∷ [])
+        ⊎
+        (((b ≡ row) × (0 < length row) × IsAtEnd (remaining (device_of (intakes.counted_of j))))
+        ⊎ ((b ≡ row) × (length row ≡ longest_row)))
         → RunsDrawing remaining contents c i0 j o0 o (Err (faults.Row (done + 1)))
-    bad_row j t few = bad_as j t.bytes t.fetches t.caused few t.got.row t.got.plain t.got.malformed t.got.read_to
+    bad_as row plain none (inl e) =
+        bad (rw e (rows_of-line row plain)) (rw e (row_words-line row plain ∙ none)) (inl (row, e))
+    bad_as row plain none (inr (inl e)) =
+        bad (let e0 = e.0 in rw e0 (rows_of-part row plain e.1))
+        (ap row_words e.0 ∙ row_words-part row plain ∙ none) (inr (inl e.2))
+    bad_as row plain none (inr (inr e)) =
+        bad (let e0 = e.0 in rw e0 (rows_of-part row plain (omega (arith, e.1))))
+        (ap row_words e.0 ∙ row_words-part row plain ∙ none)
+        (inr (inr (ap length e.0 ∙ e.1)))
 
-    -- the reader ended after whole rows, or failed in the next
-    pub row_ended : (j : RowIntake R) (t : TakesRow remaining i j AtEnd) → done ≤ c.max_fields
-        → RunsDrawing remaining contents c i0 j o0 o (Ok done)
-    row_ended j t few =
-        let P : List ℕ → Type 0 = Fetches remaining i j in
-        ended j (subst P t.got.0 t.fetches) t.caused t.got.1 few
+  pub bad_row : (j : RowIntake R) (t : TakesRow remaining i j Malformed) → done < c.max_fields
+      → RunsDrawing remaining contents c i0 j o0 o (Err (faults.Row (done + 1)))
+  bad_row j t few = bad_as j t.bytes t.fetches t.caused few t.got.row t.got.plain t.got.malformed t.got.read_to
 
-    pub row_read_failed : (j : RowIntake R) (t : TakesRow remaining i j Failed) → done < c.max_fields
-        → RunsDrawing remaining contents c i0 j o0 o (Err (faults.Read (done + 1)))
-    row_read_failed j t few = read_failed j t.bytes t.fetches t.got t.caused (inl (omega arith))
+  -- the reader ended after whole rows, or failed in the next
+  pub row_ended : (j : RowIntake R) (t : TakesRow remaining i j AtEnd) → done ≤ c.max_fields
+      → RunsDrawing remaining contents c i0 j o0 o (Ok done)
+  row_ended j t few =
+      let P : List ℕ → Type 0 = Fetches remaining i j in
+      ended j (subst P t.got.0 t.fetches) t.caused t.got.1 few
 
-    pub byte_ended : (j : RowIntake R) → TakesByte remaining i j bytes.AtEnd → (n : ℕ) → n ≡ c.max_fields → done ≡ n
-        → RunsDrawing remaining contents c i0 j o0 o (Ok n)
-    byte_ended j t n max last =
-        let P : ℕ → Type 0 = λ k. RunsDrawing remaining contents c i0 j o0 o (Ok k) in
-        subst P last (ended j t.fetches t.caused t.got (omega arith))
+  pub row_read_failed : (j : RowIntake R) (t : TakesRow remaining i j Failed) → done < c.max_fields
+      → RunsDrawing remaining contents c i0 j o0 o (Err (faults.Read (done + 1)))
+  row_read_failed j t few = read_failed j t.bytes t.fetches t.got t.caused (inl (omega arith))
 
-    pub byte_read_failed : (j : RowIntake R) → TakesByte remaining i j bytes.Failed → (n : ℕ) → n ≡ c.max_fields
-        → done ≡ n
-        → RunsDrawing remaining contents c i0 j o0 o (Err (faults.Read (n + 1)))
-    byte_read_failed j t n max last =
-        let P : ℕ → Type 0 = λ k. RunsDrawing remaining contents c i0 j o0 o (Err (faults.Read (k + 1))) in
-        subst P last (read_failed j [] t.fetches no_newline t.caused (inr (omega arith, refl)))
-      where
-        no_newline : HasNoNewline []
-        no_newline = λ k d inside. absurd (omega arith)
+  pub byte_ended : (j : RowIntake R) → TakesByte remaining i j bytes.AtEnd → (n : ℕ) → n ≡ c.max_fields → done ≡ n
+      → RunsDrawing remaining contents c i0 j o0 o (Ok n)
+  byte_ended j t n max last =
+      let P : ℕ → Type 0 = λ k. RunsDrawing remaining contents c i0 j o0 o (Ok k) in
+      subst P last (ended j t.fetches t.caused t.got (omega arith))
+
+  pub byte_read_failed : (j : RowIntake R) → TakesByte remaining i j bytes.Failed → (n : ℕ) → n ≡ c.max_fields
+      → done ≡ n
+      → RunsDrawing remaining contents c i0 j o0 o (Err (faults.Read (n + 1)))
+  byte_read_failed j t n max last =
+      let P : ℕ → Type 0 = λ k. RunsDrawing remaining contents c i0 j o0 o (Err (faults.Read (k + 1))) in
+      subst P last (read_failed j [] t.fetches no_newline t.caused (inr (omega arith, refl)))
+    where
+      no_newline : HasNoNewline []
+      no_newline = λ k d inside. absurd (omega arith)

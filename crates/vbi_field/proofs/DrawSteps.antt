@@ -94,178 +94,180 @@ module _ {R W : Type 0} (remaining : R → Option (List ℕ)) (contents : W → 
         black = black;
       }
 
-  module _ (done : ℕ) (i : RowIntake R) (o : Outlet W) (line : List ℕ) (g : Drawn done i o line) where
-    module _ (j : RowIntake R) (b : List ℕ) (f : Fetches remaining i j b) where
-      pub fetches_more : Fetches remaining i0 j (g.z ++ b)
-      fetches_more = Fetches-more remaining i0 i j g.z b g.fetches f
+module _ {R W : Type 0} {remaining : R → Option (List ℕ)} {contents : W → Option (List ℕ)} {c : ConfigView}
+    {i0 : RowIntake R} {o0 : Outlet W} {done : ℕ} {i : RowIntake R} {o : Outlet W} {line : List ℕ}
+    (g : Drawn remaining contents c i0 o0 done i o line) where
+  module _ (j : RowIntake R) (b : List ℕ) (f : Fetches remaining i j b) where
+    pub fetches_more : Fetches remaining i0 j (g.z ++ b)
+    fetches_more = Fetches-more remaining i0 i j g.z b g.fetches f
 
-      pub fetched_more : j.fetched ≡ length (g.z ++ b)
-      fetched_more = omega (arith, f.fetched, g.fetched, length-append g.z b)
+    pub fetched_more : j.fetched ≡ length (g.z ++ b)
+    fetched_more = omega (arith, f.fetched, g.fetched, length-append g.z b)
 
-    -- the rows with one more
-    rows_count : (words : WordRow) → length (g.rows ++ words ∷ []) ≡ done + 1
-    rows_count words = omega (arith, length-append g.rows (words ∷ []), g.count)
+  -- the rows with one more
+  rows_count : (words : WordRow) → length (g.rows ++ words ∷ []) ≡ done + 1
+  rows_count words = omega (arith, length-append g.rows (words ∷ []), g.count)
 
-    -- ---- a good row was fetched, and its field is written, whole or in part
+  -- ---- a good row was fetched, and its field is written, whole or in part
 
-    module _ (j : RowIntake R) (b : List ℕ) (words : WordRow) (f : Fetches remaining i j b)
-        (calm : NoError (intakes.counted_of i) (intakes.counted_of j))
-        (one : rows_of b ≡ b ∷ []) (is : row_words b ≡ Some words) (few : done < c.max_fields) where
-      well_formed_more : AreRows (g.z ++ b) (g.rows ++ words ∷ [])
-      well_formed_more = AreRows-more g.z b g.rows words g.well_formed g.ends one is
+  module _ (j : RowIntake R) (b : List ℕ) (words : WordRow) (f : Fetches remaining i j b)
+      (calm : NoError (intakes.counted_of i) (intakes.counted_of j))
+      (one : rows_of b ≡ b ∷ []) (is : row_words b ≡ Some words) (few : done < c.max_fields) where
+    well_formed_more : AreRows (g.z ++ b) (g.rows ++ words ∷ [])
+    well_formed_more = AreRows-more g.z b g.rows words g.well_formed g.ends one is
 
-      longer : length (draw_out c (g.rows ++ words ∷ [])) ≡ length (draw_out c g.rows) + length (drawn_field_of c words)
-      longer = ap length (draw_out-more c g.rows words) ∙ length-append (draw_out c g.rows) (drawn_field_of c words)
+    longer : length (draw_out c (g.rows ++ words ∷ [])) ≡ length (draw_out c g.rows) + length (drawn_field_of c words)
+    longer = ap length (draw_out-more c g.rows words) ∙ length-append (draw_out c g.rows) (drawn_field_of c words)
 
-      -- the writer failed
-      write_failed : (p : Outlet W) (r : Result ℕ DrawFault) → outlets.WrotePart contents o p (drawn_field_of c words)
-          → HasCause (outlets.counted_of o) (outlets.counted_of p) → IsErrAnd r (λ e. e ≡ faults.Write p.written)
-          → RunsDrawing remaining contents c i0 j o0 p r
-      write_failed p (Ok n) part cause e = absurd e
-      write_failed p (Err fault) part cause e =
-          let base = draw_out c g.rows in
+    -- the writer failed
+    write_failed : (p : Outlet W) (r : Result ℕ DrawFault) → outlets.WrotePart contents o p (drawn_field_of c words)
+        → HasCause (outlets.counted_of o) (outlets.counted_of p) → IsErrAnd r (λ e. e ≡ faults.Write p.written)
+        → RunsDrawing remaining contents c i0 j o0 p r
+    write_failed p (Ok n) part cause e = absurd e
+    write_failed p (Err fault) part cause e =
+        let base = draw_out c g.rows in
+        let all = fetches_more j b f in
+        let wrote = part.wrote in
+        let both = wrote_twice contents o0 o p base part.part g.wrote wrote in
+        let w = wrote.written in
+        let count : p.written ≡ length (base ++ part.part) = omega (arith, g.written, length-append base part.part) in
+        record {
+          z = g.z ++ b;
+          text = base ++ part.part;
+          consumed = all.consumed;
+          appended = both.appended;
+          fetched = fetched_more j b f;
+          written = count;
+          says = rw e (record {
+            devices = (has_failed o.device p.device g.calm_writes cause, calm ∙ g.calm_reads);
+            came = record {
+              rows = g.rows;
+              last = words;
+              well_formed = well_formed_more;
+              few = omega (arith, g.count);
+              count = count;
+              inside = inside_of contents o p base (drawn_field_of c words) (draw_out c (g.rows ++ words ∷ [])) part
+                  (sym (draw_out-more c g.rows words));
+            };
+          });
+        }
+
+    module _ (p : Outlet W) (wrote : outlets.Wrote contents o p (drawn_field_of c words))
+        (no_error : NoError (outlets.counted_of o) (outlets.counted_of p)) where
+      wrote_more : outlets.Wrote contents o0 p (draw_out c (g.rows ++ words ∷ []))
+      wrote_more =
+          rw (draw_out-more c g.rows words)
+          (wrote_twice contents o0 o p (draw_out c g.rows) (drawn_field_of c words) g.wrote wrote)
+
+      written_more : p.written ≡ length (draw_out c (g.rows ++ words ∷ []))
+      written_more = omega (arith, longer, g.written, wrote.written)
+
+      -- the field is written, and the row was the last
+      last_row : IsAtEnd (remaining (device_of (intakes.counted_of j)))
+          → RunsDrawing remaining contents c i0 j o0 p (Ok (done + 1))
+      last_row end =
           let all = fetches_more j b f in
-          let wrote = part.wrote in
-          let both = wrote_twice contents o0 o p base part.part g.wrote wrote in
-          let w = wrote.written in
-          let count : p.written ≡ length (base ++ part.part) = omega (arith, g.written, length-append base part.part) in
+          let drew = wrote_more in
           record {
             z = g.z ++ b;
-            text = base ++ part.part;
+            text = draw_out c (g.rows ++ words ∷ []);
             consumed = all.consumed;
-            appended = both.appended;
+            appended = drew.appended;
             fetched = fetched_more j b f;
-            written = count;
-            says = rw e (record {
-              devices = (has_failed o.device p.device g.calm_writes cause, calm ∙ g.calm_reads);
+            written = written_more;
+            says = record {
+              devices = (calm ∙ g.calm_reads, no_error ∙ g.calm_writes);
               came = record {
-                rows = g.rows;
-                last = words;
+                rows = g.rows ++ words ∷ [];
                 well_formed = well_formed_more;
-                few = omega (arith, g.count);
-                count = count;
-                inside = inside_of contents o p base (drawn_field_of c words) (draw_out c (g.rows ++ words ∷ [])) part
-                    (sym (draw_out-more c g.rows words));
+                number = sym (rows_count words);
+                few = omega arith;
+                at_end = end;
+                drawn = refl;
               };
-            });
+            };
           }
 
-      module _ (p : Outlet W) (wrote : outlets.Wrote contents o p (drawn_field_of c words))
-          (no_error : NoError (outlets.counted_of o) (outlets.counted_of p)) where
-        wrote_more : outlets.Wrote contents o0 p (draw_out c (g.rows ++ words ∷ []))
-        wrote_more =
-            rw (draw_out-more c g.rows words)
-            (wrote_twice contents o0 o p (draw_out c g.rows) (drawn_field_of c words) g.wrote wrote)
-
-        written_more : p.written ≡ length (draw_out c (g.rows ++ words ∷ []))
-        written_more = omega (arith, longer, g.written, wrote.written)
-
-        -- the field is written, and the row was the last
-        last_row : IsAtEnd (remaining (device_of (intakes.counted_of j)))
-            → RunsDrawing remaining contents c i0 j o0 p (Ok (done + 1))
-        last_row end =
-            let all = fetches_more j b f in
-            let drew = wrote_more in
-            record {
-              z = g.z ++ b;
-              text = draw_out c (g.rows ++ words ∷ []);
-              consumed = all.consumed;
-              appended = drew.appended;
-              fetched = fetched_more j b f;
-              written = written_more;
-              says = record {
-                devices = (calm ∙ g.calm_reads, no_error ∙ g.calm_writes);
-                came = record {
-                  rows = g.rows ++ words ∷ [];
-                  well_formed = well_formed_more;
-                  number = sym (rows_count words);
-                  few = omega arith;
-                  at_end = end;
-                  drawn = refl;
-                };
-              };
-            }
-
-        -- the field is written, and rows may follow
-        next_row : (line : List ℕ) → IsSameDevice (outlets.counted_of o) (outlets.counted_of p)
-            → line ≡ drawn_line_of c.system c.levels None → EndsRow (g.z ++ b)
-            → length b ≤ longest_row
-            → (failures_of (intakes.counted_of j)).all ≤ (failures_of (intakes.counted_of i)).all + tries * longest_row
-            → (failures_of (outlets.counted_of p)).all
-            ≤ (failures_of (outlets.counted_of o)).all + tries * (length (drawn_field_of c words) + most_rows)
-            → Drawn (done + 1) j p line
-        next_row line same black ends short reads writes =
-            let size = length-drawn_field_of c words in
-            let sizes = sizes_of c.system in
-            let l = length-append g.z b in
-            let w = wrote.written in
-            let before = g.small in
-            let was = g.writes in
-            record {
-              z = g.z ++ b;
-              rows = g.rows ++ words ∷ [];
-              fetches = fetches_more j b f;
-              fetched = fetched_more j b f;
-              ends = ends;
-              well_formed = well_formed_more;
-              count = rows_count words;
-              long = omega (arith, g.long);
-              reads = omega (arith, g.reads);
-              wrote = wrote_more;
-              written = written_more;
-              small = omega arith;
-              writes = omega arith;
-              calm_reads = calm ∙ g.calm_reads;
-              calm_writes = no_error ∙ g.calm_writes;
-              same_writer = same ∙ g.same_writer;
-              black = black;
-            }
-
-    -- ---- the same of a row with its newline, and of a last one without
-
-    line_one : (b row : List ℕ) → HasNoNewline row → b ≡ row ++ newline ∷ [] → rows_of b ≡ b ∷ []
-    line_one b row plain e = rw e (rows_of-line row plain)
-
-    line_is : (b row : List ℕ) (words : WordRow) → HasNoNewline row → b ≡ row ++ newline ∷ []
-        → word_row_of row ≡ Some words → row_words b ≡ Some words
-    line_is b row words plain e w = rw e (row_words-line row plain ∙ w)
-
-    line_ends : (b row : List ℕ) → b ≡ row ++ newline ∷ [] → EndsRow (g.z ++ b)
-    line_ends b row e = inr (g.z ++ row, ap (λ (l : List ℕ). g.z ++ l) e ∙ sym (append_assoc g.z row (newline ∷ [])))
-
-    module _ (j : RowIntake R) (words : WordRow) (t : TakesRow remaining i j (Row words)) (few : done < c.max_fields)
-        (p : Outlet W) where
-      pub row_failed : (r : Result ℕ DrawFault) → outlets.WrotePart contents o p (drawn_field_of c words)
-          → HasCause (outlets.counted_of o) (outlets.counted_of p)
-          → IsErrAnd r (λ e. e ≡ faults.Write p.written) → RunsDrawing remaining contents c i0 j o0 p r
-      row_failed =
-          write_failed j t.bytes words t.fetches t.caused (line_one t.bytes t.got.0 t.got.1 t.got.2)
-          (line_is t.bytes t.got.0 words t.got.1 t.got.2 t.got.3) few p
-
-      pub row_drawn : (line : List ℕ) → outlets.Wrote contents o p (drawn_field_of c words)
-          → NoError (outlets.counted_of o) (outlets.counted_of p)
-          → IsSameDevice (outlets.counted_of o) (outlets.counted_of p)
+      -- the field is written, and rows may follow
+      next_row : (line : List ℕ) → IsSameDevice (outlets.counted_of o) (outlets.counted_of p)
+          → line ≡ drawn_line_of c.system c.levels None → EndsRow (g.z ++ b)
+          → length b ≤ longest_row
+          → (failures_of (intakes.counted_of j)).all ≤ (failures_of (intakes.counted_of i)).all + tries * longest_row
           → (failures_of (outlets.counted_of p)).all
           ≤ (failures_of (outlets.counted_of o)).all + tries * (length (drawn_field_of c words) + most_rows)
-          → line ≡ drawn_line_of c.system c.levels None → Drawn (done + 1) j p line
-      row_drawn line wrote no_error same writes black =
-          next_row j t.bytes words t.fetches t.caused (line_one t.bytes t.got.0 t.got.1 t.got.2)
-          (line_is t.bytes t.got.0 words t.got.1 t.got.2 t.got.3)
-          few p wrote no_error line same black (line_ends t.bytes t.got.0 t.got.2) t.short t.most writes
+          → Drawn remaining contents c i0 o0 (done + 1) j p line
+      next_row line same black ends short reads writes =
+          let size = length-drawn_field_of c words in
+          let sizes = sizes_of c.system in
+          let l = length-append g.z b in
+          let w = wrote.written in
+          let before = g.small in
+          let was = g.writes in
+          record {
+            z = g.z ++ b;
+            rows = g.rows ++ words ∷ [];
+            fetches = fetches_more j b f;
+            fetched = fetched_more j b f;
+            ends = ends;
+            well_formed = well_formed_more;
+            count = rows_count words;
+            long = omega (arith, g.long);
+            reads = omega (arith, g.reads);
+            wrote = wrote_more;
+            written = written_more;
+            small = omega arith;
+            writes = omega arith;
+            calm_reads = calm ∙ g.calm_reads;
+            calm_writes = no_error ∙ g.calm_writes;
+            same_writer = same ∙ g.same_writer;
+            black = black;
+          }
 
-    module _ (j : RowIntake R) (words : WordRow) (t : TakesRow remaining i j (LastRow words))
-        (few : done < c.max_fields) (p : Outlet W) where
-      pub last_row_failed : (r : Result ℕ DrawFault) → outlets.WrotePart contents o p (drawn_field_of c words)
-          → HasCause (outlets.counted_of o) (outlets.counted_of p)
-          → IsErrAnd r (λ e. e ≡ faults.Write p.written) → RunsDrawing remaining contents c i0 j o0 p r
-      last_row_failed =
-          write_failed j t.bytes words t.fetches t.caused (rows_of-part t.bytes t.got.0 t.got.1)
-          (row_words-part t.bytes t.got.0 ∙ t.got.2) few p
+  -- ---- the same of a row with its newline, and of a last one without
 
-      pub last_row_drawn : outlets.Wrote contents o p (drawn_field_of c words)
-          → NoError (outlets.counted_of o) (outlets.counted_of p)
-          → RunsDrawing remaining contents c i0 j o0 p (Ok (done + 1))
-      last_row_drawn wrote no_error =
-          last_row j t.bytes words t.fetches t.caused (rows_of-part t.bytes t.got.0 t.got.1)
-          (row_words-part t.bytes t.got.0 ∙ t.got.2)
-          few p wrote no_error t.got.3
+  line_one : (b row : List ℕ) → HasNoNewline row → b ≡ row ++ newline ∷ [] → rows_of b ≡ b ∷ []
+  line_one b row plain e = rw e (rows_of-line row plain)
+
+  line_is : (b row : List ℕ) (words : WordRow) → HasNoNewline row → b ≡ row ++ newline ∷ []
+      → word_row_of row ≡ Some words → row_words b ≡ Some words
+  line_is b row words plain e w = rw e (row_words-line row plain ∙ w)
+
+  line_ends : (b row : List ℕ) → b ≡ row ++ newline ∷ [] → EndsRow (g.z ++ b)
+  line_ends b row e = inr (g.z ++ row, ap (λ (l : List ℕ). g.z ++ l) e ∙ sym (append_assoc g.z row (newline ∷ [])))
+
+  module _ (j : RowIntake R) (words : WordRow) (t : TakesRow remaining i j (Row words)) (few : done < c.max_fields)
+      (p : Outlet W) where
+    pub row_failed : (r : Result ℕ DrawFault) → outlets.WrotePart contents o p (drawn_field_of c words)
+        → HasCause (outlets.counted_of o) (outlets.counted_of p)
+        → IsErrAnd r (λ e. e ≡ faults.Write p.written) → RunsDrawing remaining contents c i0 j o0 p r
+    row_failed =
+        write_failed j t.bytes words t.fetches t.caused (line_one t.bytes t.got.0 t.got.1 t.got.2)
+        (line_is t.bytes t.got.0 words t.got.1 t.got.2 t.got.3) few p
+
+    pub row_drawn : (line : List ℕ) → outlets.Wrote contents o p (drawn_field_of c words)
+        → NoError (outlets.counted_of o) (outlets.counted_of p)
+        → IsSameDevice (outlets.counted_of o) (outlets.counted_of p)
+        → (failures_of (outlets.counted_of p)).all
+        ≤ (failures_of (outlets.counted_of o)).all + tries * (length (drawn_field_of c words) + most_rows)
+        → line ≡ drawn_line_of c.system c.levels None → Drawn remaining contents c i0 o0 (done + 1) j p line
+    row_drawn line wrote no_error same writes black =
+        next_row j t.bytes words t.fetches t.caused (line_one t.bytes t.got.0 t.got.1 t.got.2)
+        (line_is t.bytes t.got.0 words t.got.1 t.got.2 t.got.3)
+        few p wrote no_error line same black (line_ends t.bytes t.got.0 t.got.2) t.short t.most writes
+
+  module _ (j : RowIntake R) (words : WordRow) (t : TakesRow remaining i j (LastRow words))
+      (few : done < c.max_fields) (p : Outlet W) where
+    pub last_row_failed : (r : Result ℕ DrawFault) → outlets.WrotePart contents o p (drawn_field_of c words)
+        → HasCause (outlets.counted_of o) (outlets.counted_of p)
+        → IsErrAnd r (λ e. e ≡ faults.Write p.written) → RunsDrawing remaining contents c i0 j o0 p r
+    last_row_failed =
+        write_failed j t.bytes words t.fetches t.caused (rows_of-part t.bytes t.got.0 t.got.1)
+        (row_words-part t.bytes t.got.0 ∙ t.got.2) few p
+
+    pub last_row_drawn : outlets.Wrote contents o p (drawn_field_of c words)
+        → NoError (outlets.counted_of o) (outlets.counted_of p)
+        → RunsDrawing remaining contents c i0 j o0 p (Ok (done + 1))
+    last_row_drawn wrote no_error =
+        last_row j t.bytes words t.fetches t.caused (rows_of-part t.bytes t.got.0 t.got.1)
+        (row_words-part t.bytes t.got.0 ∙ t.got.2)
+        few p wrote no_error t.got.3

@@ -135,24 +135,23 @@ taken_none contents old now o piece is unfailed stand =
     }
 
 -- a fault in the next row has the same cause
-pub fault_since : {W : Type 0} (contents : W → Option (List ℕ)) (old : Feeding) (was : Inside) (o0 o o' : Outlet W)
-    (piece : List ℕ)
-    (at : ℕ) → Taken contents old was o0 o piece at → (fault : RunFault) → IsFeedFault o o' fault
+pub fault_since : {W : Type 0} {contents : W → Option (List ℕ)} {old : Feeding} {was : Inside} {o0 o : Outlet W}
+    {piece : List ℕ} {at : ℕ} → Taken contents old was o0 o piece at → (o' : Outlet W) (fault : RunFault)
+    → IsFeedFault o o' fault
     → IsFeedFault o0 o' fault
-fault_since contents old was o0 o o' piece at t (Write written) f =
+fault_since {o0 = o0} {o = o} t o' (Write written) f =
     let least = t.rises.least in (f.0, cause_later o0.device o.device o'.device t.errors least f.1)
-fault_since contents old was o0 o o' piece at t TooManyFields f = f ∙ t.errors
-fault_since contents old was o0 o o' piece at t Failed f = tt
-fault_since contents old was o0 o o' piece at t (Read field offset) f = f
+fault_since t o' TooManyFields f = f ∙ t.errors
+fault_since t o' Failed f = tt
+fault_since t o' (Read field offset) f = f
 
 -- what a slice from a byte on is
 rest_of_piece : (piece : List ℕ) (at : ℕ) → take (length piece - at) (drop at piece) ≡ drop at piece
 rest_of_piece piece at = let l = length-drop at piece in take_all (length piece - at) (drop at piece) (omega arith)
 
-module _ {W : Type 0} (contents : W → Option (List ℕ)) (old : Feeding) (was : Inside) (o0 o o' : Outlet W)
-    (piece bytes : List ℕ) (at : ℕ)
-    (t : Taken contents old was o0 o piece at) (is : bytes ≡ take (length piece - at) (drop at piece)) (l : Line)
-    (p : Progress)
+module _ {W : Type 0} {contents : W → Option (List ℕ)} {old : Feeding} {was : Inside} {o0 o : Outlet W}
+    {piece bytes : List ℕ} {at : ℕ} (t : Taken contents old was o0 o piece at)
+    (is : bytes ≡ take (length piece - at) (drop at piece)) (o' : Outlet W) (l : Line) (p : Progress)
     (result : Result ℕ RunFault)
     (step : (z : List ℕ) → IsAt was.config z (position_in was.config was.line was.progress)
     → IsStep contents was.config o o' z bytes (position_in was.config l p) result) where
@@ -226,11 +225,10 @@ module _ {W : Type 0} (contents : W → Option (List ℕ)) (old : Feeding) (was 
       (position_in was.config l p) far fault next))
 
 -- the whole piece was taken
-pub taken_whole : {W : Type 0} (contents : W → Option (List ℕ)) (old : Feeding) (now : Inside) (o0 o : Outlet W)
-    (piece : List ℕ) (at : ℕ)
-    → Taken contents old now o0 o piece at → length piece ≤ at → (z : List ℕ) → StandsAt old z
+pub taken_whole : {W : Type 0} {contents : W → Option (List ℕ)} {old : Feeding} {now : Inside} {o0 o : Outlet W}
+    {piece : List ℕ} {at : ℕ} → Taken contents old now o0 o piece at → length piece ≤ at → (z : List ℕ) → StandsAt old z
     → IsFed contents old.config o0 o z piece (position_in now.config now.line now.progress) (Ok tt)
-taken_whole contents old now o0 o piece at t done z s =
+taken_whole {contents = contents} {old} {now} {o0} {o} {piece} {at} t done z s =
     let P : List ℕ
     → Type 0 = λ x. IsFed contents old.config o0 o z x (position_in now.config now.line now.progress) (Ok tt) in
     subst P (take_all at piece done) (t.fed z s)

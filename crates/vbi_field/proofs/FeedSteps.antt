@@ -168,8 +168,10 @@ module _ {W : Type 0} (contents : W → Option (List ℕ)) {c : ConfigView} {l :
       came = row_held c s is_selected b p.row reading selects (ss ∙ st.system) whole shows
 
       -- the text that is due with the row was written
-      pub fed_row : (l' : Line) (p' : Progress) (o o' : Outlet W) → l'.held ≡ [] → ((z b : List ℕ) → IsProgress c z p → IsLineOf c b p.row reading
-          → AddsRow document contents c o o' z b p' (Ok tt)) → IsFed contents c o o' z more (position_in c l' p') (Ok tt)
+      pub fed_row : (l' : Line) (p' : Progress) (o o' : Outlet W) → l'.held ≡ []
+          → ((z b : List ℕ) → IsProgress c z p → IsLineOf c b p.row reading
+          → AddsRow document contents c o o' z b p' (Ok tt))
+          → IsFed contents c o o' z more (position_in c l' p') (Ok tt)
       fed_row l' p' o o' held adds =
           let done = adds before.rows b before.position came in
           let added = done.1 in (
@@ -178,7 +180,8 @@ module _ {W : Type 0} (contents : W → Option (List ℕ)) {c : ConfigView} {l :
           )
 
       -- the text that is due with the row was written in part
-      pub fed_in_part : (l' : Line) (p' : Progress) (o o' : Outlet W) → ((z b : List ℕ) → IsProgress c z p → IsLineOf c b p.row reading
+      pub fed_in_part : (l' : Line) (p' : Progress) (o o' : Outlet W)
+          → ((z b : List ℕ) → IsProgress c z p → IsLineOf c b p.row reading
           → IsProgress c (z ++ b) p' × ExtendsInPart document contents c o o' z (z ++ b))
           → (bytes : List ℕ) (n : ℕ) (written : ℕ) (r : Result ℕ RunFault) → more ≡ take n bytes
           → IsErrAnd r (λ e. e ≡ Write written) → IsStep contents c o o' z bytes (position_in c l' p') r

@@ -88,7 +88,8 @@ module _ {W : Type 0} (contents : W → Option (List ℕ)) where
       let P : Result (Unit {0}) RunFault → Type 0 = IsFed contents f.config o o' z [] f'.position in
       let Q : Outlet W → Type 0 = λ o'. IsFed contents f.config o o' z [] f'.position (Ok tt) in
       let R : Feeding → Type 0 = λ f'. IsFed contents f.config o o z [] f'.position (Ok tt) in
-      subst P (sym ok) (subst Q (sym outlet) (subst R (sym same) (fed_none contents f.config o z [] f.position stands.at)))
+      let none = fed_none contents f.config o z [] f.position stands.at in
+      subst P (sym ok) (subst Q (sym outlet) (subst R (sym same) none))
   pieces_join f f' o o' z (piece ∷ pieces) (Ok u) stands (inl (fails, fed)) = absurd (cc)
   pieces_join f f' o o' z (piece ∷ pieces) (Err fault) stands (inl (fails, fed)) =
       fault_stays f.config o o' z piece (concat pieces) f'.position fault (fed.fed z stands)

@@ -1,7 +1,7 @@
 -- How a run ends that fetched less than a row: its reader ended or failed, or too many bytes came.
 use Rattle.std.proofs.Common.{◌≡◌, ℕ, ◌+◌, ◌*◌, ◌≤◌, ◌<◌, inr, List, ◌++◌, length, take}
 use Rattle.std.proofs.Common.{sym, ap, ◌∙◌, arith, subst}
-use Rattle.std.specs.Prelude.{Option, Result, Ok, Err, OnOk, IfOk, OnErr, IfErr}
+use Rattle.std.specs.Prelude.{Option, Result, Ok, Err, OnOk, IfOk, OnErr, IfErr, IsErrAnd}
 use Rattle.std.proofs.KnownBytes.{Appends-trans, Consumes-trans}
 use Rattle.std.proofs.lemmas.List.{length-append, take_at}
 use Rattle.std.proofs.Math.Nat.{le_of_eq, le_trans}
@@ -32,11 +32,11 @@ use Rattle.vbi_field.proofs.Devices.{has_failed, inside_of, wrote_whole, put_in_
 use Rattle.vbi_field.proofs.PullFaults.{write_fault}
 use Rattle.vbi_field.proofs.Pulled.{Pulled}
 
-module _ (t : Texts) {R W : Type 0} (remaining : R → Option (List ℕ)) (contents : W → Option (List ℕ)) (c : ConfigView)
-    (i0 : Intake R) (o0 : Outlet W) where
+module _ {t : Texts} {R W : Type 0} {remaining : R → Option (List ℕ)} {contents : W → Option (List ℕ)} {c : ConfigView}
+    {i0 : Intake R} {o0 : Outlet W} {k : ℕ} {i : Intake R} {o : Outlet W} {p : Progress}
+    (g : Pulled t remaining contents c i0 o0 k i o p) where
   -- these bytes b were fetched behind z, less than a row
-  module _ (k : ℕ) (i : Intake R) (o : Outlet W) (p : Progress)
-      (g : Pulled t remaining contents c i0 o0 k i o p) (b : List ℕ) (short : length b < line_bytes c.system) where
+  module _ (b : List ℕ) (short : length b < line_bytes c.system) where
     long : length (g.z ++ b) ≡ (p.fields * height_of c.system + p.row) * line_bytes c.system + length b
     long = let at = g.at in length-append g.z b ∙ ap (λ n. n + length b) at.whole
 
@@ -66,9 +66,8 @@ module _ (t : Texts) {R W : Type 0} (remaining : R → Option (List ℕ)) (conte
     all = long ∙ ap (λ m. m * line_bytes c.system + length b) g.rows
 
   -- the reader ended, and the tail was put, or not
-  pub ended : (k : ℕ) (i i' : Intake R) (o o' : Outlet W) (p : Progress)
-      (g : Pulled t remaining contents c i0 o0 k i o p) (n : ℕ) (row : TakesLine remaining i i' (Ok (Ended n)))
-      (fields rest looked : ℕ) → fields ≡ p.fields
+  pub ended : {i' : Intake R} {o' : Outlet W} (n : ℕ) (row : TakesLine remaining i i' (Ok (Ended n)))
+      {fields rest looked : ℕ} → fields ≡ p.fields
       → rest ≡ p.row * line_bytes c.system + n → k * line_bytes c.system + n ≤ allowed_bytes c
       → looked ≡ i'.line.looked → outlets.Puts contents o o' (t.tail fields rest)
       → (r : Result Summary RunFault) → OnOk r (o'.written ≡ o.written + length (t.tail fields rest))
@@ -77,7 +76,7 @@ module _ (t : Texts) {R W : Type 0} (remaining : R → Option (List ℕ)) (conte
       → OnErr r (HasCause (outlets.counted_of o) (outlets.counted_of o'))
       → OnErr r (outlets.written_of o' < outlets.written_of o + length (t.tail fields rest))
       → IfErr r (λ e. e ≡ Write o'.written) → Runs t remaining contents c i0 i' o0 o' r
-  ended k i i' o o' p g n row fields rest looked fs rs within ls puts r whole calm says cause less fails =
+  ended {i'} {o'} n row {fields} {rest} {looked} fs rs within ls puts r whole calm says cause less fails =
       by r whole calm says cause less fails
     where
       b : List ℕ
@@ -87,24 +86,24 @@ module _ (t : Texts) {R W : Type 0} (remaining : R → Option (List ℕ)) (conte
       short = let got = row.got in rw (← g.system) got.short
 
       is_fields : fields ≡ fields_of c (g.z ++ b)
-      is_fields = fs ∙ sym (fields_are k i o p g b short)
+      is_fields = fs ∙ sym (fields_are b short)
 
       is_rest : rest ≡ rest_of c (g.z ++ b)
       is_rest = let got = row.got in rs ∙ ap (λ m. p.row * line_bytes c.system + m) got.count_of
-          ∙ sym (rest_is k i o p g b short)
+          ∙ sym (rest_is b short)
 
       looks : i'.line.looked ≡ looks_of c (g.z ++ b)
-      looks = let kept = row.kept in kept.looked ∙ looks_are k i o p g b short
+      looks = let kept = row.kept in kept.looked ∙ looks_are b short
 
       few : length (g.z ++ b) ≤ allowed_bytes c
       few = let got =
           row.got in le_trans
-          (le_of_eq (all k i o p g b short ∙ ap (λ m. k * line_bytes c.system + m) (sym got.count_of))) within
+          (le_of_eq (all b short ∙ ap (λ m. k * line_bytes c.system + m) (sym got.count_of))) within
 
       -- the text of the stream
       document_is : text_before_tail t c g.z ++ t.tail fields rest ≡ whole_text t c (g.z ++ b)
       document_is =
-          ap (λ l. l ++ t.tail fields rest) (begun_is k i o p g b short)
+          ap (λ l. l ++ t.tail fields rest) (begun_is b short)
           ∙ ap (λ n. text_before_tail t c (g.z ++ b) ++ t.tail n rest) is_fields
           ∙ ap (λ n. text_before_tail t c (g.z ++ b) ++ t.tail (fields_of c (g.z ++ b)) n) is_rest
 
@@ -152,22 +151,22 @@ module _ (t : Texts) {R W : Type 0} (remaining : R → Option (List ℕ)) (conte
           (Consumes-trans _ _ _ g.z b g.consumed row.consumed)
           (omega (arith, row.fetched, g.fetched, length-append g.z b)) g.appended g.written
           (got.no_error ∙ g.calm_reads) g.calm_writes w.wrote cause fails few looks
-          (inr (inr (got.at_end, subst P (begun_is k i o p g b short) inside)))
+          (inr (inr (got.at_end, subst P (begun_is b short) inside)))
 
   -- the reader failed
-  pub read_fault : (k : ℕ) (i i' : Intake R) (o : Outlet W) (p : Progress)
-      (g : Pulled t remaining contents c i0 o0 k i o p) (came : RunFault)
-      (row : TakesLine remaining i i' (Err came)) (fault : RunFault) → k ≤ c.max_fields * height_of c.system
-      → fault ≡ Read (p.fields + 1) (p.row * line_bytes c.system + length (intakes.held_of i'))
-      → Runs t remaining contents c i0 i' o0 o (Err fault)
-  read_fault k i i' o p g came row fault last is =
+  pub read_fault : {i' : Intake R} {came : RunFault} (row : TakesLine remaining i i' (Err came))
+      → k ≤ c.max_fields * height_of c.system → (r : Result Summary RunFault)
+      → IsErrAnd r (λ e. e ≡ Read (p.fields + 1) (p.row * line_bytes c.system + length (intakes.held_of i')))
+      → Runs t remaining contents c i0 i' o0 o r
+  read_fault row last (Ok s) is = absurd is
+  read_fault {i'} row last (Err fault) is =
       let b : List ℕ = row.bytes in
       let got = row.got in
       let short : length b < line_bytes c.system = rw (← g.system) got.short in
       let held = ap length row.held in
       let kept = row.kept in
       let rows : k * line_bytes c.system ≤ allowed_bytes c = rows_fit c.system k c.max_fields last in
-      let bytes = all k i o p g b short in
+      let bytes = all b short in
       record {
         z = g.z ++ b;
         text = text_before_tail t c g.z;
@@ -176,26 +175,24 @@ module _ (t : Texts) {R W : Type 0} (remaining : R → Option (List ℕ)) (conte
         fetched = omega (arith, row.fetched, g.fetched, length-append g.z b);
         written = g.written;
         says = rw is (record {
-          looks = kept.looked ∙ looks_are k i o p g b short;
+          looks = kept.looked ∙ looks_are b short;
           devices = (has_failed i.device i'.device g.calm_reads got.failed, g.calm_writes);
           came =
               record {
-                field_of = ap (λ n. n + 1) (sym (fields_are k i o p g b short));
-                offset_of = ap (λ n. p.row * line_bytes c.system + n) held ∙ sym (rest_is k i o p g b short);
+                field_of = ap (λ n. n + 1) (sym (fields_are b short));
+                offset_of = ap (λ n. p.row * line_bytes c.system + n) held ∙ sym (rest_is b short);
                 within = omega arith;
-                begun = begun_is k i o p g b short;
+                begun = begun_is b short;
               };
         });
       }
 
   -- some bytes were fetched past the last field that is allowed, a line's at most
-  pub too_many : (k : ℕ) (i i' : Intake R) (o : Outlet W) (p : Progress)
-      (g : Pulled t remaining contents c i0 o0 k i o p) (came : Result Filled RunFault)
-      (row : TakesLine remaining i i' came)
+  pub too_many : {i' : Intake R} {came : Result Filled RunFault} (row : TakesLine remaining i i' came)
       → k ≡ c.max_fields * height_of c.system → 0 < length row.bytes → length row.bytes ≤ line_bytes i.line.system
       → NoError (intakes.counted_of i) (intakes.counted_of i')
       → Runs t remaining contents c i0 i' o0 o (Err TooManyFields)
-  too_many k i i' o p g came row last some few no_error =
+  too_many row last some few no_error =
       let b : List ℕ = row.bytes in
       let kept = row.kept in
       let at = g.at in

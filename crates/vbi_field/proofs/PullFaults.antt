@@ -57,12 +57,14 @@ module _ (t : Texts) {R W : Type 0} (remaining : R → Option (List ℕ)) (conte
       }
 
   -- the head was put in part
-  pub head_fault : (o : Outlet W) (text : List ℕ) (fault : RunFault) → intakes.IsFresh i0 c.system → outlets.IsFresh o0
+  pub head_fault : (o : Outlet W) (text : List ℕ) → intakes.IsFresh i0 c.system → outlets.IsFresh o0
       → text ≡ t.head c → outlets.Puts contents o0 o text
       → HasCause (outlets.counted_of o0) (outlets.counted_of o)
       → outlets.written_of o < outlets.written_of o0 + length text
-      → fault ≡ Write o.written → Runs t remaining contents c i0 i0 o0 o (Err fault)
-  head_fault o text fault fresh clean is puts cause short fails =
+      → (r : Result Summary RunFault) → IsErrAnd r (λ e. e ≡ Write o.written)
+      → Runs t remaining contents c i0 i0 o0 o r
+  head_fault o text fresh clean is puts cause short (Ok s) fails = absurd fails
+  head_fault o text fresh clean is puts cause short (Err fault) fails =
       let begun : text ≡ text_before_tail t c [] = is
       ∙ sym (text_before_tail-stood t c [] 0 (zero-div (field_bytes c.system)) ∙ stood-none t c []) in
       let looks : i0.line.looked ≡ looks_of c [] = fresh.looked ∙ sym (no_looks c.system) in
@@ -71,11 +73,3 @@ module _ (t : Texts) {R W : Type 0} (remaining : R → Option (List ℕ)) (conte
       (calm_reader c i0 fresh) (calm_writer o0 clean)
       w.wrote cause fails (zero-le) looks
       (inl (refl, inside_of contents o0 o [] text (text_before_tail t c []) w begun))
-
-  -- a fault that was passed on
-  pub runs_fault : (i : Intake R) (o : Outlet W) (named : RunFault) (r : Result Summary RunFault)
-      → IsErrAnd r (λ e. e ≡ named)
-      → ((fault : RunFault) → fault ≡ named → Runs t remaining contents c i0 i o0 o (Err fault))
-      → Runs t remaining contents c i0 i o0 o r
-  runs_fault i o named (Ok s) is says = absurd is
-  runs_fault i o named (Err fault) is says = says fault is

@@ -2,7 +2,8 @@
 use Rattle.std.proofs.Common.{◌≡◌, ℕ, ◌+◌, ◌*◌, ◌≤◌, ◌<◌, inl, inr, Bool, true, false, List, ◌++◌, length, take}
 use Rattle.std.proofs.Common.{drop, sym, ap, ◌∙◌, arith, subst, cond, zero-le, add-zero, append_assoc}
 use Rattle.std.proofs.lemmas.Bool.{cond-true}
-use Rattle.std.specs.Prelude.{Option, Some, None, Ok, Err, IsTrue, ◌↔◌}
+use Rattle.std.specs.Prelude.{Option, Some, None, Result, Ok, Err, IsErrAnd, IsTrue, ◌↔◌}
+use Rattle.vbi_field.specs.declared.summary.Summary.{Summary}
 use Rattle.std.specs.Io.KnownBytes.{Consumes, Appends}
 use Rattle.std.proofs.KnownBytes.{Appends-trans, Consumes-trans}
 use Rattle.std.proofs.lemmas.List.{length-append, length-drop, length-take-le, take-append-drop}
@@ -86,28 +87,28 @@ last_field t c z b p p' at next fields row =
       begun = begun_same t c (take n z) (drop n z) both ∙ ap (text_before_tail t c) whole;
     }
 
-module _ (t : Texts) {R W : Type 0} (remaining : R → Option (List ℕ)) (contents : W → Option (List ℕ)) (c : ConfigView)
-    (i0 : Intake R) (o0 : Outlet W) where
-  -- what was taken, where the line has been read since
-  record Took (i i' : Intake R) (bytes : List ℕ) : Type 0 where
-    pub consumed : Consumes (remaining (device_of (intakes.counted_of i)))
-        (remaining (device_of (intakes.counted_of i'))) bytes
-    pub fetched : i'.fetched ≡ i.fetched + length bytes
-    pub most : (failures_of (intakes.counted_of i')).all
-        ≤ (failures_of (intakes.counted_of i)).all + tries * (length bytes + 1)
-    pub no_error : NoError (intakes.counted_of i) (intakes.counted_of i')
-    pub same : IsSameDevice (intakes.counted_of i) (intakes.counted_of i')
+-- what was taken, where the line has been read since
+record Took {R : Type 0} (remaining : R → Option (List ℕ)) (i i' : Intake R) (bytes : List ℕ) : Type 0 where
+  pub consumed : Consumes (remaining (device_of (intakes.counted_of i)))
+      (remaining (device_of (intakes.counted_of i'))) bytes
+  pub fetched : i'.fetched ≡ i.fetched + length bytes
+  pub most : (failures_of (intakes.counted_of i')).all
+      ≤ (failures_of (intakes.counted_of i)).all + tries * (length bytes + 1)
+  pub no_error : NoError (intakes.counted_of i) (intakes.counted_of i')
+  pub same : IsSameDevice (intakes.counted_of i) (intakes.counted_of i')
 
-  module _ (k : ℕ) (i filled i' : Intake R) (o : Outlet W) (p : Progress)
-      (g : Pulled t remaining contents c i0 o0 k i o p) (is_selected : Bool)
-      (selects : IsTrue is_selected ↔ ((15 ≤ p.row) × (p.row ≤ 17))) (reading : Option Reading)
-      (levels : LevelsView) (same_levels : levels ≡ c.levels) (row : TakesLine remaining i filled (Ok Full))
-      (line : ReadsLine levels is_selected filled.line i'.line reading) (reader : intakes.KeepsReader filled i')
-      (named : IsSameDevice (intakes.counted_of i) (intakes.counted_of filled)) where
+module _ {t : Texts} {R W : Type 0} {remaining : R → Option (List ℕ)} {contents : W → Option (List ℕ)} {c : ConfigView}
+    {i0 : Intake R} {o0 : Outlet W} {k : ℕ} {i : Intake R} {o : Outlet W} {p : Progress}
+    (g : Pulled t remaining contents c i0 o0 k i o p)
+    {filled i' : Intake R} {is_selected : Bool} (selects : IsTrue is_selected ↔ ((15 ≤ p.row) × (p.row ≤ 17)))
+    {reading : Option Reading} {levels : LevelsView} (same_levels : levels ≡ c.levels)
+    (row : TakesLine remaining i filled (Ok Full)) (line : ReadsLine levels is_selected filled.line i'.line reading)
+    (reader : intakes.KeepsReader filled i') (named : IsSameDevice (intakes.counted_of i) (intakes.counted_of filled))
+  where
     system : filled.line.system ≡ c.system
     system = let kept = row.kept in kept.system ∙ g.system
 
-    took : Took i i' row.bytes
+    took : Took remaining i i' row.bytes
     took =
         let got = row.got in
         let P : Counted R → Type 0 = λ d.
@@ -191,12 +192,13 @@ module _ (t : Texts) {R W : Type 0} (remaining : R → Option (List ℕ)) (conte
         }
 
     -- the entry of the field that the row ends was put in part
-    pub entry_fault : (o' : Outlet W) (p' : Progress) (fault : RunFault) → MovesOneRow c p p' → p'.row ≡ 0
+    pub entry_fault : (o' : Outlet W) (p' : Progress) → MovesOneRow c p p' → p'.row ≡ 0
         → IsProgress c (g.z ++ row.bytes) p' → ExtendsInPart t contents c o o' g.z (g.z ++ row.bytes)
         → HasCause (outlets.counted_of o) (outlets.counted_of o')
-        → fault ≡ Write o'.written
-        → k + 1 ≤ c.max_fields * height_of c.system → Runs t remaining contents c i0 i' o0 o' (Err fault)
-    entry_fault o' p' fault next first after added cause fails limit =
+        → k + 1 ≤ c.max_fields * height_of c.system → (r : Result Summary RunFault)
+        → IsErrAnd r (λ e. e ≡ Write o'.written) → Runs t remaining contents c i0 i' o0 o' r
+    entry_fault o' p' next first after added cause limit (Ok s) fails = absurd fails
+    entry_fault o' p' next first after added cause limit (Err fault) fails =
         let z : List ℕ = g.z ++ row.bytes in
         let l = length-append g.z row.bytes in
         let on = further c p p' i'.line.looked looks_after next in

@@ -46,19 +46,20 @@ module _ {W : Type 0} (contents : W → Option (List ℕ)) (c : ConfigView) (wor
     drawn = e;
   }
 
-  -- the length of a drawn line
-  long_line : (line : List ℕ) (word : Option ℕ) → line ≡ drawn_line_of c.system c.levels word
-      → length line ≡ line_bytes c.system
-  long_line line word e = ap length e ∙ length-drawn_line_of c.system c.levels word
+-- the length of a drawn line
+long_line : (c : ConfigView) (line : List ℕ) (word : Option ℕ) → line ≡ drawn_line_of c.system c.levels word
+    → length line ≡ line_bytes c.system
+long_line c line word e = ap length e ∙ length-drawn_line_of c.system c.levels word
 
+module _ {W : Type 0} {contents : W → Option (List ℕ)} {c : ConfigView} {words : WordRow} {old now : Outlet W}
+    {before : List ℕ} {row : ℕ} (p : Putting contents c words old now before row) where
   -- one row more
-  pub Putting-more : (now new : Outlet W) (before line : List ℕ) (row : ℕ) → Putting now before row
-      → line ≡ drawn_line_of c.system c.levels (word_at words row)
+  pub Putting-more : {new : Outlet W} {line : List ℕ} → line ≡ drawn_line_of c.system c.levels (word_at words row)
       → Puts contents now new line → new.written ≡ now.written + length line → NoError (counted_of now) (counted_of new)
-      → IsSameDevice (counted_of now) (counted_of new) → Putting new line (row + 1)
-  Putting-more now new before line row p e puts ok no_error same =
+      → IsSameDevice (counted_of now) (counted_of new) → Putting contents c words old new line (row + 1)
+  Putting-more {new} {line} e puts ok no_error same =
       let sizes = sizes_of c.system in
-      let long = long_line line (word_at words row) e in
+      let long = long_line c line (word_at words row) e in
       let joined : drawn_rows_of c words (row + 1) ≡ drawn_rows_of c words row ++ line
       = drawn_rows_of-more c words row ∙ ap (λ (l : List ℕ). drawn_rows_of c words row ++ l) (sym e) in
       let longer = ap length joined ∙ length-append (drawn_rows_of c words row) line in
@@ -85,11 +86,11 @@ module _ {W : Type 0} (contents : W → Option (List ℕ)) (c : ConfigView) (wor
       }
 
   -- the field is written
-  pub put_whole : (now : Outlet W) (line : List ℕ) (row : ℕ) → Putting now line row → row ≡ height_of c.system
-      → Wrote contents old now (drawn_field_of c words) × (line ≡ drawn_line_of c.system c.levels None)
+  pub put_whole : row ≡ height_of c.system
+      → Wrote contents old now (drawn_field_of c words) × (before ≡ drawn_line_of c.system c.levels None)
       × ((failures_of (counted_of now)).all ≤ (failures_of (counted_of old)).all
       + tries * (length (drawn_field_of c words) + most_rows))
-  put_whole now line row p e =
+  put_whole e =
       let whole : drawn_rows_of c words row ≡ drawn_field_of c words =
       ap (drawn_rows_of c words) e ∙ drawn_rows_of-all c words in
       let long = ap length whole in
@@ -103,14 +104,13 @@ module _ {W : Type 0} (contents : W → Option (List ℕ)) (c : ConfigView) (wor
       )
 
   -- the writer failed in this row
-  pub put_part : (now new : Outlet W) (before line : List ℕ) (row : ℕ) → Putting now before row
-      → row < height_of c.system
+  pub put_part : {new : Outlet W} {line : List ℕ} → row < height_of c.system
       → line ≡ drawn_line_of c.system c.levels (word_at words row) → (puts : Puts contents now new line)
       → new.written < now.written + length line
       → WrotePart contents old new (drawn_field_of c words)
       × ((failures_of (counted_of new)).all ≤ (failures_of (counted_of old)).all
       + tries * (length (drawn_field_of c words) + most_rows))
-  put_part now new before line row p inside e puts less =
+  put_part {new} {line} inside e puts less =
       let base = drawn_rows_of c words row in
       let split = drawn_rows_of-split c words (row + 1) (omega arith) in
       let joined : drawn_rows_of c words (row + 1) ≡ base ++ line = drawn_rows_of-more c words row

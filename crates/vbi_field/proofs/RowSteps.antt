@@ -42,56 +42,58 @@ module _ {R : Type 0} (remaining : R → Option (List ℕ)) where
         same = g.same ∙ f.same;
       }
 
-  module _ (old now new : RowIntake R) (row : List ℕ) (held : ℕ) (h : Held old now row held)
-      (inside : held < longest_row) where
-    short : length (take held row) ≡ held
-    short = length-take-le held row (omega (arith, h.long))
+module _ {R : Type 0} {remaining : R → Option (List ℕ)} {old now : RowIntake R} {row : List ℕ} {held : ℕ}
+    (h : Held remaining old now row held) (inside : held < longest_row) where
+  short : length (take held row) ≡ held
+  short = length-take-le held row (omega (arith, h.long))
 
-    module _ (byte : ℕ) (t : TakesByte remaining now new (bytes.Byte byte)) (is_newline : byte ≡ newline) where
-      with_newline : Fetches remaining old new (take held row ++ newline ∷ [])
-      with_newline =
-          let P : ℕ → Type 0 = λ b. Fetches remaining old new (take held row ++ b ∷ []) in
-          subst P is_newline (Fetches-more old now new (take held row) (byte ∷ []) h.fetches t.fetches)
+  module _ {new : RowIntake R} {byte : ℕ} (t : TakesByte remaining now new (bytes.Byte byte))
+      (is_newline : byte ≡ newline) where
+    with_newline : Fetches remaining old new (take held row ++ newline ∷ [])
+    with_newline =
+        let P : ℕ → Type 0 = λ b. Fetches remaining old new (take held row ++ b ∷ []) in
+        subst P is_newline (Fetches-more remaining old now new (take held row) (byte ∷ []) h.fetches t.fetches)
 
-      few : length (take held row ++ newline ∷ []) ≤ longest_row
-      few = omega (arith, length-append (take held row) (newline ∷ []), short)
+    few : length (take held row ++ newline ∷ []) ≤ longest_row
+    few = omega (arith, length-append (take held row) (newline ∷ []), short)
 
-      pub newline_came : (words : WordRow) → Some words ≡ word_row_of (take held row)
-          → TakesRow remaining old new (Row words)
-      newline_came words w = record {
-        bytes = take held row ++ newline ∷ [];
-        fetches = with_newline;
-        short = few;
-        most = omega (arith, h.most, t.most);
-        got = (take held row, h.plain, refl, sym w);
-        caused = t.caused ∙ h.errors;
-      }
+    pub newline_came : (words : WordRow) → Some words ≡ word_row_of (take held row)
+        → TakesRow remaining old new (Row words)
+    newline_came words w = record {
+      bytes = take held row ++ newline ∷ [];
+      fetches = with_newline;
+      short = few;
+      most = omega (arith, h.most, t.most);
+      got = (take held row, h.plain, refl, sym w);
+      caused = t.caused ∙ h.errors;
+    }
 
-      pub bad_newline_came : None ≡ word_row_of (take held row) → TakesRow remaining old new Malformed
-      bad_newline_came w = record {
-        bytes = take held row ++ newline ∷ [];
-        fetches = with_newline;
-        short = few;
-        most = omega (arith, h.most, t.most);
-        got = record { row = take held row; plain = h.plain; malformed = sym w; read_to = inl refl };
-        caused = t.caused ∙ h.errors;
-      }
+    pub bad_newline_came : None ≡ word_row_of (take held row) → TakesRow remaining old new Malformed
+    bad_newline_came w = record {
+      bytes = take held row ++ newline ∷ [];
+      fetches = with_newline;
+      short = few;
+      most = omega (arith, h.most, t.most);
+      got = record { row = take held row; plain = h.plain; malformed = sym w; read_to = inl refl };
+      caused = t.caused ∙ h.errors;
+    }
 
-  -- a row as long as a malformed one may get
-  pub too_long : (old now : RowIntake R) (row : List ℕ) → Held old now row longest_row
-      → TakesRow remaining old now Malformed
-  too_long old now row h =
-      let long = length-take-le longest_row row (omega (arith, h.long)) in
-      record {
-        bytes = take longest_row row;
-        fetches = h.fetches;
-        short = omega arith;
-        most = omega (arith, h.most);
-        got = record {
-          row = take longest_row row;
-          plain = h.plain;
-          malformed = long_row (take longest_row row) (omega arith);
-          read_to = inr (inr (refl, long));
-        };
-        caused = h.errors;
-      }
+-- a row as long as a malformed one may get
+pub too_long : {R : Type 0} {remaining : R → Option (List ℕ)} {old now : RowIntake R} {row : List ℕ}
+    → Held remaining old now row longest_row
+    → TakesRow remaining old now Malformed
+too_long {row = row} h =
+    let long = length-take-le longest_row row (omega (arith, h.long)) in
+    record {
+      bytes = take longest_row row;
+      fetches = h.fetches;
+      short = omega arith;
+      most = omega (arith, h.most);
+      got = record {
+        row = take longest_row row;
+        plain = h.plain;
+        malformed = long_row (take longest_row row) (omega arith);
+        read_to = inr (inr (refl, long));
+      };
+      caused = h.errors;
+    }

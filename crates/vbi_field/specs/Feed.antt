@@ -54,7 +54,7 @@ module _ {W : Type 0} (contents : W → Option (List ℕ)) where
     pub stands : StandsAt f []
     pub head : Wrote contents o o' (document.head c)
 
-  -- `feed`, for whatever stream z had come to the feeder's position before; it has failed afterwards where this call did
+  -- `feed`, for whatever stream z had come to the feeder's position before
   pub record Feeds (f f' : Feeding) (o o' : Outlet W) (piece : List ℕ) (result : Result (Unit {0}) RunFault) : Type 0
     where
       pub config : f'.config ≡ f.config

@@ -13,58 +13,58 @@ loop-done-init g c =
 pub loop-done-preserved : goal.loop-done-preserved
 loop-done-preserved g c =
     let e = c.in_ok-put_field-in-Row.ensures in
-    row_drawn _ _ _ _ _ _ _ _ _ c.loop-done.invariant c.next_row.new.self c.in-Row.words c.in-Row.ensures
+    row_drawn c.loop-done.invariant c.next_row.new.self c.in-Row.words c.in-Row.ensures
     (omega (arith, c.max_fields-done-end.ensures.value)) c.put_field.new.outlet
     c.put_field.new.line e.ok e.no_error e.same e.most e.black
 
 pub returns-in_err-put_field-in-Row-clause-run : goal.returns-in_err-put_field-in-Row-clause-run
 returns-in_err-put_field-in-Row-clause-run g c =
     let e = c.in_err-put_field-in-Row.ensures in
-    row_failed _ _ _ _ _ _ _ _ _ c.loop-done.invariant c.next_row.new.self c.in-Row.words c.in-Row.ensures
+    row_failed c.loop-done.invariant c.next_row.new.self c.in-Row.words c.in-Row.ensures
     (omega (arith, c.max_fields-done-end.ensures.value)) c.put_field.new.outlet _ e.part e.failed (search rules)
 
 pub returns-in_err-put_field-in-LastRow-clause-run : goal.returns-in_err-put_field-in-LastRow-clause-run
 returns-in_err-put_field-in-LastRow-clause-run g c =
     let e = c.in_err-put_field-in-LastRow.ensures in
-    last_row_failed _ _ _ _ _ _ _ _ _ c.loop-done.invariant c.next_row.new.self c.in-LastRow.words c.in-LastRow.ensures
+    last_row_failed c.loop-done.invariant c.next_row.new.self c.in-LastRow.words c.in-LastRow.ensures
     (omega (arith, c.max_fields-done-end.ensures.value)) c.put_field-in-LastRow.new.outlet _ e.part e.failed
     (search rules)
 
 pub returns-in-LastRow-clause-run : goal.returns-in-LastRow-clause-run
 returns-in-LastRow-clause-run g c =
     let e = c.in_ok-put_field-in-LastRow.ensures in
-    last_row_drawn _ _ _ _ _ _ _ _ _ c.loop-done.invariant c.next_row.new.self c.in-LastRow.words c.in-LastRow.ensures
+    last_row_drawn c.loop-done.invariant c.next_row.new.self c.in-LastRow.words c.in-LastRow.ensures
     (omega (arith, c.max_fields-done-end.ensures.value)) c.put_field-in-LastRow.new.outlet e.ok e.no_error
 
 pub returns-in-Malformed-clause-run : goal.returns-in-Malformed-clause-run
 returns-in-Malformed-clause-run g c =
-    bad_row _ _ _ _ _ _ _ _ _ c.loop-done.invariant c.next_row.new.self c.in-Malformed.ensures
+    bad_row c.loop-done.invariant c.next_row.new.self c.in-Malformed.ensures
     (omega (arith, c.max_fields-done-end.ensures.value))
 
 pub returns-in-AtEnd-clause-run : goal.returns-in-AtEnd-clause-run
 returns-in-AtEnd-clause-run g c =
-    row_ended _ _ _ _ _ _ _ _ _ c.loop-done.invariant c.next_row.new.self c.in-AtEnd.ensures
+    row_ended c.loop-done.invariant c.next_row.new.self c.in-AtEnd.ensures
     (omega (arith, c.max_fields-done-end.ensures.value))
 
 pub returns-in-Failed-clause-run : goal.returns-in-Failed-clause-run
 returns-in-Failed-clause-run g c =
-    row_read_failed _ _ _ _ _ _ _ _ _ c.loop-done.invariant c.next_row.new.self c.in-Failed.ensures
+    row_read_failed c.loop-done.invariant c.next_row.new.self c.in-Failed.ensures
     (omega (arith, c.max_fields-done-end.ensures.value))
 
 pub returns-in-AtEnd-next_byte-clause-run : goal.returns-in-AtEnd-next_byte-clause-run
 returns-in-AtEnd-next_byte-clause-run g c =
-    byte_ended _ _ _ _ _ _ _ _ _ c.loop-done.invariant c.next_byte.new.self c.in-AtEnd-next_byte.ensures _
+    byte_ended c.loop-done.invariant c.next_byte.new.self c.in-AtEnd-next_byte.ensures _
     c.max_fields.ensures.value
     (omega (arith, c.max_fields-done-end.ensures.value, c.max_fields.ensures.value))
 
 pub returns-in-Byte-clause-run : goal.returns-in-Byte-clause-run
 returns-in-Byte-clause-run g c =
-    too_many _ _ _ _ _ _ _ _ _ c.loop-done.invariant c.next_byte.new.self c.in-Byte.field-0 c.in-Byte.ensures
+    too_many c.loop-done.invariant c.next_byte.new.self c.in-Byte.field-0 c.in-Byte.ensures
     (omega (arith, c.max_fields-done-end.ensures.value))
 
 pub returns-in-Failed-next_byte-clause-run : goal.returns-in-Failed-next_byte-clause-run
 returns-in-Failed-next_byte-clause-run g c =
     let max = c.max_fields-in-Failed-next_byte.ensures in
-    byte_read_failed _ _ _ _ _ _ _ _ _ c.loop-done.invariant c.next_byte.new.self c.in-Failed-next_byte.ensures _
+    byte_read_failed c.loop-done.invariant c.next_byte.new.self c.in-Failed-next_byte.ensures _
     max.value
     (omega (arith, c.max_fields-done-end.ensures.value, max.value))

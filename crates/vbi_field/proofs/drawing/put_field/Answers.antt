@@ -20,12 +20,12 @@ put_all-requires-clause-few g c =
 
 pub returns-in-Err-clause-part : goal.returns-in-Err-clause-part
 returns-in-Err-clause-part g c =
-    (put_part _ _ _ _ _ _ _ _ c.loop-row.row c.loop-row.invariant (omega (arith, ap height_of c.system.ensures))
+    (put_part c.loop-row.invariant (omega (arith, ap height_of c.system.ensures))
     c.next_line.ensures c.put_all.ensures.puts c.in-Err.ensures.short).0
 
 pub returns-in-Err-clause-most : goal.returns-in-Err-clause-most
 returns-in-Err-clause-most g c =
-    (put_part _ _ _ _ _ _ _ _ c.loop-row.row c.loop-row.invariant (omega (arith, ap height_of c.system.ensures))
+    (put_part c.loop-row.invariant (omega (arith, ap height_of c.system.ensures))
     c.next_line.ensures c.put_all.ensures.puts c.in-Err.ensures.short).1
 
 pub returns-in-Err-clause-failed : goal.returns-in-Err-clause-failed
@@ -36,14 +36,14 @@ returns-in-Err-clause-failed g c =
 
 pub loop-row-preserved : goal.loop-row-preserved
 loop-row-preserved g c =
-    Putting-more _ _ _ _ _ _ _ _ c.loop-row.row c.loop-row.invariant c.next_line.ensures c.put_all.ensures.puts
+    Putting-more c.loop-row.invariant c.next_line.ensures c.put_all.ensures.puts
     c.in-Ok.ensures.ok
     c.in-Ok.ensures.no_error c.put_all.ensures.same
 
 pub returns : goal.returns
 returns g c =
     let whole =
-    put_whole _ _ _ _ _ _ c.loop-row.row c.loop-row.invariant (omega (arith, ap height_of c.system.ensures)) in
+    put_whole c.loop-row.invariant (omega (arith, ap height_of c.system.ensures)) in
     let v = c.loop-row.invariant in
     record {
       black = whole.1;

@@ -3,26 +3,24 @@ use Rattle.std.proofs.Math.Nat.{zero-mul, le_of_eq, le_of_lt}
 use Rattle.vbi_words.specs.Geometry.{height_of, line_bytes, field_bytes}
 use Rattle.vbi_field.proofs.Counts.{sizes_of, all_fields, rows_fit, row_fits}
 use Rattle.vbi_field.proofs.PullEnds.{ended, read_fault, too_many}
-use Rattle.vbi_field.proofs.PullFaults.{head_fault, runs_fault}
+use Rattle.vbi_field.proofs.PullFaults.{head_fault}
 use Rattle.vbi_field.proofs.PullRows.{row_came, step, entry_fault}
 use Rattle.vbi_field.proofs.Pulled.{start}
 use Rattle.vbi_field.proofs.run.run.Goals as goal
 
 pub loop-row-init : goal.loop-row-init
 loop-row-init g c =
-    start _ _ _ _ _ _ c.put.new.outlet c.new-progress.result c.as_str.result.now c.requires.intake c.requires.outlet
+    start _ g.R.Read.remaining _ c.args.config.now c.args.intake.now c.args.outlet.now c.put.new.outlet
+    c.new-progress.result c.as_str.result.now c.requires.intake c.requires.outlet
     (c.as_str.ensures.value ∙ c.head.ensures) c.as_str.ensures.fits c.in_ok-put.ensures.puts
     c.in_ok-put.ensures.ok c.in_ok-put.ensures.no_error c.in_ok-put.ensures.same c.new-progress.ensures.fields
     c.new-progress.ensures.row c.new-progress.ensures.readings
 
 pub returns-in_err-put-clause-run : goal.returns-in_err-put-clause-run
 returns-in_err-put-clause-run g c =
-    runs_fault g.F.Form.texts g.R.Read.remaining g.W.Write.contents c.args.config.now c.args.intake.now
-    c.args.outlet.now
-    c.args.intake.now c.put.new.outlet _ c.from_residual.result (search rules) (λ fault fails.
-    head_fault _ g.R.Read.remaining _ _ _ _ _ c.as_str.result.now fault c.requires.intake c.requires.outlet
-    (c.as_str.ensures.value ∙ c.head.ensures) c.in_err-put.ensures.puts c.in_err-put.ensures.failed
-    c.in_err-put.ensures.short fails)
+    head_fault _ g.R.Read.remaining _ c.args.config.now c.args.intake.now _ _ c.as_str.result.now c.requires.intake
+    c.requires.outlet (c.as_str.ensures.value ∙ c.head.ensures) c.in_err-put.ensures.puts c.in_err-put.ensures.failed
+    c.in_err-put.ensures.short c.from_residual.result (search rules)
 
 pub loop-row-preserved : goal.loop-row-preserved
 loop-row-preserved g c =
@@ -31,23 +29,20 @@ loop-row-preserved g c =
     let same = c.in_ok-fill_line.ensures.same in
     let reads = c.read_line-reading.ensures.reads in
     let reader = c.read_line-reading.ensures.reader in
-    let came = row_came _ _ _ _ _ _ _ _ _ _ _ _ v _ (search rules) _ c.levels.result c.levels.ensures t reads reader
+    let came = row_came v (search rules) c.levels.ensures t reads reader
     same in
     let last : c.loop-row.row + 1 ≤ c.args.config.now.max_fields * height_of c.args.config.now.system =
     omega (arith, c.row_limit-row-end.ensures.value) in
     let e = c.in_ok-add_row-in-Full.ensures in
-    step _ _ _ _ _ _ _ _ _ _ _ _ v _ (search rules) _ c.levels.result c.levels.ensures t reads reader same
+    step v (search rules) c.levels.ensures t reads reader same
     c.add_row.new.outlet c.add_row.new.self e.next e.rises (e.adds v.z t.bytes v.at came) e.no_error e.same last
 
 pub returns-in_err-fill_line-clause-run : goal.returns-in_err-fill_line-clause-run
 returns-in_err-fill_line-clause-run g c =
     let last : c.loop-row.row ≤ c.args.config.now.max_fields * height_of c.args.config.now.system =
     omega (arith, c.row_limit-row-end.ensures.value) in
-    runs_fault g.F.Form.texts g.R.Read.remaining g.W.Write.contents c.args.config.now c.args.intake.now
-    c.args.outlet.now
-    c.fill_line.new.intake c.loop-row.outlet _ c.from_residual-in_err-fill_line.result (search rules)
-    (λ fault fails.
-    read_fault _ _ _ _ _ _ _ _ _ _ _ c.loop-row.invariant _ c.in_err-fill_line.ensures.takes fault last fails)
+    read_fault c.loop-row.invariant c.in_err-fill_line.ensures.takes last c.from_residual-in_err-fill_line.result
+    (search rules)
 
 pub returns-in_err-add_row-in-Full-clause-run : goal.returns-in_err-add_row-in-Full-clause-run
 returns-in_err-add_row-in-Full-clause-run g c =
@@ -56,18 +51,14 @@ returns-in_err-add_row-in-Full-clause-run g c =
     let same = c.in_ok-fill_line.ensures.same in
     let reads = c.read_line-reading.ensures.reads in
     let reader = c.read_line-reading.ensures.reader in
-    let came = row_came _ _ _ _ _ _ _ _ _ _ _ _ v _ (search rules) _ c.levels.result c.levels.ensures t reads reader
+    let came = row_came v (search rules) c.levels.ensures t reads reader
     same in
     let last : c.loop-row.row + 1 ≤ c.args.config.now.max_fields * height_of c.args.config.now.system =
     omega (arith, c.row_limit-row-end.ensures.value) in
     let e = c.in_err-add_row-in-Full.ensures in
     let added = e.adds v.z t.bytes v.at came in
-    runs_fault g.F.Form.texts g.R.Read.remaining g.W.Write.contents c.args.config.now c.args.intake.now
-    c.args.outlet.now
-    c.read_line-reading.new.intake c.add_row.new.outlet _ c.from_residual-in_err-add_row-in-Full.result (search rules)
-    (λ fault fails.
-    entry_fault _ _ _ _ _ _ _ _ _ _ _ _ v _ (search rules) _ c.levels.result c.levels.ensures t reads reader same
-    c.add_row.new.outlet c.add_row.new.self fault e.next e.field added.0 added.1 e.failed fails last)
+    entry_fault v (search rules) c.levels.ensures t reads reader same c.add_row.new.outlet c.add_row.new.self e.next
+    e.field added.0 added.1 e.failed last c.from_residual-in_err-add_row-in-Full.result (search rules)
 
 pub returns-in-Ended-clause-run : goal.returns-in-Ended-clause-run
 returns-in-Ended-clause-run g c =
@@ -80,7 +71,7 @@ returns-in-Ended-clause-run g c =
     let within = row_fits c.args.config.now.system c.loop-row.row c.args.config.now.max_fields c.in-Ended.bytes before
     (le_of_lt short) in
     let e = c.end.ensures in
-    ended _ _ _ _ _ _ _ _ _ _ _ _ v c.in-Ended.bytes t _ _ _ refl c.rest-rest.ensures within
+    ended v c.in-Ended.bytes t refl c.rest-rest.ensures within
     c.looked.ensures e.puts _
     e.written e.no_error e.ok e.failed e.short e.fault
 
@@ -99,8 +90,8 @@ returns-in-Ended-eq0-clause-run g c =
     ≤ c.args.config.now.max_fields * field_bytes c.args.config.now.system =
     omega (arith, c.in-Ended-eq0.field-0-test) in
     let e = c.end-in-Ended-eq0.ensures in
-    ended _ _ _ _ _ _ _ _ _ _ _ _ v c.in-Ended-eq0.field-0
-    (rw c.in-Ended-eq0.is at c.in_ok-fill_line-2.ensures.takes) _ _ _
+    ended v c.in-Ended-eq0.field-0
+    (rw c.in-Ended-eq0.is at c.in_ok-fill_line-2.ensures.takes)
     refl (rw none (omega (arith, zero-mul (line_bytes c.args.config.now.system), c.in-Ended-eq0.field-0-test))) within
     c.looked-in-Ended-eq0.ensures e.puts _
     e.written e.no_error e.ok e.failed e.short e.fault
@@ -109,12 +100,8 @@ pub returns-in_err-fill_line-2-clause-run : goal.returns-in_err-fill_line-2-clau
 returns-in_err-fill_line-2-clause-run g c =
     let last : c.loop-row.row ≡ c.args.config.now.max_fields * height_of c.args.config.now.system =
     omega (arith, c.row_limit-row-end.ensures.value) in
-    runs_fault g.F.Form.texts g.R.Read.remaining g.W.Write.contents c.args.config.now c.args.intake.now
-    c.args.outlet.now
-    c.fill_line-2.new.intake c.loop-row.outlet _ c.from_residual-in_err-fill_line-2.result (search rules)
-    (λ fault fails.
-    read_fault _ _ _ _ _ _ _ _ _ _ _ c.loop-row.invariant _ c.in_err-fill_line-2.ensures.takes fault (le_of_eq last)
-    fails)
+    read_fault c.loop-row.invariant c.in_err-fill_line-2.ensures.takes (le_of_eq last)
+    c.from_residual-in_err-fill_line-2.result (search rules)
 
 pub returns-in-Ended-2-clause-run : goal.returns-in-Ended-2-clause-run
 returns-in-Ended-2-clause-run g c =
@@ -122,7 +109,7 @@ returns-in-Ended-2-clause-run g c =
     let got = t.got in
     let last : c.loop-row.row ≡ c.args.config.now.max_fields * height_of c.args.config.now.system =
     omega (arith, c.row_limit-row-end.ensures.value) in
-    too_many _ _ _ _ _ _ _ _ _ _ _ c.loop-row.invariant _ t last (omega (arith, got.count_of))
+    too_many c.loop-row.invariant t last (omega (arith, got.count_of))
     (omega (arith, got.short)) got.no_error
 
 pub returns-in-Full-2-clause-run : goal.returns-in-Full-2-clause-run
@@ -132,5 +119,5 @@ returns-in-Full-2-clause-run g c =
     let sizes = sizes_of c.loop-row.intake.line.system in
     let last : c.loop-row.row ≡ c.args.config.now.max_fields * height_of c.args.config.now.system =
     omega (arith, c.row_limit-row-end.ensures.value) in
-    too_many _ _ _ _ _ _ _ _ _ _ _ c.loop-row.invariant _ t last (omega (arith, got.whole)) (le_of_eq got.whole)
+    too_many c.loop-row.invariant t last (omega (arith, got.whole)) (le_of_eq got.whole)
     got.no_error

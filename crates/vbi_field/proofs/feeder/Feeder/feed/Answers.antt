@@ -11,7 +11,7 @@ pub loop-at-preserved : goal.loop-at-preserved
 loop-at-preserved g c =
     let e = c.in-Ok.ensures in
     let le : c.loop-at.at ≤ length c.args.piece.now = omega (arith, c.loop-at-test.true) in
-    taken_more _ _ c.loop-at.self-inside _ _ _ _ _ _ c.loop-at.invariant refl _ _ _ c.take_bytes.ensures.step
+    taken_more c.loop-at.invariant refl c.take_bytes.new.outlet _ _ _ c.take_bytes.ensures.step
     c.in-Ok.count
     c.in-Ok.is le e.some.1 e.same e.stand e.rises e.no_error
 
@@ -24,23 +24,20 @@ returns-in-Err-clause-refused g c =
 
 pub returns-in-Err-clause-fault : goal.returns-in-Err-clause-fault
 returns-in-Err-clause-fault g c =
-    fault_since _ _ c.loop-at.self-inside _ c.loop-at.outlet c.take_bytes.new.outlet c.args.piece.now c.loop-at.at
-    c.loop-at.invariant
-    c.in-Err.fault c.in-Err.ensures.fault
+    fault_since c.loop-at.invariant c.take_bytes.new.outlet c.in-Err.fault c.in-Err.ensures.fault
 
 pub returns-in-Err-clause-feeds : goal.returns-in-Err-clause-feeds
 returns-in-Err-clause-feeds g c = record {
   config = search rules;
   failed = search rules;
   fed = λ z s.
-      taken_fault _ _ c.loop-at.self-inside _ c.loop-at.outlet c.take_bytes.new.outlet c.args.piece.now _ c.loop-at.at
-      c.loop-at.invariant refl
-      c.take_bytes.new.line c.take_bytes.new.progress _ c.take_bytes.ensures.step c.in-Err.fault c.in-Err.is z s;
+      taken_fault c.loop-at.invariant refl c.take_bytes.new.outlet c.take_bytes.new.line c.take_bytes.new.progress _
+      c.take_bytes.ensures.step c.in-Err.fault c.in-Err.is z s;
 }
 
 pub returns-clause-feeds : goal.returns-clause-feeds
 returns-clause-feeds g c = record {
   config = search rules;
   failed = search rules;
-  fed = λ z s. taken_whole _ _ c.loop-at.self-inside _ _ _ _ c.loop-at.invariant c.loop-at-test.false z s;
+  fed = λ z s. taken_whole c.loop-at.invariant c.loop-at-test.false z s;
 }

@@ -5,13 +5,13 @@ use Rattle.vbi_field.proofs.progress.Progress.add_row.Goals as goal
 pub returns-in_default-clause-adds : goal.returns-in_default-clause-adds
 returns-in_default-clause-adds g c = λ z b at row.
     let over = c.in_default.ensures.advances.over z b at row in
-    added_inside _ _ _ _ c.args.outlet.now _ _ _ _ at over.0 over.1
+    added_inside _ _ _ c.args.outlet.now at b over.0 over.1
 
 pub returns-in_ok-put-clause-adds : goal.returns-in_ok-put-clause-adds
 returns-in_ok-put-clause-adds g c = λ z b at row.
     let over = c.in-Some.ensures.advances.over z b at row in
     let counts = c.in-Some.ensures.field in
-    added_whole _ _ _ _ _ _ _ _ _ at over.0 counts.0 _ over.2 (c.advance.new.self.fields - 1)
+    added_whole _ _ c.args.outlet.now _ at b over.0 counts.0 _ over.2 (c.advance.new.self.fields - 1)
     (omega (arith, counts.0)) _
     (c.as_str.ensures.value ∙ c.entry.ensures) c.in_ok-put.ensures.puts c.in_ok-put.ensures.ok
 
@@ -19,7 +19,7 @@ pub returns-in_err-put-clause-adds : goal.returns-in_err-put-clause-adds
 returns-in_err-put-clause-adds g c = λ z b at row.
     let over = c.in-Some.ensures.advances.over z b at row in
     let counts = c.in-Some.ensures.field in
-    added_in_part _ _ _ _ _ _ _ _ _ at over.0 counts.0 _ over.2 (c.advance.new.self.fields - 1)
+    added_in_part _ _ c.args.outlet.now _ at b over.0 counts.0 _ over.2 (c.advance.new.self.fields - 1)
     (omega (arith, counts.0)) _
     (c.as_str.ensures.value ∙ c.entry.ensures) c.in_err-put.ensures.puts c.in_err-put.ensures.short _
     c.from_residual.ensures.0
