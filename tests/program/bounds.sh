@@ -59,6 +59,10 @@ check 'of several lines the least ratio counts' ended 0 all empty
 : > said
 held
 check 'nothing was measured' [ "$status" = 1 ]
+measured > said
+status=0
+bounded awk -f "$bench/bounds.awk" empty said > out 2> err || status=$?
+check 'a table without bounds' [ "$status" = 1 ]
 
 # The whole of it, with a stub in place of each measurement: it writes each fifth line of the file `lines`, and fails
 # where the file `fails` has its name
