@@ -157,6 +157,12 @@ manual|out|  draw     Turns|  draw     Terns
 manual|share/man/ldvbi.1|s/1000000/1000001/
 manual|share/completions/ldvbi.bash|s/extract/extrakt/
 manual|share/completions/_ldvbi|s/extract/extrakt/
+manual|share/completions/_ldvbi|s/1 to 1000000/1 to 100000/
+manual|share/completions/_ldvbi|s/            (( CURRENT == 2 )) &&/            /
+manual|share/completions/_ldvbi|/commands:#help/d
+manual|share/completions/_ldvbi-side|s/white, 0 to 65535/white, 1 to 65535/
+manual|share/completions/ldvbi.bash|s/ --max-fields --help'/ --help'; [ "${COMP_WORDS[1]}" = show ] \&\& answers="--max-fields $answers"/
+manual|share/completions/ldvbi.bash|s/\[ "$COMP_CWORD" = 2 \] &&/:;/
 manual|share/man/ldvbi-side.1|s/at most 24 lines/at most 30 lines/
 manual|share/completions/ldvbi-side.bash|s/--svg/--svgs/
 plots|out|change 170|change 171
@@ -187,26 +193,6 @@ scripts_trials|tests/scripts.sh|s/^        failed="$failed $name"/        failed
 scripts_trials|tests/scripts.sh|s/fault "no script, or/: "no script, or/
 END
 
-# turned.awk: a script with two rows of a table turned. The table begins behind the line `begin`; of its first two rows,
-# one behind the other, whose last fields differ, each gets the last field of the other.
-cat > turned.awk << 'END'
-{ line[NR] = $0 }
-END {
-    for (row = begin + 1; row < NR && line[row + 1] !~ /^[A-Z_]+$/; row++) {
-        last = index(line[row], "|") ? "[^|]*$" : "[^ ]*$"
-        place = match(line[row], last)
-        other = match(line[row + 1], last)
-        this = substr(line[row], place)
-        that = substr(line[row + 1], other)
-        if (this != that) {
-            line[row] = substr(line[row], 1, place - 1) that
-            line[row + 1] = substr(line[row + 1], 1, other - 1) this
-            break
-        }
-    }
-    for (row = 1; row <= NR; row++) print line[row]
-}
-END
 # Tables without a wanted value, by a script and the first row: all of their rows are refused, or compared with what
 # the library says. Rows of the table above turn these.
 cat > unturned << 'END'
@@ -337,9 +323,10 @@ frame() {
     [ "$(cat "$1/status")" = "$ended_with" ] && grep -qF "$2" "$1/said" && { [ "$4" = nothing ] || [ -e "$1/mark" ]; }
 }
 
-# turned TRIAL SCRIPT LINE: whether a script stops at its first failed check, where the table behind this line is turned
+# turned TRIAL SCRIPT LINE: whether a script stops at its first failed check, where two rows of the table behind this
+# line have the last field of each other (turned.awk)
 turned() {
-    awk -v begin="$3" -f turned.awk "$(find "$tests" -name "$2.sh")" > "$1/turned.sh"
+    awk -v begin="$3" -f "$here/turned.awk" "$(find "$tests" -name "$2.sh")" > "$1/turned.sh"
     alteration "$1" "$2" "tests/$(cd "$tests" && find . -name "$2.sh")" "1r $1/turned.sh
 d"
 }

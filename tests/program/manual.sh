@@ -60,9 +60,23 @@ numbers() {
         print option "|" text
     }'
 }
+# ranges: the options with a range of numbers in their texts, of lines OPTION|TEXT
+ranges() {
+    while IFS='|' read -r option text; do
+        echo "$option|$(echo "$text" | grep -o '[0-9][0-9]* to [0-9][0-9]*' | paste -s -d ' ')"
+    done | grep -v '|$' | sort -u
+}
+# ranges_of_zsh FILE: the same of the options in this file of completions
+ranges_of_zsh() {
+    sed -n "s/.*\(--[a-z-]*\)=*[}']*\[\([^]]*\)\].*/\1|\2/p" "$completions/$1" | ranges
+}
+
+# An option of one command alone has a text in the page that begins with, for example, 'Of show alone: '.
 options_of_page
-grep -v -e '--help' -e '--version' page.options | numbers > page.found
-for command in line extract show draw; do
+commands='draw extract line show'
+for command in $commands; do
+    grep -v -e '--help' -e '--version' page.options | awk -F '|' -v of="^ *Of $command alone" '
+        $2 !~ /^ *Of [a-z]+ alone/ || $2 ~ of' | numbers > page.found
     output_of $command --help | sed -n '/^Options:/,/^[A-Z][a-z]* *[a-z]*:$/p' | awk '
         /^ *-/ { if (option) print option "|" text; option = $0; text = ""; next }
         /^Example/ { exit }
@@ -70,6 +84,7 @@ for command in line extract show draw; do
         END { print option "|" text }' | tr -s ' ' | sed 's/^ //; s/[<>]//g' | sort > help.options
     grep -v -e '--help' help.options | numbers > help.found
     same "the options of the page, and those of $command"
+    sed 's/^.*\(--[a-z-]*\)[^|]*/\1/' help.options > $command.options
 done
 sed -n 's/^\(-., --[a-z]*\)|.*/\1/p' page.options > page.found
 output_of --help | sed -n '/^Options:/,/^Examples:/s/^ *\(-., --[a-z]*\).*/\1/p' | sort > help.found
@@ -80,34 +95,36 @@ section 'EXIT STATUS' | sed '/^$/d' | tr -s ' ' > page.found
 output_of --help | sed -n '/^Exit status:/,$s/^  / /p' | tr -s ' ' > help.found
 same 'the statuses of the page'
 
-# Completions: what is offered behind each of these command lines
-commands='draw extract help line show'
-options='--black --help --max-fields --meta --system --white'
-output_of --help | sed -n '/^Commands:/,/^$/s/^  \([a-z]*\) .*/\1/p' | sort | paste -s -d ' ' > help.found
+# Completions: what is offered behind each of these command lines. Behind each command these are the options of its help.
+output_of --help | sed -n '/^Commands:/,/^$/s/^  \([a-z]*\) .*/\1/p' | grep -vx help | sort | paste -s -d ' ' > help.found
 echo "$commands" > page.found
 same 'the commands that are completed'
-output_of extract --help | grep -o '^ *\(-., \)*--[a-z-]*' | grep -o -e '--.*' | sort | paste -s -d ' ' > help.found
-echo "$options" > page.found
-same 'the options that are completed'
 cat > offers << END
-ldvbi |$commands
+ldvbi |draw extract help line show
 ldvbi ex|extract
 ldvbi --v|--version
-ldvbi extract --|$options
-ldvbi show --m|--max-fields --meta
-ldvbi line --system |NTSC PAL
+ldvbi help |$commands
+ldvbi help s|show
+ldvbi help show |
+ldvbi help show s|
 ldvbi line --system=|NTSC PAL
 ldvbi line --system=P|PAL
 ldvbi draw --black 16384 --system N|NTSC
-ldvbi draw --black |
-ldvbi draw --white |
 ldvbi extract --max-fields=|
-ldvbi help s|show
 END
+for command in $commands; do
+    cat << END
+ldvbi $command --|$(cut -d '|' -f 1 $command.options | sort | paste -s -d ' ')
+ldvbi $command --m|$(cut -d '|' -f 1 $command.options | sort | grep -e '^--m' | paste -s -d ' ')
+ldvbi $command --system |NTSC PAL
+ldvbi $command --black |
+ldvbi $command --white |
+END
+done >> offers
 # What differs between the shells: bash offers all at once, zsh options behind a dash alone; the file names of zsh are
 # those of this folder.
 {
-    sed "s/^ldvbi |.*/ldvbi |--help --version $commands/" offers
+    sed "s/^ldvbi |.*/ldvbi |--help --version draw extract help line show/" offers
     printf '%s\n' 'ldvbi extract |files' 'ldvbi extract --meta |files' 'ldvbi extract --meta=s|files'
 } > bash.offers
 {
@@ -119,6 +136,11 @@ sed 's/|.*//' bash.offers | bounded bash "$here/complete.bash" "$completions/ldv
 check 'what bash offers' cmp out bash.offers
 sed 's/|.*//' zsh.offers | bounded zsh -f "$here/complete.zsh" "$completions" > out 2> err
 check 'what zsh offers' cmp out zsh.offers
+ranges_of_zsh _ldvbi > page.found
+for command in $commands; do
+    cat $command.options
+done | ranges > help.found
+same 'the ranges that zsh shows'
 
 # The page of ldvbi-side: its options, each with VALUE where it has one, the numbers in their descriptions but for
 # statuses, and the statuses; then what is offered
@@ -149,4 +171,7 @@ sed 's/|.*//' bash.offers | bounded bash "$here/complete.bash" "$completions/ldv
 check 'what bash offers behind ldvbi-side' cmp out bash.offers
 sed 's/|.*//' zsh.offers | bounded zsh -f "$here/complete.zsh" "$completions" > out 2> err
 check 'what zsh offers behind ldvbi-side' cmp out zsh.offers
+ranges_of_zsh _ldvbi-side > page.found
+sed -n 's/^ *\(-[^-][^-]*\)*\(--[a-z-]*\)/\2|/p' side.help | ranges > help.found
+same 'the ranges that zsh shows behind ldvbi-side'
 finish
