@@ -194,9 +194,9 @@ RELEASE := ldvbi-$(VERSION)
 RUST_RELEASE = $(RELEASE)-rust-$(shell uname -m)-linux
 
 # $(call packed,FOLDER,ENDING): packs this folder of dist/ to a file with this ending, and takes it away. What cargo
-# built of a crate, and where it found others on this machine, is left out.
+# built of a crate, and where it found others on this machine, is left out. All can read it, whoever packed it.
 packed = tar -C dist --sort=name --mtime="@$$(git log -1 --format=%ct)" --owner=0 --group=0 --numeric-owner \
-	    --exclude=target --exclude=.cargo -cf - $(1) | $(PACK) > dist/$(1).$(2) && rm -r dist/$(1)
+	    --mode=go+rX,go-w --exclude=target --exclude=.cargo -cf - $(1) | $(PACK) > dist/$(1).$(2) && rm -r dist/$(1)
 # Whether the last `make rust` was of the source as it is. It leaves the times of a crate that hasn't changed.
 is_rust_current = [ -e rust/ldvbi ] && \
 	    [ -z "$$(find $(SOURCES) $(wildcard rust/hand rust/*.py rust/*.sh) -type f -newer rust/ldvbi)" ]

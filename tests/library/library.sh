@@ -32,6 +32,8 @@ sed -n 's/^[a-z0-9_]* \(ldvbi_[a-z_]*\)(.*/\1/p' "$top/include/ldvbi.h" | sort >
 check 'the library gives what the header declares, and nothing else' cmp -s exported declared
 check 'the name of the library has the number of its interface' \
     sh -c "readelf -d '$built/libldvbi.so.1' | grep -q 'SONAME.*\[libldvbi.so.1\]'"
+check 'the library is bound when it is loaded' \
+    sh -c "readelf -d '$built/libldvbi.so.1' | grep -q '(FLAGS) *BIND_NOW'"
 check 'the library has no call frames, as its header says' \
     sh -c "! readelf -SW '$built/libldvbi.a' | grep -q ' \.eh_frame '"
 check 'the library has no section that it writes to' \

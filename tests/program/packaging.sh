@@ -123,6 +123,21 @@ check 'the archive of the program has what is installed' cmp found files
 sleep 1
 made_privately dist
 check 'archives made again are the same' cmp first/SHA256SUMS tree/dist/SHA256SUMS
+# Of somebody who isn't root they are the same as well: the numbers of the one who packs are in none.
+# shellcheck disable=SC2317
+made_by_another() {
+    if [ "$(id -u)" = 0 ]; then
+        chmod 711 "$work"
+        cp -a tree theirs && chown -R 65534:65534 theirs
+        bounded setpriv --reuid=65534 --regid=65534 --clear-groups env HOME=/nowhere PATH="$work/tools" \
+            make -s -C theirs dist > out 2> err
+    else
+        cp -a tree theirs && bounded env PATH="$work/tools" make -s -C theirs dist > out 2> err
+    fi
+}
+check 'make dist of one who is not root' made_by_another
+check 'their archives are the same' cmp first/SHA256SUMS theirs/dist/SHA256SUMS
+rm -rf theirs
 
 # What `make rust` leaves, as which the program stands here with a crate that has been built by cargo
 mkdir -p tree/rust/crate/src tree/rust/crate/target tree/rust/crate/.cargo
@@ -139,6 +154,9 @@ check 'the archive of its program has what is installed' cmp found files
 tar -tzf tree/dist/ldvbi-0.1.0.crate | sed '/\/$/d' | sort > found
 printf 'ldvbi-0.1.0/%s\n' Cargo.toml src/lib.rs > listed
 check 'the crate has its files, and nothing of this machine' cmp found listed
+cp tree/dist/SHA256SUMS sums
+made_privately dist
+check 'with the crate they are the same, too' cmp sums tree/dist/SHA256SUMS
 touch -d @1300000000 tree/rust/ldvbi
 made dist
 check 'nothing of it is packed that is older than its source' [ "$(wc -l < tree/dist/SHA256SUMS)" = 2 ]
@@ -214,6 +232,21 @@ status=0
 (cd tree && bounded make -s lib) < empty > out 2> err || status=$?
 check 'make of the shared library' ended 0 empty empty
 check 'its short name' [ "$(readlink tree/libldvbi.so)" = libldvbi.so.1 ]
+# How a library with a call in it is linked: bound when it is loaded, and not at all where it needs what nobody has
+# linked_with STATEMENT: makes the shared library of an archive whose call has this statement
+linked_with() {
+    rm -f tree/libldvbi.so.1 tree/libldvbi.a
+    echo "int ldvbi_absent(void); int ldvbi_call(void); int ldvbi_call(void) { $1; }" > call.c
+    bounded "${CC:-cc}" -fPIC -c -o call.o call.c && ar rc tree/libldvbi.a call.o
+    status=0
+    (cd tree && bounded make -s lib) < empty > out 2> err || status=$?
+}
+cp tree/libldvbi.a kept.a
+linked_with 'return 0'
+check 'the library is bound when it is loaded' sh -c "readelf -d tree/libldvbi.so.1 | grep -q '(FLAGS) *BIND_NOW'"
+linked_with 'return ldvbi_absent()'
+check 'no library that needs what nobody has' [ "$status $(grep -c 'undefined reference to .ldvbi_absent' err)" = '2 1' ]
+cp kept.a tree/libldvbi.a
 
 # What is built is built anew after a change of any of its sources, and after no other change.
 # changed FILE: makes this file the latest of the copy, behind those that are built
