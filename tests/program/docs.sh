@@ -194,6 +194,18 @@ check 'they are of examples/say.c' shows examples/say.c < out
 in_rust=$(grep -o 'classify(read[^`]*' "$top/README.md")
 check 'what README has of Rust is of examples/rust' grep -qF "${in_rust:-none}" "$top/examples/rust/src/main.rs"
 
+# The pages for callers: their example is a caller that is proved, and each public function has a row
+for crate in vbi_words vbi_line; do
+    page=$top/crates/$crate/CALLING.md
+    sed -n '/^```rust$/,/^```$/{/^```/d;p;}' "$page" > out
+    check "$crate/CALLING.md has an example" [ -s out ]
+    check 'it is one that is proved' shows crates/vbi_line_tests/src/calling.rt < out
+    sed -n '/^| `/s/^| \([^|]*\)|.*/\1/p' "$page" | grep -o '`[^`]*`' | tr -d '`' | sed 's/.*:://' | sort -u > found
+    find "$top/crates/$crate/src" -name '*.rt' ! -name laws.rt -exec grep -ho 'pub fn [a-z_]*' {} + |
+        sed 's/pub fn //' | sort -u > functions
+    check 'it has a row for each public function' cmp found functions
+done
+
 # The examples of the manual page, one script; the last line that it prints is of the drawn field
 mandoc -T ascii -O width=200 "$top/share/man/ldvbi.1" | sed 's/.'"$(printf '\010')"'//g' |
     sed -n '/^EXAMPLES/,/^DIAGNOSTICS/s/^           //p' > page.sh

@@ -6,6 +6,8 @@
 #[cfg(test)]
 mod buffers;
 #[cfg(test)]
+mod calling;
+#[cfg(test)]
 mod cases;
 #[cfg(test)]
 mod classes;
