@@ -27,7 +27,7 @@ module _ {R : Type 0} where
   abbrev pub held_of : Intake R → List ℕ
   held_of i = i.line.held
 
-  -- an intake that hasn't called its reader
+  -- an intake that has fetched no byte and looked at no sample, and whose reader hasn't failed
   pub record IsFresh (i : Intake R) (s : System) : Type 0 where
     pub system : i.line.system ≡ s
     pub held : i.line.held ≡ []
