@@ -210,10 +210,10 @@ SENTENCES = {
         "| Lines of a field | {height_of, n} | {height_of, p} |",
         "| Bytes of a line | {line_bytes, n} | {line_bytes, p} |",
         "| Bytes of a field | {field_bytes, n} | {field_bytes, p} |",
-        "| Fewest samples of a half cell (own) | {least_half n} | {least_half p} |",
-        "| Most samples of a half cell (own) | {greatest_half n} | {greatest_half p} |",
+        "| Fewest samples of a half cell (own) | {half_min n} | {half_min p} |",
+        "| Most samples of a half cell (own) | {half_max n} | {half_max p} |",
         "| Column at which a drawn word starts (own) | {start_of n} | {start_of p} |",
-        "is one half cell long or two: {least_half n} to {greatest_half n} columns or",
+        "is one half cell long or two: {half_min n} to {half_max n} columns or",
     ],
     "docs/FORMATS.md": [
         "they must be the system's: {width_of n} and {height_of n}, or {width_of p} and {height_of p} |",
@@ -230,12 +230,12 @@ SENTENCES = {
     HEADER: [
         "525 lines; {width_of n} samples to a line, {height_of n} lines to a field",
         "625 lines; {width_of p} samples to a line, {height_of p} lines to a field",
-        "may have {least_half n} to {greatest_half n} samples, read as PAL {least_half p} to {greatest_half p}.",
+        "may have {half_min n} to {half_max n} samples, read as PAL {half_min p} to {half_max p}.",
         "1. Take at most {width_of n} samples.",
         "and take the rest, or the first {width_of n} of it.",
         "leave out nothing, and take its first {width_of n} samples.",
         "3. Fill up to {width_of n} samples with black",
-        "keeps its {least_half n} to {greatest_half n} samples.",
+        "keeps its {half_min n} to {half_max n} samples.",
     ],
     PAGE: [
         "It reads the bytes of one line ({line_bytes n} for NTSC, {line_bytes p} for PAL)",

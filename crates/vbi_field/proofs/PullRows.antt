@@ -9,7 +9,7 @@ use Rattle.std.proofs.KnownBytes.{Appends-trans, Consumes-trans}
 use Rattle.std.proofs.lemmas.List.{length-append, length-drop, length-take-le, take-append-drop}
 use Rattle.std.proofs.Math.Nat.{le_of_eq, le_trans, zero-mul, mul-le-mul_right}
 use Rattle.vbi_words.specs.Geometry.{width_of, height_of, line_bytes, field_bytes}
-use Rattle.vbi_words.specs.Levels.{LevelsView, row_levels}
+use Rattle.vbi_words.specs.Levels.{Slicing, row_levels}
 use Rattle.vbi_words.specs.declared.system.System.{System}
 use Rattle.vbi_words.specs.declared.system.System.TheVariants.{Pal}
 use Rattle.vbi_words.specs.declared.outcome.Reading.{Reading}
@@ -101,7 +101,7 @@ module _ {t : Texts} {R W : Type 0} {remaining : R → Option (List ℕ)} {conte
     {i0 : Intake R} {o0 : Outlet W} {k : ℕ} {i : Intake R} {o : Outlet W} {p : Progress}
     (g : Pulled t remaining contents c i0 o0 k i o p)
     {filled i' : Intake R} {is_selected : Bool} (selects : IsTrue is_selected ↔ ((15 ≤ p.row) × (p.row ≤ 17)))
-    {reading : Option Reading} {levels : LevelsView} (same_levels : levels ≡ c.levels)
+    {reading : Option Reading} {levels : Slicing} (same_levels : levels ≡ c.levels)
     (row : TakesLine remaining i filled (Ok Full)) (line : ReadsLine levels is_selected filled.line i'.line reading)
     (reader : intakes.KeepsReader filled i') (named : IsSameDevice (intakes.counted_of i) (intakes.counted_of filled))
   where

@@ -3,7 +3,7 @@ use Rattle.std.specs.Prelude.{◌≡◌, ℕ, ◌+◌, ◌*◌, ◌<◌, ◌≤�
 use Rattle.std.specs.Prelude.{Result, Ok, Err}
 use Rattle.std.specs.Io.KnownBytes.{Consumes, IsAtEnd}
 use Rattle.vbi_words.specs.Geometry.{width_of, line_bytes}
-use Rattle.vbi_words.specs.Levels.{LevelsView, row_levels}
+use Rattle.vbi_words.specs.Levels.{Slicing, row_levels}
 use Rattle.vbi_words.specs.declared.outcome.Reading.{Reading}
 use Rattle.vbi_line.specs.OneReading.{reading_of}
 use Rattle.vbi_line.specs.Counted.{tries, device_of, failures_of, NoError, HasCause}
@@ -51,7 +51,7 @@ module _ {R : Type 0} (remaining : R → Option (List ℕ)) (old new : Intake R)
 
 -- the line that was held has this reading and each of its samples was looked at once, if it is selected; else there is
 -- no reading; it is held no longer
-pub record ReadsLine (levels : LevelsView) (is_selected : Bool) (old new : Line) (reading : Option Reading) : Type 0
+pub record ReadsLine (levels : Slicing) (is_selected : Bool) (old new : Line) (reading : Option Reading) : Type 0
   where
     pub shows : reading ≡ (if is_selected then Some (reading_of old.system (row_levels levels old.held)) else None)
     pub looked : new.looked ≡ old.looked + (if is_selected then width_of old.system else 0)

@@ -6,7 +6,7 @@ use Rattle.vbi_words.specs.declared.outcome.Outcome.TheVariants.{Word}
 use Rattle.vbi_words.specs.declared.format.Format.{Format}
 use Rattle.vbi_words.specs.declared.format.Format.TheVariants.{Cav, Clv, Both, Neither}
 use Rattle.vbi_words.specs.Geometry.{name_of, width_of, height_of}
-use Rattle.vbi_words.specs.Levels.{LevelsView}
+use Rattle.vbi_words.specs.Levels.{Slicing}
 use Rattle.vbi_words.specs.Outcomes.{word_of}
 use Rattle.vbi_words.specs.CodeTable.{code_of}
 use Rattle.vbi_words.specs.Formats.{format_of_lines}
@@ -15,7 +15,7 @@ use Rattle.vbi_field.specs.CodeTexts.{hex_text_of, code_text_of}
 use Rattle.vbi_field.specs.CauseTexts.{cause_text_of}
 
 -- the first line
-unfoldable pub report_head_of : System → LevelsView → List ℕ
+unfoldable pub report_head_of : System → Slicing → List ℕ
 report_head_of system slicing =
     codes "system " ++ name_of system ++ codes " " ++ decimal (width_of system) ++ codes "x"
     ++ decimal (height_of system)

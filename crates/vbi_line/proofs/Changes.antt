@@ -5,7 +5,7 @@ use Rattle.std.specs.Int.{bit_at}
 use Rattle.std.proofs.lemmas.Bool.{cases_lt}
 use Rattle.std.proofs.lemmas.Nat.Bits.{bit_at-lt, bit_at_xor}
 use Rattle.vbi_words.specs.declared.system.System.{System}
-use Rattle.vbi_words.specs.Geometry.{greatest_half}
+use Rattle.vbi_words.specs.Geometry.{half_max}
 use Rattle.vbi_line.specs.Packing.{level_of_bit, EqualBits}
 use Rattle.vbi_line.specs.Straight.{IsBitRun, IsHalf, IsOneRun, IsTwoRuns, ReachesMiddle}
 use Rattle.vbi_line.proofs.Packs.{bit_behind, low_bit}
@@ -79,21 +79,21 @@ run_found word place zeros bits inside =
 -- cell's end on, for so many
 pub record Found (system : System) (word first far end rest : ℕ) : Type 0 where
   pub near : EqualBits (changes_of word) 0 false first
-  pub behind : EqualBits (changes_of word) (greatest_half system) false far
+  pub behind : EqualBits (changes_of word) (half_max system) false far
   pub later : EqualBits (changes_of word) end false rest
-  pub is_end : ((1 + first ≤ greatest_half system) × (end ≡ 1 + first))
-      ⊎ ((greatest_half system < 1 + first) × (end ≡ (greatest_half system + 1 + far) / 2))
+  pub is_end : ((1 + first ≤ half_max system) × (end ≡ 1 + first))
+      ⊎ ((half_max system < 1 + first) × (end ≡ (half_max system + 1 + far) / 2))
   pub half : IsHalf system end
   pub other_half : IsHalf system (1 + rest)
-  pub whole : end + (1 + rest) ≡ greatest_half system + 1 + far
-  pub short : greatest_half system ≤ 22
+  pub whole : end + (1 + rest) ≡ half_max system + 1 + far
+  pub short : half_max system ≤ 22
 
 module _ {system : System} {word first far end rest : ℕ} (found : Found system word first far end rest) where
   -- the columns to the next middle
   abbrev columns : ℕ
-  columns = greatest_half system + 1 + far
+  columns = half_max system + 1 + far
 
-  one_run : greatest_half system < 1 + first → end ≡ columns / 2 → IsOneRun system word columns
+  one_run : half_max system < 1 + first → end ≡ columns / 2 → IsOneRun system word columns
   one_run long e = (
     run_of_bits word 0 columns (omega arith) none last,
     omega (arith, found.half.0, found.other_half.0, found.whole),
@@ -104,19 +104,19 @@ module _ {system : System} {word first far end rest : ℕ} (found : Found system
       none i l = elim (cases_lt i first) [
         | inl before ↦ found.near.each i before
         | inr behind ↦
-            let j : ℕ = i - greatest_half system in
-            let place : 0 + i ≡ greatest_half system + j = omega arith in
+            let j : ℕ = i - half_max system in
+            let place : 0 + i ≡ half_max system + j = omega arith in
             ap (level_of_bit (changes_of word)) place ∙ found.behind.each j (omega arith)
       ]
 
       last : level_of_bit (changes_of word) (0 + (columns - 1)) ≡ false → ⊥
       last e =
-          let place : greatest_half system + far ≡ 0 + (columns - 1) = omega arith in
-          let inside : greatest_half system + far < 64
+          let place : half_max system + far ≡ 0 + (columns - 1) = omega arith in
+          let inside : half_max system + far < 64
           = omega (arith, found.short, found.half.1, found.other_half.1, found.whole) in
           found.behind.ends inside (ap (level_of_bit (changes_of word)) place ∙ e)
 
-  two_runs : 1 + first ≤ greatest_half system → end ≡ 1 + first → IsTwoRuns system word end columns
+  two_runs : 1 + first ≤ half_max system → end ≡ 1 + first → IsTwoRuns system word end columns
   two_runs near e =
       let inside : 0 + first < 64 = omega (arith, found.short) in
       let later : end + rest < 64 = omega (arith, found.short, found.half.1, found.other_half.1) in

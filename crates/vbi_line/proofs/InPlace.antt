@@ -7,7 +7,7 @@ use Rattle.std.proofs.lemmas.List.{get_or-map}
 use Rattle.std.proofs.lemmas.List.FromFn.{get_or-map-range_with_len, length-map-range_with_len}
 use Rattle.std.proofs.lemmas.Nat.{or_lt, pow-add, pow_pos}
 use Rattle.std.proofs.lemmas.Nat.Bits.{bit_at_above}
-use Rattle.vbi_words.specs.Levels.{LevelsView, is_high_of, level_at}
+use Rattle.vbi_words.specs.Levels.{Slicing, is_high_of, level_at}
 use Rattle.vbi_line.specs.Line.{sample_at}
 use Rattle.vbi_line.specs.Packing.{level_of_bit, levels_in, TellsAbove}
 use Rattle.vbi_line.proofs.Packs.{bit_behind, joined, joined_below, joined_inside}
@@ -81,7 +81,7 @@ module _ (levels : List Bool) (column count word : ℕ) (here : length levels �
       let more = length-map-range_with_len (level_of_bit word) 0 count in
       omega (arith, length-append levels (levels_in count word), more, here)
 
-  pub sliced_with_word : (slicing : LevelsView) (bytes : List ℕ) (low : ℕ) → Sliced slicing bytes levels
+  pub sliced_with_word : (slicing : Slicing) (bytes : List ℕ) (low : ℕ) → Sliced slicing bytes levels
       → ((sample : ℕ) → is_high_of slicing sample ≡ nat_lt low sample) → TellsAbove low bytes column count word
       → Sliced slicing bytes (levels ++ levels_in count word)
   sliced_with_word slicing bytes low sliced test tells =

@@ -7,7 +7,7 @@ use Rattle.std.proofs.Math.ListN.{replicate, take}
 use Rattle.std.proofs.lemmas.Bool.{cond_both, and_cases, leb-false, eqb-false}
 use Rattle.vbi_words.specs.declared.system.System.{System}
 use Rattle.vbi_words.specs.declared.outcome.Outcome.TheVariants.{Word}
-use Rattle.vbi_words.specs.Geometry.{least_half, greatest_half}
+use Rattle.vbi_words.specs.Geometry.{half_min, half_max}
 use Rattle.vbi_words.specs.Levels.{level_at}
 use Rattle.vbi_words.specs.Outcomes.{IsOutcome}
 use Rattle.vbi_words.specs.Words.{IsWord, lowest_bits}
@@ -24,7 +24,7 @@ use Rattle.vbi_line.specs.Runs.{IsRun}
 use Rattle.vbi_line.specs.Straight.{IsBitRun, IsHalf, ReachesMiddle, IsMiddle}
 use Rattle.vbi_line.proofs.Ending.{whole}
 use Rattle.vbi_line.proofs.RunLoop.{run_levels}
-use Rattle.vbi_line.proofs.Sizes.{greatest_half-le}
+use Rattle.vbi_line.proofs.Sizes.{half_max-le}
 use Rattle.vbi_line.proofs.Steps.{begun_top}
 
 -- a level that isn't this one is the other
@@ -38,14 +38,14 @@ module _ (system : System) where
   -- ---- the limit of a run from the middle of a cell
 
   limit_before : (v : Bool) (n : ℕ) (bits : List Bool) → length bits < 24
-      → limit_of system (second v n bits) ≡ Some (greatest_half system + greatest_half system)
+      → limit_of system (second v n bits) ≡ Some (half_max system + half_max system)
   limit_before v n bits few = limit_cases (sizes_of system)
-      (λ o. o ≡ Some (greatest_half system + greatest_half system)) v n bits
+      (λ o. o ≡ Some (half_max system + half_max system)) v n bits
       (λ _. refl) (λ all _. absurd (omega arith)) (λ all _. absurd (omega arith))
 
   limit_high : (n : ℕ) (bits : List Bool) → length bits ≡ 24
-      → limit_of system (second true n bits) ≡ Some (greatest_half system)
-  limit_high n bits full = limit_cases (sizes_of system) (λ o. o ≡ Some (greatest_half system)) true n bits
+      → limit_of system (second true n bits) ≡ Some (half_max system)
+  limit_high n bits full = limit_cases (sizes_of system) (λ o. o ≡ Some (half_max system)) true n bits
       (λ few. absurd (omega arith)) (λ _ _. refl) (λ _ low. let e : true ≡ false = low in cc)
 
   limit_low : (n : ℕ) (bits : List Bool) → length bits ≡ 24 → limit_of system (second false n bits) ≡ None
@@ -69,7 +69,7 @@ module _ (system : System) where
     odd = λ long _. absurd (omega (arith, half.1));
   })
 
-  turn_double : (v : Bool) (n : ℕ) (bits : List Bool) → 2 * least_half system ≤ n → length bits < 24
+  turn_double : (v : Bool) (n : ℕ) (bits : List Bool) → 2 * half_min system ≤ n → length bits < 24
       → turn_of system (second v n bits) ≡ second (not v) 1 (bits ++ not v ∷ [])
   turn_double v n bits long few =
       let apart = (apart_of system).apart in
@@ -96,13 +96,13 @@ module _ (system : System) where
     odd = λ long _. absurd (omega (arith, half.1));
   })
 
-  turn_first : (v : Bool) (n : ℕ) (bits : List Bool) → least_half system ≤ n
+  turn_first : (v : Bool) (n : ℕ) (bits : List Bool) → half_min system ≤ n
       → turn_of system (first v n bits) ≡ second (not v) 1 (bits ++ not v ∷ [])
   turn_first v n bits long =
       half_cases (sizes_of system) (λ s. s ≡ second (not v) 1 (bits ++ not v ∷ [])) n
       (second (not v) 1 (bits ++ not v ∷ [])) (λ _. refl) (λ short. absurd (omega arith))
 
-  turn_lead : (n : ℕ) → least_half system ≤ n → turn_of system (lead n) ≡ second true 1 (true ∷ [])
+  turn_lead : (n : ℕ) → half_min system ≤ n → turn_of system (lead n) ≡ second true 1 (true ∷ [])
   turn_lead n long =
       half_cases (sizes_of system) (λ s. s ≡ second true 1 (true ∷ [])) n (second true 1 (true ∷ []))
       (λ _. refl) (λ short. absurd (omega arith))
@@ -132,7 +132,7 @@ module _ (system : System) where
 
   -- ---- the first middle
 
-  module _ {levels : List Bool} {n : ℕ} (run : IsRun levels 0 false n) (long : least_half system ≤ n)
+  module _ {levels : List Bool} {n : ℕ} (run : IsRun levels 0 false n) (long : half_min system ≤ n)
       (inside : n < length levels) where
     -- the column behind the lows
     behind_lows : 0 + n ≡ n
@@ -171,11 +171,11 @@ module _ (system : System) where
         behind_within run (second level 1 bits) middle.turned (λ e. cc) m limit (omega (arith, one_more n run.some))
         ∙ ap (λ (k : ℕ). second level k bits) (one_more n run.some)
 
-    one_run : {n : ℕ} → IsRun levels column level n → length bits < 24 → 2 * least_half system ≤ n
-        → n ≤ 2 * greatest_half system → column + n < length levels
+    one_run : {n : ℕ} → IsRun levels column level n → length bits < 24 → 2 * half_min system ≤ n
+        → n ≤ 2 * half_max system → column + n < length levels
         → IsMiddle system levels (column + n) (bits ++ level_at levels (column + n) ∷ [])
     one_run {n} run few long short inside =
-        let there = after_middle run (greatest_half system + greatest_half system) (limit_before level 1 bits few)
+        let there = after_middle run (half_max system + half_max system) (limit_before level 1 bits few)
         (omega arith) in
         let next : level_at levels (column + n) ≡ not level
         = other level (level_at levels (column + n)) (run.ends inside) in
@@ -194,13 +194,13 @@ module _ (system : System) where
         → IsMiddle system levels ((column + a) + b) (bits ++ level_at levels ((column + a) + b) ∷ [])
     two_runs {a} {b} run more few half other_half inside =
         let end : ℕ = (column + a) + b in
-        let there = after_middle run (greatest_half system + greatest_half system) (limit_before level 1 bits few)
+        let there = after_middle run (half_max system + half_max system) (limit_before level 1 bits few)
         (omega (arith, half.1)) in
         let begun : next_of system (state_at system levels (column + a)) (not level) ≡ first (not level) 1 bits
         = ap (λ (s : State). next_of system s (not level)) there ∙ changed level _ _
         ∙ turn_single level a bits half few in
         let behind : state_at system levels ((column + a) + b) ≡ first (not level) b bits
-        = behind_within more (first (not level) 1 bits) begun (λ e. cc) (greatest_half system) refl
+        = behind_within more (first (not level) 1 bits) begun (λ e. cc) (half_max system) refl
         (omega (arith, one_more b more.some, other_half.1))
         ∙ ap (λ (k : ℕ). first (not level) k bits) (one_more b more.some) in
         let next : level_at levels ((column + a) + b) ≡ not (not level)
@@ -239,7 +239,7 @@ module _ (system : System) where
           middle.turned in
           let highs : IsRun levels column true n = subst (λ (x : Bool). IsRun levels column x n) high run in
           let there : state_at system levels (column + n) ≡ second true n bits
-          = behind_within highs (second true 1 bits) begun (λ e. cc) (greatest_half system) (limit_high 1 bits full)
+          = behind_within highs (second true 1 bits) begun (λ e. cc) (half_max system) (limit_high 1 bits full)
           (omega (arith, one_more n run.some, half.1))
           ∙ ap (λ (k : ℕ). second true k bits) (one_more n run.some) in
           let turned : next_of system (state_at system levels (column + n)) false ≡ tail bits
@@ -250,15 +250,15 @@ module _ (system : System) where
 
   -- ---- the word
 
-  ends_second : (n : ℕ) (bits : List Bool) → length bits ≡ 24 → least_half system ≤ n
+  ends_second : (n : ℕ) (bits : List Bool) → length bits ≡ 24 → half_min system ≤ n
       → ending_of system (second false n bits) ≡ Some bits
   ends_second n bits full long =
       let count : Bool = eqb (length bits) 24 in
-      let enough : Bool = leb (least_half system) n in
+      let enough : Bool = leb (half_min system) n in
       cond_both (count && enough) (Some bits) None (λ o. o ≡ Some bits) (λ _. refl)
       (λ e. elim (and_cases count enough e) [
         | inl a ↦ absurd (eqb-false (length bits) 24 a full)
-        | inr b ↦ absurd (omega (arith, leb-false (least_half system) n b))
+        | inr b ↦ absurd (omega (arith, leb-false (half_min system) n b))
       ])
 
   module _ (levels : List Bool) (w : ℕ) (few : w < 2 ^ 24) where
@@ -269,7 +269,7 @@ module _ (system : System) where
         let range : IsWord w = (begun_top w fit.1, few) in
         (range, word_outcome system levels w range (ap (ending_of system) e))
 
-    word_of_second : (n : ℕ) → least_half system ≤ n → state_after system levels ≡ second false n (lowest_bits 24 w)
+    word_of_second : (n : ℕ) → half_min system ≤ n → state_after system levels ≡ second false n (lowest_bits 24 w)
         → IsWord w × IsOutcome system levels (Word w)
     word_of_second n long e =
         let fit : IsFit system (second false n (lowest_bits 24 w))
@@ -286,7 +286,7 @@ module _ (system : System) where
     full = length-lowest_bits 24 w
 
     pub low_word : (n : ℕ) → level_at levels column ≡ false → IsRun levels column (level_at levels column) n
-        → least_half system ≤ n → column + n ≡ length levels → IsWord w × IsOutcome system levels (Word w)
+        → half_min system ≤ n → column + n ≡ length levels → IsWord w × IsOutcome system levels (Word w)
     low_word n low run long all = word_of_second levels w few n long (low_end middle full low run all)
 
     pub high_word : (n m : ℕ) → level_at levels column ≡ true → IsRun levels column (level_at levels column) n
@@ -324,7 +324,7 @@ module _ (system : System) where
         → IsMiddle system levels (column + columns) (bits ++ level_at levels (column + columns) ∷ [])
     reached {bits} columns middle few reaches inside = elim reaches [
       | inl one ↦
-          let run = run_there one.0 (omega (arith, one.2, greatest_half-le system)) (omega arith) in
+          let run = run_there one.0 (omega (arith, one.2, half_max-le system)) (omega arith) in
           let here : column + 0 ≡ column = omega arith in
           let first_run : IsRun levels column (level_at levels column) columns
           = subst (λ (k : ℕ). IsRun levels k (level_at levels k) columns) here run in
@@ -332,7 +332,7 @@ module _ (system : System) where
       | inr (a, less, two) ↦
           let half = two.1 in
           let other_half = two.3 in
-          let most = greatest_half-le system in
+          let most = half_max-le system in
           let here : column + 0 ≡ column = omega arith in
           let run = run_there two.0 (omega (arith, half.1)) (omega arith) in
           let first_run : IsRun levels column (level_at levels column) a

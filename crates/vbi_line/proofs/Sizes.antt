@@ -2,7 +2,7 @@
 use Rattle.std.proofs.Common.{◌≤◌, lit≤}
 use Rattle.vbi_words.specs.declared.system.System.{System}
 use Rattle.vbi_words.specs.declared.system.System.TheVariants.{Ntsc, Pal}
-use Rattle.vbi_words.specs.Geometry.{line_bytes, greatest_half}
+use Rattle.vbi_words.specs.Geometry.{line_bytes, half_max}
 pub use Rattle.vbi_words.proofs.LineSizes.{line_bytes-twice}
 
 -- a line fits the buffer
@@ -11,6 +11,6 @@ line_bytes-le Ntsc = lit≤ tt
 line_bytes-le Pal = lit≤ tt
 
 -- two half cells fit a word
-pub greatest_half-le : (s : System) → greatest_half s ≤ 22
-greatest_half-le Ntsc = lit≤ tt
-greatest_half-le Pal = lit≤ tt
+pub half_max-le : (s : System) → half_max s ≤ 22
+half_max-le Ntsc = lit≤ tt
+half_max-le Pal = lit≤ tt

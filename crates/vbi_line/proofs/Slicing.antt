@@ -11,7 +11,7 @@ use Rattle.std.proofs.lemmas.Simd.{tops_compared, zip2_splat_left, mask_l-mod, m
 use lib.Lanes.{zip2, mask_l, top}
 use mir.Val.{bits, hbits}
 use mir.Syntax.{w16}
-use Rattle.vbi_words.specs.Levels.{LevelsView, is_high_of, samples_of, row_levels, level_at}
+use Rattle.vbi_words.specs.Levels.{Slicing, is_high_of, samples_of, row_levels, level_at}
 use Rattle.vbi_words.specs.Geometry.{width_of}
 use Rattle.vbi_line.specs.Line.{Line, sample_at, KeepsBytes, LooksAtBlock, IsNextBlock}
 use Rattle.vbi_line.specs.Line.{IsNextBlockAt, IsNextSample, IsNextSampleAt}
@@ -86,10 +86,10 @@ sample_of (low ∷ high ∷ bytes) (suc k) l =
     ∙ ap (λ (i : ℕ). get_or (low ∷ high ∷ bytes) (2 * suc k) 0 + 256 * get_or (low ∷ high ∷ bytes) i 0) (sym odd)
 
 -- these are the levels of the row's first samples
-abbrev pub Sliced : LevelsView → List ℕ → List Bool → Type 0
+abbrev pub Sliced : Slicing → List ℕ → List Bool → Type 0
 Sliced slicing held levels = (k : ℕ) → k < length levels → level_at levels k ≡ is_high_of slicing (sample_at held k)
 
-pub sliced_more : (slicing : LevelsView) (held : List ℕ) (levels more : List Bool) → Sliced slicing held levels
+pub sliced_more : (slicing : Slicing) (held : List ℕ) (levels more : List Bool) → Sliced slicing held levels
     → ((k : ℕ) → k < length more → level_at more k ≡ is_high_of slicing (sample_at held (length levels + k)))
     → Sliced slicing held (levels ++ more)
 sliced_more slicing held levels more sliced new k l = elim (cases_lt k (length levels)) [
@@ -102,7 +102,7 @@ sliced_more slicing held levels more sliced new k l = elim (cases_lt k (length l
       ∙ ap (λ (i : ℕ). is_high_of slicing (sample_at held i)) (sym place)
 ]
 
-pub sliced_all : (slicing : LevelsView) (held : List ℕ) (levels : List Bool) (width : ℕ) → length held ≡ 2 * width
+pub sliced_all : (slicing : Slicing) (held : List ℕ) (levels : List Bool) (width : ℕ) → length held ≡ 2 * width
     → length levels ≡ width → Sliced slicing held levels → levels ≡ row_levels slicing held
 sliced_all slicing held levels width full long sliced =
     let samples : List ℕ = samples_of held in
@@ -129,7 +129,7 @@ line_ended old new cursor before at gives =
     (subst (λ (cursors : List ℕ). IsNextSampleAt cursors old None new) at gives).0
 
 -- a pass that gave as many samples as there are levels gives a block, and the levels of the block are added
-module _ (slicing : LevelsView) (levels : List Bool) (low : ℕ) {first old new : Line} {before block : List ℕ}
+module _ (slicing : Slicing) (levels : List Bool) (low : ℕ) {first old new : Line} {before block : List ℕ}
     {more : List Bool} (bytes : KeepsBytes first old) (gives : LooksAtBlock old (length levels) before block new)
     (are : more ≡ above low block) where
   pub length-block : length more ≡ 16

@@ -2,7 +2,7 @@
 -- file.
 use Rattle.std.specs.Prelude.{◌≡◌, ◌≢◌, ℕ, ◌+◌, ◌-◌, ◌*◌, ◌<◌, ◌≤◌, ◌⊎◌, Bool, List, length}
 use Rattle.vbi_words.specs.declared.system.System.{System}
-use Rattle.vbi_words.specs.Geometry.{least_half, greatest_half}
+use Rattle.vbi_words.specs.Geometry.{half_min, half_max}
 use Rattle.vbi_words.specs.Levels.{level_at}
 use Rattle.vbi_words.proofs.Machine.{second}
 use Rattle.vbi_words.proofs.SystemMachine.{next_of, state_at}
@@ -16,12 +16,12 @@ pub record IsBitRun (word place count : ℕ) : Type 0 where
 
 -- as many columns as a half cell may have
 abbrev pub IsHalf : System → ℕ → Type 0
-IsHalf system count = (least_half system ≤ count) × (count ≤ greatest_half system)
+IsHalf system count = (half_min system ≤ count) × (count ≤ half_max system)
 
 -- a run of two half cells
 abbrev pub IsOneRun : System → ℕ → ℕ → Type 0
 IsOneRun system word columns =
-    IsBitRun word 0 columns × (2 * least_half system ≤ columns) × (columns ≤ 2 * greatest_half system)
+    IsBitRun word 0 columns × (2 * half_min system ≤ columns) × (columns ≤ 2 * half_max system)
 
 -- two runs of one half cell each, the first of which is this long
 abbrev pub IsTwoRuns : System → ℕ → ℕ → ℕ → Type 0

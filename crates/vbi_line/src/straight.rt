@@ -2,7 +2,7 @@
 //! processor foresees. It finds the word of most lines that show one, and no cause.
 
 ghost use Rattle.std.specs.Prelude.{◌≡◌, ℕ, ◌+◌, ◌*◌, ◌/◌, ◌^◌, ◌<◌, ◌≤◌, ◌⊎◌, [], ◌∷◌, ◌++◌, true, IfSome};
-ghost use Rattle.vbi_words.specs.Geometry.{greatest_half};
+ghost use Rattle.vbi_words.specs.Geometry.{half_max};
 ghost use Rattle.vbi_words.specs.Levels.{level_at};
 ghost use Rattle.vbi_words.specs.Outcomes.{IsOutcome};
 ghost use Rattle.vbi_words.specs.Words.{lowest_bits};

@@ -7,7 +7,7 @@ use Rattle.std.proofs.lemmas.Bool.{cases_order}
 use Rattle.std.specs.Prelude.{not}
 use Rattle.vbi_words.specs.declared.system.System.{System}
 use Rattle.vbi_words.specs.declared.system.System.TheVariants.{Ntsc, Pal}
-use Rattle.vbi_words.specs.Geometry.{least_half, greatest_half}
+use Rattle.vbi_words.specs.Geometry.{half_min, half_max}
 use Rattle.vbi_words.specs.Shows.{Shows}
 use Rattle.vbi_words.specs.Distance.{differs, differences, least_distance}
 use Rattle.vbi_words.proofs.Bits
@@ -368,7 +368,7 @@ module _ {sizes : Sizes} (ok : AreApart sizes) (d : ℕ) (gap : d + sizes.greate
 
 -- ---- words
 
-gap_of : (system : System) → least_distance system + greatest_half system ≤ least_half system + least_half system
+gap_of : (system : System) → least_distance system + half_max system ≤ half_min system + half_min system
 gap_of Ntsc = omega arith
 gap_of Pal = omega arith
 

@@ -8,7 +8,7 @@ use Rattle.std.proofs.lemmas.List.Concat.{flat_map-append}
 use Rattle.std.proofs.lemmas.List.FromFn.{length-map-range_with_len, map-range_with_len_more}
 use Rattle.vbi_words.specs.declared.system.System.{System}
 use Rattle.vbi_words.specs.Geometry.{width_of, line_bytes}
-use Rattle.vbi_words.specs.Levels.{LevelsView, samples_of, levels_of, row_levels}
+use Rattle.vbi_words.specs.Levels.{Slicing, samples_of, levels_of, row_levels}
 use Rattle.vbi_words.specs.Words.{IsWordOrNone}
 use Rattle.vbi_words.specs.Readings.{IsReading}
 use Rattle.vbi_words.specs.Drawn.{drawn_sample_of, drawn_row_of, sample_bytes, drawn_line_of, drawn_reading}
@@ -31,7 +31,7 @@ samples_back (s ∷ samples) =
     ap (λ (v : ℕ). v ∷ samples_of (flat_map sample_bytes samples)) whole
     ∙ ap (λ (l : List ℕ). s ∷ l) (samples_back samples)
 
-pub length-drawn_line_of : (system : System) (slicing : LevelsView) (word : Option ℕ)
+pub length-drawn_line_of : (system : System) (slicing : Slicing) (word : Option ℕ)
     → length (drawn_line_of system slicing word) ≡ line_bytes system
 unfolding drawn_line_of drawn_row_of
 length-drawn_line_of system slicing word =
@@ -39,7 +39,7 @@ length-drawn_line_of system slicing word =
     ∙ ap (λ (n : ℕ). 2 * n) (length-map-range_with_len (drawn_sample_of system slicing word) 0 (width_of system))
     ∙ sym (line_bytes-twice system)
 
-pub samples_of-drawn_line_of : (system : System) (slicing : LevelsView) (word : Option ℕ)
+pub samples_of-drawn_line_of : (system : System) (slicing : Slicing) (word : Option ℕ)
     → samples_of (drawn_line_of system slicing word) ≡ drawn_row_of system slicing word
 unfolding drawn_line_of
 samples_of-drawn_line_of system slicing word = samples_back (drawn_row_of system slicing word)
@@ -47,12 +47,12 @@ samples_of-drawn_line_of system slicing word = samples_back (drawn_row_of system
 -- ---- column by column
 
 -- the bytes of the first columns
-abbrev pub first_columns : System → LevelsView → Option ℕ → ℕ → List ℕ
+abbrev pub first_columns : System → Slicing → Option ℕ → ℕ → List ℕ
 first_columns system slicing word n =
     flat_map sample_bytes (map (drawn_sample_of system slicing word) (range_with_len 0 n))
 
 -- one column more
-pub one_column : (system : System) (slicing : LevelsView) (word : Option ℕ) (line : List ℕ) (column s : ℕ)
+pub one_column : (system : System) (slicing : Slicing) (word : Option ℕ) (line : List ℕ) (column s : ℕ)
     → 2 * column + 1 < length line → s ≡ drawn_sample_of system slicing word column
     → take (2 * column) line ≡ first_columns system slicing word column
     → take (2 * (column + 1)) (set (set line (2 * column) (s % 256)) (2 * column + 1) (s / 256))
@@ -72,7 +72,7 @@ one_column system slicing word line column s inside is before =
     ∙ sym (flat_map-append sample_bytes (map f (range_with_len 0 column)) (f column ∷ []))
     ∙ ap (flat_map sample_bytes) (sym (map-range_with_len_more f 0 column column (zero-add column)))
 
-pub all_columns : (system : System) (slicing : LevelsView) (word : Option ℕ) (line : List ℕ)
+pub all_columns : (system : System) (slicing : Slicing) (word : Option ℕ) (line : List ℕ)
     → length line ≡ line_bytes system
     → take (2 * width_of system) line ≡ first_columns system slicing word (width_of system)
     → line ≡ drawn_line_of system slicing word
@@ -83,7 +83,7 @@ all_columns system slicing word line long all =
 -- ---- readings
 
 -- a drawn row is read as its word
-pub drawn_reads : (system : System) (slicing : LevelsView) (word : Option ℕ) → slicing.black < slicing.white
+pub drawn_reads : (system : System) (slicing : Slicing) (word : Option ℕ) → slicing.black < slicing.white
     → IsWordOrNone word
     → IsReading system (row_levels slicing (drawn_line_of system slicing word)) (drawn_reading word)
 drawn_reads system slicing word order is =

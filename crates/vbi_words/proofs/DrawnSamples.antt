@@ -10,7 +10,7 @@ use Rattle.std.proofs.lemmas.List.{ext_get_or}
 use Rattle.std.proofs.lemmas.Bool.{and_parts, leb-true, ltb-true, le-leb, lt-ltb}
 use Rattle.vbi_words.specs.declared.system.System.{System}
 use Rattle.vbi_words.specs.Geometry.{width_of}
-use Rattle.vbi_words.specs.Levels.{LevelsView}
+use Rattle.vbi_words.specs.Levels.{Slicing}
 use Rattle.vbi_words.specs.Words.{halves_of}
 use Rattle.vbi_words.specs.Drawn.{boundary, is_drawn_in, is_drawn_high, drawn_sample_of, drawn_row_of}
 use Rattle.vbi_words.specs.Drawn.{IsDrawnHigh, IsDrawnSample, IsDrawnRow}
@@ -51,27 +51,27 @@ low_there system word column h d =
 
 -- ---- samples
 
-sample_by : (system : System) (slicing : LevelsView) (word column s : ℕ) (b : Bool)
+sample_by : (system : System) (slicing : Slicing) (word column s : ℕ) (b : Bool)
     → list_any (is_drawn_in system word column) (range_with_len 0 48) ≡ b
     → IsDrawnSample system slicing (Some word) column s → s ≡ cond b slicing.white slicing.black
 sample_by system slicing word column s true e h = h.0 (high_there system word column e)
 sample_by system slicing word column s false e h = h.1 (low_there system word column e)
 
 -- such a sample is the drawn one
-pub drawn_sample_is : (system : System) (slicing : LevelsView) (word : Option ℕ) (column s : ℕ)
+pub drawn_sample_is : (system : System) (slicing : Slicing) (word : Option ℕ) (column s : ℕ)
     → IsDrawnSample system slicing word column s → s ≡ drawn_sample_of system slicing word column
 unfolding drawn_sample_of is_drawn_high
 drawn_sample_is system slicing None column s h = h
 drawn_sample_is system slicing (Some word) column s h = sample_by system slicing word column s _ refl h
 
-sample_from : (system : System) (slicing : LevelsView) (word column : ℕ) (b : Bool)
+sample_from : (system : System) (slicing : Slicing) (word column : ℕ) (b : Bool)
     → list_any (is_drawn_in system word column) (range_with_len 0 48) ≡ b
     → IsDrawnSample system slicing (Some word) column (cond b slicing.white slicing.black)
 sample_from system slicing word column true e = (λ d. refl, λ d. absurd (d (high_there system word column e)))
 sample_from system slicing word column false e = (λ d. absurd (low_there system word column e d), λ d. refl)
 
 -- the drawn sample is such a one
-pub IsDrawnSample-drawn_sample_of : (system : System) (slicing : LevelsView) (word : Option ℕ) (column : ℕ)
+pub IsDrawnSample-drawn_sample_of : (system : System) (slicing : Slicing) (word : Option ℕ) (column : ℕ)
     → IsDrawnSample system slicing word column (drawn_sample_of system slicing word column)
 unfolding drawn_sample_of is_drawn_high
 IsDrawnSample-drawn_sample_of system slicing None column = refl
@@ -79,7 +79,7 @@ IsDrawnSample-drawn_sample_of system slicing (Some word) column = sample_from sy
 
 -- ---- rows
 
-pub is_drawn_row : (system : System) (slicing : LevelsView) (word : Option ℕ)
+pub is_drawn_row : (system : System) (slicing : Slicing) (word : Option ℕ)
     → IsDrawnRow system slicing word (drawn_row_of system slicing word)
 unfolding drawn_row_of
 is_drawn_row system slicing word = record {
@@ -94,7 +94,7 @@ is_drawn_row system slicing word = record {
 }
 
 -- there is no other such row
-pub only_drawn_row : (system : System) (slicing : LevelsView) (word : Option ℕ) (samples : List ℕ)
+pub only_drawn_row : (system : System) (slicing : Slicing) (word : Option ℕ) (samples : List ℕ)
     → IsDrawnRow system slicing word samples → samples ≡ drawn_row_of system slicing word
 unfolding drawn_row_of
 only_drawn_row system slicing word samples row =

@@ -10,8 +10,8 @@ use Rattle.std.proofs.lemmas.Bool.{lt-ltb, le-ltb, cases_order}
 use Rattle.std.specs.List.{flat_map}
 use Rattle.vbi_words.specs.declared.system.System.{System}
 use Rattle.vbi_words.specs.declared.system.System.TheVariants.{Ntsc, Pal}
-use Rattle.vbi_words.specs.Geometry.{width_of, least_half, greatest_half}
-use Rattle.vbi_words.specs.Levels.{LevelsView, is_high_of, levels_of}
+use Rattle.vbi_words.specs.Geometry.{width_of, half_min, half_max}
+use Rattle.vbi_words.specs.Levels.{Slicing, is_high_of, levels_of}
 use Rattle.vbi_words.specs.Words.{IsWord, halves_of, lowest_bits, cell_of}
 use Rattle.vbi_words.specs.Shows.{Shows, Spells}
 use Rattle.vbi_words.specs.Jitter.{ShowsAmply}
@@ -24,8 +24,8 @@ use Rattle.vbi_words.proofs.Runs.{equal_from}
 -- ---- the boundaries
 
 -- with two columns to spare
-gaps_of : (system : System) (j : ℕ) → (least_half system + 2 + boundary system j ≤ boundary system (j + 1))
-    × (boundary system (j + 1) ≤ boundary system j + (greatest_half system - 2))
+gaps_of : (system : System) (j : ℕ) → (half_min system + 2 + boundary system j ≤ boundary system (j + 1))
+    × (boundary system (j + 1) ≤ boundary system j + (half_max system - 2))
 gaps_of Ntsc j = omega arith
 gaps_of Pal j = omega arith
 
@@ -75,7 +75,7 @@ module _ (system : System) (s : List Bool) (after : ℕ) (long : length s ≡ wi
       (subst (λ (m : ℕ). begin m ≤ k) e low) (subst (λ (m : ℕ). k < begin (m + 1)) e high)
 
   spelled : (halves : List Bool) (j : ℕ) → j + length halves ≡ 48 → HasHalves halves j
-      → (drawn : List Bool) × Spells (least_half system + 2) (greatest_half system - 2) halves drawn
+      → (drawn : List Bool) × Spells (half_min system + 2) (half_max system - 2) halves drawn
       × (drop (begin j) s ≡ drawn ++ replicate after false)
   spelled [] j e each = ([], refl, ap (λ (k : ℕ). drop (begin k) s) (sym (add-zero j) ∙ e) ∙ behind)
   spelled (h ∷ halves) j e each =
@@ -102,12 +102,12 @@ amply_shows system levels word s = record {
   before = s.before;
   drawn = s.drawn;
   after = s.after;
-  spelled = spells_wider (least_half system + 2) (greatest_half system - 2) (least_half system) (greatest_half system)
+  spelled = spells_wider (half_min system + 2) (half_max system - 2) (half_min system) (half_max system)
       (omega arith) (omega arith) (halves_of word) s.drawn s.spelled;
   whole = s.whole;
 }
 
-module _ (system : System) (slicing : LevelsView) (word : ℕ) (order : slicing.black < slicing.white) (samples : List ℕ)
+module _ (system : System) (slicing : Slicing) (word : ℕ) (order : slicing.black < slicing.white) (samples : List ℕ)
     (row : IsDrawnRow system slicing (Some word) samples) where
   -- the row's levels
   abbrev levels : List Bool
@@ -210,7 +210,7 @@ module _ (system : System) (slicing : LevelsView) (word : ℕ) (order : slicing.
       }
 
 -- the drawn row of no word has no high level
-module _ (system : System) (slicing : LevelsView) (order : slicing.black < slicing.white) (samples : List ℕ)
+module _ (system : System) (slicing : Slicing) (order : slicing.black < slicing.white) (samples : List ℕ)
     (row : IsDrawnRow system slicing None samples) where
   none_low : AllLow (levels_of slicing samples)
   none_low = All-from_get_or (λ level. level ≡ false) (levels_of slicing samples) false low
@@ -224,19 +224,19 @@ module _ (system : System) (slicing : LevelsView) (order : slicing.black < slici
 
 -- ---- the drawn row itself
 
-pub row_amply : (system : System) (slicing : LevelsView) (word : ℕ) → slicing.black < slicing.white → IsWord word
+pub row_amply : (system : System) (slicing : Slicing) (word : ℕ) → slicing.black < slicing.white → IsWord word
     → ShowsAmply system (levels_of slicing (drawn_row_of system slicing (Some word))) word
 row_amply system slicing word order is_word =
     drawn_amply system slicing word order (drawn_row_of system slicing (Some word))
     (is_drawn_row system slicing (Some word)) is_word
 
-pub row_shows : (system : System) (slicing : LevelsView) (word : ℕ) → slicing.black < slicing.white → IsWord word
+pub row_shows : (system : System) (slicing : Slicing) (word : ℕ) → slicing.black < slicing.white → IsWord word
     → Shows system (levels_of slicing (drawn_row_of system slicing (Some word))) word
 row_shows system slicing word order is_word =
     amply_shows system (levels_of slicing (drawn_row_of system slicing (Some word))) word
     (row_amply system slicing word order is_word)
 
-pub row_low : (system : System) (slicing : LevelsView) → slicing.black < slicing.white
+pub row_low : (system : System) (slicing : Slicing) → slicing.black < slicing.white
     → AllLow (levels_of slicing (drawn_row_of system slicing None))
 row_low system slicing order =
     none_low system slicing order (drawn_row_of system slicing None) (is_drawn_row system slicing None)

@@ -6,7 +6,7 @@ use Rattle.std.proofs.lemmas.Bool.{cond_both, cases_order, eqb-true, and_parts}
 use Rattle.vbi_words.specs.declared.system.System.{System}
 use Rattle.vbi_words.specs.declared.outcome.Outcome.{Outcome}
 use Rattle.vbi_words.specs.declared.outcome.Outcome.TheVariants.{Word, Blank, Unfinished, Change, Hold}
-use Rattle.vbi_words.specs.Geometry.{least_half}
+use Rattle.vbi_words.specs.Geometry.{half_min}
 use Rattle.vbi_words.specs.Shows.{Viable}
 use Rattle.vbi_words.specs.Levels.{level_at}
 use Rattle.vbi_words.specs.Outcomes.{FirstHopeless, Holds, IsOutcome}
@@ -74,9 +74,9 @@ ended_bits : (system : System) (state : State) (bits : List Bool) → IsFit syst
 ended_bits system (lead n) bits fit e = cc
 ended_bits system (first v n done) bits fit e = cc
 ended_bits system (second v n done) bits fit e =
-    cond_both (full && leb (least_half system) n) (Some done) None (λ o. o ≡ Some bits → WordBits bits)
+    cond_both (full && leb (half_min system) n) (Some done) None (λ o. o ≡ Some bits → WordBits bits)
     (λ t f. let same : done ≡ bits = cc in
-    let all : length done ≡ 24 = eqb-true (length done) 24 (and_parts full (leb (least_half system) n) t).0 in
+    let all : length done ≡ 24 = eqb-true (length done) 24 (and_parts full (leb (half_min system) n) t).0 in
     subst WordBits same (all, fit.3))
     (λ t f. cc) e
   where

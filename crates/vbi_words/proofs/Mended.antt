@@ -6,7 +6,7 @@ use Rattle.std.proofs.lemmas.List.{length-append}
 use Rattle.std.specs.List.{flat_map}
 use Rattle.vbi_words.specs.declared.system.System.{System}
 use Rattle.vbi_words.specs.declared.system.System.TheVariants.{Ntsc, Pal}
-use Rattle.vbi_words.specs.Geometry.{least_half, greatest_half}
+use Rattle.vbi_words.specs.Geometry.{half_min, half_max}
 use Rattle.vbi_words.specs.Words.{IsWord, halves_of, cell_of}
 use Rattle.vbi_words.specs.Smooth.{smooth_of}
 use Rattle.vbi_words.specs.Shows.{Shows}
@@ -35,8 +35,8 @@ pub mend : (system : System) (drawn levels : List Bool) (word : ℕ) → ShowsAm
     → IsBlurred drawn levels → Mended system levels word
 mend system drawn levels word s blurred =
     let sizes = sizes_fit system in
-    let r = whole_goes drawn levels blurred (least_half system + 2) (greatest_half system - 2)
-    (least_half system) (greatest_half system) sizes.0 (omega arith) sizes.1 (halves_of word) s.drawn s.before s.after
+    let r = whole_goes drawn levels blurred (half_min system + 2) (half_max system - 2)
+    (half_min system) (half_max system) sizes.0 (omega arith) sizes.1 (halves_of word) s.drawn s.before s.after
     s.lows (begins_low word s.is_word) s.spelled s.whole in
     let x = r.0 in
     let rest : List Bool = x.drawn ++ replicate x.after false in
@@ -61,6 +61,6 @@ mend system drawn levels word s blurred =
       same = λ none. r.1 ∙ ap (λ (t : List Bool). replicate s.before false ++ t) (x.whole none);
     }
   where
-    sizes_fit : (system : System) → (6 ≤ least_half system + 2) × (greatest_half system - 2 + 2 ≤ greatest_half system)
+    sizes_fit : (system : System) → (6 ≤ half_min system + 2) × (half_max system - 2 + 2 ≤ half_max system)
     sizes_fit Ntsc = (omega arith, omega arith)
     sizes_fit Pal = (omega arith, omega arith)

@@ -6,7 +6,7 @@ use Rattle.std.proofs.lemmas.Bool.{cases_order}
 use Rattle.std.proofs.lemmas.List.{replicate-append-replicate}
 use Rattle.vbi_words.specs.declared.system.System.{System}
 use Rattle.vbi_words.specs.declared.system.System.TheVariants.{Ntsc, Pal}
-use Rattle.vbi_words.specs.Geometry.{least_half, greatest_half}
+use Rattle.vbi_words.specs.Geometry.{half_min, half_max}
 use Rattle.vbi_words.specs.Words.{halves_of}
 use Rattle.vbi_words.specs.Shows.{Shows, Spells}
 use Rattle.vbi_words.specs.Jitter.{NoneAlone}
@@ -86,9 +86,9 @@ lows_beside lo hi two (h ∷ halves) drawn before after low (n, rest, least, mos
 pub shown_not_alone : (system : System) (levels : List Bool) (word : ℕ) → Shows system levels word → NoneAlone levels
 shown_not_alone system levels word s c =
     subst (λ (t : List Bool). Beside t c) (sym s.whole)
-    (lows_beside (least_half system) (greatest_half system) (two system) (halves_of word) s.drawn s.before s.after
+    (lows_beside (half_min system) (half_max system) (two system) (halves_of word) s.drawn s.before s.after
     (begins_low word s.is_word) s.spelled c)
   where
-    two : (system : System) → 2 ≤ least_half system
+    two : (system : System) → 2 ≤ half_min system
     two Ntsc = omega arith
     two Pal = omega arith

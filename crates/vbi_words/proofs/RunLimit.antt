@@ -6,7 +6,7 @@ use Rattle.std.proofs.Math.ListN.{replicate}
 use Rattle.std.proofs.lemmas.Bool.{cases_lt}
 use Rattle.std.specs.Prelude.{not}
 use Rattle.vbi_words.specs.declared.system.System.{System}
-use Rattle.vbi_words.specs.Geometry.{greatest_half}
+use Rattle.vbi_words.specs.Geometry.{half_max}
 use Rattle.vbi_words.specs.Shows.{Viable}
 use Rattle.vbi_words.specs.RunLimits.{EndsOtherwise, HasRunLimit}
 use Rattle.vbi_words.proofs.Sizes.{Sizes, sizes_of, apart_of}
@@ -108,7 +108,7 @@ module _ (system : System) (levels : List Bool) (v : Bool) where
       one : length_of begun ≡ 1
       one = fresh_length (sizes_of system) begun m e fresh
 
-      value : (m ≡ greatest_half system) ⊎ (m ≡ 2 * greatest_half system)
+      value : (m ≡ half_max system) ⊎ (m ≡ 2 * half_max system)
       value = elim (limit_value (sizes_of system) begun m e) [ inl a ↦ inl a | inr b ↦ inr (omega arith) ]
 
       some : 1 ≤ m

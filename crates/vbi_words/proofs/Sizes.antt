@@ -2,7 +2,7 @@
 use Rattle.std.proofs.Common.{ℕ, ◌≤◌, ◌<◌, ◌+◌, arith}
 use Rattle.vbi_words.specs.declared.system.System.{System}
 use Rattle.vbi_words.specs.declared.system.System.TheVariants.{Ntsc, Pal}
-use Rattle.vbi_words.specs.Geometry.{least_half, greatest_half}
+use Rattle.vbi_words.specs.Geometry.{half_min, half_max}
 
 -- the fewest and the most columns of a half cell, and the cells of a word
 pub record Sizes : Type 0 where
@@ -19,7 +19,7 @@ pub record AreApart (sizes : Sizes) : Type 0 where
 
 -- the sizes of a system's words
 abbrev pub sizes_of : System → Sizes
-sizes_of system = record { least = least_half system; greatest = greatest_half system; cells = 24 }
+sizes_of system = record { least = half_min system; greatest = half_max system; cells = 24 }
 
 pub apart_of : (system : System) → AreApart (sizes_of system)
 apart_of Ntsc = record { positive = omega arith; order = omega arith; apart = omega arith; some = omega arith }

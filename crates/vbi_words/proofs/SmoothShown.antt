@@ -7,7 +7,7 @@ use Rattle.std.proofs.lemmas.List.{get_or-take, get_or-drop, length-take, length
 use Rattle.std.specs.Prelude.{not}
 use Rattle.vbi_words.specs.declared.system.System.{System}
 use Rattle.vbi_words.specs.declared.system.System.TheVariants.{Ntsc, Pal}
-use Rattle.vbi_words.specs.Geometry.{least_half, greatest_half}
+use Rattle.vbi_words.specs.Geometry.{half_min, half_max}
 use Rattle.vbi_words.specs.Words.{halves_of}
 use Rattle.vbi_words.specs.Shows.{Shows, ShowsNone}
 use Rattle.vbi_words.specs.Levels.{level_at}
@@ -19,7 +19,7 @@ use Rattle.vbi_words.proofs.Runs.{not_same, equal_from}
 use Rattle.vbi_words.proofs.Smoothing.{length-smooth_of, smooth_level, four_next}
 use Rattle.vbi_words.proofs.SmoothKeeps.{between, moved, later, same_smooth}
 
-least_four : (system : System) → 4 ≤ least_half system
+least_four : (system : System) → 4 ≤ half_min system
 least_four Ntsc = omega arith
 least_four Pal = omega arith
 
@@ -28,7 +28,7 @@ least_four Pal = omega arith
 pub smooth_moves : (system : System) (levels : List Bool) (word : ℕ) (s : Shows system levels word) → 3 ≤ s.after
     → smooth_of levels ≡ replicate (s.before + 3) false ++ (s.drawn ++ replicate (s.after - 3) false)
 smooth_moves system levels word s l = ap smooth_of s.whole
-    ∙ moved (least_half system) (greatest_half system) (least_four system) (halves_of word) s.drawn s.spelled s.before
+    ∙ moved (half_min system) (half_max system) (least_four system) (halves_of word) s.drawn s.spelled s.before
     s.after l
 
 pub smooth_shows : (system : System) (levels : List Bool) (word : ℕ) (s : Shows system levels word) → 3 ≤ s.after
@@ -46,7 +46,7 @@ smooth_shows system levels word s l = record {
 smooth_later : (system : System) (levels : List Bool) (word : ℕ) → Shows system levels word
     → (last : List Bool) × (length last ≡ 3) × (replicate 3 false ++ levels ≡ smooth_of levels ++ last)
 smooth_later system levels word s =
-    let r = later (least_half system) (greatest_half system) (least_four system) (halves_of word) s.drawn s.spelled
+    let r = later (half_min system) (half_max system) (least_four system) (halves_of word) s.drawn s.spelled
     s.before s.after in
     (r.0, r.1, subst (λ (t : List Bool). replicate 3 false ++ t ≡ smooth_of t ++ r.0) (sym s.whole) r.2)
 

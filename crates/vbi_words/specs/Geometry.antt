@@ -27,14 +27,14 @@ field_bytes Ntsc = 478660
 field_bytes Pal = 710510
 
 -- the fewest samples of a half cell, which lasts one microsecond
-abbrev pub least_half : System → ℕ
-least_half Ntsc = 11
-least_half Pal = 14
+abbrev pub half_min : System → ℕ
+half_min Ntsc = 11
+half_min Pal = 14
 
 -- the most samples of a half cell: less than twice the fewest
-abbrev pub greatest_half : System → ℕ
-greatest_half Ntsc = 18
-greatest_half Pal = 22
+abbrev pub half_max : System → ℕ
+half_max Ntsc = 18
+half_max Pal = 22
 
 -- the column at which a drawn word begins
 abbrev pub start_of : System → ℕ

@@ -3,7 +3,7 @@
 use Rattle.std.specs.Prelude.{◌≡◌, ◌↔◌, ℕ, suc, zero, ◌≤◌, ◌+◌, ◌-◌, ◌⊎◌, Bool, false, List, length, ◌++◌, replicate}
 use Rattle.vbi_words.specs.declared.system.System.{System}
 use Rattle.vbi_words.specs.declared.outcome.Outcome.TheVariants.{Word}
-use Rattle.vbi_words.specs.Geometry.{least_half, greatest_half}
+use Rattle.vbi_words.specs.Geometry.{half_min, half_max}
 use Rattle.vbi_words.specs.Levels.{level_at}
 use Rattle.vbi_words.specs.Words.{IsWord, halves_of}
 use Rattle.vbi_words.specs.Shows.{Spells}
@@ -17,7 +17,7 @@ pub record ShowsAmply (system : System) (levels : List Bool) (word : ℕ) : Type
   pub drawn : List Bool
   pub after : ℕ
   pub lows : 5 ≤ after
-  pub spelled : Spells (least_half system + 2) (greatest_half system - 2) (halves_of word) drawn
+  pub spelled : Spells (half_min system + 2) (half_max system - 2) (halves_of word) drawn
   pub whole : levels ≡ replicate before false ++ (drawn ++ replicate after false)
 
 -- the levels are those of the row drawn, but perhaps in the two columns beside each change of its level: the last

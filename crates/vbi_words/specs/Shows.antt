@@ -2,7 +2,7 @@
 -- system allows.
 use Rattle.std.specs.Prelude.{◌≡◌, ℕ, ◌≤◌, Bool, false, List, [], ◌∷◌, ◌++◌, replicate}
 use Rattle.vbi_words.specs.declared.system.System.{System}
-use Rattle.vbi_words.specs.Geometry.{least_half, greatest_half}
+use Rattle.vbi_words.specs.Geometry.{half_min, half_max}
 use Rattle.vbi_words.specs.Words.{IsWord, halves_of}
 
 -- levels is each of the halves in order, each of them repeated a number of times from least to greatest
@@ -18,7 +18,7 @@ pub record Shows (system : System) (levels : List Bool) (word : ℕ) : Type 0 wh
   pub before : ℕ
   pub drawn : List Bool
   pub after : ℕ
-  pub spelled : Spells (least_half system) (greatest_half system) (halves_of word) drawn
+  pub spelled : Spells (half_min system) (half_max system) (halves_of word) drawn
   pub whole : levels ≡ replicate before false ++ (drawn ++ replicate after false)
 
 -- the levels show no word

@@ -7,7 +7,7 @@ ghost use Rattle.std.specs.List.{range_with_len};
 ghost use Rattle.vbi_words.specs.declared.system.System.{System};
 ghost use Rattle.vbi_words.specs.declared.system.System.TheVariants.{Ntsc, Pal};
 ghost use Rattle.vbi_words.specs.declared.outcome.Outcome.TheVariants.{Word, Unfinished, Change, Hold};
-ghost use Rattle.vbi_words.specs.Levels.{LevelsView, is_high_of, levels_of, level_at, samples_of, row_levels};
+ghost use Rattle.vbi_words.specs.Levels.{Slicing, is_high_of, levels_of, level_at, samples_of, row_levels};
 ghost use Rattle.vbi_words.specs.Words.{IsWord, IsWordOrNone};
 ghost use Rattle.vbi_words.specs.Shows.{Shows, ShowsNone, Viable};
 ghost use Rattle.vbi_words.specs.Outcomes.{AllLow, IsOutcome};
@@ -47,11 +47,11 @@ pub fn run_limit()
 /// A word, or none, has exactly one drawn row: white in the columns of its high half cells, black in all others. The
 /// bytes drawn are the samples of that row.
 pub fn one_drawn_row()
-    ensures is { (system : System) (slicing : LevelsView) (word : Option ℕ)
+    ensures is { (system : System) (slicing : Slicing) (word : Option ℕ)
         → IsDrawnRow system slicing word (drawn_row_of system slicing word) }
-    ensures only { (system : System) (slicing : LevelsView) (word : Option ℕ) (samples : List ℕ)
+    ensures only { (system : System) (slicing : Slicing) (word : Option ℕ) (samples : List ℕ)
         → IsDrawnRow system slicing word samples → samples ≡ drawn_row_of system slicing word }
-    ensures bytes { (system : System) (slicing : LevelsView) (word : Option ℕ)
+    ensures bytes { (system : System) (slicing : Slicing) (word : Option ℕ)
         → (length (drawn_line_of system slicing word) ≡ line_bytes system)
         × (samples_of (drawn_line_of system slicing word) ≡ drawn_row_of system slicing word) }
 {}
@@ -59,12 +59,12 @@ pub fn one_drawn_row()
 /// The row drawn for a word shows the word; the row drawn for none has no high level. So the bytes drawn are read as
 /// the word in the first pass, or as blank.
 pub fn drawn_shows()
-    ensures word { (system : System) (slicing : LevelsView) (word : ℕ)
+    ensures word { (system : System) (slicing : Slicing) (word : ℕ)
         → slicing.black < slicing.white → IsWord word
         → Shows system (levels_of slicing (drawn_row_of system slicing (Some word))) word }
-    ensures none { (system : System) (slicing : LevelsView)
+    ensures none { (system : System) (slicing : Slicing)
         → slicing.black < slicing.white → AllLow (levels_of slicing (drawn_row_of system slicing None)) }
-    ensures reading { (system : System) (slicing : LevelsView) (word : Option ℕ)
+    ensures reading { (system : System) (slicing : Slicing) (word : Option ℕ)
         → slicing.black < slicing.white → IsWordOrNone word
         → IsReading system (row_levels slicing (drawn_line_of system slicing word)) (drawn_reading word) }
 {}
@@ -74,7 +74,7 @@ pub fn drawn_shows()
 pub fn jitter_shown()
     ensures any { (system : System) (drawn levels : List Bool) (word : ℕ)
         → ShowsAmply system drawn word → IsJittered drawn levels → Shows system levels word }
-    ensures drawn { (system : System) (slicing : LevelsView) (word : ℕ) (levels : List Bool)
+    ensures drawn { (system : System) (slicing : Slicing) (word : ℕ) (levels : List Bool)
         → slicing.black < slicing.white → IsWord word
         → IsJittered (levels_of slicing (drawn_row_of system slicing (Some word))) levels → Shows system levels word }
 {}
@@ -85,7 +85,7 @@ pub fn jitter_shown()
 pub fn blur_read()
     ensures any { (system : System) (drawn levels : List Bool) (word : ℕ)
         → ShowsAmply system drawn word → IsBlurred drawn levels → ReadsWord system levels word }
-    ensures drawn { (system : System) (slicing : LevelsView) (word : ℕ) (levels : List Bool)
+    ensures drawn { (system : System) (slicing : Slicing) (word : ℕ) (levels : List Bool)
         → slicing.black < slicing.white → IsWord word
         → IsBlurred (levels_of slicing (drawn_row_of system slicing (Some word))) levels
         → ReadsWord system levels word }
@@ -98,7 +98,7 @@ pub fn glitches_read()
     ensures any { (system : System) (drawn blurred levels : List Bool) (word n : ℕ)
         → ShowsAmply system drawn word → IsBlurred drawn blurred → HasGlitches (suc n) blurred levels
         → IsReading system levels (record { outcome = Word word; pass = 2 }) }
-    ensures drawn { (system : System) (slicing : LevelsView) (word n : ℕ) (blurred levels : List Bool)
+    ensures drawn { (system : System) (slicing : Slicing) (word n : ℕ) (blurred levels : List Bool)
         → slicing.black < slicing.white → IsWord word
         → IsBlurred (levels_of slicing (drawn_row_of system slicing (Some word))) blurred
         → HasGlitches (suc n) blurred levels

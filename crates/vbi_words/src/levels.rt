@@ -1,7 +1,7 @@
 //! Black and white, and the comparison that makes a sample high or low.
 
 ghost use Rattle.std.specs.Prelude.{◌≡◌, ◌↔◌, ◌<◌, ◌≤◌, ◌^◌, IfOk};
-ghost use Rattle.vbi_words.specs.Levels.{LevelsView, is_high_of};
+ghost use Rattle.vbi_words.specs.Levels.{Slicing, is_high_of};
 
 use std::error::Error;
 use std::fmt;
@@ -16,7 +16,7 @@ pub struct Levels {
 }
 
 impl Model for Levels {
-    ghost Value = { LevelsView };
+    ghost Value = { Slicing };
 
     ghost view = { λ l. record { black = l.black; white = l.white } };
 

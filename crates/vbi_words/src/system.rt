@@ -2,7 +2,7 @@
 
 ghost use Rattle.std.specs.Prelude.{◌≡◌, ◌↔◌, Some};
 ghost use Rattle.vbi_words.specs.Geometry.{width_of, height_of, line_bytes, field_bytes};
-ghost use Rattle.vbi_words.specs.Geometry.{least_half, greatest_half, start_of, name_of, system_named};
+ghost use Rattle.vbi_words.specs.Geometry.{half_min, half_max, start_of, name_of, system_named};
 ghost use Rattle.vbi_words.specs.declared.system.System.{System};
 
 /// The bytes of the longest line, that of PAL.
@@ -66,7 +66,7 @@ impl System {
 
     /// The fewest samples of a half cell, which lasts one microsecond.
     pub fn half_min(self) -> usize
-        ensures { result ≡ least_half self }
+        ensures { result ≡ half_min self }
     {
         match self {
             System::Ntsc => 11,
@@ -76,7 +76,7 @@ impl System {
 
     /// The most samples of a half cell.
     pub fn half_max(self) -> usize
-        ensures { result ≡ greatest_half self }
+        ensures { result ≡ half_max self }
     {
         match self {
             System::Ntsc => 18,

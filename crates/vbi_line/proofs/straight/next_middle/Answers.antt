@@ -2,7 +2,7 @@ use Rattle.std.proofs.Common.{◌≡◌, ℕ, ◌+◌, ◌/◌, ◌<◌, ◌≤�
 use Rattle.vbi_line.specs.Packing.{EqualBits}
 use Rattle.vbi_line.specs.Straight.{ReachesMiddle}
 use Rattle.vbi_line.proofs.Changes.{changes_of, Found, reaches}
-use Rattle.vbi_line.proofs.Sizes.{greatest_half-le}
+use Rattle.vbi_line.proofs.Sizes.{half_max-le}
 use Rattle.vbi_line.proofs.straight.next_middle.Goals as goal
 
 pub returns-then-end-rest : goal.returns-then-end-rest
@@ -28,6 +28,6 @@ returns-then-end-rest c =
         omega (arith, c.if-rest-most.true, most.ensures),
       );
       whole = omega (arith, c.if-end-rest.true, most.ensures);
-      short = greatest_half-le system;
+      short = half_max-le system;
     } in
     subst (λ (m : ℕ). ReachesMiddle system word (m + 1 + far)) (sym most.ensures) (reaches found)

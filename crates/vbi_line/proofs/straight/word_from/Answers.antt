@@ -1,7 +1,7 @@
 use Rattle.std.proofs.Common.{◌≡◌, ℕ, ◌+◌, ◌-◌, ◌^◌, ◌<◌, ◌≤◌, Bool, List, true, false, length, sym, subst, ◌∙◌, arith}
 use Rattle.vbi_words.specs.declared.system.System.{System}
 use Rattle.vbi_words.specs.declared.outcome.Outcome.TheVariants.{Word}
-use Rattle.vbi_words.specs.Geometry.{least_half, greatest_half}
+use Rattle.vbi_words.specs.Geometry.{half_min, half_max}
 use Rattle.vbi_words.specs.Levels.{level_at}
 use Rattle.vbi_words.specs.Outcomes.{IsOutcome}
 use Rattle.vbi_words.specs.Words.{IsWord, lowest_bits}
@@ -13,7 +13,7 @@ use Rattle.vbi_line.proofs.straight.word_from.Goals as goal
 -- a run up to a column, of a level that was read, from the middle of the last cell
 module _ (system : System) (levels : List Bool) (column end bits : ℕ) (level : Bool) (few : bits < 2 ^ 24)
     (middle : IsMiddle system levels column (lowest_bits 24 bits)) (read : level ≡ level_at levels column)
-    (run : IsRun levels column level (end - column)) (long : least_half system ≤ end - column) where
+    (run : IsRun levels column level (end - column)) (long : half_min system ≤ end - column) where
   from_there : IsRun levels column (level_at levels column) (end - column)
   from_there = subst (λ (x : Bool). IsRun levels column x (end - column)) read run
 
@@ -24,7 +24,7 @@ module _ (system : System) (levels : List Bool) (column end bits : ℕ) (level :
   low_is low all =
       low_word system few middle (end - column) (sym read ∙ low) from_there long (omega (arith, place, all))
 
-  high_is : (last : ℕ) → level ≡ true → end - column ≤ greatest_half system → IsRun levels end false (last - end)
+  high_is : (last : ℕ) → level ≡ true → end - column ≤ half_max system → IsRun levels end false (last - end)
       → last ≡ length levels → IsWord bits × IsOutcome system levels (Word bits)
   high_is last high short lows all =
       high_word system few middle (end - column) (last - end) (sym read ∙ high) from_there (long, short)
