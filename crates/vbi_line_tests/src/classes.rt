@@ -4,86 +4,48 @@ use std::test::Fail;
 use vbi_test_devices::same;
 use vbi_words::{Code, Format, Word24, classify, format_of};
 
-/// Words, and the code of each. Digits differ where a number has several, so that each has its own place.
-static CODES: [(u32, Code); 31] = [
-    (0x88FFFF, Code::LeadIn),
-    (0x80EEEE, Code::LeadOut),
-    (0x82CFFF, Code::PictureStop),
-    (0x87FFFF, Code::ClvMark),
-    (0xF00000, Code::Picture(0)),
-    (0xF79999, Code::Picture(79999)),
-    (0xF12345, Code::Picture(12345)),
-    (0xF67890, Code::Picture(67890)),
-    (0xF00009, Code::Picture(9)),
-    // The top bit of the second digit doesn't count, in pictures and in chapters.
-    (0xF80000, Code::Picture(0)),
-    (0xFF9999, Code::Picture(79999)),
-    (0xF92345, Code::Picture(12345)),
-    (0xFE7890, Code::Picture(67890)),
-    (0xF80009, Code::Picture(9)),
-    (0x800DDD, Code::Chapter(0)),
-    (0x879DDD, Code::Chapter(79)),
-    (0x837DDD, Code::Chapter(37)),
-    (0x809DDD, Code::Chapter(9)),
-    (0x880DDD, Code::Chapter(0)),
-    (0x8F9DDD, Code::Chapter(79)),
-    (0x8B7DDD, Code::Chapter(37)),
-    (0x889DDD, Code::Chapter(9)),
-    (0x8DC000, Code::CxOn(0)),
-    (0x8DC0A1, Code::CxOn(0x0A1)),
-    (0x8DCABC, Code::CxOn(0xABC)),
-    (0x8DCFFF, Code::CxOn(0xFFF)),
-    (0x8BA000, Code::CxOff(0)),
-    (0x8BA123, Code::CxOff(0x123)),
-    (0x8BAFFF, Code::CxOff(0xFFF)),
-    // The least and the greatest word of all.
-    (0x800000, Code::Other),
-    (0xFFFFFF, Code::Other),
-];
+fn time(hours: u8, minutes: u8) -> Code {
+    Code::Time { hours, minutes }
+}
 
-/// Words, and the hours and minutes of each.
-static TIMES: [(u32, u8, u8); 6] = [
-    (0xF0DD00, 0, 0),
-    (0xF1DD09, 1, 9),
-    (0xF5DD37, 5, 37),
-    (0xF9DD59, 9, 59),
-    (0xF0DD99, 0, 99),
-    (0xF9DD99, 9, 99),
-];
+fn clv_picture(seconds: u8, picture: u8) -> Code {
+    Code::ClvPicture { seconds, picture }
+}
 
-/// Words, and the seconds and the picture of each.
-static CLV_PICTURES: [(u32, u8, u8); 4] = [
-    (0x8AE000, 0, 0),
-    (0x8AE712, 7, 12),
-    (0x8CE345, 23, 45),
-    (0x8FE999, 59, 99),
-];
+fn users(digit: u8, number: u16) -> Code {
+    Code::Users { digit, number }
+}
 
-/// Users' words, and the digit and the number of each.
-static USERS: [(u32, u8, u16); 6] = [
-    (0x80D000, 0, 0),
-    (0x80DEEE, 0, 0xEEE),
-    (0x82DFFF, 2, 0xFFF),
-    (0x83D0A1, 3, 0x0A1),
-    (0x85D123, 5, 0x123),
-    (0x87DDDD, 7, 0xDDD),
-];
-
+// The law `worked_codes` has a dozen words of each class.
 #[test]
 fn known_words_have_their_codes() -> Result<(), Fail> {
-    for &(value, code) in &CODES {
-        same(classify(Word24::new(value)?), code, value)?;
-    }
-    for &(value, hours, minutes) in &TIMES {
-        let code = Code::Time { hours, minutes };
-        same(classify(Word24::new(value)?), code, value)?;
-    }
-    for &(value, seconds, picture) in &CLV_PICTURES {
-        let code = Code::ClvPicture { seconds, picture };
-        same(classify(Word24::new(value)?), code, value)?;
-    }
-    for &(value, digit, number) in &USERS {
-        let code = Code::Users { digit, number };
+    for (value, code) in [
+        (0x88FFFF, Code::LeadIn),
+        (0x80EEEE, Code::LeadOut),
+        (0x82CFFF, Code::PictureStop),
+        (0x87FFFF, Code::ClvMark),
+        (0xF00000, Code::Picture(0)),
+        (0xF79999, Code::Picture(79999)),
+        // The top bit of the second digit doesn't count, in pictures and in chapters.
+        (0xF80000, Code::Picture(0)),
+        (0xF92345, Code::Picture(12345)),
+        (0xFF9999, Code::Picture(79999)),
+        (0x800DDD, Code::Chapter(0)),
+        (0x879DDD, Code::Chapter(79)),
+        (0x880DDD, Code::Chapter(0)),
+        (0x8F9DDD, Code::Chapter(79)),
+        (0xF9DD59, time(9, 59)),
+        (0xF0DD99, time(0, 99)),
+        (0x8AE712, clv_picture(7, 12)),
+        (0x8FE999, clv_picture(59, 99)),
+        (0x8DC000, Code::CxOn(0)),
+        (0x8BAFFF, Code::CxOff(0xFFF)),
+        (0x80D000, users(0, 0)),
+        (0x87DDDD, users(7, 0xDDD)),
+        // The least and the greatest word of all.
+        (0x800000, Code::Other),
+        (0xFFFFFF, Code::Other),
+    ] {
         same(classify(Word24::new(value)?), code, value)?;
     }
     Ok(())
@@ -134,63 +96,28 @@ fn words_beside_a_class_have_other_codes() -> Result<(), Fail> {
     Ok(())
 }
 
-/// The format of a field whose lines have these words, 0 standing for a line without one.
-fn format(values: [u32; 3]) -> Format {
-    let [first, second, third] = values;
-    format_of(&[
-        Word24::new(first).ok(),
-        Word24::new(second).ok(),
-        Word24::new(third).ok(),
-    ])
-}
-
-/// Words, and the format of a field that has one of them alone, on any line.
-static ALONE: [(u32, Format); 12] = [
-    (0xF12345, Format::Cav),
-    (0x82CFFF, Format::Cav),
-    (0x87FFFF, Format::Clv),
-    (0xF0DD00, Format::Clv),
-    (0x8AE712, Format::Clv),
-    (0x88FFFF, Format::Neither),
-    (0x80EEEE, Format::Neither),
-    (0x800DDD, Format::Neither),
-    (0x8DC000, Format::Neither),
-    (0x8BAFFF, Format::Neither),
-    (0x83D0A1, Format::Neither),
-    (0x800000, Format::Neither),
+/// The words of a field's three lines, 0 standing for a line without one, and its format; the law `worked_formats` has
+/// more fields.
+static FORMATS: [([u32; 3], Format); 7] = [
+    ([0, 0, 0], Format::Neither),
+    ([0x88FFFF, 0x88FFFF, 0x88FFFF], Format::Neither),
+    ([0x82CFFF, 0xF12345, 0xF12345], Format::Cav),
+    ([0, 0, 0xF12345], Format::Cav),
+    ([0xF0DD00, 0, 0], Format::Clv),
+    ([0x82CFFF, 0x87FFFF, 0], Format::Both),
+    ([0x800DDD, 0x8AE712, 0xF12345], Format::Both),
 ];
 
 #[test]
-fn one_word_on_any_line_gives_its_format() -> Result<(), Fail> {
-    for &(value, expected) in &ALONE {
-        for values in [[value, 0, 0], [0, value, 0], [0, 0, value]] {
-            same(format(values), expected, values)?;
-        }
-    }
-    Ok(())
-}
-
-#[test]
-fn codes_of_one_kind_or_none_give_it() -> Result<(), Fail> {
-    for (values, expected) in [
-        ([0, 0, 0], Format::Neither),
-        ([0x88FFFF, 0x88FFFF, 0x88FFFF], Format::Neither),
-        ([0x82CFFF, 0xF12345, 0xF12345], Format::Cav),
-        ([0x87FFFF, 0xF0DD00, 0x8AE712], Format::Clv),
-    ] {
-        same(format(values), expected, values)?;
-    }
-    Ok(())
-}
-
-#[test]
-fn codes_of_both_kinds_give_both() -> Result<(), Fail> {
-    for cav in [0xF12345, 0x82CFFF] {
-        for clv in [0x87FFFF, 0xF0DD00, 0x8AE712] {
-            for values in [[cav, clv, 0], [clv, 0, cav], [0x800DDD, cav, clv]] {
-                same(format(values), Format::Both, values)?;
-            }
-        }
+fn known_fields_have_their_formats() -> Result<(), Fail> {
+    for &(words, format) in &FORMATS {
+        let [first, second, third] = words;
+        let lines = [
+            Word24::new(first).ok(),
+            Word24::new(second).ok(),
+            Word24::new(third).ok(),
+        ];
+        same(format_of(&lines), format, words)?;
     }
     Ok(())
 }

@@ -29,6 +29,13 @@ pub(crate) fn set(samples: &mut [u16; 1135], from: usize, to: usize, sample: u16
     }
 }
 
+/// The bytes of these samples, of which a line of NTSC has the first.
+fn bytes_of(samples: &[u16; 1135]) -> [u8; 2270] {
+    let mut bytes = [0; 2270];
+    LittleEndian::write_u16_into(samples, &mut bytes);
+    bytes
+}
+
 /// A buffer that holds a line of these samples.
 pub(crate) fn line_of(system: System, samples: &[u16; 1135]) -> LineBuf
     ensures system { result.system ≡ system }
@@ -37,8 +44,7 @@ pub(crate) fn line_of(system: System, samples: &[u16; 1135]) -> LineBuf
     ensures looked { result.looked ≡ 0 }
 {
     let mut line = LineBuf::new(system);
-    let mut bytes = [0; 2270];
-    LittleEndian::write_u16_into(samples, &mut bytes);
+    let bytes = bytes_of(samples);
     let length = 2 * system.width();
     line.room().copy_from_slice(&bytes[..length]);
     line.commit(length);
@@ -77,16 +83,14 @@ pub(crate) fn reading(system: System, levels: Levels, samples: &[u16; 1135]) -> 
 
 /// The reading of the line's bytes where they lie, and its pass.
 pub(crate) fn in_place(system: System, levels: Levels, samples: &[u16; 1135]) -> (Answer, u8) {
-    let mut bytes = [0; 2270];
-    LittleEndian::write_u16_into(samples, &mut bytes);
+    let bytes = bytes_of(samples);
     let packed = slice_bytes(&bytes[..2 * system.width()], system, levels);
     with_pass(read_packed_twice(&packed, system))
 }
 
 /// The same by one call.
 pub(crate) fn at_once(system: System, levels: Levels, samples: &[u16; 1135]) -> (Answer, u8) {
-    let mut bytes = [0; 2270];
-    LittleEndian::write_u16_into(samples, &mut bytes);
+    let bytes = bytes_of(samples);
     with_pass(read_bytes_twice(&bytes[..2 * system.width()], system, levels))
 }
 
@@ -96,8 +100,7 @@ pub(crate) fn by_intake(
     levels: Levels,
     samples: &[u16; 1135],
 ) -> Option<(Answer, (Answer, u8))> {
-    let mut bytes = [0; 2270];
-    LittleEndian::write_u16_into(samples, &mut bytes);
+    let bytes = bytes_of(samples);
     let mut first = &bytes[..2 * system.width()];
     let mut intake = Intake::new(&mut first, system);
     let Ok(Filled::Full) = intake.fill_line() else {

@@ -1,22 +1,8 @@
-//! Refusals, and the boundaries of drawn half cells.
+//! Refusals, and the sizes of both systems.
 
 use std::test::Fail;
-use vbi_test_devices::{holds, same};
-use vbi_words::{Levels, LevelsFault, System, Word24, WordFault, drawn_sample};
-
-// Columns from the start of the word, at which half cell j begins, and the last ends: the whole part of j times 315/22.
-static NTSC: [usize; 49] = [
-    0, 14, 28, 42, 57, 71, 85, 100, 114, 128, 143, 157, 171, 186, 200, 214, 229, 243, 257, 272,
-    286, 300, 315, 329, 343, 357, 372, 386, 400, 415, 429, 443, 458, 472, 486, 501, 515, 529, 544,
-    558, 572, 587, 601, 615, 630, 644, 658, 672, 687,
-];
-
-// The same of j times 709379/40000.
-static PAL: [usize; 49] = [
-    0, 17, 35, 53, 70, 88, 106, 124, 141, 159, 177, 195, 212, 230, 248, 266, 283, 301, 319, 336,
-    354, 372, 390, 407, 425, 443, 461, 478, 496, 514, 532, 549, 567, 585, 602, 620, 638, 656, 673,
-    691, 709, 727, 744, 762, 780, 798, 815, 833, 851,
-];
+use vbi_test_devices::same;
+use vbi_words::{Levels, LevelsFault, System, Word24, WordFault};
 
 /// Black, white, and whether they are refused.
 static LEVELS: [(u16, u16, bool); 6] = [
@@ -88,29 +74,6 @@ fn both_systems_have_their_geometry() -> Result<(), Fail> {
     }
     for name in ["", "ntsc", "Pal", "NTSC ", "PALM", "SECAM"] {
         same(System::named(name), None, name)?;
-    }
-    Ok(())
-}
-
-// Of 24 ones each half cell differs from the one before it, so the row changes at each boundary but the first.
-#[test]
-fn a_row_is_drawn_from_boundary_to_boundary() -> Result<(), Fail> {
-    let levels = Levels::new(16384, 51200)?;
-    let ones = Word24::new(0xFF_FFFF)?;
-    for (system, boundaries) in [(System::Ntsc, NTSC), (System::Pal, PAL)] {
-        let mut next = 1;
-        let mut before = levels.black();
-        for column in 0..system.width() {
-            let sample = drawn_sample(system, levels, Some(ones), column);
-            if sample != before {
-                holds(next < 49, system)?;
-                let boundary = system.start().wrapping_add(boundaries[next]);
-                same(column, boundary, (system, next))?;
-                next += 1;
-            }
-            before = sample;
-        }
-        same(next, 49, system)?;
     }
     Ok(())
 }
