@@ -8,7 +8,8 @@ use Rattle.vbi_field.specs.Outlet.{written_of, Puts}
 use Rattle.vbi_field.specs.Progress.{IsProgress, MovesOneRow, AddsRow}
 use Rattle.vbi_field.specs.Stream.{fields_of, readings_at}
 use Rattle.vbi_field.specs.FeederState.{selected}
-use Rattle.vbi_field.specs.Texts.{Texts, IsTextBetween, text_before_tail, joined_entry_of}
+use Rattle.vbi_field.specs.Texts.{IsTextBetween, text_before_tail, joined_entry_of}
+use Rattle.vbi_field.specs.Kinds.{Kind}
 use Rattle.vbi_field.specs.declared.outlet.Outlet.{Outlet}
 use Rattle.vbi_field.specs.declared.progress.Progress.{Progress}
 use Rattle.vbi_field.specs.declared.summary.RunFault.{RunFault}
@@ -39,7 +40,7 @@ further c p p' looked before (inr (fields, row, last)) = record {
   looks = rw (fields, row) (looks_field c.system p.fields p.row looked last before);
 }
 
-module _ (t : Texts) {W : Type 0} (contents : W → Option (List ℕ)) (o o' : Outlet W) {c : ConfigView} {z : List ℕ}
+module _ (t : Kind) {W : Type 0} (contents : W → Option (List ℕ)) (o o' : Outlet W) {c : ConfigView} {z : List ℕ}
     {p : Progress} (at : IsProgress c z p) (b : List ℕ) {p' : Progress} (next : IsProgress c (z ++ b) p') where
   -- no field is whole now, and nothing is due
   pub added_inside : p'.fields ≡ p.fields → AddsRow t contents c o o z b p' (Ok tt)

@@ -12,7 +12,8 @@ use Rattle.vbi_field.specs.ConfigView.{ConfigView}
 use Rattle.vbi_field.specs.Drawing.{draw_out, drawn_field_of}
 use Rattle.vbi_field.specs.DrawnReadings.{drawn_readings, drawn_text, no_words}
 use Rattle.vbi_field.specs.Stream.{fields_of, rest_of}
-use Rattle.vbi_field.specs.Texts.{Texts, whole_text}
+use Rattle.vbi_field.specs.Texts.{whole_text}
+use Rattle.vbi_field.specs.Kinds.{Kind}
 use Rattle.vbi_field.specs.WordRows.{AreRows}
 use Rattle.vbi_field.specs.declared.word_row.WordRow.{WordRow}
 use Rattle.vbi_field.proofs.DrawnLemmas.{length-drawn_field_of}
@@ -37,7 +38,7 @@ no_rest : (s : System) (n k : ℕ) → n ≡ k * field_bytes s → n % field_byt
 no_rest Ntsc n k e = omega arith
 no_rest Pal n k e = omega arith
 
-pub drawn_document : (t : Texts) (c : ConfigView) (text : List ℕ) (rows : List WordRow)
+pub drawn_document : (t : Kind) (c : ConfigView) (text : List ℕ) (rows : List WordRow)
     → c.levels.black < c.levels.white
     → AreRows text rows → whole_text t c (draw_out c rows) ≡ drawn_text t c rows
 drawn_document t c text rows order are =

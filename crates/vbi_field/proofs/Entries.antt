@@ -8,7 +8,8 @@ use Rattle.std.proofs.Math.Dec.{eqb-suc-zero}
 use Rattle.vbi_words.specs.Geometry.{height_of, line_bytes}
 use Rattle.vbi_field.specs.ConfigView.{ConfigView}
 use Rattle.vbi_field.specs.Stream.{fields_of, readings_at}
-use Rattle.vbi_field.specs.Texts.{Texts, text_before_tail, joined_entry_of}
+use Rattle.vbi_field.specs.Texts.{text_before_tail, joined_entry_of}
+use Rattle.vbi_field.specs.Kinds.{Kind}
 use Rattle.vbi_field.proofs.Growing.{readings_at-more}
 
 -- one number more
@@ -59,19 +60,19 @@ joined-same f g joint (suc n) same =
     ∙ ap (λ l. g 0 ++ l) rest
 
 -- the entry of field i of a stream, i from 0
-abbrev pub entry_of : Texts → ConfigView → List ℕ → ℕ → List ℕ
+abbrev pub entry_of : Kind → ConfigView → List ℕ → ℕ → List ℕ
 entry_of t c z i = t.entry (i + 1) (readings_at c z i)
 
 -- the head and the entries of the first n fields
-unfoldable pub stood : Texts → ConfigView → List ℕ → ℕ → List ℕ
+unfoldable pub stood : Kind → ConfigView → List ℕ → ℕ → List ℕ
 stood t c z n = t.head c ++ join_by (entry_of t c z) t.joint (range_with_len 0 n)
 
-pub stood-none : (t : Texts) (c : ConfigView) (z : List ℕ) → stood t c z 0 ≡ t.head c
+pub stood-none : (t : Kind) (c : ConfigView) (z : List ℕ) → stood t c z 0 ≡ t.head c
 unfolding stood
 stood-none t c z = append-nil (t.head c)
 
 -- one field more
-pub stood-more : (t : Texts) (c : ConfigView) (z : List ℕ) (n : ℕ)
+pub stood-more : (t : Kind) (c : ConfigView) (z : List ℕ) (n : ℕ)
     → stood t c z (n + 1) ≡ stood t c z n ++ joined_entry_of t n (readings_at c z n)
 unfolding stood
 stood-more t c z n =
@@ -80,7 +81,7 @@ stood-more t c z n =
     (joined_entry_of t n (readings_at c z n)))
 
 -- the text of whole fields stays as the stream grows
-pub stood-stays : (t : Texts) (c : ConfigView) (z b : List ℕ) (n rows : ℕ) → n * height_of c.system ≤ rows
+pub stood-stays : (t : Kind) (c : ConfigView) (z b : List ℕ) (n rows : ℕ) → n * height_of c.system ≤ rows
     → rows * line_bytes c.system ≤ length z → stood t c (z ++ b) n ≡ stood t c z n
 unfolding stood
 stood-stays t c z b n rows le long =
@@ -89,7 +90,7 @@ stood-stays t c z b n rows le long =
     ap (λ l. t.head c ++ l) (joined-same (entry_of t c (z ++ b)) (entry_of t c z) t.joint n same)
 
 -- it is the text written for a stream with this number of whole fields
-pub text_before_tail-stood : (t : Texts) (c : ConfigView) (z : List ℕ) (n : ℕ) → fields_of c z ≡ n
+pub text_before_tail-stood : (t : Kind) (c : ConfigView) (z : List ℕ) (n : ℕ) → fields_of c z ≡ n
     → text_before_tail t c z ≡ stood t c z n
 unfolding text_before_tail stood
 text_before_tail-stood t c z n e = ap (λ k. t.head c ++ join_by (entry_of t c z) t.joint (range_with_len 0 k)) e

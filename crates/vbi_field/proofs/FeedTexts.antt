@@ -7,11 +7,12 @@ use Rattle.std.proofs.Math.Nat.{le_refl}
 use Rattle.vbi_words.specs.Geometry.{height_of}
 use Rattle.vbi_field.specs.ConfigView.{ConfigView}
 use Rattle.vbi_field.specs.Stream.{fields_of, readings_at}
-use Rattle.vbi_field.specs.Texts.{Texts, IsTextBetween, text_before_tail, joined_entry_of}
+use Rattle.vbi_field.specs.Texts.{IsTextBetween, text_before_tail, joined_entry_of}
+use Rattle.vbi_field.specs.Kinds.{Kind}
 use Rattle.vbi_field.proofs.Counts.{whole_rows_fit, more_fields}
 use Rattle.vbi_field.proofs.Entries.{stood, stood-more, stood-stays, text_before_tail-stood}
 
-module _ (t : Texts) (c : ConfigView) (z b : List ℕ) where
+module _ (t : Kind) (c : ConfigView) (z b : List ℕ) where
   -- the text of the fields that were whole
   stays : stood t c (z ++ b) (fields_of c z) ≡ text_before_tail t c z
   stays =
@@ -33,7 +34,7 @@ module _ (t : Texts) (c : ConfigView) (z b : List ℕ) where
       ∙ ap (λ l. l ++ joined_entry_of t (fields_of c z) (readings_at c (z ++ b) (fields_of c z))) stays)
 
 -- the text of more fields begins with that of fewer
-stood-grows : (t : Texts) (c : ConfigView) (z : List ℕ) (n k : ℕ)
+stood-grows : (t : Kind) (c : ConfigView) (z : List ℕ) (n k : ℕ)
     → (rest : List ℕ) × (stood t c z n ++ rest ≡ stood t c z (n + k))
 stood-grows t c z n zero = ([], append-nil (stood t c z n) ∙ ap (stood t c z) (sym (add-zero n)))
 stood-grows t c z n (suc k) =
@@ -48,7 +49,7 @@ stood-grows t c z n (suc k) =
     )
 
 -- the text of a longer stream begins with that of the shorter
-pub begun_grows : (t : Texts) (c : ConfigView) (z b : List ℕ)
+pub begun_grows : (t : Kind) (c : ConfigView) (z b : List ℕ)
     → (rest : List ℕ) × (text_before_tail t c z ++ rest ≡ text_before_tail t c (z ++ b))
 begun_grows t c z b =
     let n = fields_of c z in
@@ -64,7 +65,7 @@ begun_grows t c z b =
     )
 
 -- one text after the other
-pub completes_twice : (t : Texts) (c : ConfigView) (x y z first second : List ℕ) → IsTextBetween t c x y first
+pub completes_twice : (t : Kind) (c : ConfigView) (x y z first second : List ℕ) → IsTextBetween t c x y first
     → IsTextBetween t c y z second
     → IsTextBetween t c x z (first ++ second)
 completes_twice t c x y z first second h k =

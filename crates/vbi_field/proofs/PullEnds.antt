@@ -18,7 +18,8 @@ use Rattle.vbi_field.specs.Outlet as outlets
 use Rattle.vbi_field.specs.Ran.{EndsInside}
 use Rattle.vbi_field.specs.Stream.{fields_of, rest_of, cut_of, looks_of}
 use Rattle.vbi_field.specs.FeederState.{selected}
-use Rattle.vbi_field.specs.Texts.{Texts, text_before_tail, whole_text}
+use Rattle.vbi_field.specs.Texts.{text_before_tail, whole_text}
+use Rattle.vbi_field.specs.Kinds.{Kind}
 use Rattle.vbi_field.specs.declared.outlet.Outlet.{Outlet}
 use Rattle.vbi_field.specs.declared.progress.Progress.{Progress}
 use Rattle.vbi_field.specs.declared.summary.RunFault.{RunFault}
@@ -32,7 +33,7 @@ use Rattle.vbi_field.proofs.Devices.{has_failed, inside_of, wrote_whole, put_in_
 use Rattle.vbi_field.proofs.PullFaults.{write_fault}
 use Rattle.vbi_field.proofs.Pulled.{Pulled}
 
-module _ {t : Texts} {R W : Type 0} {remaining : R → Option (List ℕ)} {contents : W → Option (List ℕ)} {c : ConfigView}
+module _ {t : Kind} {R W : Type 0} {remaining : R → Option (List ℕ)} {contents : W → Option (List ℕ)} {c : ConfigView}
     {i0 : Intake R} {o0 : Outlet W} {k : ℕ} {i : Intake R} {o : Outlet W} {p : Progress}
     (g : Pulled t remaining contents c i0 o0 k i o p) where
   -- these bytes b were fetched behind z, less than a row

@@ -14,7 +14,8 @@ use Rattle.vbi_field.specs.ConfigView.{ConfigView, allowed_bytes}
 use Rattle.vbi_field.specs.Extracts.{EndsWithin, Runs}
 use Rattle.vbi_field.specs.Outlet as outlets
 use Rattle.vbi_field.specs.Stream.{looks_of}
-use Rattle.vbi_field.specs.Texts.{Texts, text_before_tail}
+use Rattle.vbi_field.specs.Texts.{text_before_tail}
+use Rattle.vbi_field.specs.Kinds.{Kind}
 use Rattle.vbi_field.specs.declared.outlet.Outlet.{Outlet}
 use Rattle.vbi_field.specs.declared.summary.RunFault.{RunFault}
 use Rattle.vbi_field.specs.declared.summary.Summary.{Summary}
@@ -24,7 +25,7 @@ use Rattle.vbi_field.proofs.Entries.{stood-none, text_before_tail-stood}
 use Rattle.vbi_field.proofs.Devices.{has_failed, inside_of, put_in_part}
 use Rattle.vbi_field.proofs.Pulled.{calm_reader, calm_writer}
 
-module _ (t : Texts) {R W : Type 0} (remaining : R → Option (List ℕ)) (contents : W → Option (List ℕ)) (c : ConfigView)
+module _ (t : Kind) {R W : Type 0} (remaining : R → Option (List ℕ)) (contents : W → Option (List ℕ)) (c : ConfigView)
     (i0 : Intake R) (o0 : Outlet W) where
   -- a text that was put in part
   pub write_fault : (i : Intake R) (o o' : Outlet W) (z base part : List ℕ) (fault : RunFault)

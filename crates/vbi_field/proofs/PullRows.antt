@@ -27,7 +27,8 @@ use Rattle.vbi_field.specs.Progress.{IsProgress, IsLineOf, MovesOneRow, AddsRow}
 use Rattle.vbi_field.specs.Ran.{EndsInside}
 use Rattle.vbi_field.specs.Stream.{fields_of, rest_of, looks_of}
 use Rattle.vbi_field.specs.FeederState.{selected}
-use Rattle.vbi_field.specs.Texts.{Texts, ExtendsInPart, text_before_tail}
+use Rattle.vbi_field.specs.Texts.{ExtendsInPart, text_before_tail}
+use Rattle.vbi_field.specs.Kinds.{Kind}
 use Rattle.vbi_field.specs.declared.outlet.Outlet.{Outlet}
 use Rattle.vbi_field.specs.declared.progress.Progress.{Progress}
 use Rattle.vbi_field.specs.declared.summary.RunFault.{RunFault}
@@ -50,7 +51,7 @@ cond_le true x le = le
 cond_le false x le = zero-le
 
 -- whole fields, and the last of them
-record LastField (t : Texts) (c : ConfigView) (z b : List ℕ) : Type 0 where
+record LastField (t : Kind) (c : ConfigView) (z b : List ℕ) : Type 0 where
   pub before : List ℕ
   pub last : List ℕ
   pub both : before ++ last ≡ z ++ b
@@ -59,7 +60,7 @@ record LastField (t : Texts) (c : ConfigView) (z b : List ℕ) : Type 0 where
   pub begun : text_before_tail t c before ≡ text_before_tail t c z
 
 -- where a row b behind z ends a field
-last_field : (t : Texts) (c : ConfigView) (z b : List ℕ) (p p' : Progress) → IsProgress c z p → IsProgress c (z ++ b) p'
+last_field : (t : Kind) (c : ConfigView) (z b : List ℕ) (p p' : Progress) → IsProgress c z p → IsProgress c (z ++ b) p'
     → p'.fields ≡ p.fields + 1 → p'.row ≡ 0 → LastField t c z b
 last_field t c z b p p' at next fields row =
     let n : ℕ = p.fields * height_of c.system * line_bytes c.system in
@@ -97,7 +98,7 @@ record Took {R : Type 0} (remaining : R → Option (List ℕ)) (i i' : Intake R)
   pub no_error : NoError (intakes.counted_of i) (intakes.counted_of i')
   pub same : IsSameDevice (intakes.counted_of i) (intakes.counted_of i')
 
-module _ {t : Texts} {R W : Type 0} {remaining : R → Option (List ℕ)} {contents : W → Option (List ℕ)} {c : ConfigView}
+module _ {t : Kind} {R W : Type 0} {remaining : R → Option (List ℕ)} {contents : W → Option (List ℕ)} {c : ConfigView}
     {i0 : Intake R} {o0 : Outlet W} {k : ℕ} {i : Intake R} {o : Outlet W} {p : Progress}
     (g : Pulled t remaining contents c i0 o0 k i o p)
     {filled i' : Intake R} {is_selected : Bool} (selects : IsTrue is_selected ↔ ((15 ≤ p.row) × (p.row ≤ 17)))

@@ -16,7 +16,8 @@ use Rattle.vbi_field.specs.Limits.{longest_text}
 use Rattle.vbi_field.specs.Outlet as outlets
 use Rattle.vbi_field.specs.Progress.{IsProgress}
 use Rattle.vbi_field.specs.FeederState.{selected}
-use Rattle.vbi_field.specs.Texts.{Texts, text_before_tail}
+use Rattle.vbi_field.specs.Texts.{text_before_tail}
+use Rattle.vbi_field.specs.Kinds.{Kind}
 use Rattle.vbi_field.specs.declared.outlet.Outlet.{Outlet}
 use Rattle.vbi_field.specs.declared.progress.Progress.{Progress}
 use Rattle.vbi_field.proofs.Entries.{stood-none, text_before_tail-stood}
@@ -41,7 +42,7 @@ calm_reader c i0 fresh = let d = i0.device in omega (arith, fresh.failures, d.fa
 pub calm_writer : {W : Type 0} (o0 : Outlet W) → outlets.IsFresh o0 → (failures_of (outlets.counted_of o0)).errors ≡ 0
 calm_writer o0 clean = let d = o0.device in omega (arith, clean.failures, d.failed)
 
-module _ (t : Texts) {R W : Type 0} (remaining : R → Option (List ℕ)) (contents : W → Option (List ℕ)) (c : ConfigView)
+module _ (t : Kind) {R W : Type 0} (remaining : R → Option (List ℕ)) (contents : W → Option (List ℕ)) (c : ConfigView)
     (i0 : Intake R) (o0 : Outlet W) where
   -- this number of rows was taken, and the text that is due with them was written
   pub record Pulled (k : ℕ) (i : Intake R) (o : Outlet W) (p : Progress) : Type 0 where

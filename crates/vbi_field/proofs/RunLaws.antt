@@ -9,7 +9,8 @@ use Rattle.vbi_field.specs.Extracts.{EndsWithin}
 use Rattle.vbi_field.specs.Ran.{EndsInside, IsFirstOf}
 use Rattle.vbi_field.specs.ConfigView.{ConfigView}
 use Rattle.vbi_field.specs.Stream.{fields_of, rest_of, looks_of}
-use Rattle.vbi_field.specs.Texts.{Texts, text_before_tail, whole_text}
+use Rattle.vbi_field.specs.Texts.{text_before_tail, whole_text}
+use Rattle.vbi_field.specs.Kinds.{Kind}
 use Rattle.vbi_field.proofs.Counts.{rest-next, few_looks}
 
 pub first : (all z : List ℕ) (input : Option (List ℕ)) → Consumes (Some all) input z
@@ -33,7 +34,7 @@ first_inside before due text ends =
     let short = ends.short in
     (sym (ap (take (length text)) (sym ends.more) ∙ take_at text ends.rest (length text) refl), omega arith)
 
-pub first_of_text : (t : Texts) (c : ConfigView) (input : Option (List ℕ)) (z text : List ℕ)
+pub first_of_text : (t : Kind) (c : ConfigView) (input : Option (List ℕ)) (z text : List ℕ)
     → EndsWithin t c input z text
     → IsFirstOf text (text_before_tail t c z) ⊎ (IsAtEnd input × IsFirstOf text (whole_text t c z))
 first_of_text t c input z text (inl (none, ends)) =
@@ -44,7 +45,7 @@ first_of_text t c input z text (inr (inl (before, last, both, fields, field, end
 first_of_text t c input z text (inr (inr (ended, ends))) =
     inr (ended, first_inside (text_before_tail t c z) (whole_text t c z) text ends)
 
-pub prompt : (t : Texts) (c : ConfigView) (input : Option (List ℕ)) (z text : List ℕ) → EndsWithin t c input z text
+pub prompt : (t : Kind) (c : ConfigView) (input : Option (List ℕ)) (z text : List ℕ) → EndsWithin t c input z text
     → (rest_of c z ≡ 0) ⊎ (IsAtEnd input × (length (text_before_tail t c z) ≤ length text))
 prompt t c input z text (inl (none, ends)) = inl (ap (rest_of c) none ∙ zero-mod (field_bytes c.system))
 prompt t c input z text (inr (inl (before, last, both, fields, field, ends))) =

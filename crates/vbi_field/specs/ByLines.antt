@@ -9,7 +9,7 @@ use Rattle.vbi_words.specs.declared.outcome.Reading.{Reading}
 use Rattle.vbi_field.specs.ConfigView.{ConfigView}
 use Rattle.vbi_words.specs.Rows.{line_at}
 use Rattle.vbi_field.specs.Stream.{fields_of, rest_of}
-use Rattle.vbi_field.specs.Texts.{Texts}
+use Rattle.vbi_field.specs.Kinds.{Kind}
 use Rattle.vbi_field.specs.declared.readings.FieldReadings.{FieldReadings}
 
 -- row r of field i has this reading
@@ -23,7 +23,7 @@ pub record FieldReads (c : ConfigView) (z : List ℕ) (i : ℕ) (readings : Fiel
   pub third : RowReads c z i 17 readings.third
 
 -- text is the head, the entries of the whole fields by their readings, joined, and the tail
-abbrev pub IsWholeText : Texts → ConfigView → List ℕ → List ℕ → Type 0
+abbrev pub IsWholeText : Kind → ConfigView → List ℕ → List ℕ → Type 0
 IsWholeText t c z text =
     (readings : ℕ → FieldReadings) × ((i : ℕ) → i < fields_of c z → FieldReads c z i (readings i))
     × (text ≡ t.head c ++ join_by (λ i. t.entry (i + 1) (readings i)) t.joint (range_with_len 0 (fields_of c z))

@@ -4,7 +4,7 @@ use Rattle.std.specs.List.{join_by, range_with_len}
 use Rattle.vbi_words.specs.Drawn.{drawn_reading}
 use Rattle.vbi_words.specs.Words.{IsWordOrNone}
 use Rattle.vbi_field.specs.ConfigView.{ConfigView}
-use Rattle.vbi_field.specs.Texts.{Texts}
+use Rattle.vbi_field.specs.Kinds.{Kind}
 use Rattle.vbi_field.specs.declared.readings.FieldReadings.{FieldReadings}
 use Rattle.vbi_field.specs.declared.word_row.WordRow.{WordRow}
 
@@ -28,7 +28,7 @@ no_words = record { first = None; second = None; third = None }
 
 -- the text of a stream that is drawn of these rows: an entry for each, with its words in the first pass and blanks, and
 -- no cut field
-abbrev pub drawn_text : Texts → ConfigView → List WordRow → List ℕ
+abbrev pub drawn_text : Kind → ConfigView → List WordRow → List ℕ
 drawn_text t c rows =
     t.head c
     ++ join_by (λ i. t.entry (i + 1) (drawn_readings (slice_index_or rows i no_words))) t.joint

@@ -10,13 +10,14 @@ use Rattle.vbi_field.specs.ConfigView.{ConfigView, allowed_bytes}
 use Rattle.vbi_field.specs.Outlet as outlets
 use Rattle.vbi_field.specs.Ran.{Counts, HasFailed, Ran, EndsInside}
 use Rattle.vbi_field.specs.Stream.{fields_of, rest_of, cut_of, looks_of}
-use Rattle.vbi_field.specs.Texts.{Texts, text_before_tail, whole_text}
+use Rattle.vbi_field.specs.Texts.{text_before_tail, whole_text}
+use Rattle.vbi_field.specs.Kinds.{Kind}
 use Rattle.vbi_field.specs.declared.outlet.Outlet.{Outlet}
 use Rattle.vbi_field.specs.declared.summary.Summary.{Summary}
 use Rattle.vbi_field.specs.declared.summary.RunFault.{RunFault}
 use Rattle.vbi_field.specs.declared.summary.RunFault.TheVariants.{Read, Write, TooManyFields, Failed}
 
-module _ (t : Texts) (c : ConfigView) (input : Option (List ℕ)) (z text : List ℕ) where
+module _ (t : Kind) (c : ConfigView) (input : Option (List ℕ)) (z text : List ℕ) where
   -- the text ends inside one of three parts: the head, which is due before the first read; the entry of a field, which
   -- is due as soon as the field's last byte was fetched; or the tail, which is due as soon as the reader has ended
   abbrev pub EndsWithin : Type 0
@@ -70,7 +71,7 @@ FailsBy (Err (Write written)) n = HasFailed n.writer × (n.reader.errors ≡ 0)
 FailsBy _ n = (n.reader.errors ≡ 0) × (n.writer.errors ≡ 0)
 
 -- what was done, by the answer: the samples looked at, which device failed, and how far the run came
-pub record Extracts (t : Texts) (c : ConfigView) (input : Option (List ℕ)) (n : Counts)
+pub record Extracts (t : Kind) (c : ConfigView) (input : Option (List ℕ)) (n : Counts)
     (result : Result Summary RunFault) (z text : List ℕ) : Type 0 where
   pub looks : n.looked ≡ looks_of c z
   pub devices : FailsBy result n
@@ -87,7 +88,7 @@ counts_of i o = record {
 }
 
 -- the run of a fresh intake and a fresh outlet that gave this answer
-abbrev pub Runs : {R W : Type 0} → Texts → (R → Option (List ℕ)) → (W → Option (List ℕ)) → ConfigView
+abbrev pub Runs : {R W : Type 0} → Kind → (R → Option (List ℕ)) → (W → Option (List ℕ)) → ConfigView
     → Intake R → Intake R → Outlet W → Outlet W → Result Summary RunFault → Type 0
 Runs t remaining contents c i0 i o0 o result =
     Ran (remaining (device_of (intakes.counted_of i0))) (remaining (device_of (intakes.counted_of i)))

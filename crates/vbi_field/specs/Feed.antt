@@ -1,4 +1,4 @@
--- What a feeder does with a stream in pieces. The pieces before are the stream z so far.
+-- What a feeder does with a stream in pieces. The bytes z are those of the pieces before.
 use Rattle.std.specs.Prelude.{◌≡◌, ◌↔◌, ℕ, ◌<◌, ◌≤◌, ◌⊎◌, false, IsTrue, List, [], ◌∷◌, ◌++◌, length, take, Option}
 use Rattle.std.specs.Prelude.{Result, Ok, Err, IsErr}
 use Rattle.vbi_field.specs.Kinds.{document}
@@ -14,12 +14,12 @@ use Rattle.vbi_field.specs.declared.summary.Summary.{Summary}
 use Rattle.vbi_field.specs.declared.summary.RunFault.{RunFault}
 use Rattle.vbi_field.specs.declared.summary.RunFault.TheVariants.{Read, Write, TooManyFields, Failed}
 
--- z is no longer than allowed, and this is its position
+-- a stream of the bytes z, no more than are allowed, has come to this position
 pub record IsAt (c : ConfigView) (z : List ℕ) (now : Position) : Type 0 where
   pub allowed : length z ≤ allowed_bytes c
   pub position : now ≡ position_of c z
 
--- the feeder hasn't failed, and its position is that of z
+-- a feeder that hasn't failed has come to the position of the bytes z
 pub record StandsAt (f : Feeding) (z : List ℕ) : Type 0 where
   pub unfailed : f.has_failed ≡ false
   pub at : IsAt f.config z f.position

@@ -11,7 +11,8 @@ use Rattle.vbi_field.specs.declared.progress.Progress.{Progress}
 use Rattle.vbi_field.specs.ConfigView.{ConfigView}
 use Rattle.vbi_field.specs.Position.{reading_among}
 use Rattle.vbi_field.specs.Stream.{readings_at}
-use Rattle.vbi_field.specs.Texts.{Texts, Extends, ExtendsInPart}
+use Rattle.vbi_field.specs.Texts.{Extends, ExtendsInPart}
+use Rattle.vbi_field.specs.Kinds.{Kind}
 use Rattle.vbi_field.specs.declared.outlet.Outlet.{Outlet}
 use Rattle.vbi_field.specs.declared.summary.RunFault.{RunFault}
 
@@ -62,7 +63,7 @@ MovesOneRow c old new =
 
 -- what a whole row b behind z leads to, for a kind t of text and by the answer: the text that is due with the row was
 -- written, or only the first of it
-abbrev pub AddsRow : Texts → {W : Type 0} → (W → Option (List ℕ)) → ConfigView → Outlet W → Outlet W → List ℕ → List ℕ
+abbrev pub AddsRow : Kind → {W : Type 0} → (W → Option (List ℕ)) → ConfigView → Outlet W → Outlet W → List ℕ → List ℕ
     → Progress → Result (Unit {0}) RunFault → Type 0
 AddsRow t contents c o o' z b now (Ok u) = IsProgress c (z ++ b) now × Extends t contents c o o' z (z ++ b)
 AddsRow t contents c o o' z b now (Err fault) = IsProgress c (z ++ b) now × ExtendsInPart t contents c o o' z (z ++ b)

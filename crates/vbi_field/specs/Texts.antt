@@ -3,38 +3,31 @@
 use Rattle.std.specs.Prelude.{◌≡◌, ℕ, ◌+◌, ◌==◌, if◌then◌else◌, List, [], ◌++◌, Option}
 use Rattle.std.specs.List.{join_by, range_with_len}
 use Rattle.vbi_field.specs.ConfigView.{ConfigView}
+use Rattle.vbi_field.specs.Kinds.{Kind}
 use Rattle.vbi_field.specs.Outlet.{Wrote, WrotePart}
 use Rattle.vbi_field.specs.Stream.{fields_of, rest_of, readings_at}
 use Rattle.vbi_field.specs.declared.outlet.Outlet.{Outlet}
 use Rattle.vbi_field.specs.declared.readings.FieldReadings.{FieldReadings}
 
--- A kind of text: its head; what joins two entries; the entry of a field, by its number from 1 and its readings; its
--- tail, by the number of whole fields and the bytes past them.
-pub record Texts : Type 0 where
-  pub head : ConfigView → List ℕ
-  pub joint : List ℕ
-  pub entry : ℕ → FieldReadings → List ℕ
-  pub tail : ℕ → ℕ → List ℕ
-
 -- the head, and the entries of the whole fields in order, joined
-unfoldable pub text_before_tail : Texts → ConfigView → List ℕ → List ℕ
+unfoldable pub text_before_tail : Kind → ConfigView → List ℕ → List ℕ
 text_before_tail t c z =
     t.head c ++ join_by (λ i. t.entry (i + 1) (readings_at c z i)) t.joint (range_with_len 0 (fields_of c z))
 
 -- the whole text of a stream that ended
-abbrev pub whole_text : Texts → ConfigView → List ℕ → List ℕ
+abbrev pub whole_text : Kind → ConfigView → List ℕ → List ℕ
 whole_text t c z = text_before_tail t c z ++ t.tail (fields_of c z) (rest_of c z)
 
 -- the text of a longer stream is longer by these bytes
-abbrev pub IsTextBetween : Texts → ConfigView → List ℕ → List ℕ → List ℕ → Type 0
+abbrev pub IsTextBetween : Kind → ConfigView → List ℕ → List ℕ → List ℕ → Type 0
 IsTextBetween t c z longer text = text_before_tail t c z ++ text ≡ text_before_tail t c longer
 
 -- what is written for a field when it is whole, behind this number of fields: the joint, if there is an entry
 -- before, and the entry
-abbrev pub joined_entry_of : Texts → ℕ → FieldReadings → List ℕ
+abbrev pub joined_entry_of : Kind → ℕ → FieldReadings → List ℕ
 joined_entry_of t before readings = (if before == 0 then [] else t.joint) ++ t.entry (before + 1) readings
 
-module _ (t : Texts) {W : Type 0} (contents : W → Option (List ℕ)) (c : ConfigView) (o o' : Outlet W) where
+module _ (t : Kind) {W : Type 0} (contents : W → Option (List ℕ)) (c : ConfigView) (o o' : Outlet W) where
   -- the bytes by which the text of the longer stream is longer were written
   pub record Extends (z longer : List ℕ) : Type 0 where
     pub text : List ℕ

@@ -9,15 +9,15 @@ use crate::cause_texts::cause_text;
 use crate::config::Config;
 use crate::numbers::push_number;
 use crate::readings::FieldReadings;
-use crate::texts::{Form, TEXT_SIZE};
+use crate::texts::{Kind, TEXT_SIZE};
 use arrayvec::ArrayString;
 use vbi_words::Outcome;
 
 /// The document of `extract`.
 pub(crate) struct Document;
 
-impl Form for Document {
-    ghost texts = { document };
+impl Kind for Document {
+    ghost kind = { document };
 
     fn head(config: &Config) -> ArrayString<TEXT_SIZE> {
         head_text(config)

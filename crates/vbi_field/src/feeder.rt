@@ -15,7 +15,7 @@ use crate::document::Document;
 use crate::outlet::Outlet;
 use crate::progress::Progress;
 use crate::summary::{RunFault, Summary};
-use crate::texts::{Form, end, put};
+use crate::texts::{Kind, end, put};
 use std::io::Write;
 use std::marker::Model;
 use vbi_line::{LineBuf, read_twice};
@@ -147,8 +147,8 @@ impl Feeder {
     /// whose records are written first. After a fault the feeder answers `Failed` to every call and writes nothing
     /// more.
     ///
-    /// One stream goes to one outlet. The clauses speak of any list z of bytes that has come to the feeder's position,
-    /// as the pieces before have; what is written depends on it and the piece alone.
+    /// What is written depends on the pieces alone, and not on how the stream was cut (law `pieces_join`). So the
+    /// contract speaks of any bytes z that lead to the feeder's position. A stream has one outlet from begin to end.
     pub fn feed<W: Write>(&mut self, piece: &[u8], outlet: &mut Outlet<W>) -> Result<(), RunFault>
         requires written { written_of outlet.old ≤ 2 ^ 61 }
         requires failures { (failures_of (counted_of outlet.old)).all ≤ 2 ^ 61 }

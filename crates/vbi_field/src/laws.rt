@@ -9,12 +9,12 @@ ghost use Rattle.vbi_field.specs.ByLines.{FieldReads, IsWholeText};
 ghost use Rattle.vbi_field.specs.Extracts.{EndsWithin, ExtractsAll};
 ghost use Rattle.vbi_field.specs.Feed.{StandsAt, IsFed, FeedsAll, Pushes};
 ghost use Rattle.vbi_field.specs.Feeding.{Feeding};
-ghost use Rattle.vbi_field.specs.Kinds.{document};
+ghost use Rattle.vbi_field.specs.Kinds.{Kind, document};
 ghost use Rattle.vbi_field.specs.Outlet.{Wrote};
 ghost use Rattle.vbi_field.specs.Ran.{IsFirstOf};
 ghost use Rattle.vbi_field.specs.ConfigView.{ConfigView};
 ghost use Rattle.vbi_field.specs.Stream.{fields_of, rest_of, looks_of};
-ghost use Rattle.vbi_field.specs.Texts.{Texts, text_before_tail, whole_text};
+ghost use Rattle.vbi_field.specs.Texts.{text_before_tail, whole_text};
 ghost use Rattle.vbi_field.specs.WordRows.{IsWordRow, AreRows, word_row_of};
 ghost use Rattle.vbi_field.specs.Drawing.{draw_out};
 ghost use Rattle.vbi_field.specs.DrawnReadings.{AreDrawable, drawn_readings, drawn_text};
@@ -28,7 +28,7 @@ use std::io::Write;
 /// A stream has one document and one report, fixed by the config and the bytes alone: those that its lines' readings
 /// give.
 pub fn one_document()
-    ensures { (t : Texts) (c : ConfigView) (z text : List ℕ) → (IsWholeText t c z text ↔ (text ≡ whole_text t c z)) }
+    ensures { (t : Kind) (c : ConfigView) (z text : List ℕ) → (IsWholeText t c z text ↔ (text ≡ whole_text t c z)) }
 {}
 
 /// A row stands for these words exactly where it is their three items with one space between two of them.
@@ -58,7 +58,7 @@ pub fn drawn_length()
 /// The document or the report of the stream that is drawn of a text's rows has an entry for each row, with its words in
 /// the first pass and blank where it has none, and no cut field.
 pub fn drawn_document()
-    ensures { (t : Texts) (c : ConfigView) (text : List ℕ) (rows : List WordRow) → c.levels.black < c.levels.white
+    ensures { (t : Kind) (c : ConfigView) (text : List ℕ) (rows : List WordRow) → c.levels.black < c.levels.white
         → AreRows text rows → whole_text t c (draw_out c rows) ≡ drawn_text t c rows }
 {}
 
@@ -77,14 +77,14 @@ pub fn few_looks()
 /// A text that a failed writer cut inside the head, an entry or the tail is a first part of the text of the whole
 /// fields, or, where the reader ended, of the whole text.
 pub fn first_of_text()
-    ensures { (t : Texts) (c : ConfigView) (input : Option (List ℕ)) (z text : List ℕ) → EndsWithin t c input z text
+    ensures { (t : Kind) (c : ConfigView) (input : Option (List ℕ)) (z text : List ℕ) → EndsWithin t c input z text
         → IsFirstOf text (text_before_tail t c z) ⊎ (IsAtEnd input × IsFirstOf text (whole_text t c z)) }
 {}
 
 /// A text that a failed writer cut inside the head, an entry or the tail has all that was due before: no byte past the
 /// whole fields was fetched yet, or the reader had ended and the texts of all whole fields were written.
 pub fn prompt()
-    ensures { (t : Texts) (c : ConfigView) (input : Option (List ℕ)) (z text : List ℕ) → EndsWithin t c input z text
+    ensures { (t : Kind) (c : ConfigView) (input : Option (List ℕ)) (z text : List ℕ) → EndsWithin t c input z text
         → (rest_of c z ≡ 0) ⊎ (IsAtEnd input × (length (text_before_tail t c z) ≤ length text)) }
 {}
 

@@ -10,7 +10,7 @@ use crate::config::Config;
 use crate::outlet::Outlet;
 use crate::readings::FieldReadings;
 use crate::summary::RunFault;
-use crate::texts::{Form, put};
+use crate::texts::{Kind, put};
 use std::io::Write;
 use vbi_words::Reading;
 
@@ -123,7 +123,7 @@ impl Progress {
     }
 
     /// Takes the reading of the next row, if it is selected, and writes the entry of a field that is whole now.
-    pub(crate) fn add_row<F: Form, W: Write>(
+    pub(crate) fn add_row<K: Kind, W: Write>(
         &mut self,
         config: &Config,
         reading: Option<Reading>,
@@ -143,10 +143,10 @@ impl Progress {
         ensures fault { IfErr result (λ e. e ≡ RunFault.Write (written_of outlet.new)) }
         ensures adds { (z b : List ℕ) → IsProgress config.now z self.old
             → IsLineOf config.now b self.old.row reading
-            → AddsRow F.texts W.contents config.now outlet.old outlet.new z b self.new result }
+            → AddsRow K.kind W.contents config.now outlet.old outlet.new z b self.new result }
     {
         if let Some(readings) = self.advance(config, reading) {
-            put(outlet, F::entry(self.fields - 1, &readings).as_str())?;
+            put(outlet, K::entry(self.fields - 1, &readings).as_str())?;
         }
         Ok(())
     }

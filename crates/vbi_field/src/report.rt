@@ -11,15 +11,15 @@ use crate::code_texts::{code_text, hex_text};
 use crate::config::Config;
 use crate::numbers::push_number;
 use crate::readings::FieldReadings;
-use crate::texts::{Form, TEXT_SIZE};
+use crate::texts::{Kind, TEXT_SIZE};
 use arrayvec::ArrayString;
 use vbi_words::{Format, Levels, Outcome, System, classify, format_of};
 
 /// The report of `show`.
 pub(crate) struct Report;
 
-impl Form for Report {
-    ghost texts = { report };
+impl Kind for Report {
+    ghost kind = { report };
 
     fn head(config: &Config) -> ArrayString<TEXT_SIZE> {
         report_head(config.system(), config.levels())

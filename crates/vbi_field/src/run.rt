@@ -17,7 +17,7 @@ use crate::outlet::Outlet;
 use crate::progress::Progress;
 use crate::report::Report;
 use crate::summary::{RunFault, Summary};
-use crate::texts::{Form, end, put};
+use crate::texts::{Kind, end, put};
 use std::io::{Read, Write};
 use vbi_line::{Filled, Intake};
 use vbi_words::{Levels, Reading};
@@ -66,7 +66,7 @@ fn read_line<R: Read>(intake: &mut Intake<R>, levels: Levels, is_selected: bool)
 }
 
 /// Writes the text of a stream.
-fn run<F: Form, R: Read, W: Write>(
+fn run<K: Kind, R: Read, W: Write>(
     config: &Config,
     intake: &mut Intake<R>,
     outlet: &mut Outlet<W>,
@@ -75,24 +75,24 @@ fn run<F: Form, R: Read, W: Write>(
     requires outlet { outlets.IsFresh outlet.old }
     ensures same_reader { IsSameDevice (intakes.counted_of intake.old) (intakes.counted_of intake.new) }
     ensures same_writer { IsSameDevice (outlets.counted_of outlet.old) (outlets.counted_of outlet.new) }
-    ensures run { Runs F.texts R.remaining W.contents config.now intake.old intake.new outlet.old outlet.new result }
+    ensures run { Runs K.kind R.remaining W.contents config.now intake.old intake.new outlet.old outlet.new result }
 {
-    put(outlet, F::head(config).as_str())?;
+    put(outlet, K::head(config).as_str())?;
     let mut progress = Progress::new();
     for row in 0..config.row_limit() {
         match fill_line(config, &progress, intake)? {
             Filled::Full => {
                 let reading = read_line(intake, config.levels(), progress.is_selected());
-                progress.add_row::<F, W>(config, reading, outlet)?;
+                progress.add_row::<K, W>(config, reading, outlet)?;
             }
             Filled::Ended(bytes) => {
                 let rest = progress.rest(config, bytes);
-                return end::<F, W>(outlet, progress.fields, rest, intake.looked());
+                return end::<K, W>(outlet, progress.fields, rest, intake.looked());
             }
         }
     }
     match fill_line(config, &progress, intake)? {
-        Filled::Ended(0) => end::<F, W>(outlet, progress.fields, 0, intake.looked()),
+        Filled::Ended(0) => end::<K, W>(outlet, progress.fields, 0, intake.looked()),
         Filled::Ended(_) => Err(RunFault::TooManyFields),
         Filled::Full => Err(RunFault::TooManyFields),
     }

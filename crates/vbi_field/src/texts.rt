@@ -1,10 +1,11 @@
 //! The texts of a stream, of either kind, and how they are written.
 ghost use Rattle.std.specs.Prelude.{◌≡◌, ◌+◌, ◌-◌, ◌^◌, ◌<◌, ◌≤◌, length, OnOk, OnErr, IfOk, IfErr};
 ghost use Rattle.vbi_line.specs.Counted.{failures_of, NoError, HasCause, IsSameDevice};
+ghost use Rattle.vbi_field.specs.Kinds as kinds;
 ghost use Rattle.vbi_field.specs.Limits.{most_fields};
 ghost use Rattle.vbi_field.specs.Outlet.{counted_of, written_of, Puts};
 ghost use Rattle.vbi_field.specs.Stream.{cut_of};
-ghost use Rattle.vbi_field.specs.Texts.{Texts, joined_entry_of};
+ghost use Rattle.vbi_field.specs.Texts.{joined_entry_of};
 
 use crate::config::Config;
 use crate::outlet::Outlet;
@@ -16,24 +17,24 @@ use std::io::Write;
 /// The most bytes that one text may have: those of the head, of an entry, or of the tail.
 pub(crate) const TEXT_SIZE: usize = 192;
 
-/// A kind of text.
-pub(crate) trait Form {
-    /// Its texts.
-    ghost texts: { Texts };
+/// What is written for a stream: the document, or the report.
+pub(crate) trait Kind {
+    /// The head, the entries and the tail, as functions of what they are written for.
+    ghost kind: { kinds.Kind };
 
     /// The head, which is written before the first read.
     fn head(config: &Config) -> ArrayString<TEXT_SIZE>
-        ensures { result.bytes ≡ texts.head config.now };
+        ensures { result.bytes ≡ kind.head config.now };
 
     /// The entry of a field behind `before` others, after the joint where there are any.
     fn entry(before: u32, readings: &FieldReadings) -> ArrayString<TEXT_SIZE>
         requires { before < 2 ^ 32 - 1 }
-        ensures { result.bytes ≡ joined_entry_of texts before readings.now };
+        ensures { result.bytes ≡ joined_entry_of kind before readings.now };
 
     /// The tail, behind this number of whole fields and this number of bytes past them.
     fn tail(fields: u32, rest: u32) -> ArrayString<TEXT_SIZE>
         requires { fields < 2 ^ 32 - 1 }
-        ensures { result.bytes ≡ texts.tail fields rest };
+        ensures { result.bytes ≡ kind.tail fields rest };
 }
 
 /// Writes a text.
@@ -58,7 +59,7 @@ pub(crate) fn put<W: Write>(outlet: &mut Outlet<W>, text: &str) -> Result<(), Ru
 }
 
 /// Writes the tail, and answers what the run did.
-pub(crate) fn end<F: Form, W: Write>(
+pub(crate) fn end<K: Kind, W: Write>(
     outlet: &mut Outlet<W>,
     fields: u32,
     rest: u32,
@@ -68,15 +69,15 @@ pub(crate) fn end<F: Form, W: Write>(
     requires failures { (failures_of (counted_of outlet.old)).all ≤ 2 ^ 62 }
     requires fields { fields ≤ most_fields }
     ensures same { IsSameDevice (counted_of outlet.old) (counted_of outlet.new) }
-    ensures puts { Puts W.contents outlet.old outlet.new (F.texts.tail fields rest) }
-    ensures written { OnOk result (written_of outlet.new ≡ written_of outlet.old + length (F.texts.tail fields rest)) }
+    ensures puts { Puts W.contents outlet.old outlet.new (K.kind.tail fields rest) }
+    ensures written { OnOk result (written_of outlet.new ≡ written_of outlet.old + length (K.kind.tail fields rest)) }
     ensures no_error { OnOk result (NoError (counted_of outlet.old) (counted_of outlet.new)) }
     ensures ok { IfOk result (λ s. s ≡ record { fields = fields; cut = cut_of rest; looked = looked }) }
     ensures failed { OnErr result (HasCause (counted_of outlet.old) (counted_of outlet.new)) }
-    ensures short { OnErr result (written_of outlet.new < written_of outlet.old + length (F.texts.tail fields rest)) }
+    ensures short { OnErr result (written_of outlet.new < written_of outlet.old + length (K.kind.tail fields rest)) }
     ensures fault { IfErr result (λ e. e ≡ RunFault.Write (written_of outlet.new)) }
 {
-    put(outlet, F::tail(fields, rest).as_str())?;
+    put(outlet, K::tail(fields, rest).as_str())?;
     let cut = if rest == 0 { None } else { Some(rest) };
     Ok(Summary {
         fields,
