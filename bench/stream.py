@@ -149,7 +149,7 @@ def compare_streams(ntsc, pal, work):
 
 def main():
     program = os.path.abspath(sys.argv[1])
-    fields = int(sys.argv[2]) if len(sys.argv) > 2 else 4400
+    fields = int(sys.argv[2]) if len(sys.argv) > 2 else 2200
     with tempfile.TemporaryDirectory() as work:
         size = fields * FIELD["NTSC"]
         compare_streams(Stream(program, "NTSC", size, work), Stream(program, "PAL", size, work), work)

@@ -149,6 +149,11 @@ read_back|status|3|0
 want_of_memory|err|out of memory|out of memori
 want_of_memory|status|1|3
 want_of_memory|hangs
+want_of_memory|err|no videoParameters|no videoparameters
+bounds|bench/bounds.awk|s/exit held.*/exit 0/
+bounds|bench/bounds.awk|s/ratio < least/ratio > least/
+bounds|bench/bounds.txt|/^rust show/d
+bounds|bench/all.sh|/^awk -f/d
 schema|out|"vbiPass"|"vbiPaSS"
 schema|tests/validate_parts.py|s/self.validator.is_valid(document)/True/
 schema|share/schema/ldvbi.schema.json|s/hold/held/

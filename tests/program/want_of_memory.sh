@@ -108,7 +108,7 @@ said_of_texts() {
             cat out
         done' sh "$program" "$work/refuse.so" "$2" < lengths > answers || status=$?
     sed "s/\$/ 1 $3/" lengths > wanted
-    diff wanted answers > err
+    diff wanted answers | head -n 20 > err
     check "$1: what is said at each length" is_said
     check "$1: no allocation is refused" [ ! -e mark ]
 }
@@ -119,7 +119,7 @@ said_of_texts 'a text without its end' '' 'ldvbi: metadata is not JSON'
 sed -i 1,2d lengths
 said_of_texts 'a text' '"' 'ldvbi: metadata has no videoParameters'
 
-# Metadata of 10 MB, as ld-decode has them: what is wanted stands behind the records of fields
+# Metadata of 10 MB, as ld-decode writes it; here what is wanted stands behind the records of fields
 awk 'BEGIN {
     printf "{\"fields\":["
     for (field = 1; written < 10000000; field++) {

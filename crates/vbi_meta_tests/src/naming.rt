@@ -27,8 +27,8 @@ static NO_FLAGS: [&str; 15] = [
     r#"{"isSourcePal":true}"#,
 ];
 
-/// Values that aren't the text `NTSC` or `PAL`: other kinds of JSON, systems with lines of other kinds, and texts that
-/// differ in the case, by a letter more or by one less.
+/// Values that aren't the text `NTSC` or `PAL`: other kinds of JSON, names of other systems, and texts that differ in
+/// case or have a letter more or one less.
 static NO_NAMES: [&str; 30] = [
     "0",
     "1",
