@@ -85,7 +85,7 @@ fn run_with_files(rt: &HostRuntime, job: &Job) -> Result<u8, MainFault> {
         Ok(config) => {
             let mut source = Source::new(job.verb, config.system(), &mut input);
             let mut outlet = Outlet::new(&mut output);
-            do_command(&config, job.verb, &mut source, &mut outlet)
+            do_command(&config, &mut source, &mut outlet)
         }
         Err(fault) => Err(AppFault::Meta(fault)),
     };

@@ -1,5 +1,5 @@
 -- What a run's clause says besides.
-use Rattle.std.proofs.Common.{ℕ, List, Option, Result, Ok, Err, IfOk}
+use Rattle.std.proofs.Common.{◌≡◌, subst, ℕ, List, Option, Result, Ok, Err, IfOk}
 use Rattle.vbi_field.specs.ConfigView.{ConfigView}
 use Rattle.vbi_field.specs.Extracts.{Extracts}
 use Rattle.vbi_field.specs.Kinds.{document}
@@ -9,7 +9,12 @@ use Rattle.vbi_field.specs.declared.summary.Summary.{Summary}
 use Rattle.vbi_meta.proofs.DocumentReadings.{extracted}
 use Rattle.vbi_meta.specs.DocumentValue.{IsConfig}
 use Rattle.vbi_meta.specs.ReadBack.{ReadsBack}
-use Rattle.vbi_cli.specs.Jobs.{ExtractsWords}
+use Rattle.vbi_meta.specs.declared.choosing.Overrides.{Overrides}
+use Rattle.vbi_cli.specs.Jobs.{Counting, Did, ExtractsWords, Settles, Under, UnlessMeta}
+use Rattle.vbi_cli.specs.declared.command_line.Verb.{Verb}
+use Rattle.vbi_cli.specs.declared.fault.AppFault.{AppFault}
+use Rattle.vbi_cli.specs.declared.fault.AppFault.TheVariants.{Meta}
+use Rattle.vbi_cli.specs.declared.job.Ended.{Ended}
 
 -- where a run of `extract` ended Ok, what a reader of JSON finds in its text are the words that the lines show
 read_back : (c : ConfigView) (input : Option (List ℕ)) (n : Counts) (result : Result Summary RunFault)
@@ -32,3 +37,15 @@ with_words c input0 input output0 output n result numbers ran = record {
   written = ran.written;
   says = record { says = ran.says; read_back = read_back c input n result ran.z ran.text numbers ran.says };
 }
+
+-- what a command did under settings that were settled is what the job did
+pub did_under : (meta : Option (List ℕ)) (given : Overrides) (c : ConfigView)
+    (input0 input output0 output : Option (List ℕ)) (n : Counts) (before verb : Verb) (answer : Result Ended AppFault)
+    → Settles meta given c → before ≡ verb → Did c input0 input output0 output n before answer
+    → UnlessMeta answer (Under meta given (λ c. Counting (λ n. Did c input0 input output0 output n verb answer)))
+did_under meta given c input0 input output0 output n before verb answer settled same did =
+    let Here : Result Ended AppFault → Type 0 = λ a. UnlessMeta a
+    (Under meta given (λ c. Counting (λ n. Did c input0 input output0 output n verb answer))) in
+    let holds : Under meta given (λ c. Counting (λ n. Did c input0 input output0 output n verb answer))
+    = (c, (settled, (n, subst (λ (v : Verb). Did c input0 input output0 output n v answer) same did))) in
+    elim answer as Here [ Ok ended ↦ holds | Err fault ↦ elim fault as (λ f. Here (Err f)) [ Meta f ↦ tt | _ ↦ holds ] ]

@@ -3,3 +3,4 @@ pub mod Jobs
 pub mod OneLine
 pub mod Sources
 pub mod Statuses
+pub mod Verbs

@@ -3,6 +3,8 @@
 ghost use Rattle.std.specs.Prelude.{◌≡◌, None, IfOk, OnErr};
 ghost use Rattle.vbi_words.specs.Geometry.{name_of, system_named};
 ghost use Rattle.vbi_cli.specs.Statuses.{words_status};
+ghost use Rattle.vbi_cli.specs.Verbs.{word_of};
+ghost use Rattle.vbi_cli.specs.declared.command_line.Verb as verbs;
 
 use crate::commands::program;
 use clap::ArgMatches;
@@ -132,7 +134,9 @@ fn job_of(alloc: Global, name: &str, options: &ArgMatches<'_>) -> Result<Job, Wo
 }
 
 /// The command of one of the four names; `clap` has refused every other.
-fn verb_named(name: &str) -> Verb {
+fn verb_named(name: &str) -> Verb
+    ensures { (verb : verbs.Verb) → name.now ≡ word_of verb → result ≡ verb }
+{
     match name {
         "line" => Verb::Line,
         "extract" => Verb::Extract,

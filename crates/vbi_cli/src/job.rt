@@ -1,6 +1,6 @@
 //! A job: settings from metadata and options, and then the command.
 
-ghost use Rattle.std.specs.Prelude.{◌≡◌, ◌≢◌, ◌⊎◌, IfOk, IfErr, Err, option_map};
+ghost use Rattle.std.specs.Prelude.{◌≡◌, ◌≢◌, IfOk, IfErr, Err, option_map};
 ghost use Rattle.vbi_line.specs.Counted.{IsSameDevice};
 ghost use Rattle.vbi_line.specs.Intake as lines;
 ghost use Rattle.vbi_field.specs.Outlet as outlets;
@@ -9,11 +9,11 @@ ghost use Rattle.vbi_meta.specs.DocumentValue.{IsConfig};
 ghost use Rattle.vbi_cli.specs.Jobs.{Settles, Refuses, Under, Counting, Did, IfMeta, UnlessMeta};
 ghost use Rattle.vbi_cli.specs.Jobs.{IsEndedBy, IsAnsweredBy, IsDrawnBy};
 ghost use Rattle.vbi_cli.specs.Sources as sources;
-ghost use Rattle.vbi_cli.specs.Sources.{Does, IsFreshFor};
+ghost use Rattle.vbi_cli.specs.Sources.{Does};
 ghost use Rattle.vbi_cli.specs.Statuses.{app_status};
-ghost use Rattle.vbi_cli.specs.declared.source.Source.TheVariants.{Lines, Rows};
+ghost use Rattle.vbi_cli.specs.declared.source.Source.TheVariants as source;
 
-use crate::command_line::{Job, Verb};
+use crate::command_line::Job;
 use crate::fault::AppFault;
 use crate::one_line::{LineFault, run_line};
 use crate::source::Source;
@@ -66,7 +66,7 @@ pub fn run_job<R: Read, W: Write>(
     let config = settle(alloc, job, meta).map_err(AppFault::Meta)?;
     let mut source = Source::new(job.verb, config.system(), input);
     let mut outlet = Outlet::new(output);
-    let answer = do_command(&config, job.verb, &mut source, &mut outlet);
+    let answer = do_command(&config, &mut source, &mut outlet);
     // Handed back, so that it is known what the two devices are now.
     let _ = source.into_reader();
     let _ = outlet.into_writer();
@@ -87,30 +87,24 @@ pub fn settle(alloc: Global, job: &Job, meta: Option<&[u8]>) -> Result<Config, M
     }
 }
 
-/// Does a command. What it fetched and wrote, its answer, and what source and outlet have counted of the two devices
-/// belong together as `Did` says. It doesn't flush.
+/// Does the command of a source. What it fetched and wrote, its answer, and what source and outlet have counted of the
+/// two devices belong together as `Did` says. It doesn't flush.
 pub fn do_command<R: Read, W: Write>(
     config: &Config,
-    verb: Verb,
     source: &mut Source<R>,
     outlet: &mut Outlet<W>,
 ) -> Result<Ended, AppFault>
-    requires source { IsFreshFor source.old verb config.now.system }
+    requires source { sources.IsFresh source.old config.now.system }
     requires outlet { outlets.IsFresh outlet.old }
     ensures same_reader { IsSameDevice (sources.counted_of source.old) (sources.counted_of source.new) }
     ensures same_writer { IsSameDevice (outlets.counted_of outlet.old) (outlets.counted_of outlet.new) }
-    ensures did { Does R.remaining W.contents config.now verb source.old source.new outlet.old outlet.new result }
+    ensures did { Does R.remaining W.contents config.now source.old source.new outlet.old outlet.new result }
 {
     match source {
-        Source::Lines(intake) => match verb {
-            Verb::Line => line_job(config, intake, outlet),
-            Verb::Extract | Verb::Show => stream_job(config, verb, intake, outlet),
-            Verb::Draw => unreachable!("drawing reads rows"),
-        },
-        Source::Rows(rows) => match verb {
-            Verb::Draw => draw_job(config, rows, outlet),
-            _ => unreachable!("only drawing reads rows"),
-        },
+        Source::Line(intake) => line_job(config, intake, outlet),
+        Source::Extract(intake) => extract_job(config, intake, outlet),
+        Source::Show(intake) => show_job(config, intake, outlet),
+        Source::Draw(rows) => draw_job(config, rows, outlet),
     }
 }
 
@@ -124,7 +118,7 @@ fn line_job<R: Read, W: Write>(
     requires outlet { outlets.IsFresh outlet.old }
     ensures same_reader { IsSameDevice (lines.counted_of intake.old) (lines.counted_of intake.new) }
     ensures same_writer { IsSameDevice (outlets.counted_of outlet.old) (outlets.counted_of outlet.new) }
-    ensures did { Does R.remaining W.contents config.now Verb.Line (Lines intake.old) (Lines intake.new)
+    ensures did { Does R.remaining W.contents config.now (source.Line intake.old) (source.Line intake.new)
         outlet.old outlet.new result }
 {
     let outcome = run_line(config, intake, outlet);
@@ -146,29 +140,37 @@ fn line_end(system: System, outcome: Result<Outcome, LineFault>) -> Result<Ended
     }
 }
 
-/// The commands `extract` and `show`, which write the two kinds of text of a stream.
-fn stream_job<R: Read, W: Write>(
+/// The command `extract`.
+fn extract_job<R: Read, W: Write>(
     config: &Config,
-    verb: Verb,
     intake: &mut Intake<R>,
     outlet: &mut Outlet<W>,
 ) -> Result<Ended, AppFault>
-    requires verb { (verb ≡ Verb.Extract) ⊎ (verb ≡ Verb.Show) }
     requires intake { lines.IsFresh intake.old config.now.system }
     requires outlet { outlets.IsFresh outlet.old }
     ensures same_reader { IsSameDevice (lines.counted_of intake.old) (lines.counted_of intake.new) }
     ensures same_writer { IsSameDevice (outlets.counted_of outlet.old) (outlets.counted_of outlet.new) }
-    ensures did { Does R.remaining W.contents config.now verb (Lines intake.old) (Lines intake.new)
+    ensures did { Does R.remaining W.contents config.now (source.Extract intake.old) (source.Extract intake.new)
         outlet.old outlet.new result }
 {
-    match verb {
-        Verb::Extract => {
-            numbers(config);
-            end_of(extract(config, intake, outlet))
-        }
-        Verb::Show => end_of(show(config, intake, outlet)),
-        _ => unreachable!("the others aren't run over a stream"),
-    }
+    numbers(config);
+    end_of(extract(config, intake, outlet))
+}
+
+/// The command `show`.
+fn show_job<R: Read, W: Write>(
+    config: &Config,
+    intake: &mut Intake<R>,
+    outlet: &mut Outlet<W>,
+) -> Result<Ended, AppFault>
+    requires intake { lines.IsFresh intake.old config.now.system }
+    requires outlet { outlets.IsFresh outlet.old }
+    ensures same_reader { IsSameDevice (lines.counted_of intake.old) (lines.counted_of intake.new) }
+    ensures same_writer { IsSameDevice (outlets.counted_of outlet.old) (outlets.counted_of outlet.new) }
+    ensures did { Does R.remaining W.contents config.now (source.Show intake.old) (source.Show intake.new)
+        outlet.old outlet.new result }
+{
+    end_of(show(config, intake, outlet))
 }
 
 /// What is known of a config's numbers.
@@ -204,7 +206,7 @@ fn draw_job<R: Read, W: Write>(
     requires outlet { outlets.IsFresh outlet.old }
     ensures same_reader { IsSameDevice (word_rows.counted_of rows.old) (word_rows.counted_of rows.new) }
     ensures same_writer { IsSameDevice (outlets.counted_of outlet.old) (outlets.counted_of outlet.new) }
-    ensures did { Does R.remaining W.contents config.now Verb.Draw (Rows rows.old) (Rows rows.new)
+    ensures did { Does R.remaining W.contents config.now (source.Draw rows.old) (source.Draw rows.new)
         outlet.old outlet.new result }
 {
     let fields = draw(config, rows, outlet);

@@ -2,7 +2,7 @@
 
 ghost use Rattle.std.specs.Prelude.{◌≡◌};
 ghost use Rattle.vbi_line.specs.Counted.{device_of, name_of};
-ghost use Rattle.vbi_cli.specs.Sources.{counted_of, IsFreshFor};
+ghost use Rattle.vbi_cli.specs.Sources.{counted_of, verb_of, IsFresh};
 
 use crate::command_line::Verb;
 use std::io::Read;
@@ -10,13 +10,18 @@ use vbi_field::RowIntake;
 use vbi_line::Intake;
 use vbi_words::System;
 
-/// A borrowed reader, whose bytes and failures are counted, as a command reads it.
+/// A command with what it reads from: a borrowed reader, whose bytes and failures are counted. The command `draw` reads
+/// rows of words, and each other one lines of samples.
 #[derive(Drop)]
 pub enum Source<'a, R> {
-    /// By lines of samples.
-    Lines(Intake<'a, R>),
-    /// By rows of words, which are drawn.
-    Rows(RowIntake<'a, R>),
+    /// `line`, with the line's samples.
+    Line(Intake<'a, R>),
+    /// `extract`, with a stream's lines.
+    Extract(Intake<'a, R>),
+    /// `show`, with a stream's lines.
+    Show(Intake<'a, R>),
+    /// `draw`, with its rows.
+    Draw(RowIntake<'a, R>),
 }
 
 impl<'a, R: Read> Source<'a, R> {
@@ -24,13 +29,14 @@ impl<'a, R: Read> Source<'a, R> {
     pub fn new(verb: Verb, system: System, reader: &'a mut R) -> Self
         ensures same { name_of (counted_of result) ≡ reader.entry.ghost_name }
         ensures reader { device_of (counted_of result) ≡ reader.old }
-        ensures fresh { IsFreshFor result verb system }
+        ensures verb { verb_of result ≡ verb }
+        ensures fresh { IsFresh result system }
     {
         match verb {
-            Verb::Draw => Source::Rows(RowIntake::new(reader)),
-            Verb::Line => Source::Lines(Intake::new(reader, system)),
-            Verb::Extract => Source::Lines(Intake::new(reader, system)),
-            Verb::Show => Source::Lines(Intake::new(reader, system)),
+            Verb::Line => Source::Line(Intake::new(reader, system)),
+            Verb::Extract => Source::Extract(Intake::new(reader, system)),
+            Verb::Show => Source::Show(Intake::new(reader, system)),
+            Verb::Draw => Source::Draw(RowIntake::new(reader)),
         }
     }
 
@@ -40,8 +46,10 @@ impl<'a, R: Read> Source<'a, R> {
         ensures reader { result.now ≡ device_of (counted_of self.entry) }
     {
         match self {
-            Source::Lines(intake) => intake.into_reader(),
-            Source::Rows(rows) => rows.into_reader(),
+            Source::Line(intake) | Source::Extract(intake) | Source::Show(intake) => {
+                intake.into_reader()
+            }
+            Source::Draw(rows) => rows.into_reader(),
         }
     }
 }
