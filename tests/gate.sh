@@ -15,8 +15,8 @@ crates=13
 unit_tests=109
 wrong_bodies=288
 # Scripts on what was proved, and on the Rust program
-scripts=24
-rust_scripts=14
+scripts=28
+rust_scripts=15
 # Memory in kB with which the proofs and the build can run side by side
 memory_of_both=14000000
 

@@ -176,6 +176,16 @@ plots|out|change 170|change 171
 plots|hangs
 plots|contrib/plot_line.py|s/(pass 2)/(pass 3)/
 plots|docs/pictures/word.svg|s/82CFFF/82CFFE/
+targets|Makefile|s/^\(.PHONY: .*\) bench peers/\1/
+targets|Makefile|s/^\tsh tests.tools.sh install/\tsh tests\/tools.sh/
+targets|Makefile|s/^\tsh tests.gate.sh/\tsh tests\/scripts.sh/
+targets|Makefile|s/^\tsh peers.compare.sh $(PROGRAM)/\tsh peers\/compare.sh .\/ldvbi/
+targets|Makefile|s/^\tsh bench.all.sh .*/\t-&/
+targets|.ci/run|s/make setup test/make setup/
+targets|README.md|s/make setup test/make setup/
+targets|tests/tools.sh|/import jsonschema/d
+targets|tests/tools.sh|s/for tool in cmake /for tool in /
+targets|tests/tools.sh|s/^\$as_root apt-get install/: apt-get install/
 gate_trials|tests/gate.sh|s/^    wait "$proofs" .*/    wait "$proofs"/
 gate_trials|tests/gate.sh|/^    last=/{N;d}
 gate_trials|tests/gate.sh|s/ "$2" -ge "$3" / "$2" -ge 1 /

@@ -1,0 +1,124 @@
+#!/bin/sh
+# Tries what `make` runs beside building and installing, .ci/run, and the tools that tests/tools.sh asks for, with stubs
+# for the scripts, for make and for Debian's commands.
+# usage: sh tests/program/targets.sh PROGRAM     (the program is never run)
+# shellcheck disable=SC2086
+
+# shellcheck source=tests/helpers.sh
+. "$(dirname "$0")/../helpers.sh"
+
+# stub PATH BODY: a program with this body
+stub() {
+    printf '#!/bin/sh\n%s\n' "$2" > "$1"
+    chmod +x "$1"
+}
+
+# A tree in which each script says its name and its words, and nothing has to be built
+mkdir -p tree/tests tree/bench tree/peers tree/rust tree/.ci tree/crates bin
+cp "$top/Makefile" tree
+cp "$top/.ci/run" tree/.ci
+: > tree/crates.txt
+for script_path in tests/tools.sh tests/gate.sh tests/scripts.sh bench/all.sh peers/compare.sh rust/build.sh; do
+    stub tree/$script_path "echo $script_path \"\$@\"; [ \"\${FAULT:-}\" != $script_path ]"
+done
+: > tree/libldvbi.a
+: > tree/libldvbi.so.1
+: > tree/ldvbi
+stub bin/rt 'echo rt'
+
+# ran FOLDER COMMAND..: runs a command there, with the stubs on the PATH
+ran() {
+    (cd "$1" && shift && PATH=$work/bin:$PATH && export PATH && bounded "$@") < empty > out 2> err
+    status=$?
+}
+# Targets with their words, and what is run. There are folders with the names of most of them.
+while IFS='|' read -r words wanted; do
+    ran tree make -s $words
+    echo "$wanted" | tr ',' '\n' > wanted_text
+    judge "make $words" 0 wanted_text ''
+done << 'END'
+setup|tests/tools.sh install
+test|tests/tools.sh rust,tests/gate.sh
+setup test|tests/tools.sh install,tests/tools.sh rust,tests/gate.sh
+rust|rust/build.sh
+rust TARGET=mips|rust/build.sh mips
+rust-compare|tests/scripts.sh rust/ldvbi rust_compare
+rust-compare TARGET=x-windows-y|tests/scripts.sh rust/x-windows-y/ldvbi.exe rust_compare
+bench|rust/build.sh,bench/all.sh ./ldvbi
+peers|peers/compare.sh ./ldvbi
+peers PROGRAM=/a/ldvbi|peers/compare.sh /a/ldvbi
+END
+for pair in setup:tests/tools.sh test:tests/tools.sh test:tests/gate.sh bench:bench/all.sh peers:peers/compare.sh; do
+    FAULT=${pair#*:}
+    export FAULT
+    ran tree make -s ${pair%:*}
+    check "make ${pair%:*} ends where $FAULT fails" [ "$status $(tail -n 1 out | cut -d ' ' -f 1)" = "2 $FAULT" ]
+    unset FAULT
+done
+# A file or folder with the name of a target doesn't stand for it.
+targets=$(sed -n 's/^\([a-z][a-z-]*\):.*/\1/p' "$top/Makefile" | grep -vx ldvbi | sort | paste -s -d ' ')
+sed -n 's/^\.PHONY: //p' "$top/Makefile" | tr ' ' '\n' | sort | paste -s -d ' ' > out
+check 'each target that is no file is said to be none' [ "$targets" = "$(cat out)" ]
+rm bin/rt
+ran tree env PATH=/usr/bin:/bin make -s toolchain
+check 'without the toolchain make says so' [ "$status $(grep -c 'rt of the Rattle toolchain is not on the PATH' err)" = '2 1' ]
+
+# .ci/run runs a command at the top, which is README's
+stub bin/make 'echo "$PWD|make $*"; exit ${FAULT:-0}'
+ran / "$work/tree/.ci/run"
+echo "$work/tree|make setup test" > wanted_text
+judge '.ci/run from another folder' 0 wanted_text ''
+check "README has the command that .ci/run runs" grep -q "$(cut -d '|' -f 2 out)\>" "$top/README.md"
+ran / env FAULT=3 "$work/tree/.ci/run"
+check '.ci/run fails where that does' [ "$status" = 3 ]
+
+# tests/tools.sh where no tool is there; the system's Python is one that has no module
+packages='gcc libc6-dev g++ binutils python3 jq pkg-config cmake git less mandoc parallel pv zsh python3-jsonschema
+python3-venv python3-setuptools python3-wheel'
+packages=$(echo $packages)
+for_rust='rustc cargo rustfmt rust-clippy librust-arrayvec-dev librust-byteorder-dev librust-itoa-dev librust-serde-json-dev'
+sed "s,/usr/bin/python3,$work/no_module,; s,/usr/share/doc,$work/none," "$top/tests/tools.sh" > tools.sh
+stub no_module 'exit 1'
+mkdir none alone
+ln -s "$(command -v sh)" alone/sh
+# tools WORD: runs tools.sh with nothing on the PATH but a shell and what the folder `alone` has
+tools() {
+    (unset CC CXX && PATH=$work/alone && export PATH && sh ./tools.sh ${1:-}) < empty > out 2> err
+    status=$?
+}
+missing="tests: missing on this machine, as Debian's packages:"
+tools ''
+judge 'the tools that the scripts need' 1 empty "$missing $packages (make setup installs them)"
+tools rust
+judge 'the tools that the gate needs' 1 empty "$missing $packages $for_rust (make setup installs them)"
+stub alone/apt-get 'echo "apt-get $*"; exit ${FAULT:-0}'
+stub alone/id 'echo ${USER_NUMBER:-0}'
+stub alone/sudo 'echo sudo; "$@"'
+printf '%s\n' "installing: $packages $for_rust" 'apt-get update' "apt-get install -y $packages $for_rust" > wanted_text
+tools install
+judge 'setup as root' 0 wanted_text ''
+USER_NUMBER=1000
+export USER_NUMBER
+tools install
+check 'setup by sudo' [ "$status $(grep -c '^sudo$' out)" = '0 2' ]
+FAULT=1
+export FAULT
+tools install
+check 'setup fails where the packages do' [ "$status" = 1 ]
+# Where all are there: each tool, each module, each crate
+for tool in cc c++ nm python3 jq pkg-config cmake git less mandoc parallel pv zsh cargo rustfmt cargo-clippy; do
+    stub alone/$tool 'exit 0'
+done
+mkdir none/librust-arrayvec-dev none/librust-byteorder-dev none/librust-itoa-dev none/librust-serde-json-dev
+stub no_module 'exit 0'
+for word in '' rust install; do
+    tools $word
+    judge "nothing is missing: '$word'" 0 empty ''
+done
+# One module that is not there
+for pair in jsonschema:jsonschema ensurepip:venv setuptools:setuptools wheel:wheel; do
+    stub no_module "[ \"\$2\" != 'import ${pair%:*}' ]"
+    tools ''
+    judge "the module ${pair%:*}" 1 empty "$missing python3-${pair#*:} (make setup installs them)"
+done
+finish
