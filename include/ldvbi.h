@@ -4,32 +4,33 @@
  * each field. The library reads the words of digitised lines, says what they mean, and draws such lines. Programs that
  * show its use are in examples/, which is installed as share/doc/ldvbi/examples.
  *
- * Link with -lldvbi, or with libldvbi.a. The library that is proved needs no other one: of the C library it takes
- * memcpy and memset at most, which a program without one can define itself. It runs under Linux on x86-64 processors of
- * level v2 (with SSE4.2, from about 2009 on). It has no unwind tables (.eh_frame): nothing is thrown out of a call, and
- * no call calls back, but a debugger finds no way back out of one. What is proved of each call stands in
- * docs/PROMISES.md; that this header says the same as the library, and its functions that are defined here, are shown
- * by tests alone.
+ * Link with -lldvbi, or with libldvbi.a. The proved library needs no other library. Of the C library it uses memcpy and
+ * memset at most, and a program without a C library can define these two itself. It runs under Linux on x86-64
+ * processors of level v2 (with SSE4.2, from about 2009 on). It has no unwind tables (.eh_frame). No call throws an
+ * exception or calls back, so no program needs them, but a debugger that stops inside a call can't show its callers.
  *
- * Samples have 16 bits, the low byte first, as in ld-decode's TBC files: line after line, field after field. So an
- * array of uint16_t goes in as it is on a little-endian machine, as x86-64 is; it need not be aligned. Black and white
- * are samples too: black16bIre and white16bIre of the capture's .tbc.json. A sample above the middle of the two is
- * high.
+ * docs/PROMISES.md says what is proved of each call. Only tests show that this header agrees with the library, and that
+ * the functions that are defined here are right.
  *
- * Threads: no call allocates, takes a lock, prints, or keeps anything between two calls, so that any thread may call at
- * any time, in a signal handler too. A handler may also leave a call by siglongjmp, as one for SIGBUS does: later calls
- * know nothing of it. What that call was to write then holds anything.
+ * Samples have 16 bits, the low byte first, as in ld-decode's TBC files: line after line, field after field. On a
+ * little-endian machine, as x86-64 is, an array of uint16_t can be passed as it is. It need not be aligned. Black and
+ * white are samples too: black16bIre and white16bIre of the capture's .tbc.json. A sample above the middle of the two
+ * is high.
+ *
+ * Threads: no call allocates, takes a lock, prints, or keeps anything for a later call. So any thread may call at any
+ * time, and so may a signal handler. A handler, as one for SIGBUS, may also leave a call by siglongjmp. Later calls
+ * work as ever, but what the call was to write may then hold anything.
  *
  * Ownership: the library keeps no pointer. What a call writes is the caller's.
  *
  * Numbers are uint32_t, and all of their 32 bits are tested: 257 is not taken for system 1. C cuts a wider number to
- * these bits before the call, so whoever has one tests it first. What a caller owes, which nothing tests:
- *   - each pointer points to as many bytes, or readings, as the length or count beside it says, or to one value of its
- *     type; what is to be written may hold anything before. A pointer may be null where the length or count beside it
- *     is 0, as that of an empty std::vector, and nowhere else;
- *   - pointers to structs are aligned as their types are; pointers to samples needn't be;
- *   - what a call writes overlaps nothing else that it is given, and no other thread touches it during the call; nobody
- *     writes what it reads.
+ * 32 bits before the call, so test such a number first. No call tests the following, which the caller has to ensure:
+ *   - Each pointer points to as many bytes or values as the length or count beside it says, or to one value of its
+ *     type. What a call writes to may hold anything before. A pointer may be null where the length or count beside it
+ *     is 0, as that of an empty std::vector, and nowhere else.
+ *   - Pointers to structs are aligned as their types are. Pointers to samples needn't be.
+ *   - What a call writes overlaps nothing else that it is given. During the call no other thread touches what it
+ *     writes, and none writes what it reads.
  *
  * ---- Which line has which code, by the standards
  *
@@ -37,21 +38,24 @@
  *     line 17     picture number, chapter, CLV time, lead-in, lead-out; picture stop; CLV mark
  *     line 18     picture number, chapter, CLV time, lead-in, lead-out, which line 17 has as well
  *
- * So line 17 may have a stop or a mark where line 18 has the number, and a field may have no number at all: often only
- * one of a picture's two or three fields has its number. To find a field's number, take of lines 17 and 18 the words of
- * the kind that is asked for, whatever their passes. One such word, or two that say the same, are the answer; two that
- * say different things are none, since one of them was misread. Compare what ldvbi_classify says, not the words: a
- * picture or a chapter has two words each, since the first bit of its first digit says nothing (F12345 and F92345 are
- * picture 12345). A stop counts on line 16 or 17, or on 18 if it is there; its picture is that of its field, else the
- * latest before it. A time of a CLV disc is in two places: hours and minutes on lines 17 and 18, seconds and picture on
- * line 16. Words are wrong at times, those of pass 2 more often. Whoever has the fields around takes a number only
- * where it fits theirs: ldvbi_judge does that for picture numbers and times, `ldvbi-side` for all that a side has.
+ * So line 17 may have a stop or a mark where line 18 has the number. A field may have no number at all: often only one
+ * of a picture's two or three fields has its number.
+ *
+ * To find a field's number, look at lines 17 and 18 for words of the kind that you want, of either pass. One such word,
+ * or two that say the same, is the answer. If two say different things, one of them was misread, and there is no
+ * answer. Compare what ldvbi_classify says, not the words: each picture and each chapter has two words, since the first
+ * bit of its first digit has no meaning (F12345 and F92345 are both picture 12345). A time of a CLV disc is in two
+ * places: hours and minutes on lines 17 and 18, seconds and picture on line 16. A stop counts on each of the three
+ * lines. It belongs to the picture of its field, else to the latest picture before it.
+ *
+ * Words are wrong at times, those of pass 2 more often. If you have the fields around, believe a number only where it
+ * fits theirs: ldvbi_judge does that for picture numbers and times, `ldvbi-side` for all that a side has.
  *
  * Some words, as digits: F and 5 decimal digits is a picture (F00123 is picture 123), 8 and two decimal digits and DDD
  * a chapter (807DDD is chapter 7), 82CFFF a stop, 87FFFF the CLV mark, 88FFFF lead-in, 80EEEE lead-out.
  *
- * Apart from its word a line has to be low, as sync and colour burst are: high samples before or behind it, but for
- * glitches of up to three, leave it without a word.
+ * Before and behind its word a line has to be low, as sync and colour burst are. More than three high samples in a row
+ * there leave it without a word.
  *
  * ---- One row of an interlaced frame
  *
@@ -72,13 +76,13 @@
  *      when its word does or shortly before, leave out nothing, and take its first 910 samples.
  *   2. Samples of 8 bits: multiply them by 257, and black and white too.
  *   3. Fill up to 910 samples with black, and read them as LDVBI_NTSC.
- * From 13 to 16 MHz, and at ld-decode's own rates, each change of level may besides come a sample early or late,
- * whatever the others do. At other rates only as long as each half cell keeps its 11 to 18 samples.
+ * From 13 to 16 MHz, and at ld-decode's own rates, each change of level may also come one sample early or late,
+ * whatever the others do. At other rates it may do so only where each half cell keeps its 11 to 18 samples.
  *
  * ---- Files that are mapped
  *
- * Where a file is cut off while it is mapped, the access to a page past its new end ends the process by SIGBUS, inside
- * a call as anywhere. Whoever reads files that others write uses pread and ldvbi_read_rows, or handles the signal. */
+ * If a file is made shorter while it is mapped, whoever then reads a page past its new end gets SIGBUS, which ends the
+ * process, inside a call too. For files that others may change, use pread and ldvbi_read_rows, or handle the signal. */
 #ifndef LDVBI_H
 #define LDVBI_H
 
@@ -109,9 +113,9 @@ extern "C" {
 #define LDVBI_VERSION_TEXT "0.1.0"
 
 /* The interface that this header declares. An addition, as of a call, a status or a kind, keeps the number and the
- * library's name libldvbi.so.1; a change or a removal raises both. So a program that was built with this header runs
- * with any library of the same interface, and of the same version or a later one; it has to bear numbers of statuses,
- * causes, kinds and formats that it doesn't know. A check at a program's start:
+ * library's name libldvbi.so.1. A change or a removal raises both. So a program that was built with this header runs
+ * with each library of this interface whose version is the same or later. It has to expect statuses, causes, kinds and
+ * formats whose numbers it doesn't know. A check at a program's start:
  *     if (ldvbi_abi() != LDVBI_ABI || ldvbi_version() < LDVBI_VERSION) .. */
 #define LDVBI_ABI 1
 
@@ -132,7 +136,8 @@ size_t ldvbi_line_bytes(uint32_t system);
 size_t ldvbi_lines(uint32_t system);
 size_t ldvbi_field_bytes(uint32_t system);
 
-/* ---- Statuses, in the order in which they are tested. After any but LDVBI_DONE the call has written nothing. */
+/* ---- Statuses, in the order in which they are tested. After any other than LDVBI_DONE, all is as it was before the
+ * call. */
 
 enum LdvbiStatus {
     LDVBI_DONE = 0,
@@ -189,8 +194,8 @@ uint32_t ldvbi_read_field(uint32_t system, uint32_t black, uint32_t white, const
                           LdvbiFieldReadings *readings);
 
 /* The same for `count` fields, one after the other, as in a TBC file that is mapped. `length` has to be count times
- * ldvbi_field_bytes(system). From a disk few pages of each field are wanted: examples/seek.c asks for those of the next
- * fields ahead.
+ * ldvbi_field_bytes(system). Only few pages of each field are read: examples/seek.c shows how to have the system fetch
+ * those of the next fields ahead.
  * LDVBI_BAD_SYSTEM, LDVBI_BAD_LEVELS, LDVBI_BAD_LENGTH. */
 LDVBI_RESULT
 uint32_t ldvbi_read_fields(uint32_t system, uint32_t black, uint32_t white, const void *samples, size_t length,
@@ -213,7 +218,7 @@ enum LdvbiKind {
     LDVBI_CLV_MARK = 11      /* the disc is a CLV disc */
 };
 
-/* A word's kind and the numbers that go with it; a number that its kind hasn't is 0. */
+/* A word's kind and the numbers that go with it. A number that this kind doesn't have is 0. */
 typedef struct LdvbiCode {
     uint32_t kind, first, second; /* kind: of enum LdvbiKind */
 } LdvbiCode;
@@ -236,19 +241,21 @@ uint32_t ldvbi_format(uint32_t first, uint32_t second, uint32_t third, uint32_t 
 
 /* ---- Judging: which number of its disc each field shows
  *
- * A line that was misread shows a number like any other. So a number is believed in a field only where the numbers of
- * this field and of the LDVBI_REACH fields before and behind it that fit it at the disc's pace weigh 10 or more: a word
- * of pass 1 weighs 2, one of pass 2 weighs 1. It has to weigh more than any other number of its field, too.
+ * A misread line shows a number like any other. So the fields around a field decide whether its number is believed.
+ * They support it where their numbers fit it at the disc's pace, as picture 101 two fields later fits picture 100. A
+ * word of pass 1 weighs 2, one of pass 2 weighs 1. A number is believed only where the words that support it, in the
+ * field itself and in the LDVBI_REACH fields before and behind it, weigh 10 or more, and more than those that support
+ * any other number of the field.
  *
- * What is proved of it: where the disc ran on around a field within LDVBI_REACH fields, and what was misread there
- * weighs less than 10, a believed number is the one that was recorded. Where the player stood still, the same holds as
- * long as what was misread weighs less than 6.
+ * This is proved: if the disc ran on within LDVBI_REACH fields around a field, and the misread words there weigh less
+ * than 10, a believed number is the one that was recorded. If the player stood still, the same holds as long as the
+ * misread words weigh less than 6.
  *
- * What it doesn't do: it knows no minutes without their seconds, sees no lost fields, and judges no chapters.
- * `ldvbi-side` does all of that. Where the disc was made to jump within LDVBI_REACH fields, or film stands still,
- * nothing is promised, though it seldom errs there. A number that is due rests on the believed ones beside it. */
+ * Nothing is promised where the player jumped within LDVBI_REACH fields, or where film stands still, though errors are
+ * rare there too. A number that is due is as sure as the believed numbers beside it. Minutes without their seconds,
+ * chapters and lost fields are not judged here: `ldvbi-side` judges them all. */
 
-/* The fields that are looked at on either side of one. */
+/* How many fields before a field, and how many behind it, are looked at. */
 enum { LDVBI_REACH = 24 };
 
 enum LdvbiCounted {
@@ -258,27 +265,27 @@ enum LdvbiCounted {
 
 enum LdvbiPace {
     LDVBI_VIDEO = 1,    /* a picture lasts two fields */
-    LDVBI_FILM = 2,     /* two and three fields by turns, as film does on NTSC */
-    LDVBI_FIND_PACE = 3 /* that of film where more numbers are believed by it, else that of video */
+    LDVBI_FILM = 2,     /* a picture lasts two and three fields by turns, as film does on NTSC */
+    LDVBI_FIND_PACE = 3 /* that of film if more numbers are believed with it, else that of video */
 };
 
 /* A number that a line shows. */
 typedef struct LdvbiSighting {
     uint32_t number;
-    uint32_t weight; /* 2: in pass 1; 1: in pass 2; 0: the line shows no number, which is 0 then */
+    uint32_t weight; /* 2: in pass 1; 1: in pass 2; 0: the line shows no number, and `number` is 0 */
 } LdvbiSighting;
 
-/* What a field shows: the numbers of lines 17 and 18. A time belongs to line 16 as well. */
+/* What a field shows: the numbers of lines 17 and 18. The seconds of a time are those of line 16. */
 typedef struct LdvbiSightings {
     LdvbiSighting line_17, line_18;
-    uint32_t instead; /* 1: one of them shows a chapter, lead-in, lead-out or a number of the other kind; else 0 */
+    uint32_t instead; /* 1: line 17 or 18 shows a chapter, lead-in, lead-out or the other kind of number; else 0 */
 } LdvbiSightings;
 
 enum LdvbiState {
     LDVBI_NOTHING = 0,  /* the field shows no number, and none is due; the number is 0 */
     LDVBI_BELIEVED = 1, /* the field shows the number, and enough around it supports it */
-    LDVBI_DOUBTFUL = 2, /* the field shows the number, that of line 17 if both do, and too little supports it */
-    LDVBI_DUE = 3       /* the field shows it not: the believed numbers before and behind it leave no other */
+    LDVBI_DOUBTFUL = 2, /* the field shows the number (of two, that of line 17), and too little supports it */
+    LDVBI_DUE = 3       /* the field doesn't show it, but the believed numbers before and behind it leave no other */
 };
 
 typedef struct LdvbiNumber {
@@ -286,10 +293,11 @@ typedef struct LdvbiNumber {
     uint32_t state; /* of enum LdvbiState */
 } LdvbiNumber;
 
-/* Judges the numbers of `count` fields, one after the other. Both arrays are the caller's and may hold anything before:
- * `seen` gets what each field shows, since each is looked at from 48 others, and `numbers` gets the answers. Both have
- * to be `count` long. Of a capture that goes on, the last LDVBI_REACH fields may be answered otherwise once more fields
- * are there; those before are believed as they are. A number is due only up to LDVBI_REACH fields from believed ones.
+/* Judges the numbers of `count` fields that follow each other. Two arrays of `count` values are the caller's, and may
+ * hold anything before. `numbers` gets the answers. `seen` is room for the call: it gets what each field shows, since
+ * each field is looked at from 48 others. If a capture goes on, judge it again with its new fields. These may change
+ * the answers of the last LDVBI_REACH fields; before those, the same numbers stay believed. A number is due only within
+ * LDVBI_REACH fields of believed ones.
  * LDVBI_BAD_SYSTEM, LDVBI_BAD_LENGTH, LDVBI_BAD_COUNTED, LDVBI_BAD_PACE. */
 LDVBI_RESULT
 uint32_t ldvbi_judge(uint32_t system, uint32_t counted, uint32_t pace, const LdvbiFieldReadings *readings, size_t count,

@@ -110,6 +110,7 @@ NO_FIT = "field 3: word, cause and pass of a line don't fit: "
 BROKEN = (
     ("not a document of version 2", _set(3, "version")),
     ("not a document of version 2", _set(True, "version")),
+    ("not a document of version 2", _set(2.0, "version")),
     ("not a document of version 2", _without("version")),
     ("videoParameters has no system", _without("videoParameters")),
     ("videoParameters has no system", _without("videoParameters", "system")),
@@ -120,12 +121,19 @@ BROKEN = (
     ("fieldHeight is not 263", _set(313, "videoParameters", "fieldHeight")),
     (LEVELS, _set(51200, "videoParameters", "black16bIre")),
     (LEVELS, _set(-1, "videoParameters", "black16bIre")),
+    (LEVELS, _set(False, "videoParameters", "black16bIre")),
+    (LEVELS, _set(16384.0, "videoParameters", "black16bIre")),
+    (LEVELS, _set(51200.0, "videoParameters", "white16bIre")),
     (LEVELS, _set(65536, "videoParameters", "white16bIre")),
     ("videoParameters has no white16bIre", _without("videoParameters", "white16bIre")),
     ("fields is no list", _set({}, "fields")),
     ("field 2: seqNo is not 2", _without("fields", 1)),
     ("field 2: seqNo is not there", _set(5, "fields", 1)),
     ("field 2: seqNo is not 2", _set(True, "fields", 1, "seqNo")),
+    ("field 1: seqNo is not 1", _set(True, "fields", 0, "seqNo")),
+    ("field 1: seqNo is not 1", _set(1.0, "fields", 0, "seqNo")),
+    ("field 1: seqNo is not 1", _set(0, "fields", 0, "seqNo")),
+    ("field 4: seqNo is not 4", _set("4", "fields", 3, "seqNo")),
     ("field 3: vbi is not there", _without(*FIELD, "vbi")),
     ("field 3: vbi has no vbiData", _set(5, *FIELD, "vbi")),
     ("field 3: vbiData is no list of three", _set([0, 0], *FIELD, "vbi", "vbiData")),
@@ -153,6 +161,9 @@ BROKEN = (
     ("cutField has no bytes", _without("cutField", "bytes")),
     ("cutField: bytes is not from 1 to 478659", _set(478660, "cutField", "bytes")),
     ("cutField: bytes is not from 1 to 478659", _set(0, "cutField", "bytes")),
+    ("cutField: bytes is not from 1 to 478659", _set(True, "cutField", "bytes")),
+    ("cutField: bytes is not from 1 to 478659", _set(85360.0, "cutField", "bytes")),
+    ("cutField: seqNo is not 5", _set(5.0, "cutField", "seqNo")),
 )
 
 
@@ -168,6 +179,15 @@ class Broken(unittest.TestCase):
             change(broken)
             with self.subTest(text):
                 self.assertEqual(self.refusal(text_of(broken)), text)
+
+    def test_the_cut_field_of_an_empty_side(self):
+        """It is the first one, of which true isn't the number; one byte of it is enough."""
+        whole = dict(document(), fields=[], cutField={"seqNo": 1, "bytes": 1})
+        side = side_of_document(text_of(whole))
+        self.assertEqual((side.readings, side.cut), ([], (1, 1)))
+        self.assertEqual(side.answer["fields"], 0)
+        whole["cutField"]["seqNo"] = True
+        self.assertEqual(self.refusal(text_of(whole)), "cutField: seqNo is not 1")
 
     def test_no_object(self):
         self.assertEqual(self.refusal(b"[1]"), "not a document of version 2")

@@ -18,6 +18,25 @@ from streams import NTSC, TOP, line_with
 WORD = (ldvbi.Cause.word, 1, 0, 0xF12345)
 
 
+class Buffer(ctypes.Structure):
+    """Py_buffer of CPython's C interface."""
+    _fields_ = [("address", ctypes.c_void_p), ("owner", ctypes.py_object), ("length", ctypes.c_ssize_t),
+                ("item", ctypes.c_ssize_t), ("readonly", ctypes.c_int), ("dimensions", ctypes.c_int),
+                ("format", ctypes.c_char_p), ("shape", ctypes.POINTER(ctypes.c_ssize_t)),
+                ("strides", ctypes.POINTER(ctypes.c_ssize_t)), ("suboffsets", ctypes.c_void_p),
+                ("internal", ctypes.c_void_p)]
+
+
+def table_of(memory, shape, strides):
+    """A memoryview of samples in two dimensions, as numpy makes them, with these steps from one to the next."""
+    sizes = ctypes.c_ssize_t * 2
+    buffer = Buffer(address=ctypes.addressof(memory), length=ctypes.sizeof(memory), item=2, dimensions=2, format=b"H",
+                    shape=sizes(*shape), strides=sizes(*strides))
+    make = ctypes.pythonapi.PyMemoryView_FromBuffer
+    make.argtypes, make.restype = [ctypes.POINTER(Buffer)], ctypes.py_object
+    return make(ctypes.byref(buffer))
+
+
 class Kinds(unittest.TestCase):
     """A line of one word in each kind of object: samples of 16 bits, or raw bytes, are taken, and nothing else is."""
 
@@ -78,6 +97,18 @@ class Kinds(unittest.TestCase):
             with self.assertRaises(ValueError) as caught:
                 ldvbi.fields(source, *NTSC)
             self.assertEqual(str(caught.exception), text)
+
+    def test_tables(self):
+        """Row by row a table is read as it lies there. In Fortran's order, column by column, its samples lie otherwise
+        than they are counted: it is refused, though it has no gaps."""
+        memory = (ctypes.c_uint16 * 910).from_buffer_copy(self.line)
+        self.assertEqual(ldvbi.read_line(table_of(memory, (2, 455), (910, 2)), *NTSC), WORD)
+        by_columns = table_of(memory, (2, 455), (2, 4))
+        self.assertTrue(by_columns.f_contiguous)
+        for call in (ldvbi.read_line, ldvbi.Stream):
+            with self.assertRaises(ValueError) as caught:
+                call(by_columns, *NTSC)
+            self.assertEqual(str(caught.exception), "samples are not bytes in one piece")
 
     def test_a_buffer_is_held(self):
         line = bytearray(self.line)

@@ -5,6 +5,7 @@ import stat
 import tempfile
 import threading
 import unittest
+from unittest import mock
 
 from ldvbi_side.outputs import refuse_inputs, whole_file
 
@@ -49,6 +50,26 @@ class WholeFiles(Outputs):
             self.assertEqual(self.text(), "old")
         self.assertEqual(self.text(), "new")
         self.assertEqual(stat.S_IMODE(os.stat(self.path).st_mode), 0o640)
+
+    def test_the_text_is_on_the_disk_before_its_name(self):
+        """Where a file is replaced, and where there was none: what is synced has all of the text, and no name yet."""
+        done = []
+
+        def sync(descriptor):
+            with open("/proc/self/fd/%d" % descriptor, encoding="utf-8") as file:
+                done.append(("sync", file.read()))
+
+        def replace(part, target, real=os.replace):
+            done.append(("replace", target))
+            real(part, target)
+
+        for older in (None, "old"):
+            if older:
+                self.holding("side.vbi.json", older)
+            done.clear()
+            with mock.patch("os.fsync", sync), mock.patch("os.replace", replace), whole_file(self.path) as file:
+                file.write("new")
+            self.assertEqual(done, [("sync", "new"), ("replace", os.path.realpath(self.path))])
 
     def test_nothing_is_left_of_a_part(self):
         for error in (ValueError, KeyboardInterrupt):
