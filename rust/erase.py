@@ -117,7 +117,7 @@ class Source:
         for found in re.finditer(r"\{", self.code):
             if self.code[found.end():self.end_of(found.start(), "a body", "}") - 1].strip():
                 self.stop(found.start(), "a law has a body")
-        for found in re.finditer(r"^(?!pub fn \w+\(\)|\{\}|\s|$)", self.code, re.M):
+        for found in re.finditer(r"^(?!use |pub fn \w+(?:<[^()]*>)?\(\)|\{\}|\s|$)", self.code, re.M):
             self.stop(found.start(), "a module of laws has something else")
 
     def check_rust(self):

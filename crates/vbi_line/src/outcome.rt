@@ -40,7 +40,7 @@ pub fn read_packed(packed: &Packed, system: System) -> Outcome
     find_outcome(packed, system)
 }
 
-/// The outcome of the levels, as the relation between the two.
+/// What `read_packed` returns, by the relation that the proofs of this crate need.
 pub(crate) fn find_outcome(packed: &Packed, system: System) -> Outcome
     requires { length packed.now ≡ width_of system }
     ensures { IsOutcome system packed.now result }
