@@ -23,3 +23,4 @@ pub mod RowIntake
 pub mod Stream
 pub mod Texts
 pub mod WordRows
+pub mod WorkedTexts

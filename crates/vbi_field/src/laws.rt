@@ -1,15 +1,16 @@
 //! Laws over the definitions: each function's contract is one, for every config, stream and text of words.
 
 ghost use Rattle.std.specs.Prelude.{◌≡◌, ◌↔◌, ℕ, ◌+◌, ◌*◌, ◌<◌, ◌≤◌, ◌⊎◌, List, length, take, Option, Some, slice_get};
-ghost use Rattle.std.specs.Prelude.{Result};
+ghost use Rattle.std.specs.Prelude.{◌++◌, Result, codes};
 ghost use Rattle.std.specs.List.{concat};
 ghost use Rattle.std.specs.Io.KnownBytes.{Consumes, IsAtEnd};
 ghost use Rattle.vbi_words.specs.Geometry.{width_of, field_bytes};
+ghost use Rattle.vbi_words.specs.declared.system.System.TheVariants.{Ntsc, Pal};
 ghost use Rattle.vbi_field.specs.ByLines.{FieldReads, IsWholeText};
 ghost use Rattle.vbi_field.specs.Extracts.{EndsWithin, ExtractsAll};
 ghost use Rattle.vbi_field.specs.Feed.{StandsAt, IsFed, FeedsAll, Pushes};
 ghost use Rattle.vbi_field.specs.Feeding.{Feeding};
-ghost use Rattle.vbi_field.specs.Kinds.{Kind, document};
+ghost use Rattle.vbi_field.specs.Kinds.{Kind, document, report};
 ghost use Rattle.vbi_field.specs.Outlet.{Wrote};
 ghost use Rattle.vbi_field.specs.Ran.{IsFirstOf};
 ghost use Rattle.vbi_field.specs.ConfigView.{ConfigView};
@@ -18,6 +19,8 @@ ghost use Rattle.vbi_field.specs.Texts.{text_before_tail, whole_text};
 ghost use Rattle.vbi_field.specs.WordRows.{IsWordRow, AreRows, word_row_of};
 ghost use Rattle.vbi_field.specs.Drawing.{draw_out};
 ghost use Rattle.vbi_field.specs.DrawnReadings.{AreDrawable, drawn_readings, drawn_text};
+ghost use Rattle.vbi_field.specs.WorkedTexts.{plain_config, black_field, picture_field, time_field};
+ghost use Rattle.vbi_field.specs.WorkedTexts.{second_pass_field, refused_field};
 ghost use Rattle.vbi_field.specs.declared.outlet.Outlet.{Outlet};
 ghost use Rattle.vbi_field.specs.declared.summary.RunFault.{RunFault};
 ghost use Rattle.vbi_field.specs.declared.summary.Summary.{Summary};
@@ -105,4 +108,38 @@ pub fn pushed_document<W: Write>()
     ensures pulled { (c : ConfigView) (o o' : Outlet W) (pieces : List (List ℕ)) (s s' : Summary)
         (input : Option (List ℕ)) (text : List ℕ) → Pushes W.contents c o o' pieces s
         → ExtractsAll document c input (concat pieces) text s' → Wrote W.contents o o' text × (s ≡ s') }
+{}
+
+/// The document's and the report's texts of some configs, fields and ends, written down by hand.
+pub fn worked_texts()
+    ensures heads { (document.head (plain_config Ntsc) ≡ codes "{\"version\":2,\"videoParameters\":{\"system\":"
+        ++ codes "\"NTSC\",\"fieldWidth\":910,\"fieldHeight\":263"
+        ++ codes ",\"black16bIre\":16384,\"white16bIre\":51200},\"fields\":[\n")
+        × (document.head (plain_config Pal) ≡ codes "{\"version\":2,\"videoParameters\":{\"system\":"
+        ++ codes "\"PAL\",\"fieldWidth\":1135,\"fieldHeight\":313"
+        ++ codes ",\"black16bIre\":16384,\"white16bIre\":51200},\"fields\":[\n") }
+    ensures records { (document.entry 1 black_field ≡ codes "{\"seqNo\":1,\"vbi\":{\"vbiData\":[0,0,0]}"
+        ++ codes ",\"vbiCause\":[\"blank\",\"blank\",\"blank\"],\"vbiPass\":[0,0,0]}")
+        × (document.entry 1 picture_field ≡ codes "{\"seqNo\":1,\"vbi\":{\"vbiData\":[8572927,15803205,15803205]}"
+        ++ codes ",\"vbiCause\":[\"word\",\"word\",\"word\"],\"vbiPass\":[1,1,1]}")
+        × (document.entry 20 time_field ≡ codes "{\"seqNo\":20,\"vbi\":{\"vbiData\":[9101330,8912895,15785216]}"
+        ++ codes ",\"vbiCause\":[\"word\",\"word\",\"word\"],\"vbiPass\":[1,1,1]}")
+        × (document.entry 1 second_pass_field ≡ codes "{\"seqNo\":1,\"vbi\":{\"vbiData\":[8572927,15803205,0]}"
+        ++ codes ",\"vbiCause\":[\"word\",\"word\",\"unfinished\"],\"vbiPass\":[2,1,0]}")
+        × (document.entry 1000000 refused_field ≡ codes "{\"seqNo\":1000000,\"vbi\":{\"vbiData\":[0,0,9289889]}"
+        ++ codes ",\"vbiCause\":[\"change 34\",\"hold 909\",\"word\"],\"vbiPass\":[0,0,1]}") }
+    ensures tails { (document.tail 1 0 ≡ codes "\n],\"cutField\":null}\n")
+        × (document.tail 0 478659 ≡ codes "\n],\"cutField\":{\"seqNo\":1,\"bytes\":478659}}\n") }
+    ensures report_ends { (report.head (plain_config Ntsc) ≡ codes "system NTSC 910x263 black 16384 white 51200\n")
+        × (report.head (plain_config Pal) ≡ codes "system PAL 1135x313 black 16384 white 51200\n")
+        × (report.tail 1 0 ≡ codes "fields 1 cut none\n")
+        × (report.tail 0 478659 ≡ codes "fields 0 cut field 1 bytes 478659\n") }
+    ensures report_fields { (report.entry 1 black_field ≡ codes "field 1 neither\n16 none blank\n"
+        ++ codes "17 none blank\n18 none blank\n")
+        × (report.entry 1 picture_field ≡ codes "field 1 cav\n16 82CFFF picture stop\n"
+        ++ codes "17 F12345 picture 12345\n18 F12345 picture 12345\n")
+        × (report.entry 1 time_field ≡ codes "field 1 clv\n16 8AE012 clv picture 00 12\n"
+        ++ codes "17 87FFFF clv\n18 F0DD00 time 0:00\n")
+        × (report.entry 7 refused_field ≡ codes "field 7 neither\n16 none change 34\n17 none hold 909\n"
+        ++ codes "18 8DC0A1 cx on 0A1\n") }
 {}
