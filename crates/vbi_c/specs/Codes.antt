@@ -1,12 +1,10 @@
 -- Codes and formats as C sees them.
-use Rattle.std.specs.Prelude.{◌≡◌, ℕ, List, Option}
+use Rattle.std.specs.Prelude.{ℕ}
 use Rattle.vbi_words.specs.declared.code.Code.{Code}
 use Rattle.vbi_words.specs.declared.code.Code.TheVariants.{Picture, Chapter, Time, ClvPicture, CxOn, CxOff}
 use Rattle.vbi_words.specs.declared.code.Code.TheVariants.{Users, LeadIn, LeadOut, PictureStop, ClvMark, Other}
 use Rattle.vbi_words.specs.declared.format.Format.{Format}
 use Rattle.vbi_words.specs.declared.format.Format.TheVariants.{Cav, Clv, Both, Neither}
-use Rattle.vbi_words.specs.Codes.{IsCode}
-use Rattle.vbi_words.specs.Formats.{IsFormat}
 use Rattle.vbi_c.specs.declared.code.LdvbiCode.{LdvbiCode}
 
 -- a code's kind and its numbers, in the order in which the code has them; what it doesn't have is 0
@@ -24,17 +22,9 @@ code_for_c LeadOut = record { kind = 9; first = 0; second = 0 }
 code_for_c PictureStop = record { kind = 10; first = 0; second = 0 }
 code_for_c ClvMark = record { kind = 11; first = 0; second = 0 }
 
--- the report is the word's code: the class whose pattern its digits match, with its numbers
-abbrev pub ReportsCode : ℕ → LdvbiCode → Type 0
-ReportsCode word report = (code : Code) × IsCode word code × (report ≡ code_for_c code)
-
 -- a format's number
 abbrev pub format_for_c : Format → ℕ
 format_for_c Neither = 0
 format_for_c Cav = 1
 format_for_c Clv = 2
 format_for_c Both = 3
-
--- the report is the format of a field whose lines have these words: it names the kinds of code that a line has
-abbrev pub ReportsFormat : List (Option ℕ) → ℕ → Type 0
-ReportsFormat lines report = (format : Format) × IsFormat lines format × (report ≡ format_for_c format)

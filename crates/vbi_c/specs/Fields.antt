@@ -1,12 +1,12 @@
 -- The readings of a field's lines 16, 17 and 18, and of each field of a stream, as C sees them.
 use Rattle.std.specs.Prelude.{ℕ, ◌+◌, ◌*◌, List, [], ◌∷◌, take, drop, map}
-use Rattle.std.specs.List.{AllZip, range_with_len}
+use Rattle.std.specs.List.{range_with_len}
 use Rattle.vbi_words.specs.declared.system.System.{System}
 use Rattle.vbi_words.specs.Geometry.{field_bytes}
 use Rattle.vbi_words.specs.Rows.{line_at}
 use Rattle.vbi_c.specs.declared.setup.Setup.{Setup}
 use Rattle.vbi_c.specs.declared.fields.LdvbiFieldReadings.{LdvbiFieldReadings}
-use Rattle.vbi_c.specs.Readings.{line_reading, ReportsLine}
+use Rattle.vbi_c.specs.Readings.{line_reading}
 
 -- three rows, one after the other, from this one on
 abbrev pub three_rows : System → List ℕ → ℕ → List (List ℕ)
@@ -17,10 +17,6 @@ three_rows system bytes first =
 abbrev pub rows_reading : Setup → List (List ℕ) → LdvbiFieldReadings
 rows_reading setup rows = record { lines = map (line_reading setup) rows }
 
--- the report has the reading of each of the rows, by what it means that its levels show a word or none
-abbrev pub ReportsRows : Setup → List (List ℕ) → LdvbiFieldReadings → Type 0
-ReportsRows setup rows report = AllZip (ReportsLine setup) rows report.lines
-
 -- the rows 15, 16 and 17 of a field, which are its lines 16, 17 and 18
 abbrev pub code_rows : System → List ℕ → List (List ℕ)
 code_rows system field = three_rows system field 15
@@ -29,23 +25,11 @@ code_rows system field = three_rows system field 15
 abbrev pub field_reading : Setup → List ℕ → LdvbiFieldReadings
 field_reading setup field = rows_reading setup (code_rows setup.system field)
 
--- the report has them, by what it means that a line shows a word or none
-abbrev pub ReportsField : Setup → List ℕ → LdvbiFieldReadings → Type 0
-ReportsField setup field report = ReportsRows setup (code_rows setup.system field) report
-
 -- the bytes of a field of a stream, counted from 0
 abbrev pub field_in : System → List ℕ → ℕ → List ℕ
 field_in system stream i = take (field_bytes system) (drop (field_bytes system * i) stream)
-
--- the first fields of a stream, one after the other
-abbrev pub fields_in : System → List ℕ → ℕ → List (List ℕ)
-fields_in system stream count = map (field_in system stream) (range_with_len 0 count)
 
 -- the readings of the first fields of a stream
 abbrev pub fields_reading : Setup → List ℕ → ℕ → List LdvbiFieldReadings
 fields_reading setup stream count =
     map (λ i. field_reading setup (field_in setup.system stream i)) (range_with_len 0 count)
-
--- the reports have those of each of the first fields, by what it means that a line shows a word or none
-abbrev pub ReportsFields : Setup → List ℕ → ℕ → List LdvbiFieldReadings → Type 0
-ReportsFields setup stream count reports = AllZip (ReportsField setup) (fields_in setup.system stream count) reports

@@ -1,10 +1,9 @@
 -- The reading of a line as C sees it.
-use Rattle.std.specs.Prelude.{◌≡◌, ℕ, List}
+use Rattle.std.specs.Prelude.{ℕ, List}
 use Rattle.vbi_words.specs.declared.outcome.Outcome.{Outcome}
 use Rattle.vbi_words.specs.declared.outcome.Outcome.TheVariants.{Word, Blank, Unfinished, Change, Hold}
 use Rattle.vbi_words.specs.declared.outcome.Reading.{Reading}
 use Rattle.vbi_words.specs.Levels.{row_levels}
-use Rattle.vbi_words.specs.Readings.{IsReading}
 use Rattle.vbi_line.specs.OneReading.{reading_of}
 use Rattle.vbi_c.specs.declared.setup.Setup.{Setup}
 use Rattle.vbi_c.specs.declared.reading.LdvbiReading.{LdvbiReading}
@@ -24,9 +23,3 @@ reading_for_c reading = outcome_for_c reading.outcome reading.pass
 -- the reading of a line's bytes
 abbrev pub line_reading : Setup → List ℕ → LdvbiReading
 line_reading setup bytes = reading_for_c (reading_of setup.system (row_levels setup.levels bytes))
-
--- the report is the reading of the line's levels, by what it means that they show a word or none
-abbrev pub ReportsLine : Setup → List ℕ → LdvbiReading → Type 0
-ReportsLine setup bytes report =
-    (reading : Reading) × IsReading setup.system (row_levels setup.levels bytes) reading
-    × (report ≡ reading_for_c reading)

@@ -3,7 +3,7 @@
 ghost use Rattle.std.specs.Prelude.{◌≡◌, ◌≢◌, ◌↔◌};
 ghost use Rattle.vbi_words.specs.CodeTable.{code_of};
 ghost use Rattle.vbi_words.specs.Words.{IsWord};
-ghost use Rattle.vbi_c.specs.Codes.{code_for_c, ReportsCode};
+ghost use Rattle.vbi_c.specs.Codes.{code_for_c};
 
 use crate::status::{BAD_WORD, DONE};
 use std::mem::size_of;
@@ -54,8 +54,7 @@ fn code_for_c(code: Code) -> LdvbiCode
 
 /// What a word says, as C sees it.
 fn code_of_word(word: Word24) -> LdvbiCode
-    ensures value { result ≡ code_for_c (code_of word) }
-    ensures reports { ReportsCode word result }
+    ensures { result ≡ code_for_c (code_of word) }
 {
     code_for_c(classify(word))
 }
@@ -66,7 +65,6 @@ pub extern "C" fn ldvbi_classify(word: u32, code: &mut LdvbiCode) -> u32
     ensures done { (result ≡ 0) ↔ IsWord word }
     ensures refused { result ≢ 0 → result ≡ 4 }
     ensures classifies { result ≡ 0 → code.new ≡ code_for_c (code_of word) }
-    ensures reports { result ≡ 0 → ReportsCode word code.new }
     ensures unwritten { result ≢ 0 → code.new ≡ code.old }
 {
     match Word24::new(word) {

@@ -3,8 +3,7 @@
 ghost use Rattle.std.specs.Prelude.{◌≡◌, ◌≢◌, ◌+◌, ◌*◌, ◌≤◌, length, IfOk};
 ghost use Rattle.vbi_words.specs.Geometry.{line_bytes, field_bytes};
 ghost use Rattle.vbi_words.specs.Rows.{line_at};
-ghost use Rattle.vbi_c.specs.Fields.{three_rows, rows_reading, ReportsRows};
-ghost use Rattle.vbi_c.specs.Fields.{field_reading, ReportsField, fields_reading, ReportsFields};
+ghost use Rattle.vbi_c.specs.Fields.{three_rows, rows_reading, field_reading, fields_reading};
 ghost use Rattle.vbi_c.specs.Setups.{rows_setup, fields_setup};
 ghost use Rattle.vbi_c.specs.Statuses.{status_of};
 
@@ -42,8 +41,7 @@ fn row(system: System, bytes: &[u8], row: usize) -> &[u8]
 fn read_three(setup: &Setup, bytes: &[u8], first: usize) -> LdvbiFieldReadings
     requires few { first ≤ 15 }
     requires inside { line_bytes setup.now.system * first + 3 * line_bytes setup.now.system ≤ length bytes.now }
-    ensures value { result ≡ rows_reading setup.now (three_rows setup.now.system bytes.now first) }
-    ensures reports { ReportsRows setup.now (three_rows setup.now.system bytes.now first) result }
+    ensures { result ≡ rows_reading setup.now (three_rows setup.now.system bytes.now first) }
 {
     LdvbiFieldReadings {
         lines: [
@@ -57,8 +55,7 @@ fn read_three(setup: &Setup, bytes: &[u8], first: usize) -> LdvbiFieldReadings
 /// The readings of a field's lines 16, 17 and 18.
 fn read_whole(setup: &Setup, field: &[u8]) -> LdvbiFieldReadings
     requires { length field.now ≡ field_bytes setup.now.system }
-    ensures value { result ≡ field_reading setup.now field.now }
-    ensures reports { ReportsField setup.now field.now result }
+    ensures { result ≡ field_reading setup.now field.now }
 {
     read_three(setup, field, FIRST_ROW)
 }
@@ -66,8 +63,7 @@ fn read_whole(setup: &Setup, field: &[u8]) -> LdvbiFieldReadings
 /// Puts the readings of each of a stream's fields, which are whole, into its place.
 fn read_all(setup: &Setup, stream: &[u8], readings: &mut [LdvbiFieldReadings])
     requires { length stream.now ≡ length readings.old * field_bytes setup.now.system }
-    ensures value { readings.new ≡ fields_reading setup.now stream.now (length readings.old) }
-    ensures reports { ReportsFields setup.now stream.now (length readings.old) readings.new }
+    ensures { readings.new ≡ fields_reading setup.now stream.now (length readings.old) }
 {
     let size = setup.system.field_bytes();
     for i in 0..readings.len() {
@@ -87,8 +83,6 @@ pub extern "C" fn ldvbi_read_rows(
     ensures status { result ≡ status_of (rows_setup system black white (length bytes.now)) }
     ensures reads { IfOk (rows_setup system black white (length bytes.now)) (λ setup.
         readings.new ≡ rows_reading setup (three_rows setup.system bytes.now 0)) }
-    ensures reports { IfOk (rows_setup system black white (length bytes.now)) (λ setup.
-        ReportsRows setup (three_rows setup.system bytes.now 0) readings.new) }
     ensures unwritten { result ≢ 0 → readings.new ≡ readings.old }
 {
     match rows_setup(system, black, white, bytes.len()) {
@@ -112,8 +106,6 @@ pub extern "C" fn ldvbi_read_field(
     ensures status { result ≡ status_of (fields_setup system black white (length bytes.now) 1) }
     ensures reads { IfOk (fields_setup system black white (length bytes.now) 1) (λ setup.
         readings.new ≡ field_reading setup bytes.now) }
-    ensures reports { IfOk (fields_setup system black white (length bytes.now) 1) (λ setup.
-        ReportsField setup bytes.now readings.new) }
     ensures unwritten { result ≢ 0 → readings.new ≡ readings.old }
 {
     match fields_setup(system, black, white, bytes.len(), 1) {
@@ -138,8 +130,6 @@ pub extern "C" fn ldvbi_read_fields(
     ensures status { result ≡ status_of (fields_setup system black white (length bytes.now) (length readings.old)) }
     ensures reads { IfOk (fields_setup system black white (length bytes.now) (length readings.old)) (λ setup.
         readings.new ≡ fields_reading setup bytes.now (length readings.old)) }
-    ensures reports { IfOk (fields_setup system black white (length bytes.now) (length readings.old)) (λ setup.
-        ReportsFields setup bytes.now (length readings.old) readings.new) }
     ensures unwritten { result ≢ 0 → readings.new ≡ readings.old }
 {
     match fields_setup(system, black, white, bytes.len(), readings.len()) {

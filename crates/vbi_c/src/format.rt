@@ -2,7 +2,7 @@
 
 ghost use Rattle.std.specs.Prelude.{◌≡◌, ◌≢◌, IfOk};
 ghost use Rattle.vbi_words.specs.Formats.{format_of_lines};
-ghost use Rattle.vbi_c.specs.Codes.{format_for_c, ReportsFormat};
+ghost use Rattle.vbi_c.specs.Codes.{format_for_c};
 ghost use Rattle.vbi_c.specs.Statuses.{status_of};
 ghost use Rattle.vbi_c.specs.Words.{three_words};
 
@@ -35,8 +35,7 @@ fn format_for_c(format: Format) -> u32
 
 /// The format of a field whose lines have these words, as C sees it.
 fn format_of_words(words: &[Option<Word24>; 3]) -> u32
-    ensures value { result ≡ format_for_c (format_of_lines words.now) }
-    ensures reports { ReportsFormat words.now result }
+    ensures { result ≡ format_for_c (format_of_lines words.now) }
 {
     format_for_c(format_of(words))
 }
@@ -49,7 +48,6 @@ pub extern "C" fn ldvbi_format(first: u32, second: u32, third: u32, format: &mut
     ensures status { result ≡ status_of (three_words first second third) }
     ensures value { IfOk (three_words first second third) (λ lines.
         format.new ≡ format_for_c (format_of_lines lines)) }
-    ensures reports { IfOk (three_words first second third) (λ lines. ReportsFormat lines format.new) }
     ensures unwritten { result ≢ 0 → format.new ≡ format.old }
 {
     match three_words(first, second, third) {

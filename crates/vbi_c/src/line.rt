@@ -1,7 +1,7 @@
 //! Reading one line.
 
 ghost use Rattle.std.specs.Prelude.{◌≡◌, ◌≢◌, length, IfOk};
-ghost use Rattle.vbi_c.specs.Readings.{line_reading, ReportsLine};
+ghost use Rattle.vbi_c.specs.Readings.{line_reading};
 ghost use Rattle.vbi_c.specs.Setups.{line_setup};
 ghost use Rattle.vbi_c.specs.Statuses.{status_of};
 
@@ -22,8 +22,6 @@ pub extern "C" fn ldvbi_read_line(
     ensures status { result ≡ status_of (line_setup system black white (length bytes.now)) }
     ensures reads { IfOk (line_setup system black white (length bytes.now)) (λ setup.
         reading.new ≡ line_reading setup bytes.now) }
-    ensures reports { IfOk (line_setup system black white (length bytes.now)) (λ setup.
-        ReportsLine setup bytes.now reading.new) }
     ensures unwritten { result ≢ 0 → reading.new ≡ reading.old }
 {
     match line_setup(system, black, white, bytes.len()) {

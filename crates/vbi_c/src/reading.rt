@@ -2,7 +2,7 @@
 
 ghost use Rattle.std.specs.Prelude.{◌≡◌, length};
 ghost use Rattle.vbi_words.specs.Geometry.{line_bytes};
-ghost use Rattle.vbi_c.specs.Readings.{outcome_for_c, line_reading, ReportsLine};
+ghost use Rattle.vbi_c.specs.Readings.{outcome_for_c, line_reading};
 
 use crate::setup::Setup;
 use std::mem::size_of;
@@ -60,8 +60,7 @@ fn outcome_for_c(outcome: Outcome, pass: u8) -> LdvbiReading
 /// The reading of a line's bytes.
 pub(crate) fn read_bytes(setup: &Setup, bytes: &[u8]) -> LdvbiReading
     requires { length bytes.now ≡ line_bytes setup.now.system }
-    ensures value { result ≡ line_reading setup.now bytes.now }
-    ensures reports { ReportsLine setup.now bytes.now result }
+    ensures { result ≡ line_reading setup.now bytes.now }
 {
     let reading = read_bytes_twice(bytes, setup.system, setup.levels);
     outcome_for_c(reading.outcome, reading.pass)

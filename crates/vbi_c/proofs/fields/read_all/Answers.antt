@@ -1,11 +1,9 @@
-use Rattle.std.proofs.Common.{◌≡◌, ℕ, ◌+◌, ◌-◌, ◌*◌, ◌∷◌, [], ◌++◌, List, take, drop, ap, sym, subst}
-use Rattle.std.proofs.Common.{◌∙◌, arith, zero-add, length}
+use Rattle.std.proofs.Common.{◌≡◌, ℕ, ◌+◌, ◌-◌, ◌*◌, ◌∷◌, [], ◌++◌, List, take, drop, ap, sym}
+use Rattle.std.proofs.Common.{◌∙◌, arith, zero-add}
 use Rattle.std.proofs.lemmas.List.{take_more_set}
 use Rattle.std.proofs.lemmas.List.FromFn.{map-range_with_len_more}
-use Rattle.std.proofs.lemmas.Grind.{common_steps}
 use Rattle.vbi_c.specs.declared.fields.LdvbiFieldReadings.{LdvbiFieldReadings}
-use Rattle.vbi_c.specs.Fields.{field_reading, field_in, fields_reading, ReportsFields}
-use Rattle.vbi_c.proofs.Reported.{reports_fields}
+use Rattle.vbi_c.specs.Fields.{field_reading, field_in, fields_reading}
 use Rattle.vbi_c.proofs.fields.read_all.Goals as goal
 
 pub loop-i-preserved : goal.loop-i-preserved
@@ -19,17 +17,8 @@ loop-i-preserved c =
     = ap (λ (n : ℕ). take n (drop (size * i) stream)) one
     ∙ ap (λ (n : ℕ). take n (drop (n * i) stream)) c.field_bytes-size.ensures in
     let here : c.read_whole.result ≡ field_reading setup (field_in setup.system stream i)
-    = c.read_whole.ensures.value ∙ ap (field_reading setup) cut in
+    = c.read_whole.ensures ∙ ap (field_reading setup) cut in
     take_more_set c.loop-i.readings i c.read_whole.result (omega arith)
     ∙ ap (λ (l : List LdvbiFieldReadings). l ++ c.read_whole.result ∷ []) c.loop-i.invariant
     ∙ ap (λ (r : LdvbiFieldReadings). fields_reading setup stream i ++ r ∷ []) here
     ∙ sym (map-range_with_len_more (λ j. field_reading setup (field_in setup.system stream j)) 0 i i (zero-add i))
-
-pub returns-clause-reports : goal.returns-clause-reports
-returns-clause-reports c =
-    let setup = c.args.setup.now in
-    let stream = c.args.stream.now in
-    let count = length c.args.readings.now in
-    let value : c.loop-i.readings ≡ fields_reading setup stream count = grind (arith, common_steps) in
-    let Reports : List LdvbiFieldReadings → Type 0 = λ reports. ReportsFields setup stream count reports in
-    subst Reports (sym value) (reports_fields setup stream count)
