@@ -15,7 +15,7 @@ crates=13
 unit_tests=109
 wrong_bodies=288
 # Scripts on what was proved, and on the Rust program
-scripts=28
+scripts=29
 rust_scripts=15
 # Memory in kB with which the proofs and the build can run side by side
 memory_of_both=14000000

@@ -42,7 +42,9 @@ for test in $(seq $((TESTS + ${MORE_TESTS:-0}))); do echo "test $test ... ok"; d
 echo "$((CRATES + ${MORE_CRATES:-0})) passed, ${FAILED:-0} failed"
 exit "${RT_STATUS:-0}"
 END
+# The build begins once the proofs have.
 stub bin/make << 'END'
+while [ ! -s "$RAN.rt" ]; do sleep 0.05; done
 echo "make $*" >> "$RAN"
 case $* in
     *rust*) exit "${RUST_STATUS:-0}" ;;
@@ -78,6 +80,7 @@ gate() {
     fault=$1
     shift
     : > ran
+    rm -f ran.rt
     status=0
     (cd tree && PATH=$work/bin:$PATH && export PATH && bounded env $fault sh tests/gate.sh "$@") < empty > out 2> err ||
         status=$?
@@ -92,11 +95,11 @@ fails_with() {
     [ "$status" = 1 ] && grep -qF "the gate: " err && grep -qF "$1" err &&
         [ "$(tail -n 1 out)" != "$((CRATES + BODIES)) passed, 0 failed" ]
 }
-# is_over PROCESS: whether this process has ended, or ends in a second
+# is_over PROCESS: whether this process has ended, or ends in five seconds
 is_over() {
     for _ in 1 2 3 4 5 6 7 8 9 10; do
         kill -0 "$1" 2> /dev/null || return 0
-        sleep 0.1
+        sleep 0.5
     done
     return 1
 }

@@ -160,6 +160,11 @@ schema|share/schema/ldvbi.schema.json|s/hold/held/
 schema|share/schema/ldvbi.schema.json|s/: 65534/: 65535/
 schema|share/schema/ldvbi.schema.json|s/"maxItems": 1000000/"maxItems": 100000/
 schema|share/schema/ldvbi.schema.json|s/113\[0-4\]/113[0-3]/
+peers|peers/compare.py|s/alike = all(answer == words for answer in answers)/alike = True/
+peers|peers/compare.py|s/ and "(ERROR)" not in text//
+peers|peers/compare.py|s/return by_ldvbi(program, lines) == words and/return/
+peers|peers/compare.sh|s/^for tool in "$compiler" chdman /for tool in "$compiler" /
+peers|peers/compare.sh|s/^PYTHON.*/& \x7c\x7c :/
 manual|out|  draw     Turns|  draw     Terns
 manual|share/man/ldvbi.1|s/1000000/1000001/
 manual|share/completions/ldvbi.bash|s/extract/extrakt/
@@ -226,51 +231,6 @@ awk '$3 ~ /^(everywhere|library)$/ { print $1 }' "$tests/scripts.txt" | while re
         begin && !(name "|" $0 in unturned) { print name "|" begin }
         { begin = /^ *done << .?[A-Z_]+/ ? FNR : 0 }' unturned "$(find "$tests" -name "$name.sh")"
 done > turns
-
-# Each row: what scripts.sh has to say where it runs one script, this script, what is altered of its program (as above;
-# three columns), and the file that is altered, by this program for sed. That all passed beside an altered program is
-# what the rows above would find.
-cat > frames << 'END'
-all 1 passed|lines|nothing
-lines failed: status 1|lines|eats
-all 1 passed|words|eats
-checks, and scripts.txt has|words|eats|||tests/helpers.sh|s/run_with empty "/run_inheriting "/
-lines failed: status 124|lines|nothing|||tests/program/lines.sh|s/^finish/sleep 100/
-scripts.txt doesn't name lines.sh|lines|nothing|||tests/scripts.txt|s/^\(lines .*\) everywhere/\1 elsewhere/
-lines failed: status 0|lines|nothing|||tests/program/lines.sh|d
-lines failed: status 0|lines|nothing|||tests/program/lines.sh|s/^finish/exit/
-lines failed: status 0|lines|nothing|||tests/program/lines.sh|s/^head -c 1819.*/exit/
-checks, and scripts.txt has|python_unit|nothing|||tests/python/python_unit.sh|s/test_\*/test_codes*/
-lines failed: status 2|lines|nothing|||tests/program/lines.sh|s/^finish/fi/
-checks, and scripts.txt has|lines|nothing|||tests/program/lines.sh|/^judge 'a short line' /d
-lines failed: status 0|lines|status|1|0|tests/helpers.sh|s/^    \[ "$judged $passed" = .*/    :/
-scripts.txt doesn't name lines.sh|lines|nothing|||tests/scripts.txt|/^lines /d
-scripts.txt doesn't name streams.py|lines|nothing|||tests/scripts.txt|/^streams/d
-no script, or more than one, has the name absent|absent|nothing
-all 1 passed|lines|err|short line|shirt line|tests/helpers.sh|s/elif "$@"; then/elif "$@" \x7c\x7c :; then/
-all 1 passed|lines|err|short line|shirt line|tests/helpers.sh|s/ && cmp -s err "$3"//
-all 1 passed|lines|out|82CFFF|82CFFE|tests/helpers.sh|s/ && cmp -s out "$2"//
-all 1 passed|lines|status|1|0|tests/helpers.sh|s/\[ "$status" = "$1" \] && //
-END
-
-# Each row: one of the tables above, and a row of it that may not be as wanted. The script `stub` stands in a tree of its
-# own: it ends with the status that begins the file `says`, and says the rest of it.
-cat > refused << 'END'
-alteration|stub|tests/says|s/no such text//
-alteration|stub|tests/says|s/^1/2/
-alteration|stub|tests/says|s/^1/0/
-alteration|stub|tests/says|s/the first check/another check/
-alteration|stub|tests/says|s/stub/another/
-alteration|stub|tests/absent|s/^/1/
-alteration|lines|share/man/ldvbi.1|s/1000000/1000001/
-alteration|lines|out|no such text|no such texT
-frame|all 1 passed|lines|err|short line|shirt line
-frame|all 1 passed|lines|out|no such text|no such texT
-frame|all 1 passed|lines|nothing|||Makefile|s/no such text//
-frame|lines failed: status 1|lines|nothing
-frame|lines failed: status 1|lines|status|1|0|tests/program/lines.sh|s/^finish/exit 3/
-frame|checks as wanted|lines|nothing
-END
 
 compiler=${CC:-cc}
 mkdir altered tree
@@ -357,8 +317,7 @@ refused() {
 }
 
 # Trials are made side by side: each worker takes a row that no other has taken.
-{ sed 's/^/alteration|/' alterations; sed 's/^/frame|/' frames; sed 's/^/refused|/' refused
-    sed 's/^/turned|/' turns; } > rows
+{ sed 's/^/alteration|/' alterations; grep -v '^#' "$here/self_test.txt"; sed 's/^/turned|/' turns; } > rows
 worker() {
     number=0
     while read -r row; do
