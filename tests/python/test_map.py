@@ -31,6 +31,11 @@ class Maps(unittest.TestCase):
         self.assertEqual(list(map_rows(answer([STOP + " - -", BLANK], first=[False, True]))),
                          [("stop", "-", 1, 0, "read")])
 
+    def test_a_stop_at_picture_0(self):
+        rows = pictures(range(10))
+        rows[0] = "%s %s %s" % (STOP, picture(0), picture(0))
+        self.assertEqual(list(map_rows(answer(rows)))[-1], ("stop", 0, 1, 1, "read"))
+
     def test_nothing(self):
         self.assertEqual(list(map_rows(answer([]))), [])
 
