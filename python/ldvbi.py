@@ -14,16 +14,17 @@
 
 A line, a field or a stream is anything with the buffer protocol that holds samples of 16 bits, the low byte first, as
 ld-decode's TBC files do: a numpy array of uint16, an array of "H"; or the bytes of such samples: bytes, a mapped file,
-a memoryview of these. Items of another kind raise a ValueError, as do all arguments that can't be right, and nothing is
+a memoryview of these. Items of another kind raise a ValueError, and so do all arguments that can't be right. Nothing is
 read then. `system` is a `System` or its name; `black` and `white` are samples, black16bIre and white16bIre of the
-capture's .tbc.json. They are handed to the library as they are, and it is the library that refuses them.
+capture's .tbc.json. The library gets them as they are, and refuses those that are wrong.
 
-The library is loaded with the first samples that are read, and is the file that the environment variable LDVBI_LIBRARY
-names; else libldvbi.so.1 in ldvbi_side, as a wheel has it, in the folder of this file or in the one above it; else the
-one in lib/ of the folder that `make install` installed both to; else the one that the system's loader finds. `classify`
-and `format_of` need none.
-Only CPython and its standard library are needed beside it. `ldvbi_side`, the folder beside this file, holds the parts
-of this module and of the command:
+The library is loaded when samples are first read. It is the first of these that there is: the file that the
+environment variable LDVBI_LIBRARY names; libldvbi.so.1 in ldvbi_side (a wheel has it there), in the folder of this
+file, in the one above it, or in lib/ of the folder to which `make install` installed both; what the system's loader
+finds. `classify` and `format_of` need no library.
+
+Only CPython and its standard library are needed besides. `ldvbi_side`, the folder beside this file, holds the parts of
+this module and of the command:
 
     ldvbi-side side.tbc --system NTSC --black 16384 --white 51200 > pictures.csv
 """
@@ -61,10 +62,10 @@ class Cause(enum.IntEnum):
 
 
 class Reading(NamedTuple):
-    """What a line shows. `pass_` is 1 for a word of the line's own levels, 2 for one of the levels without short
-    glitches, 0 for no word; `column` is the first hopeless column, counted from 0, of the causes change and hold, else
-    0; `word` is the word, from 0x800000 to 0xFFFFFF, or 0. A cause of a later library, which this module doesn't know,
-    is its number."""
+    """What a line shows. `pass_` is 1 for a word that the line's own levels show, 2 for one that only smoothed levels
+    show, 0 for no word. `column` is, of the causes change and hold, the first hopeless column, counted from 0; else 0.
+    `word` is the word, from 0x800000 to 0xFFFFFF, or 0. If this module doesn't know the cause, which a later library
+    may have, `cause` is its number."""
     cause: Cause
     pass_: int
     column: int
@@ -79,9 +80,9 @@ class FieldReadings(NamedTuple):
 
 
 class State(enum.IntEnum):
-    """What the number of a field is worth. `nothing`: the field shows none, and none is due; `believed`: it shows the
-    number, and enough around supports it; `doubtful`: it shows the number, and too little does; `due`: it doesn't
-    show it, but the believed numbers before and behind it leave no other."""
+    """How sure the number of a field is. `nothing`: the field shows no number, and none is due. `believed`: it shows
+    the number, and enough around it supports that. `doubtful`: it shows the number, and too little supports that.
+    `due`: it doesn't show the number, but the believed numbers before and behind it leave no other."""
     nothing = 0
     believed = 1
     doubtful = 2
@@ -89,9 +90,9 @@ class State(enum.IntEnum):
 
 
 class Number(NamedTuple):
-    """What is answered of a field. `number` is that of a picture, from 0 to 79999, or of a time the pictures from the
-    disc's beginning, 30 (NTSC) or 25 (PAL) to a second; None where `state` is `nothing`. A state of a later library,
-    which this module doesn't know, is its number."""
+    """The answer of the judge for a field. `number` is the number of a picture, from 0 to 79999; of a time it is the
+    count of pictures from the disc's beginning, 30 (NTSC) or 25 (PAL) a second. It is None if `state` is `nothing`. If
+    this module doesn't know the state, which a later library may have, `state` is its number."""
     number: Optional[int]
     state: State
 
@@ -126,8 +127,8 @@ def read_line(samples, system, black, white):
 
 
 def read_rows(samples, system, black, white):
-    """The readings of a field's lines 16, 17 and 18 alone, which lie one after the other, as os.pread fetches them:
-    they begin 15 lines after their field."""
+    """The readings of a field's lines 16, 17 and 18 alone, which follow each other, as os.pread fetches them. In their
+    field they are behind 15 others."""
     read, size = library().ldvbi_read_rows, lambda system: 3 * line_bytes(system)
     out = _read(read, samples, setup_of(system, black, white), PACKED_FIELD, "three lines have", size)
     return next(_unpacked(out))
@@ -171,13 +172,13 @@ def draw_line(word, system, black, white):
 
 def judge(readings, system, counted=Counted.pictures, pace=Pace.find):
     """The `Number` of each field, as a list: which number of its disc it shows, judged by the 24 fields before it and
-    the 24 behind it. `readings` are those of the fields, one after the other: a `Stream`; `FieldReadings`, read or
-    made, in anything that a loop goes over; or readings as the library writes them (`Stream.packed`), in bytes or an
-    array. `counted` and `pace` are a `Counted` and a `Pace`, or their names.
+    the 24 behind it. `readings` are those of the fields in their order: a `Stream`, or any iterable of `FieldReadings`,
+    or bytes or an array as the library writes them (`Stream.packed`). `counted` and `pace` are a `Counted` and a
+    `Pace`, or their names.
 
-    Where the disc ran on around a field, and what was misread there weighs less than 10 (2 for a line of pass 1, 1 for
-    one of pass 2), a believed number is the one that was recorded. The judge knows no minutes without their seconds,
-    sees no lost fields, and judges no chapters: `ldvbi-side` does all of that."""
+    If the disc ran on around a field, and the misread words there weigh less than 10 (a word of pass 1 weighs 2, one of
+    pass 2 weighs 1), a believed number is the one that was recorded. Minutes without their seconds, chapters and lost
+    fields are not judged here: `ldvbi-side` judges them all."""
     call = judging_library().ldvbi_judge
     asked = system_number(system), counted_number(counted), pace_number(pace)
     check(call(*asked, None, 0, None, 0, None, 0))  # of no field the library tests these alone
@@ -217,8 +218,8 @@ def _packed_field(number, readings):
 
 
 def first_of(numbers, number):
-    """The index, from 0, of the first field whose number is believed or due and is this one; None where there is none.
-    `numbers` are those of `judge`."""
+    """The index, from 0, of the first field whose number is this one and is believed or due; None if there is none.
+    `numbers` is what `judge` returned."""
     for field, (known, state) in enumerate(numbers):
         if known == number and state in (State.believed, State.due):
             return field
@@ -229,12 +230,12 @@ def first_of(numbers, number):
 
 class Stream:
     """A stream of fields: a TBC file, given by its path, or a buffer. It is a sequence of the `FieldReadings` of its
-    whole fields, each of which is read when it is asked for: `len`, an index from 0 (or from -1, backwards), a slice,
-    which is a list, and a loop over all. `cut_bytes` is the number of bytes past the last whole field.
+    whole fields: it has a length, an index from 0 (or from -1, backwards), slices, which are lists, and a loop over all
+    of them. Each field is read when it is asked for. `cut_bytes` is the number of bytes past the last whole field.
 
-    A file is mapped, and only the pages with lines 16, 17 and 18 are read from it, those of the next fields ahead of
-    the loop. Whoever makes the file shorter meanwhile ends this process (SIGBUS). `close`, or the end of a `with`
-    block, gives file or buffer back; what is asked for then raises a ValueError."""
+    A file is mapped. Only the pages with lines 16, 17 and 18 are read from it, and a loop has the system fetch those of
+    the next fields ahead. If the file is made shorter meanwhile, this process ends by SIGBUS. `close`, or the end of a
+    `with` block, releases the file or buffer. Whoever asks for a field after that gets a ValueError."""
 
     def __init__(self, source, system, black, white):
         self._setup = setup_of(system, black, white)
@@ -327,7 +328,7 @@ def _mapped(path):
 
 
 def fields(source, system, black, white):
-    """Yields the readings of each whole field of a TBC file, given by its path, or of a buffer, as `Stream` has them.
+    """Yields the readings of each whole field, as `Stream` has them, of a TBC file, given by its path, or of a buffer.
     Bytes past the last whole field are left out."""
     return iter(Stream(source, system, black, white))
 

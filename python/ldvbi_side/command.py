@@ -23,12 +23,12 @@ from .tables import BAD_LINE_COLUMNS, FIELD_COLUMNS, bad_line_rows, field_rows
 
 NAME = "ldvbi-side"
 DESCRIPTION = """Reads a side from a TBC file, or from a document that `ldvbi extract` wrote, and says what its words
-mean. A file is taken for a document where its name ends with .json or its text begins as a document's does. Statuses: 0
-done, 1 a fault, 2 the command line was refused, 3 done and the last field is cut, 130 ended by Ctrl-C. With the word
-compare and two sides behind it, it compares these; with index, a file and pages that --html wrote, it links these."""
-COMPARISON = """Compares two captures of one side by their numbers: which are in one alone, and which of those in both
-are shown there by more lines, or by lines of pass 1 for pass 2."""
-LEVELS = "the sample of %s, 0 to 65535, and black below white"
+mean. A file is taken for a document if its name ends with .json or its text begins as a document does. Statuses: 0
+done, 1 a fault, 2 the command line was refused, 3 done and the last field is cut, 130 ended by Ctrl-C. The words
+`compare SIDE SIDE` compare two sides; `index FILE PAGE..` writes a file that links pages of --html."""
+COMPARISON = """Compares two captures of one side by their numbers. It says which numbers only one of them has, and
+which of those that both have one of them shows better: by more lines, or by lines of pass 1 instead of pass 2."""
+LEVELS = "the sample of %s, from 0 to 65535; black is below white"
 
 
 def _wanted(text):
@@ -41,10 +41,10 @@ def _wanted(text):
 def _parser():
     parser = argparse.ArgumentParser(prog=NAME, description=DESCRIPTION)
     parser.add_argument("side", help="the TBC file, or the document; - is standard input, for a document")
-    parser.add_argument("--meta", metavar="FILE", help="system and levels of a TBC file from ld-decode's .tbc.json or "
-                        ".tbc.db, where it isn't the one beside the file; levels with decimals are rounded to the next "
-                        "whole number; its count of fields is compared; the .tbc.json's isFirstField, which is used of "
-                        "a document, too, shows single lost fields")
+    parser.add_argument("--meta", metavar="FILE", help="take system and levels of a TBC file from this .tbc.json or "
+                        ".tbc.db of ld-decode, and not from the one beside the file. Levels with decimals are rounded "
+                        "to the next whole number. The count of fields in it is compared with the side. isFirstField "
+                        "in a .tbc.json shows single lost fields, of a document as well")
     parser.add_argument("--system", choices=list(System.__members__))
     parser.add_argument("--black", type=int, help=LEVELS % "black")
     parser.add_argument("--white", type=int, help=LEVELS % "white")
@@ -53,23 +53,22 @@ def _parser():
     output.add_argument("--json", action="store_true", help="print all that is known of the side, every list in full")
     output.add_argument("--bad-lines", action="store_true", help="print a row for each line that shows no word and "
                         "isn't blank, with its cause and its offset in the TBC file")
-    output.add_argument("--seek", metavar="WANTED", type=_wanted, help="print the first field of a picture, which is "
-                        "given by its number or as a CLV time h:mm:ss.pp, of a minute h:mm, of a second h:mm:ss, or of "
-                        "a chapter, as 'chapter 3'; status 1 where there is none")
-    output.add_argument("--summary", action="store_true", help="print whether the side is whole, and what to look at "
-                        "first, in at most %d lines; status 0 where it is whole, else 1" % MOST_LINES)
-    output.add_argument("--document", action="store_true", help="print the document that `ldvbi extract` writes of the "
-                        "TBC file, the same byte for byte")
-    parser.add_argument("--strict", action="store_true", help="take a side without lead-in or lead-out for not whole")
+    output.add_argument("--seek", metavar="WANTED", type=_wanted, help="print the first field of a picture (its "
+                        "number, or a CLV time h:mm:ss.pp), of a minute h:mm, of a second h:mm:ss, or of a chapter, as "
+                        "'chapter 3'; status 1 if there is none")
+    output.add_argument("--summary", action="store_true", help="print in at most %d lines whether the side is whole, "
+                        "and what to look at first; status 0 if it is whole, else 1" % MOST_LINES)
+    output.add_argument("--document", action="store_true", help="print the document of the TBC file, byte for byte as "
+                        "`ldvbi extract` writes it")
+    parser.add_argument("--strict", action="store_true", help="say that a side without lead-in or lead-out isn't whole")
     parser.add_argument("-o", "--output", metavar="FILE", help="print into this file, which gets its name only when it "
-                        "is whole")
-    parser.add_argument("--svg", metavar="FILE", help="draw the side into this file; with one of the others, that is "
-                        "printed too")
-    parser.add_argument("--html", metavar="FILE", help="write all that is known of the side into this file as one "
-                        "page, with its bad lines drawn where the side is a TBC file; with one of the others, that is "
-                        "printed too")
-    parser.add_argument("--map", metavar="FILE", help="write where each number, chapter and picture stop is into this "
-                        "file, by which a player seeks; with one of the others, that is printed too")
+                        "is complete")
+    parser.add_argument("--svg", metavar="FILE", help="draw the side into this file; print only what another option "
+                        "asks for")
+    parser.add_argument("--html", metavar="FILE", help="write a page with all that is known of the side into this "
+                        "file, with drawings of the bad lines of a TBC file; print only what another option asks for")
+    parser.add_argument("--map", metavar="FILE", help="write into this file where each number, chapter and picture "
+                        "stop is, for a player to seek by; print only what another option asks for")
     return parser
 
 

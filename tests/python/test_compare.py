@@ -56,6 +56,20 @@ class Comparing(unittest.TestCase):
         rows = pictures(list(range(1, 31)) + list(range(11, 41)))
         rows[30] = "- F00016* -"
         self.assertEqual(stretches(compare(side(rows), side(pictures(range(1, 41)))), "same"), [(1, 40, 40)])
+        rows = pictures(list(range(1, 31)) + list(range(11, 41)))
+        rows[70] = "- F00016* -"  # the second time
+        self.assertEqual(stretches(compare(side(rows), side(pictures(range(1, 41)))), "same"), [(1, 40, 40)])
+
+    def test_a_number_that_is_due_is_less_than_any_line(self):
+        due, shown = pictures(range(1, 41)), pictures(range(1, 41))
+        due[6], shown[6] = "- ? ?", "- ? F00004*"
+        self.assertEqual(stretches(compare(side(due), side(shown)), "betterB"), [(4, 4, 1)])
+
+    def test_the_seconds_of_a_time_count(self):
+        rows = times(range(100, 140))
+        rows[20] = rows[20].replace(" ", "* ", 1)  # line 16, in pass 2
+        found = compare(side(times(range(100, 140))), side(rows))
+        self.assertEqual(stretches(found, "betterA"), [("0:00:04.10", "0:00:04.10", 1)])
 
     def test_refused(self):
         cav, clv = side(pictures(range(1, 31))), side(times(range(30)))

@@ -78,6 +78,11 @@ class Sound(unittest.TestCase):
             self.assertEqual([field.first.column for field in side.readings], list(range(width)))
             self.assertEqual([field.second.column for field in side.readings], list(range(width)))
 
+    def test_the_least_and_the_greatest_word(self):
+        whole = document()
+        whole["fields"][2]["vbi"]["vbiData"][1:] = [0x800000, 0xFFFFFF]
+        self.assertEqual([line.word for line in side_of_document(text_of(whole)).readings[2]], [0, 0x800000, 0xFFFFFF])
+
     def test_what_is_taken_for_a_document(self):
         self.assertTrue(is_document("a.json", b""))
         self.assertTrue(is_document("a", b' \n{ "version": 2'))

@@ -31,6 +31,19 @@ class Maps(unittest.TestCase):
         self.assertEqual(list(map_rows(answer([STOP + " - -", BLANK], first=[False, True]))),
                          [("stop", "-", 1, 0, "read")])
 
+    def test_a_stop_at_picture_0(self):
+        rows = pictures(range(10))
+        rows[0] = "%s %s %s" % (STOP, picture(0), picture(0))
+        self.assertEqual(list(map_rows(answer(rows)))[-1], ("stop", 0, 1, 1, "read"))
+
+    def test_a_time_is_sought_where_it_was_read(self):
+        """Not in the field before, in which it is only due; of a second the first field that has any of it counts."""
+        rows = times(list(range(1500, 1530)) + list(range(1510, 1540)))
+        rows[30] = "? ? ?"  # 0:01:00.15 for the first time, and read in field 71
+        known = answer(rows)
+        found = [seek(known, wanted_of(text)) for text in ("0:01:00.15", "0:01:00", "0:01:00.14")]
+        self.assertEqual([(one["field"], one["read"]) for one in found], [(71, True), (1, True), (29, True)])
+
     def test_nothing(self):
         self.assertEqual(list(map_rows(answer([]))), [])
 

@@ -107,6 +107,18 @@ class Ends(unittest.TestCase):
         self.assertEqual(found["leadIn"], [{"first": 1, "last": 3, "count": 2}])
         self.assertEqual(found["leadOut"], [{"first": 10, "last": 12, "count": 3}])
 
+    def test_a_hundred_fields_without_the_code(self):
+        """They are the most within one stretch, counted from one field with the code to the next."""
+        for apart, spans in ((100, [(1, 101)]), (101, [(1, 1), (102, 102)])):
+            found = answer([LEAD_IN] + [BLANK] * (apart - 1) + [LEAD_IN] + pictures(range(1, 4)))
+            self.assertEqual([(one["first"], one["last"]) for one in found["leadIn"]], spans)
+
+    def test_two_fields_with_a_chapter(self):
+        """They may be misread within a stretch, a third ends it."""
+        for count, spans in ((2, [(1, 4)]), (3, [(1, 1), (5, 5)])):
+            found = answer([LEAD_IN] + ["- 801DDD 801DDD"] * count + [LEAD_IN] + [BLANK] * 4)
+            self.assertEqual([(one["first"], one["last"]) for one in found["leadIn"]], spans)
+
     def test_between_numbers_that_fit_they_are_stray(self):
         rows = pictures(range(1, 31))
         rows[11] = "- - 80EEEE"
@@ -189,6 +201,15 @@ class Levels(unittest.TestCase):
                     for place in range(40)]
             levels = answer(rows)["levels"]
             self.assertEqual(levels and levels["shows"], shows)
+
+    def test_levels_at_their_bounds(self):
+        """A twentieth of lines 17 and 18 is enough: 10 words of 200 lines, and not of 202. As many blank lines as bad
+        ones are blank."""
+        for bad, shows in ((90, None), (91, "bad")):
+            levels = answer(["- 88FFFF ?"] * 10 + ["- ? ?"] * bad)["levels"]
+            self.assertEqual(levels and levels["shows"], shows, bad)
+        for rows, shows in ((["- ? -"] * 9, "blank"), (["- ? -"] * 9 + ["- ? ?"], "bad"), ([BLANK, "- ? ?"], "blank")):
+            self.assertEqual(answer(rows)["levels"]["shows"], shows)
 
     def test_damage_is_no_matter_of_levels(self):
         rows = ["- ? ?", "- ! !", BLANK] * 20 + pictures(range(1, 11))
