@@ -5,7 +5,7 @@ on standard error, and then the status is 1.
 links   what a document links to is there, a heading (`#..`) too; a link to the net is one of NET
 paths   the files and folders that CONTRIBUTING.md names are there, of the repository or of a crate
 names   the functions, clauses, definitions and fields that PROMISES.md names are in the source, and so are the names
-        and files in the prose of DECISIONS.md and SIGNAL.md
+        and files in the prose of DECISIONS.md and SIGNAL.md, and in the pages for callers
 faults  the fault texts of FORMATS.md are those of the source, in its order, and those of the manual page among them
 causes  the names of causes in FORMATS.md, SIGNAL.md and the manual page are those of the source
 sizes   the sizes in README.md, FORMATS.md, RECIPES.md, SIGNAL.md, ldvbi.h and the manual page are those of the source,
@@ -308,6 +308,8 @@ def rules(faults):
 # Documents whose prose names what is in the source, and the form of such a name: a path, a name with its crate or type,
 # one of several words, or that of a type
 PROSE = ["docs/PROMISES.md", "docs/DECISIONS.md", "docs/SIGNAL.md"]
+# Pages whose tables are looked at as their prose is
+PAGES = ["crates/vbi_words/CALLING.md", "crates/vbi_line/CALLING.md"]
 # A sentence that says what a record has: each field stands first in its parentheses, up to the end of the paragraph
 OF_RECORD = re.compile(r"`(\w+)` in `[\w/]+\.antt`(?: says|:)(.*?)(?:\n\n|\Z)", re.S)
 IS_NAME = re.compile(r"[\w/-]+(?:\.\w+|/)|\w+(?:::\w+)+|[a-z]+_\w+|[A-Z][a-z]\w*")
@@ -343,13 +345,14 @@ def names(faults):
                 elif head[0] == "Crate" and code in codes(row[1]) and not source.is_in(code, crate):
                     faults.append(f"PROMISES.md: {code} isn't in {crate}")
     in_prose = fields_of_records(source, faults)
-    for path in PROSE:
-        for code in codes(re.sub(r"^\|.*", "", prose(path), flags=re.M)):
+    for path in PROSE + PAGES:
+        for code in codes(prose(path) if path in PAGES else re.sub(r"^\|.*", "", prose(path), flags=re.M)):
             if IS_NAME.fullmatch(code):
                 in_prose += 1
                 if not source.has_somewhere(code):
                     faults.append(f"{path}: {code} isn't in the source")
-    print(f"names: {looked_at} in the tables of PROMISES.md, {in_prose} in the prose of {len(PROSE)} documents")
+    print(f"names: {looked_at} in the tables of PROMISES.md, {in_prose} in the prose of {len(PROSE)} documents and "
+          f"in {len(PAGES)} pages for callers")
     return looked_at + in_prose
 
 

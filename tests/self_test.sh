@@ -111,6 +111,7 @@ docs|docs/DECISIONS.md|s/are 55 in 197 lines/are 55 in 198 lines/
 docs|README.md|s/^    printf("picture/    printf("pictures/
 docs|crates/vbi_words/CALLING.md|s/Word24::new(0x82CFFF)/Word24::new(0x82CFFE)/
 docs|crates/vbi_line/CALLING.md|/^| `read_packed_twice`/d
+docs|crates/vbi_line/CALLING.md|s/`IsFresh`/`IsNew`/
 docs|README.md|s/`classify(read/`classify(\&read/
 wheel|packaging/make_wheel.py|s/entry_points.txt/entry_point.txt/
 wheel|packaging/make_wheel.py|s/-v\[2-9\]/-w/
