@@ -11,90 +11,81 @@ use Rattle.vbi_words.proofs.HalfCells.{in_run, past_run, all_low}
 
 -- ---- a row and its changes of level
 
-early_at : (c : ℕ) → c < 10 → level_at little_row (c - 1) ≡ level_at little_row c
+early_at : (c : ℕ) → c < 7 → level_at little_row (c - 1) ≡ level_at little_row c
     → level_at little_row (c + 1) ≡ level_at little_row c → level_at little_early c ≡ level_at little_row c
 early_at zero in_row h k = refl
-early_at (suc zero) in_row h k = refl
-early_at (suc (suc zero)) in_row h k = let bad : true ≡ false = k in cc
+early_at (suc zero) in_row h k = let bad : true ≡ false = k in cc
+early_at (suc (suc zero)) in_row h k = refl
 early_at (suc (suc (suc zero))) in_row h k = refl
 early_at (suc (suc (suc (suc zero)))) in_row h k = refl
 early_at (suc (suc (suc (suc (suc zero))))) in_row h k = refl
 early_at (suc (suc (suc (suc (suc (suc zero)))))) in_row h k = refl
-early_at (suc (suc (suc (suc (suc (suc (suc zero))))))) in_row h k = refl
-early_at (suc (suc (suc (suc (suc (suc (suc (suc zero)))))))) in_row h k = refl
-early_at (suc (suc (suc (suc (suc (suc (suc (suc (suc zero))))))))) in_row h k = refl
-early_at (suc (suc (suc (suc (suc (suc (suc (suc (suc (suc c)))))))))) in_row h k = absurd (omega arith)
+early_at (suc (suc (suc (suc (suc (suc (suc c))))))) in_row h k = absurd (omega arith)
 
 pub early_blurred : IsBlurred little_row little_early
 early_blurred = record {
   same_length = refl;
-  others = λ c h k. elim (cases_lt c 10) [
+  others = λ c h k. elim (cases_lt c 7) [
     | inl inside ↦ early_at c inside h k
     | inr past ↦ get_or_past little_early c false past ∙ sym (get_or_past little_row c false past)
   ];
 }
 
-early_near : (c : ℕ) → c < 10
+early_near : (c : ℕ) → c < 7
     → (level_at little_early c ≡ level_at little_early (c - 1))
     ⊎ (level_at little_early c ≡ level_at little_early (c + 1))
 early_near zero inside = inl refl
-early_near (suc zero) inside = inl refl
-early_near (suc (suc zero)) inside = inr refl
+early_near (suc zero) inside = inr refl
+early_near (suc (suc zero)) inside = inl refl
 early_near (suc (suc (suc zero))) inside = inl refl
 early_near (suc (suc (suc (suc zero)))) inside = inl refl
-early_near (suc (suc (suc (suc (suc zero))))) inside = inl refl
+early_near (suc (suc (suc (suc (suc zero))))) inside = inr refl
 early_near (suc (suc (suc (suc (suc (suc zero)))))) inside = inl refl
-early_near (suc (suc (suc (suc (suc (suc (suc zero))))))) inside = inr refl
-early_near (suc (suc (suc (suc (suc (suc (suc (suc zero)))))))) inside = inl refl
-early_near (suc (suc (suc (suc (suc (suc (suc (suc (suc zero))))))))) inside = inl refl
-early_near (suc (suc (suc (suc (suc (suc (suc (suc (suc (suc c)))))))))) inside = absurd (omega arith)
+early_near (suc (suc (suc (suc (suc (suc (suc c))))))) inside = absurd (omega arith)
 
 early_none_alone : NoneAlone little_early
-early_none_alone c = elim (cases_lt c 10) [
+early_none_alone c = elim (cases_lt c 7) [
   | inl inside ↦ early_near c inside
   | inr past ↦
-      let next : 10 ≤ c + 1 = omega arith in
+      let next : 7 ≤ c + 1 = omega arith in
       inr (get_or_past little_early c false past ∙ sym (get_or_past little_early (c + 1) false next))
 ]
 
 pub early_jittered : IsJittered little_row little_early
 early_jittered = (early_blurred, early_none_alone)
 
-spiked_at : (c : ℕ) → c < 10 → level_at little_row (c - 1) ≡ level_at little_row c
+spiked_at : (c : ℕ) → c < 7 → level_at little_row (c - 1) ≡ level_at little_row c
     → level_at little_row (c + 1) ≡ level_at little_row c → level_at little_spiked c ≡ level_at little_row c
 spiked_at zero in_row h k = refl
-spiked_at (suc zero) in_row h k = refl
-spiked_at (suc (suc zero)) in_row h k = let bad : true ≡ false = k in cc
-spiked_at (suc (suc (suc zero))) in_row h k = let bad : false ≡ true = h in cc
+spiked_at (suc zero) in_row h k = let bad : true ≡ false = k in cc
+spiked_at (suc (suc zero)) in_row h k = let bad : false ≡ true = h in cc
+spiked_at (suc (suc (suc zero))) in_row h k = refl
 spiked_at (suc (suc (suc (suc zero)))) in_row h k = refl
 spiked_at (suc (suc (suc (suc (suc zero))))) in_row h k = refl
 spiked_at (suc (suc (suc (suc (suc (suc zero)))))) in_row h k = refl
-spiked_at (suc (suc (suc (suc (suc (suc (suc zero))))))) in_row h k = refl
-spiked_at (suc (suc (suc (suc (suc (suc (suc (suc zero)))))))) in_row h k = refl
-spiked_at (suc (suc (suc (suc (suc (suc (suc (suc (suc zero))))))))) in_row h k = refl
-spiked_at (suc (suc (suc (suc (suc (suc (suc (suc (suc (suc c)))))))))) in_row h k = absurd (omega arith)
+spiked_at (suc (suc (suc (suc (suc (suc (suc c))))))) in_row h k = absurd (omega arith)
 
 pub spiked_blurred : IsBlurred little_row little_spiked
 spiked_blurred = record {
   same_length = refl;
-  others = λ c h k. elim (cases_lt c 10) [
+  others = λ c h k. elim (cases_lt c 7) [
     | inl inside ↦ spiked_at c inside h k
     | inr past ↦ get_or_past little_spiked c false past ∙ sym (get_or_past little_row c false past)
   ];
 }
 
--- column 2 stands alone
+-- column 1 stands alone
 pub spiked_alone : NoneAlone little_spiked → ⊥
-spiked_alone none = go (none 2)
+spiked_alone none = go (none 1)
   where
-    go : (level_at little_spiked 2 ≡ level_at little_spiked 1) ⊎ (level_at little_spiked 2 ≡ level_at little_spiked 3)
+    go : (level_at little_spiked 1 ≡ level_at little_spiked 0) ⊎ (level_at little_spiked 1 ≡ level_at little_spiked 2)
         → ⊥
     go (inl e) = let bad : true ≡ false = e in cc
     go (inr e) = let bad : true ≡ false = e in cc
 
--- column 4 isn't beside a change, and is turned over
+-- column 3 isn't beside a change, and is turned over
 pub late_not_blurred : IsBlurred little_row little_late → ⊥
-late_not_blurred b = let bad : false ≡ true = b.others 4 refl refl in cc
+late_not_blurred b = let bad : false ≡ true = b.others 3 refl refl in cc
 
 -- ---- a glitch
 

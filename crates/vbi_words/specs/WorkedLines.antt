@@ -48,21 +48,21 @@ zeros_behind n m =
 
 -- ---- a few columns, for tolerance
 
--- a row with changes of level at columns 3 and 7, which may be blurred in columns 2, 3, 6 and 7
+-- a row with changes of level at columns 2 and 5, which may be blurred in columns 1, 2, 4 and 5
 abbrev pub little_row : List Bool
-little_row = low 3 ++ (high 4 ++ low 3)
+little_row = low 2 ++ (high 3 ++ low 2)
 
 -- its first change a column early
 abbrev pub little_early : List Bool
-little_early = low 2 ++ (high 5 ++ low 3)
+little_early = low 1 ++ (high 4 ++ low 2)
 
 -- the two columns beside its first change turned over, so that they stand alone
 abbrev pub little_spiked : List Bool
-little_spiked = low 2 ++ (high 1 ++ (low 1 ++ (high 3 ++ low 3)))
+little_spiked = low 1 ++ (high 1 ++ (low 1 ++ (high 2 ++ low 2)))
 
 -- its first change two columns late
 abbrev pub little_late : List Bool
-little_late = low 5 ++ (high 2 ++ low 3)
+little_late = low 4 ++ (high 1 ++ low 2)
 
 -- ---- drawn rows and fields
 
