@@ -17,7 +17,8 @@ LEVELS = ["--black", "16384", "--white", "51200"]
 # The bytes of a line and of a field
 LINE = {"NTSC": 1820, "PAL": 2270}
 FIELD = {"NTSC": 1820 * 263, "PAL": 2270 * 313}
-ROUNDS = 25
+# Many short runs: the more of them, the likelier each has had the machine for itself once
+ROUNDS = 41
 
 
 def succeeded(command, status):
@@ -149,7 +150,7 @@ def compare_streams(ntsc, pal, work):
 
 def main():
     program = os.path.abspath(sys.argv[1])
-    fields = int(sys.argv[2]) if len(sys.argv) > 2 else 2200
+    fields = int(sys.argv[2]) if len(sys.argv) > 2 else 440
     with tempfile.TemporaryDirectory() as work:
         size = fields * FIELD["NTSC"]
         compare_streams(Stream(program, "NTSC", size, work), Stream(program, "PAL", size, work), work)
