@@ -132,7 +132,8 @@ size_t ldvbi_line_bytes(uint32_t system);
 size_t ldvbi_lines(uint32_t system);
 size_t ldvbi_field_bytes(uint32_t system);
 
-/* ---- Statuses, in the order in which they are tested. After any but LDVBI_DONE the call has written nothing. */
+/* ---- Statuses, in the order in which they are tested. After any but LDVBI_DONE all that the call
+   could have written is as it was. */
 
 enum LdvbiStatus {
     LDVBI_DONE = 0,
