@@ -136,8 +136,8 @@ size_t ldvbi_line_bytes(uint32_t system);
 size_t ldvbi_lines(uint32_t system);
 size_t ldvbi_field_bytes(uint32_t system);
 
-/* ---- Statuses, in the order in which they are tested. After any other than LDVBI_DONE, all is as it was before the
- * call. */
+/* ---- Statuses, in the order in which they are tested. After any other than LDVBI_DONE, all that the call could have
+ * written is as it was. */
 
 enum LdvbiStatus {
     LDVBI_DONE = 0,

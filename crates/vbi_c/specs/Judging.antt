@@ -40,7 +40,7 @@ abbrev pub with_arrays : Option words.System → ℕ → ℕ → ℕ → Result 
 with_arrays None count seen numbers = Err System
 with_arrays (Some system) count seen numbers = if seen == count && numbers == count then Ok system else Err Length
 
--- the same with what is counted, and the pace
+-- a system with what is counted, and the pace
 abbrev pub with_pace : Result words.System Refusal → Option side.Counted → Option Asked → Result Judging Refusal
 with_pace (Err refusal) counted asked = Err refusal
 with_pace (Ok system) None asked = Err Counted
@@ -72,7 +72,7 @@ seen_of judging other = record {
   instead = 0;
 }
 
--- the same of a field's readings
+-- what a field's readings show of its number
 abbrev pub seen_in : Judging → LdvbiFieldReadings → Sightings
 seen_in judging readings = seen_of judging readings.lines
 

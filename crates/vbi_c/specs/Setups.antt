@@ -25,20 +25,20 @@ with_levels (Some system) black white =
 abbrev pub setup_of : ℕ → ℕ → ℕ → Result Setup Refusal
 setup_of number black white = with_levels (system_of number) black white
 
--- the same for a length, which has to be the one that goes with the system
+-- a setup whose bytes have a length, which has to be the one that goes with the system
 abbrev pub of_length : (words.System → ℕ) → ℕ → Result Setup Refusal → Result Setup Refusal
 of_length wanted length (Err refusal) = Err refusal
 of_length wanted length (Ok setup) = if length == wanted setup.system then Ok setup else Err Length
 
--- the same for so many bytes, which have to be those of a line
+-- the setup of a call with so many bytes, which have to be those of a line
 abbrev pub line_setup : ℕ → ℕ → ℕ → ℕ → Result Setup Refusal
 line_setup number black white length = of_length line_bytes length (setup_of number black white)
 
--- the same for so many bytes, which have to be those of three lines
+-- the setup of a call with so many bytes, which have to be those of three lines
 abbrev pub rows_setup : ℕ → ℕ → ℕ → ℕ → Result Setup Refusal
 rows_setup number black white length = of_length (λ system. 3 * line_bytes system) length (setup_of number black white)
 
--- the same for so many bytes, which have to be those of that many fields
+-- the setup of a call with so many bytes, which have to be those of that many fields
 abbrev pub fields_setup : ℕ → ℕ → ℕ → ℕ → ℕ → Result Setup Refusal
 fields_setup number black white length count =
     of_length (λ system. count * field_bytes system) length (setup_of number black white)

@@ -1,9 +1,8 @@
 //! The code words of LaserDisc lines (IEC 60857 and IEC 60856) for callers in C: the static library that
-//! `include/ldvbi.h` declares, over the reader of `vbi_line`, the judge of
-//! `vbi_side` and the codes of `vbi_words`.
+//! `include/ldvbi.h` declares, over the reader of `vbi_line`, the judge of `vbi_side` and the codes of `vbi_words`.
 //!
-//! Each export tests the numbers that it is given, and answers a status; after any but 0 it has written nothing.
-//! Numbers are as wide as C hands them, 32 bits, so that none is cut off before it is tested.
+//! Each export tests the numbers that it is given, and answers a status; after any but 0 all that it could have written
+//! is as it was. Numbers are as wide as C hands them, 32 bits, so that none is cut off before it is tested.
 //! It requires nothing beyond what its types say: pointers to values of those types, with as many bytes as the length
 //! beside them says, and nothing else that points to what it writes. No export allocates, prints or keeps anything
 //! between two calls, so calls from several threads don't meet.

@@ -40,7 +40,7 @@ fn setup_of(number: u32, black: u32, white: u32) -> Result<Setup, Refusal>
     }
 }
 
-/// The same for so many bytes, which have to be those of a line.
+/// The setup of a call with so many bytes, which have to be those of a line, or why the call is refused.
 pub(crate) fn line_setup(
     number: u32,
     black: u32,
@@ -57,7 +57,7 @@ pub(crate) fn line_setup(
     Ok(setup)
 }
 
-/// The same for so many bytes, which have to be those of three lines.
+/// The setup of a call with so many bytes, which have to be those of three lines, or why the call is refused.
 pub(crate) fn rows_setup(
     number: u32,
     black: u32,
@@ -73,7 +73,7 @@ pub(crate) fn rows_setup(
     Ok(setup)
 }
 
-/// The same for so many bytes, which have to be those of that many fields.
+/// The setup of a call with so many bytes, which have to be those of `count` fields, or why the call is refused.
 pub(crate) fn fields_setup(
     number: u32,
     black: u32,
@@ -84,7 +84,7 @@ pub(crate) fn fields_setup(
     ensures { result ≡ fields_setup number black white length count }
 {
     let setup = setup_of(number, black, white)?;
-    // No product of the two numbers, which C may have chosen too large for one.
+    // C may have chosen both numbers too large for their product, so the length is divided.
     let field = setup.system.field_bytes();
     if length / field != count || length % field != 0 {
         return Err(Refusal::Length);

@@ -1,4 +1,4 @@
--- What a run's clause says besides.
+-- What a run's clause says with the words that are read back, and a job's clause by its command's.
 use Rattle.std.proofs.Common.{◌≡◌, subst, ℕ, List, Option, Result, Ok, Err, IfOk}
 use Rattle.vbi_field.specs.ConfigView.{ConfigView}
 use Rattle.vbi_field.specs.Extracts.{Extracts}
@@ -24,11 +24,12 @@ read_back c input n (Ok summary) z text numbers says =
     let all = says.came in extracted c z text (record { config = numbers; within = all.within }) all.document
 read_back c input n (Err fault) z text numbers says = tt
 
-pub with_words : (c : ConfigView) (input0 input output0 output : Option (List ℕ)) (n : Counts)
-    (result : Result Summary RunFault) → IsConfig c
+-- what a run of `extract` did, with the words that a reader of JSON finds
+pub with_words : {c : ConfigView} {input0 input output0 output : Option (List ℕ)} {n : Counts}
+    {result : Result Summary RunFault} → IsConfig c
     → Ran input0 input output0 output n (Extracts document c input n result)
     → Ran input0 input output0 output n (ExtractsWords c input n result)
-with_words c input0 input output0 output n result numbers ran = record {
+with_words {c = c} {input = input} {n = n} {result = result} numbers ran = record {
   z = ran.z;
   text = ran.text;
   consumed = ran.consumed;

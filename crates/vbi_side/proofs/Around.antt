@@ -77,10 +77,6 @@ both_there numbers pace i found others b k answer tells tell_others is are leave
 
 -- ---- what is due
 
--- a field has at most one number that is marked as believed
-pub one_marked : (numbers : List Number) (i m n : ℕ) → IsMarked numbers i m → IsMarked numbers i n → m ≡ n
-one_marked numbers i m n a b = ap (λ (o : Option Number). (unwrap_or o (believed m)).number) (sym a ∙ b)
-
 -- where nothing is believed of a field and no other code stands there, what is left is due
 pub left_due : (pace : Pace) (fields : List Sightings) (numbers : List Number) (i : ℕ) (answer : Option ℕ)
     → ((j n : ℕ) → IsMarked numbers j n ↔ Believed pace fields j n)

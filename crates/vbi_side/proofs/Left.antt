@@ -61,24 +61,6 @@ from_behind pace j m k l i p number n fit none lasts sum = (there, back)
         go (inl e) = absurd (none (n - m) e)
         go (inr e) = omega (arith, sum, leaves.below, one_last pace (k - i) p (l - n) lasts e)
 
--- the fields to the one behind last more pictures than its number has before it
-pub too_many : (pace : Pace) (j m k l i p n : ℕ) → ((q : ℕ) → Last pace (i - j) q → ⊥) → Last pace (k - i) p
-    → l < p → Leaves pace j m k l i n → ⊥
-too_many pace j m k l i p n none lasts more leaves = go leaves.lies
-  where
-    go : Last pace (i - j) (n - m) ⊎ Last pace (k - i) (l - n) → ⊥
-    go (inl e) = none (n - m) e
-    go (inr e) = absurd (omega (arith, more, one_last pace (k - i) p (l - n) lasts e))
-
--- where neither last whole pictures, nothing is left
-pub none_left : (pace : Pace) (j m k l i n : ℕ) → ((q : ℕ) → Last pace (i - j) q → ⊥)
-    → ((q : ℕ) → Last pace (k - i) q → ⊥) → Leaves pace j m k l i n → ⊥
-none_left pace j m k l i n none others leaves = go leaves.lies
-  where
-    go : Last pace (i - j) (n - m) ⊎ Last pace (k - i) (l - n) → ⊥
-    go (inl e) = none (n - m) e
-    go (inr e) = others (l - n) e
-
 -- two equivalences, one after the other
 pub both_ways : {A B C : Type 0} → A ↔ B → B ↔ C → A ↔ C
 both_ways f g = (λ a. g.0 (f.0 a), λ c. f.1 (g.1 c))
