@@ -11,6 +11,8 @@ causes  the names of causes in FORMATS.md, SIGNAL.md and the manual page are tho
 sizes   the sizes in README.md, FORMATS.md, RECIPES.md, SIGNAL.md, ldvbi.h and the manual page are those of the source,
         each in its sentence
 rules   the numbers in the rules of SIDES.md are those of the Python package, each in its sentence
+numbers other numbers and columns are those of their source (document_numbers.py): wrong bodies, the gate's time,
+        glitches and blur, on which lines a code stands, statuses and columns of `ldvbi-side`
 
 usage: python3 tests/documents.py CHECK..     (at the top of the repository)
 """
@@ -19,12 +21,13 @@ import os
 import re
 import sys
 
+import document_numbers
 import source_names
 from side_sentences import sentences_of
 from source_names import read
 
 # The least that each check has to look at. A check that finds less no longer understands the documents.
-LEAST = {"links": 40, "paths": 95, "names": 475, "faults": 28, "causes": 20, "sizes": 28, "rules": 28}
+LEAST = {"links": 40, "paths": 95, "names": 475, "faults": 28, "causes": 20, "sizes": 28, "rules": 28, "numbers": 30}
 # The links to the net, of which nothing else is looked at
 NET = ["https://github.com/happycube/ld-decode"]
 PAGE = "share/man/ldvbi.1"
@@ -303,6 +306,14 @@ def rules(faults):
     return len(sentences)
 
 
+# ---- numbers
+
+def numbers_of_documents(faults):
+    looked_at = document_numbers.numbers(faults, geometry())
+    print(f"numbers: {looked_at} numbers, columns and pictures")
+    return looked_at
+
+
 # ---- names
 
 # Documents whose prose names what is in the source, and the form of such a name: a path, a name with its crate or type,
@@ -357,7 +368,7 @@ def names(faults):
 
 
 CHECKS = {"links": links, "paths": paths, "names": names, "faults": faults_of_documents, "causes": causes,
-          "sizes": sizes, "rules": rules}
+          "sizes": sizes, "rules": rules, "numbers": numbers_of_documents}
 
 
 def main():

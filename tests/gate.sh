@@ -17,6 +17,8 @@ wrong_bodies=288
 # Scripts on what was proved, and on the Rust program
 scripts=29
 rust_scripts=15
+# The minutes that README says it takes
+minutes='28 to 41'
 # Memory in kB with which the proofs and the build can run side by side
 memory_of_both=14000000
 
@@ -43,6 +45,7 @@ at_least() {
 
 # part NAME: says how long the part that ends here took, and how many seconds of processors all parts so far
 began=$(date +%s)
+started=$began
 part() {
     now=$(date +%s)
     # Not in a pipe, whose part would have the times of its own children alone
@@ -111,4 +114,5 @@ make -s rust || fails 'the Rust program is not built'
 runs_scripts 'scripts on the Rust program' "$rust_scripts" rust/ldvbi --rust
 part 'the Rust program and its library'
 cat "$work/times"
+echo "time: all: $(((now - started) / 60)) minutes, and README says $minutes"
 echo "$((passed + refused)) passed, 0 failed"

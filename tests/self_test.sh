@@ -94,6 +94,17 @@ docs|docs/FORMATS.md|s/ done, or help / done, or no help /
 docs|docs/FORMATS.md|s/`hold 200` (the same/`holds 200` (the same/
 docs|docs/FORMATS.md|s/174 black \(. 0 . `\)change 170/174 black \1change 171/
 docs|docs/FORMATS.md|s/or 1135 and 313/or 1135 and 312/
+docs|README.md|s/glibc 2[.][0-9]*/glibc 2.33/
+docs|README.md|s/every check: [0-9]* to/every check: 20 to/
+docs|docs/PROMISES.md|s/[0-9]* by a goal/1 by a goal/
+docs|docs/FORMATS.md|s/^. Picture stop . 16 and 17/\x7c Picture stop \x7c 17 and 18/
+docs|docs/FORMATS.md|s/^kind,number,field,frame,how/kind,number,frame,field,how/
+docs|docs/SIDES.md|s/chapter,time,stop,doubt/chapter,stop,time,doubt/
+docs|docs/SIDES.md|s/ 0 where it is whole, else 1/ 0 where it is whole, else 3/
+docs|docs/SIGNAL.md|s/^glitch    \.*#####\.\.\./&./
+docs|docs/SIGNAL.md|s/one to three columns turned over/one to four columns turned over/
+docs|docs/SIGNAL.md|s/with five lows/with four lows/
+docs|crates/vbi_words/specs/Smooth.antt|s/pub few : m ≤ 3/pub few : m ≤ 4/
 docs|docs/SIDES.md|s/weighs 2, one of pass 2/weighs 3, one of pass 2/
 docs|docs/SIDES.md|s/one picture in ten/one picture in nine/
 docs|docs/SIDES.md|s/price of the smallest break/price of 30 breaks/
@@ -168,6 +179,8 @@ peers|peers/compare.sh|s/^for tool in "$compiler" chdman /for tool in "$compiler
 peers|peers/compare.sh|s/^PYTHON.*/& \x7c\x7c :/
 manual|out|  draw     Turns|  draw     Terns
 manual|share/man/ldvbi.1|s/1000000/1000001/
+manual|share/man/ldvbi.1|s/^The sample of black,/The sample of white,/
+manual|share/man/ldvbi.1|s/, in place of the metadata's$/, besides the metadata's/
 manual|share/completions/ldvbi.bash|s/extract/extrakt/
 manual|share/completions/_ldvbi|s/extract/extrakt/
 manual|share/completions/_ldvbi|s/1 to 1000000/1 to 100000/

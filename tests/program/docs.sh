@@ -144,7 +144,7 @@ output_of --help | sed '1,/^Exit status:$/d' > help.statuses
 check 'the statuses of FORMATS.md are those of the help' cmp out help.statuses
 
 # What the documents say, compared with the source
-for what in links paths names faults causes sizes rules; do
+for what in links paths names faults causes sizes rules numbers; do
     in_folder "$top" python3 tests/documents.py $what
     check "the documents and the source: $what" [ "$status" = 0 ]
 done
@@ -232,4 +232,9 @@ for command in '' line extract show draw; do
         check "an example of the help: $example" prints absent
     done < examples.txt
 done
+
+# The least version of the C library, which README names, is that of the latest of the symbols that the program needs.
+needed=$(grep -ao 'GLIBC_2[.][0-9]*' "$program" | sort -uV | tail -n 1)
+echo "README names $(grep -o 'glibc 2[.][0-9]*' "$top/README.md"), the program needs $needed" > err
+check 'the C library that README names' [ "$(grep -o 'glibc 2[.][0-9]*' "$top/README.md" | tr a-z A-Z | tr ' ' _)" = "$needed" ]
 finish

@@ -84,6 +84,12 @@ for command in $commands; do
         END { print option "|" text }' | tr -s ' ' | sed 's/^ //; s/[<>]//g' | sort > help.options
     grep -v -e '--help' help.options | numbers > help.found
     same "the options of the page, and those of $command"
+    # What the page says of metadata is longer; of the others it begins with what the help says.
+    sed 's/ <[A-Z]*>|/|/' help.options | grep -v -e '--help' -e '--meta' | sed 's/ *$//' > help.found
+    while IFS='|' read -r option text; do
+        grep -F -e "$option|$text" page.options
+    done < help.found > page.found
+    check "what the page says of the options of $command" [ "$(wc -l < page.found)" = "$(wc -l < help.found)" ]
     sed 's/^.*\(--[a-z-]*\)[^|]*/\1/' help.options > $command.options
 done
 sed -n 's/^\(-., --[a-z]*\)|.*/\1/p' page.options > page.found

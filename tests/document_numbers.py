@@ -1,0 +1,133 @@
+"""Numbers and columns in documents that documents.py compares with their source, each found by a pattern of the few
+words around it, so that a sentence may be said in another way."""
+
+import glob
+import re
+
+from side_sentences import CARDINALS, TOP
+from source_names import read
+
+SMOOTH = "crates/vbi_words/specs/Smooth.antt"
+JITTER = "crates/vbi_words/specs/Jitter.antt"
+COMMAND = "python/ldvbi_side/command.py"
+# A number in figures, or one up to ten as a word
+NUMBER = r"(\d[\d,]*|" + "|".join(CARDINALS) + ")"
+
+
+def value(text):
+    """Returns a number of a document, which may be a word."""
+    low = text.lower()
+    return CARDINALS.index(low) if low in CARDINALS else int(text.replace(",", ""))
+
+
+def of_source(path, pattern):
+    """Returns the numbers of a source by a pattern that stands in it once."""
+    found = re.findall(pattern, read(path), re.M)
+    if len(found) != 1:
+        raise SystemExit(f"{path} has {len(found)} times what is looked for by {pattern}")
+    return [int(number) for number in ([found[0]] if isinstance(found[0], str) else found[0])]
+
+
+def glitches(geometry):
+    """Returns patterns of docs/SIGNAL.md with their numbers, which those of the definitions make."""
+    most, = of_source(SMOOTH, r"^  pub few : m ≤ (\d+)$")
+    equal, = of_source(SMOOTH, r"^  pub before : (\d+) ≤ g$")
+    lows, = of_source(JITTER, r"^  pub lows : (\d+) ≤ after$")
+    longer, shorter = of_source(JITTER, r"Spells \(half_min system \+ (\d+)\) \(half_max system - (\d+)\)")
+    sizes = [geometry[f"half_{end}.{system}"] + by for system in ("ntsc", "pal")
+             for end, by in (("min", longer), ("max", -shorter))]
+    apart = [2 * geometry[f"half_min.{system}"] - geometry[f"half_max.{system}"] for system in ("ntsc", "pal")]
+    return [
+        (rf"{NUMBER} to {NUMBER} columns turned over", [1, most]),
+        (rf"with {NUMBER} equal columns on either side", [equal]),
+        (rf"{NUMBER} columns on either side of the glitch", [equal + 1]),
+        (rf"the gap has {NUMBER} columns", [most + 1]),
+        (rf"{NUMBER} columns longer than the shortest and {NUMBER} shorter than the longest", [longer, shorter]),
+        (rf"{NUMBER} to {NUMBER} columns in NTSC, {NUMBER} to {NUMBER} in PAL\), at any", sizes),
+        (rf"with {NUMBER} lows behind", [lows]),
+        (rf"differ in \W*{NUMBER} columns at least \(NTSC\), or {NUMBER} \(PAL\)", apart),
+        (rf"{NUMBER} \({NUMBER}\) columns turned over", [one - 1 for one in apart]),
+    ]
+
+
+def pictures(faults):
+    """Compares the picture of damaged rows in docs/SIGNAL.md with what stands beside it. Returns how many it looked at."""
+    most, = of_source(SMOOTH, r"^  pub few : m ≤ (\d+)$")
+    rows = dict(re.findall(r"^(drawn|early|late|glitch|too long) +([.#]+)", read("docs/SIGNAL.md"), re.M))
+    gaps = {name: len(gap[1]) for name, gap in
+            ((name, re.search(r"#(\.+)#", row)) for name, row in rows.items()) if gap}
+    starts = {name: row.index("#") - rows["drawn"].index("#") for name, row in rows.items()}
+    for what, found, wanted in (
+            ("columns turned over", gaps, {"glitch": most, "too long": most + 1}),
+            ("columns from the drawn change", [starts.get("early"), starts.get("late")], [-1, 1])):
+        if found != wanted:
+            faults.append(f"docs/SIGNAL.md, the picture of damaged rows: {what}: {found}, and by the source {wanted}")
+    return len(rows)
+
+
+def lines_of_codes(faults):
+    """Compares the lines of each code in docs/FORMATS.md with those of the Python package, which counts a stop and a
+    mark on line 18, too. Returns how many codes it looked at."""
+    from ldvbi_side.codes import STANDARD_LINES
+    names = {"lead-in": "lead_in", "lead-out": "lead_out", "picture number": "picture", "chapter": "chapter",
+             "hours and minutes": "time", "picture stop": "picture_stop", "mark": "clv_mark",
+             "seconds and picture": "clv_picture", "cx on": "cx_on", "cx off": "cx_off", "users' code": "users"}
+    wanted = {kind.name: list(lines) for kind, lines in STANDARD_LINES.items()}
+    text = read("docs/FORMATS.md")
+    if re.search(r"picture stop and a CLV mark count on line\s18", text):
+        wanted = {name: [line for line in lines if line != 18 or name not in ("picture_stop", "clv_mark")]
+                  for name, lines in wanted.items()}
+    found = {}
+    for row, lines in re.findall(r"^\| ([A-Z][^|]*) \| ((?:1[678](?:, | and )?)+) \|$", text, re.M):
+        for name, kind in names.items():
+            if name in row.lower():
+                found[kind] = [int(line) for line in re.findall(r"\d+", lines)]
+    for kind in wanted:
+        if found.get(kind) != wanted[kind]:
+            faults.append(f"docs/FORMATS.md: the lines of {kind} are {found.get(kind)}, and in Python {wanted[kind]}")
+    return len(found)
+
+
+def columns(faults):
+    """Compares the columns of tables with those that the Python command writes. Returns how many tables there are."""
+    from ldvbi_side import map as side_map, tables
+    wanted = [("docs/SIDES.md", tables.FIELD_COLUMNS), ("docs/SIDES.md", tables.BAD_LINE_COLUMNS),
+              ("docs/FORMATS.md", side_map.COLUMNS)]
+    for path, names in wanted:
+        if not re.search(rf"(^|`){','.join(names)}(`|$)", read(path), re.M):
+            faults.append(f"{path} hasn't the columns {','.join(names)}")
+    return len(wanted)
+
+
+def of_documents(geometry):
+    """Returns triples: a document, a pattern of it, and the numbers that the source has for it."""
+    edits = len(glob.glob("crates/*/must-fail/*.edit"))
+    whole = of_source(COMMAND, r"status (\d) where it is whole, else (\d)")
+    cut, = of_source(COMMAND, r"^def _cut_status\(.*\n(?:    .*\n)*?    return ([1-9])$")
+    gate = of_source("tests/gate.sh", r"^minutes='(\d+) to (\d+)'$")
+    return [("docs/PROMISES.md", rf"Of {NUMBER} wrong bodies", [edits]),
+            ("README.md", rf"every check[^|\n]*?{NUMBER} to {NUMBER} minutes", gate),
+            ("docs/SIDES.md", rf"`--summary` \|[^\n]*\| {NUMBER} where it is whole, else {NUMBER} \|", whole),
+            ("docs/SIDES.md", rf"`--json` \|[^\n]*\| {NUMBER} where the last field is cut, else {NUMBER} \|", [cut, 0]),
+            ] + [("docs/SIGNAL.md", pattern, numbers) for pattern, numbers in glitches(geometry)]
+
+
+def numbers(faults, geometry):
+    """Returns how many numbers, columns and pictures were looked at; what is wrong with one goes to `faults`."""
+    import sys
+    sys.path.insert(0, f"{TOP}/python")
+    looked_at = pictures(faults) + lines_of_codes(faults) + columns(faults)
+    for path, pattern, wanted in of_documents(geometry):
+        text = re.sub(r"\s+", " ", read(path)) if "\\n" not in pattern else read(path)
+        found = re.findall(pattern, text, re.I)
+        looked_at += len(found)
+        if not found:
+            faults.append(f"{path}: nothing like '{pattern}' is there, for {wanted}")
+        for one in found:
+            values = [value(text) for text in ([one] if isinstance(one, str) else one)]
+            if values != wanted:
+                faults.append(f"{path}: {values} in '{pattern}', and by the source {wanted}")
+    parts = re.findall(rf"{NUMBER} by\s+(?:a goal|an\s+error in a written proof|a name)", read("docs/PROMISES.md"))
+    if sum(map(value, parts)) != len(glob.glob("crates/*/must-fail/*.edit")):
+        faults.append(f"docs/PROMISES.md: the wrong bodies refused by a goal, a proof and a name, {parts}, aren't all")
+    return looked_at + len(parts)
