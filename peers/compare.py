@@ -1,14 +1,15 @@
 #!/usr/bin/env python3
-"""Has three readers read the same lines, drawn by `ldvbi draw` and then made worse in ways that are seeded: `ldvbi
-extract`, MAME's decoder (by `chdman`, of mame-tools), and libzvbi's bit slicer (by peers/zvbi.c). Prints a table of the
-words that each read right, read wrong, and didn't read; and one of lines with dropouts, with the passes of `ldvbi`,
-which has DROPOUT_ROUNDS times as many fields, since wrong words are few.
+"""Has three readers read the same lines: `ldvbi extract`, MAME's decoder (by `chdman`, of mame-tools), and libzvbi's bit
+slicer (by peers/zvbi.c). `ldvbi draw` draws the lines, and they are then disturbed by random numbers with a fixed seed.
+The first table says how many words each reader read right, read wrong, and didn't read. The second one is about lines
+with dropouts, and has the passes of `ldvbi`. It counts DROPOUT_ROUNDS times as many fields, since wrong words are few.
 
 usage: compare.py PROGRAM ZVBI FIELDS
 
 Before that, MAME's `ldverify` looks at a drawn CAV disc of 100 pictures.
 
-The status is 1 where lines as they were drawn aren't read alike, word for word, or ldverify finds an error."""
+The status is 1 if a reader reads other words than those that were drawn, of lines as they were drawn, or if ldverify
+finds an error."""
 
 import array
 import json

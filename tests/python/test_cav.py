@@ -274,6 +274,14 @@ class Parity(unittest.TestCase):
         for more in ([True, True], [False, True]):
             self.assertEqual(answer(pictures(range(1, 31)), first=[True, False] * 30 + more)["lost"], [])
 
+    def test_parity_of_the_first_and_of_the_last_two_fields(self):
+        for place, (after, before) in ((1, (1, 2)), (59, (59, 60))):
+            first = [True, False] * 30
+            first = first[:place] + [first[place - 1]] + [not one for one in first[place - 1:-2]]
+            found = answer([BLANK] * 60, first=first)
+            self.assertEqual([(one["after"], one["before"], one["by"]) for one in found["lost"]],
+                             [(after, before, "parity")])
+
     def test_parity_alone_where_no_number_is_near(self):
         found = answer([LEAD_IN] * 9, first=[True, False, True, True] + [False, True] * 2 + [False])
         self.assertEqual(found["lost"], [{"after": 3, "before": 4, "fields": None, "by": "parity"}])

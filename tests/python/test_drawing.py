@@ -106,6 +106,8 @@ class Parts(unittest.TestCase):
     def test_texts_that_fit(self):
         self.assertEqual(shortened("0123456789", 100, 10), "0123456789")
         self.assertEqual(shortened("0123456789", 46, 10), "012\u2026789")  # 7 characters of 6.5 pixels
+        self.assertEqual(shortened("0123456789", 65.1, 10), "0123456789")  # as wide as it may be
+        self.assertEqual(shortened("0123456789", 64.9, 10), "0123\u20266789")
         svg = Svg(20, 10)
         svg.text(1, 2.5, "a < b", "\"&\"", font_size=None, class_="x")
         self.assertIn('<text x="1" y="2.5" class="x"><title>"&amp;"</title>a &lt; b</text>', svg.render())

@@ -130,6 +130,8 @@ class Pages(unittest.TestCase):
         self.assertIn("<h2>Bad lines, the first 200 of 202, drawn</h2>", page(one, plot))
         self.assertEqual([drawn[0], drawn[-1], len(drawn), MOST_PLOTS], [(1, 16), (67, 17), 200, 200])
         self.assertIn("<h2>Bad lines, drawn</h2>", page(side(["? - -"]), plot))
+        self.assertIn("<h2>Bad lines, drawn</h2>", page(side(["? ? ?"] * 66 + ["? ? -"]), plot))  # 200
+        self.assertIn("<h2>Bad lines, the first 200 of 201, drawn</h2>", page(side(["? ? ?"] * 67), plot))
         for text in (page(one), page(side(pictures([1])), plot)):
             self.assertNotIn("<h2>", text)
 
