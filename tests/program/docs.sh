@@ -182,6 +182,7 @@ document docs/FORMATS.md trial
 
 # The lines of README that it takes from a program in examples/
 # shows FILE < LINES: whether each of these stands in this file, but for how far it is indented
+# shellcheck disable=SC2317
 shows() {
     sed 's/^ *//' "$top/$1" > lines
     sed 's/^ *//' | grep -vxF -f lines > err
@@ -193,6 +194,14 @@ check 'they are of examples/say.c' shows examples/say.c < out
 # shellcheck disable=SC2016
 in_rust=$(grep -o 'classify(read[^`]*' "$top/README.md")
 check 'what README has of Rust is of examples/rust' grep -qF "${in_rust:-none}" "$top/examples/rust/src/main.rs"
+
+# What README has of other programs, right and wrong words, is of PEERS.md
+counts='\([0-9]*\), \([0-9]*\) |'
+sed -n "s@^| .* | $counts not tried | $counts $counts\$@| \\1/\\2/.* | \\3/\\4/.* | \\5/\\6/@p" "$top/README.md" > rows
+while read -r row; do
+    grep -c "$row" "$top/docs/PEERS.md"
+done < rows > out
+check 'the counts in README are those of PEERS.md' [ "$(paste -s -d ' ' out)" = '1 1 1' ]
 
 # The pages for callers: their example is a caller that is proved, and each public function has a row
 for crate in vbi_words vbi_line; do
