@@ -1,5 +1,5 @@
 # Code words to try a table of classes with: words at the corners of each pattern of codes, and 20,000 drawn ones. Its
-# input are the patterns, a line each: the least and the greatest digit at each place, as the second and third field.
+# input are the patterns, a line each: the least and the greatest digit at each place, as its two fields.
 #
 # The corners: at each place of a pattern the digits at its bounds and one beyond, all other digits at either bound.
 # Then the drawn words: by thirds any word, one of a pattern, and one of a pattern with a digit that is replaced.
@@ -27,13 +27,13 @@ function of_pattern(number,    word, place, lowest) {
     return word
 }
 {
-    least[NR] = $2
-    greatest[NR] = $3
+    least[NR] = $1
+    greatest[NR] = $2
     for (place = 1; place <= 6; place++)
         for (digit = 0; digit < 16; digit++)
-            if (digit - digit_at($2, place) ~ /^(-1|0|1)$/ || digit - digit_at($3, place) ~ /^(-1|0|1)$/) {
+            if (digit - digit_at($1, place) ~ /^(-1|0|1)$/ || digit - digit_at($2, place) ~ /^(-1|0|1)$/) {
+                tell(with_digit($1, place, digit))
                 tell(with_digit($2, place, digit))
-                tell(with_digit($3, place, digit))
             }
 }
 END {

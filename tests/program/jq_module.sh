@@ -8,7 +8,8 @@
 . "$(dirname "$0")/../helpers.sh"
 
 # The patterns of codes, as the definitions have them: the least and the greatest digit at each place
-grep -o 'IsBetween 0x[0-9A-F]* 0x[0-9A-F]*' "$top/crates/vbi_words/specs/Codes.antt" | sed 's/0x//g' > patterns
+grep -o 'least = 0x[0-9A-F]*; greatest = 0x[0-9A-F]*' "$top/crates/vbi_words/specs/Codes.antt" |
+    sed 's/[a-z]* = 0x//g; s/;//g' > patterns
 check 'there are eleven patterns' [ "$(wc -l < patterns)" = 11 ]
 
 awk -f "$tests/code_words.awk" patterns > items

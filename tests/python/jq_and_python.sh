@@ -32,7 +32,8 @@ lines_of_kinds='codes.byKind | map(. as $code | .lines[] | [., $code.kind,
     elif $code.kind == "time" and $code.minutes < 60 then 60 * $code.hours + $code.minutes
     elif $code.kind == "clv picture" then [$code.seconds, $code.picture]
     else null end]) | sort_by(.[0])'
-grep -o 'IsBetween 0x[0-9A-F]* 0x[0-9A-F]*' "$top/crates/vbi_words/specs/Codes.antt" | sed 's/0x//g' > patterns
+grep -o 'least = 0x[0-9A-F]*; greatest = 0x[0-9A-F]*' "$top/crates/vbi_words/specs/Codes.antt" |
+    sed 's/[a-z]* = 0x//g; s/;//g' > patterns
 check 'there are eleven patterns' [ "$(wc -l < patterns)" = 11 ]
 awk -f "$tests/code_words.awk" patterns |
     awk 'NR % 4 == 0 { print (NR % 28 == 0 ? "-" : $0); if (NR % 20 == 0) print }' > items

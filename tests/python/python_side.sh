@@ -35,7 +35,8 @@ alike() {
 }
 
 # Every word's meaning: words at the corners of the patterns and 20,000 drawn ones, as the report of `show` has them
-grep -o 'IsBetween 0x[0-9A-F]* 0x[0-9A-F]*' "$top/crates/vbi_words/specs/Codes.antt" | sed 's/0x//g' > patterns
+grep -o 'least = 0x[0-9A-F]*; greatest = 0x[0-9A-F]*' "$top/crates/vbi_words/specs/Codes.antt" |
+    sed 's/[a-z]* = 0x//g; s/;//g' > patterns
 check 'there are eleven patterns' [ "$(wc -l < patterns)" = 11 ]
 awk -f "$tests/code_words.awk" patterns > items
 check 'there are 20,000 words and those of the corners' [ "$(wc -l < items)" -gt 20300 ]
