@@ -86,6 +86,9 @@ docs|docs/DEFINITIONS.md|s/no level is high/no level is low/
 docs|docs/DEFINITIONS.md|s/`decimal`, //
 docs|docs/DECISIONS.md|s/`Progress::add_row`/`Progress::added_row`/
 docs|CONTRIBUTING.md|s/Geometry.antt/Geometries.antt/
+docs|CONTRIBUTING.md|s/, `summary.rt`//
+docs|CONTRIBUTING.md|s/, `times.py`//
+docs|CONTRIBUTING.md|s,share/completions/ (the,share/man/ (the,
 docs|CONTRIBUTING.md|s,docs/SIGNAL.md,docs/SIGNALS.md,
 docs|docs/FORMATS.md|s/`field width differs`/`field width differ`/
 docs|docs/FORMATS.md|/^. `too many fields`/d
