@@ -69,7 +69,7 @@ docs|out|picture stop|picture step
 docs|hangs
 docs|README.md|s/^field 87, frame 44/field 88, frame 44/
 docs|README.md|s/^```sh skip$/```sh skipped/
-docs|README.md|0,/^```sh$/s//&\nfalse \x7c true  # not by pipefail/
+docs|docs/RECIPES.md|0,/^```sh$/s//&\nfalse \x7c true  # not by pipefail/
 docs|README.md|s/](docs/](dogs/
 docs|include/ldvbi.h|s/263 lines to/262 lines to/
 docs|docs/RECIPES.md|s/^```text$/```test/
