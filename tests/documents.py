@@ -13,6 +13,8 @@ sizes   the sizes in README.md, FORMATS.md, RECIPES.md, SIGNAL.md, ldvbi.h and t
 rules   the numbers in the rules of SIDES.md are those of the Python package, each in its sentence
 numbers other numbers and columns are those of their source (document_numbers.py): wrong bodies, the gate's time,
         glitches and blur, on which lines a code stands, statuses and columns of `ldvbi-side`
+changes the rows of CONTRIBUTING.md name each file that changes with a fault text, a class of codes or an option
+        (document_rows.py)
 
 usage: python3 tests/documents.py CHECK..     (at the top of the repository)
 """
@@ -22,12 +24,14 @@ import re
 import sys
 
 import document_numbers
+import document_rows
 import source_names
 from side_sentences import sentences_of
 from source_names import read
 
 # The least that each check has to look at. A check that finds less no longer understands the documents.
-LEAST = {"links": 40, "paths": 95, "names": 475, "faults": 28, "causes": 20, "sizes": 28, "rules": 28, "numbers": 30}
+LEAST = {"links": 40, "paths": 95, "names": 475, "faults": 28, "causes": 20, "sizes": 28, "rules": 28, "numbers": 30,
+         "changes": 80}
 # The links to the net, of which nothing else is looked at
 NET = ["https://github.com/happycube/ld-decode"]
 PAGE = "share/man/ldvbi.1"
@@ -314,6 +318,12 @@ def numbers_of_documents(faults):
     return looked_at
 
 
+# ---- changes
+
+def changes(faults):
+    return document_rows.changes(faults, source_faults())
+
+
 # ---- names
 
 # Documents whose prose names what is in the source, and the form of such a name: a path, a name with its crate or type,
@@ -368,7 +378,8 @@ def names(faults):
 
 
 CHECKS = {"links": links, "paths": paths, "names": names, "faults": faults_of_documents, "causes": causes,
-          "sizes": sizes, "rules": rules, "numbers": numbers_of_documents}
+          "sizes": sizes, "rules": rules, "numbers": numbers_of_documents,
+          "changes": changes}
 
 
 def main():

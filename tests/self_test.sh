@@ -69,7 +69,7 @@ docs|out|picture stop|picture step
 docs|hangs
 docs|README.md|s/^field 87, frame 44/field 88, frame 44/
 docs|README.md|s/^```sh skip$/```sh skipped/
-docs|README.md|0,/^```sh$/s//&\nfalse \x7c true  # not by pipefail/
+docs|docs/RECIPES.md|0,/^```sh$/s//&\nfalse \x7c true  # not by pipefail/
 docs|README.md|s/](docs/](dogs/
 docs|include/ldvbi.h|s/263 lines to/262 lines to/
 docs|docs/RECIPES.md|s/^```text$/```test/
@@ -86,6 +86,9 @@ docs|docs/DEFINITIONS.md|s/no level is high/no level is low/
 docs|docs/DEFINITIONS.md|s/`decimal`, //
 docs|docs/DECISIONS.md|s/`Progress::add_row`/`Progress::added_row`/
 docs|CONTRIBUTING.md|s/Geometry.antt/Geometries.antt/
+docs|CONTRIBUTING.md|s/, `summary.rt`//
+docs|CONTRIBUTING.md|s/, `times.py`//
+docs|CONTRIBUTING.md|s,share/completions/ (the,share/man/ (the,
 docs|CONTRIBUTING.md|s,docs/SIGNAL.md,docs/SIGNALS.md,
 docs|docs/FORMATS.md|s/`field width differs`/`field width differ`/
 docs|docs/FORMATS.md|/^. `too many fields`/d

@@ -144,7 +144,7 @@ output_of --help | sed '1,/^Exit status:$/d' > help.statuses
 check 'the statuses of FORMATS.md are those of the help' cmp out help.statuses
 
 # What the documents say, compared with the source
-for what in links paths names faults causes sizes rules numbers; do
+for what in links paths names faults causes sizes rules numbers changes; do
     in_folder "$top" python3 tests/documents.py $what
     check "the documents and the source: $what" [ "$status" = 0 ]
 done
