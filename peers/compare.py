@@ -1,8 +1,9 @@
 #!/usr/bin/env python3
-"""Has three readers read the same lines: `ldvbi extract`, MAME's decoder (by `chdman`, of mame-tools), and libzvbi's bit
-slicer (by peers/zvbi.c). `ldvbi draw` draws the lines, and they are then disturbed by random numbers with a fixed seed.
-The first table says how many words each reader read right, read wrong, and didn't read. The second one is about lines
-with dropouts, and has the passes of `ldvbi`. It counts DROPOUT_ROUNDS times as many fields, since wrong words are few.
+"""Has three readers read the same lines: `ldvbi extract`, MAME's decoder (by `chdman`, of mame-tools), and libzvbi's
+bit slicer (by peers/zvbi.c). `ldvbi draw` draws the lines, and they are then disturbed by random numbers with a fixed
+seed. The first table says how many words each reader read right, read wrong, and didn't read. The second one is about
+lines with dropouts, and has the passes of `ldvbi`. It counts DROPOUT_ROUNDS times as many fields, since wrong words are
+few.
 
 usage: compare.py PROGRAM ZVBI FIELDS
 
