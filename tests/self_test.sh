@@ -123,7 +123,7 @@ docs|share/man/ldvbi.1|s/1820 for NTSC/1810 for NTSC/
 docs|docs/PROMISES.md|s/Of [0-9]* wrong bodies/Of 1 wrong bodies/
 docs|docs/DECISIONS.md|s/are 55 in 197 lines/are 55 in 198 lines/
 docs|README.md|s/^    printf("picture/    printf("pictures/
-docs|README.md|s/| 878, 0 |/| 879, 0 |/
+docs|README.md|s/. 878, 0 ./\x7c 879, 0 \x7c/
 docs|README.md|s/^```console lib$/```console/
 docs|crates/vbi_words/CALLING.md|s/Word24::new(0x82CFFF)/Word24::new(0x82CFFE)/
 docs|crates/vbi_line/CALLING.md|/^. `read_packed_twice`/d
