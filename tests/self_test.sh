@@ -76,11 +76,11 @@ docs|docs/RECIPES.md|s/^```text$/```test/
 docs|docs/RECIPES.md|s/^```sh lib$/```sh/
 docs|docs/RECIPES.md|s,](SIDES.md),](https://example.org/SIDES.md),
 docs|docs/PROMISES.md|s/](#laws)/](#by-crate)/
-docs|docs/PROMISES.md|s/`laws::drawn_rows`/`laws::drawn_lines`/
-docs|docs/PROMISES.md|s/`unwritten`, `failed`, `fault`/`unwritten`, `refailed`, `fault`/
+docs|docs/PROMISES.md|s/`drawn_rows`/`drawn_lines`/
+docs|docs/PROMISES.md|s/`fetched`, `written`/`fetched`, `rewritten`/
 docs|docs/PROMISES.md|s/`Ran.consumed`/`Ran.eaten`/
 docs|docs/PROMISES.md|s/`StopsAtRow`/`StopsAtRows`/
-docs|docs/PROMISES.md|s/`show` is the same with the report/`shows` is the same with the report/
+docs|docs/PROMISES.md|s/`StopsAtLimit`/`StopsAtLimits`/
 docs|docs/PROMISES.md|s/the drawing came (`came`)/the drawing came (`ended`)/
 docs|docs/DEFINITIONS.md|s/no level is high/no level is low/
 docs|docs/DEFINITIONS.md|s/`decimal`, //
@@ -123,10 +123,10 @@ docs|share/man/ldvbi.1|s/1820 for NTSC/1810 for NTSC/
 docs|docs/PROMISES.md|s/Of [0-9]* wrong bodies/Of 1 wrong bodies/
 docs|docs/DECISIONS.md|s/are 55 in 197 lines/are 55 in 198 lines/
 docs|README.md|s/^    printf("picture/    printf("pictures/
-docs|README.md|s/| 878, 0 |/| 879, 0 |/
+docs|README.md|s/. 878, 0 ./\x7c 879, 0 \x7c/
 docs|README.md|s/^```console lib$/```console/
 docs|crates/vbi_words/CALLING.md|s/Word24::new(0x82CFFF)/Word24::new(0x82CFFE)/
-docs|crates/vbi_line/CALLING.md|/^| `read_packed_twice`/d
+docs|crates/vbi_line/CALLING.md|/^. `read_packed_twice`/d
 docs|crates/vbi_line/CALLING.md|s/`IsFresh`/`IsNew`/
 docs|README.md|s/`classify(read/`classify(\&read/
 wheel|packaging/make_wheel.py|s/entry_points.txt/entry_point.txt/
