@@ -19,7 +19,9 @@ library|tests/library/library_numbers.c|s/(105) . 106..110/(106) . 106..110/
 library|tests/library/library_sightings.c|s/SEEN(1079999, 2, 1079999, 2, 0)/SEEN(1079999, 2, 1079999, 1, 0)/
 examples|tests/library/examples.sh|s/^SECAM 16384 51200$/NTSC 16384 51200/
 examples|examples/seek.py|s/<= 79999/<= 80000/
+examples|examples/seek.c|s/BLOCK = 64/BLOCK = 63/
 staged|Makefile|s/-m 755 $(BUILT)libldvbi.so/-m 700 $(BUILT)libldvbi.so/
+misread|include/ldvbi.h|s/LDVBI_DUE = 3/LDVBI_DUE = 4/
 misread|examples/seek.c|s/if (is_judged) {/if (!is_judged) {/
 misread|examples/seek.c|s/ \&\& !is_other_disc//
 misread|examples/seek.c|s/seconds.second < rate/seconds.second < 100/
@@ -199,6 +201,7 @@ manual|share/completions/ldvbi-side.bash|s/--svg/--svgs/
 plots|out|change 170|change 171
 plots|hangs
 plots|contrib/plot_line.py|s/(pass 2)/(pass 3)/
+plots|contrib/plot_line.py|s/System(910, 11, 18,/System(910, 8, 30,/
 plots|docs/pictures/word.svg|s/82CFFF/82CFFE/
 targets|Makefile|s/^\(.PHONY: .*\) bench peers/\1/
 targets|Makefile|s/^\tsh tests.tools.sh install/\tsh tests\/tools.sh/
