@@ -208,8 +208,8 @@ def main():
     tables = {"definitions": list(rows(definitions, whole)),
               "counts": list(rows(definitions, [key for key in counting if key not in whole]))}
     words = definitions.words_of_std(counting)
-    print(f"definitions: {counts[0]} for the contract alone, {counts[1]} with the meaning of a reading, {counts[2]} with "
-          "the meaning of the counts")
+    print(f"definitions: {counts[0]} for the contract alone, {counts[1]} with the meaning of a reading, "
+          f"{counts[2]} with the meaning of the counts")
     if "--table" in sys.argv[1:]:
         print("\n\n".join(["\n".join(table) for table in tables.values()] + ["; ".join(words) + "."]))
     faults = [f"definitions: {name} {fault}" for name in names if (fault := fault_of(name, counts, tables, words))]

@@ -1,12 +1,13 @@
 #!/bin/sh
 # The whole gate, at the top of the repository: every proof, test and stored run by `rt ci`, each wrong body by
-# tests/wrong_bodies.py, then the scripts on the built program and library, and the scripts tried themselves (this one by
-# tests/gate_trials.sh); then the same source is built by cargo, and compared with what was proved.
+# tests/wrong_bodies.py, then the scripts on the built program and library, and the scripts tried themselves (this one
+# by tests/gate_trials.sh); then the same source is built by cargo, and compared with what was proved.
 #
 # `rt ci` works on a copy without must-fail/, whose edits it would try one at a time, while program and library are
 # built here; what these keep, the wrong bodies are tried over. So the program is proved and built twice, and the two
 # are compared byte for byte. The last line counts crates and wrong bodies, 'N passed, 0 failed'; the status is 0 only
-# where all of it passed. Times of the parts stand before it. With `one-by-one` `rt ci` has the edits too, and tries them.
+# where all of it passed. Times of the parts stand before it. With `one-by-one` `rt ci` has the edits too, and tries
+# them.
 # usage: sh tests/gate.sh [one-by-one]
 set -eu
 
@@ -26,7 +27,8 @@ work=$(mktemp -d)
 proofs=
 # shellcheck disable=SC2317
 leave() {
-    [ -z "$proofs" ] || kill -- "-$proofs" 2> /dev/null || :
+    # Until `setsid` has run there is no group of their own.
+    [ -z "$proofs" ] || kill -- "-$proofs" 2> /dev/null || kill "$proofs" 2> /dev/null || :
     rm -rf "$work"
 }
 trap leave EXIT
@@ -85,9 +87,10 @@ if [ "${1:-}" = one-by-one ]; then
 fi
 mkdir "$work/copy"
 # shellcheck disable=SC2086
-tar --exclude='./.git' --exclude='./crates/*/out' --exclude='./rust/out' $without_edits -cf - . | tar -C "$work/copy" -xf -
-# One job for each crate, which takes a quarter less of the processors' time than several, and as many crates side by side
-# as there are processors
+tar --exclude='./.git' --exclude='./crates/*/out' --exclude='./rust/out' $without_edits -cf - . |
+    tar -C "$work/copy" -xf -
+# One job for each crate, which takes a quarter less of the processors' time than several, and as many crates side by
+# side as there are processors
 (cd "$work/copy" && RT_JOBS=$(nproc) && export RT_JOBS && exec setsid rt ci > "$work/log" 2>&1) &
 proofs=$!
 if [ "$(awk '/^MemAvailable/ { print $2 }' /proc/meminfo)" -lt "$memory_of_both" ]; then

@@ -1,6 +1,6 @@
 //! Tests of `vbi_meta` through its public calls: the vectors of `settings` and of `read_meta`, the order of refusals,
-//! how the system is named, texts that are no JSON, and the texts of the faults. It is a crate of its own, since a crate
-//! with tests is proved twice.
+//! how the system is named, texts that are no JSON, and the texts of the faults. It is a crate of its own, since a
+//! crate with tests is proved twice.
 #![tactic(auto)]
 
 #[cfg(test)]

@@ -109,7 +109,8 @@ pub fn glitches_read()
 {}
 
 /// Two lists of one length that show different words differ in 4 columns at least (NTSC), or 6 (PAL). So fewer columns
-/// turned over, wherever they are, never make another word of one in the first pass. The second pass guards against less.
+/// turned over, wherever they are, never make another word of one in the first pass. The second pass guards against
+/// less.
 pub fn words_apart()
     ensures { (system : System) (levels others : List Bool) (v w : ℕ)
         → Shows system levels v → Shows system others w → length levels ≡ length others

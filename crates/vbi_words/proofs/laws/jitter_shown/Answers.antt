@@ -18,7 +18,8 @@ shown system drawn levels word s (blurred, none_alone) = go r.reading
 
     go : Reads system levels (Word word) r.pass → Shows system levels word
     go (inl (first, here)) = here
-    go (inr (second, none, high, smooth)) = let e : r.pass ≡ 1 = r.first.1 none_alone in absurd (omega (arith, second, e))
+    go (inr (second, none, high, smooth)) =
+        let e : r.pass ≡ 1 = r.first.1 none_alone in absurd (omega (arith, second, e))
 
 pub returns : goal.returns
 returns c = record {
