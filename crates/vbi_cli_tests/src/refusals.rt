@@ -41,8 +41,8 @@ fn is_said(
 /// What stands behind each refusal.
 const MORE: &str = "\n\nFor more information, try '--help'.\n";
 
-/// Words behind a command that are refused, why, and whether the command's usage is shown. One option of each kind stands
-/// for those that are read alike.
+/// Words behind a command that are refused, why, and whether the command's usage is shown. One option of each kind
+/// stands for those that are read alike.
 static REFUSALS: [(&[&str], &str, bool); 17] = [
     (
         &["--meta", "a", "--meta", "b"],
