@@ -1,7 +1,7 @@
 #!/bin/sh
 # The whole gate, at the top of the repository: every proof, test and stored run by `rt ci`, each wrong body by
-# tests/wrong_bodies.py, then the scripts on the built program and library, and the scripts tried themselves (this one by
-# tests/gate_trials.sh); then the same source is built by cargo, and compared with what was proved.
+# tests/wrong_bodies.py, then the scripts on the built program and library, and the scripts tried themselves (this one
+# by tests/gate_trials.sh); then the same source is built by cargo, and compared with what was proved.
 #
 # `rt ci` works on a copy without must-fail/, whose edits it would try one at a time, while program and library are
 # built here; what these keep, the wrong bodies are tried over. So the program is proved and built twice, and the two
