@@ -51,7 +51,7 @@ def glitches(geometry):
 
 
 def pictures(faults):
-    """Compares the picture of damaged rows in docs/SIGNAL.md with what stands beside it. Returns how many it looked at."""
+    """Compares the picture of damaged rows in docs/SIGNAL.md with what stands beside it. Returns how many rows it has."""
     most, = of_source(SMOOTH, r"^  pub few : m ≤ (\d+)$")
     rows = dict(re.findall(r"^(drawn|early|late|glitch|too long) +([.#]+)", read("docs/SIGNAL.md"), re.M))
     gaps = {name: len(gap[1]) for name, gap in

@@ -1,6 +1,6 @@
 #!/bin/sh
-# Tries tests/gate.sh itself, with stubs for what it runs: `rt`, `make`, `python3`, and tests/scripts.sh. Where nothing is
-# wrong it has to pass, and to have run all its parts; where a part fails, or did less than it has to, it has to fail.
+# Tries tests/gate.sh itself, with stubs for what it runs: `rt`, `make`, `python3`, and tests/scripts.sh. Where nothing
+# is wrong it has to pass, and to have run all its parts; where a part fails, or does less than it has to, it has to fail.
 # usage: sh tests/gate_trials.sh PROGRAM     (the program is never run)
 # shellcheck disable=SC2086
 

@@ -244,6 +244,7 @@ done
 
 # The least version of the C library, which README names, is that of the latest of the symbols that the program needs.
 needed=$(grep -ao 'GLIBC_2[.][0-9]*' "$program" | sort -uV | tail -n 1)
-echo "README names $(grep -o 'glibc 2[.][0-9]*' "$top/README.md"), the program needs $needed" > err
-check 'the C library that README names' [ "$(grep -o 'glibc 2[.][0-9]*' "$top/README.md" | tr a-z A-Z | tr ' ' _)" = "$needed" ]
+named=$(grep -o 'glibc 2[.][0-9]*' "$top/README.md")
+echo "README names $named, the program needs $needed" > err
+check 'the C library that README names' [ "GLIBC_${named#glibc }" = "$needed" ]
 finish

@@ -101,8 +101,9 @@ section 'EXIT STATUS' | sed '/^$/d' | tr -s ' ' > page.found
 output_of --help | sed -n '/^Exit status:/,$s/^  / /p' | tr -s ' ' > help.found
 same 'the statuses of the page'
 
-# Completions: what is offered behind each of these command lines. Behind each command these are the options of its help.
-output_of --help | sed -n '/^Commands:/,/^$/s/^  \([a-z]*\) .*/\1/p' | grep -vx help | sort | paste -s -d ' ' > help.found
+# Completions: what is offered behind each of these command lines. Behind a command these are the options of its help.
+output_of --help | sed -n '/^Commands:/,/^$/s/^  \([a-z]*\) .*/\1/p' | grep -vx help | sort |
+    paste -s -d ' ' > help.found
 echo "$commands" > page.found
 same 'the commands that are completed'
 cat > offers << END

@@ -1,6 +1,6 @@
 #!/bin/sh
 # Tries peers/compare.sh and compare.py with stubs for MAME's tools and libzvbi's reader, which know the words that were
-# drawn: where all readers read them alike the status is 0, and where one of them doesn't, or a tool isn't there, it is 1.
+# drawn: where all readers read them alike the status is 0, and where one doesn't, or a tool isn't there, it is 1.
 # usage: sh tests/program/peers.sh PROGRAM
 
 # shellcheck source=tests/helpers.sh

@@ -61,7 +61,8 @@ sed -n 's/^\.PHONY: //p' "$top/Makefile" | tr ' ' '\n' | sort | paste -s -d ' ' 
 check 'each target that is no file is said to be none' [ "$targets" = "$(cat out)" ]
 rm bin/rt
 ran tree env PATH=/usr/bin:/bin make -s toolchain
-check 'without the toolchain make says so' [ "$status $(grep -c 'rt of the Rattle toolchain is not on the PATH' err)" = '2 1' ]
+check 'without the toolchain make says so' \
+    [ "$status $(grep -c 'rt of the Rattle toolchain is not on the PATH' err)" = '2 1' ]
 
 # .ci/run runs a command at the top, which is README's
 stub bin/make 'echo "$PWD|make $*"; exit ${FAULT:-0}'
@@ -76,7 +77,8 @@ check '.ci/run fails where that does' [ "$status" = 3 ]
 packages='gcc libc6-dev g++ binutils python3 jq pkg-config cmake git less mandoc parallel pv zsh python3-jsonschema
 python3-venv python3-setuptools python3-wheel'
 packages=$(echo $packages)
-for_rust='rustc cargo rustfmt rust-clippy librust-arrayvec-dev librust-byteorder-dev librust-itoa-dev librust-serde-json-dev'
+for_rust='rustc cargo rustfmt rust-clippy librust-arrayvec-dev librust-byteorder-dev librust-itoa-dev'
+for_rust="$for_rust librust-serde-json-dev"
 sed "s,/usr/bin/python3,$work/no_module,; s,/usr/share/doc,$work/none," "$top/tests/tools.sh" > tools.sh
 stub no_module 'exit 1'
 mkdir none alone
