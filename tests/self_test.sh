@@ -238,12 +238,13 @@ scripts_trials|tests/scripts.sh|s/fault "no script, or/: "no script, or/
 END
 
 # Tables without a wanted value, by a script and the first row: all of their rows are refused, or compared with what
-# the library says. Rows of the table above turn these.
+# the library or the program beside it says. Rows of the table above turn these.
 cat > unturned << 'END'
 library|cav NTSC 16384 51200
 examples|NTSC 51200 16384
 header|ldvbi_read_line(1, 1, 2, samples, 1820, NULL)
 settings|x|x|
+wheel|82CFFF
 END
 # Each row: a script that isn't about the Rust program alone, and the line before a table of it. A table is what a loop
 # reads that makes a check of each row.
