@@ -31,16 +31,17 @@ COMMANDS := ldvbi ldvbi-side
 MANUALS := $(ROOT)/share/man/man1
 BASH_COMPLETIONS := $(ROOT)/share/bash-completion/completions
 ZSH_COMPLETIONS := $(ROOT)/share/zsh/site-functions
-SHARED := share/schema/ldvbi.schema.json share/schema/ldvbi-side.schema.json contrib/ldvbi.jq contrib/plot_line.py
+SCHEMAS := ldvbi.schema.json ldvbi-recovered.schema.json ldvbi-side.schema.json
+SHARED := $(addprefix share/schema/,$(SCHEMAS)) contrib/ldvbi.jq contrib/plot_line.py
 DOCUMENTS := $(ROOT)/share/doc/ldvbi
-PYTHON := $(wildcard python/ldvbi_side/*.py)
+PYTHON := $(wildcard python/*/*.py python/*/*/*.py)
 # What is installed and packed: what was proved and built here (proved), or what `make rust` leaves in rust/ (rust)
 FROM ?= proved
 BUILT := $(if $(filter rust,$(FROM)),rust/)
 # Where `make wheel` puts the wheel
 WHEELS ?= dist
 SOURCES := $(shell find crates -name out -prune -o \( -name '*.rt' -o -name '*.antt' \) -print)
-LIBRARY_CRATES := crates/vbi_words/% crates/vbi_line/% crates/vbi_side/% crates/vbi_c/%
+LIBRARY_CRATES := crates/vbi_words/% crates/vbi_line/% crates/vbi_near/% crates/vbi_side/% crates/vbi_c/%
 LIBRARY_SOURCES := $(filter $(LIBRARY_CRATES),$(SOURCES))
 
 # $(call proved,CRATE,COMMAND): proves and builds a crate by a command of the toolchain, and prints a line with the time
@@ -59,9 +60,10 @@ endef
 # Proofs take all processors, and the program and the library have crates in common.
 .NOTPARALLEL:
 
-# How many jobs the proof of a large crate is shared among. One takes the least of the processors. With `make JOBS=4`
-# they work a third more, and you wait a third less.
-JOBS ?= 1
+# How many jobs the proof of a large crate is shared among: as many as there are processors, up to four. Four work a
+# third more than one, and you wait a third less. `make JOBS=1` takes the least of the processors.
+PROCESSORS := $(shell nproc 2> /dev/null || echo 1)
+JOBS ?= $(if $(filter 1 2 3,$(PROCESSORS)),$(PROCESSORS),4)
 LARGE := --jobs $(JOBS)
 SMALL := --jobs 1
 
@@ -82,6 +84,7 @@ libldvbi.a: crates.txt $(LIBRARY_SOURCES)
 	@$(MAKE) -s toolchain
 	$(call proved,vbi_words,rt lib $(LARGE))
 	$(call proved,vbi_line,rt lib $(LARGE))
+	$(call proved,vbi_near,rt lib $(LARGE))
 	$(call proved,vbi_side,rt lib $(LARGE))
 	$(call proved,vbi_c,rt lib $(SMALL))
 	cp crates/vbi_c/out/libvbi_c.a libldvbi.a
@@ -126,9 +129,8 @@ install: places $(BUILT)ldvbi $(if $(wildcard $(BUILT)libldvbi.a),install-lib)
 	$(foreach command,$(COMMANDS),install -D -m 644 share/completions/_$(command) $(ZSH_COMPLETIONS)/_$(command) &&) :
 	install -d $(ROOT)/share/ldvbi
 	install -m 644 $(SHARED) $(ROOT)/share/ldvbi
-	install -d $(ROOT)/share/ldvbi/python/ldvbi_side
-	install -m 644 python/ldvbi.py $(ROOT)/share/ldvbi/python
-	install -m 644 $(PYTHON) $(ROOT)/share/ldvbi/python/ldvbi_side
+	install -d $(patsubst %/,$(ROOT)/share/ldvbi/%,$(sort $(dir $(PYTHON))))
+	$(foreach module,$(PYTHON),install -m 644 $(module) $(ROOT)/share/ldvbi/$(module) &&) :
 	install -d $(DOCUMENTS)/docs/pictures $(DOCUMENTS)/examples/rust/src
 	install -m 644 README.md CHANGELOG.md $(DOCUMENTS)
 	install -m 644 $(wildcard docs/*.md) $(DOCUMENTS)/docs

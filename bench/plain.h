@@ -1,5 +1,5 @@
-/* What the library is timed beside: readers and writers as one writes them without it, sample by sample, and a switch
-   over a word's digits; clocks and random words. Lines are of NTSC where nothing else is said. */
+/* What the library is timed beside: readers and writers as one writes them without it, sample by sample, and tests
+   of a word's digits; clocks and random words. Lines are of NTSC where nothing else is said. */
 #include <ldvbi.h>
 #include <stdio.h>
 #include <stdlib.h>
@@ -110,15 +110,7 @@ static void plain_draw(uint32_t word, uint8_t *line)
     }
 }
 
-/* ---- A plain switch over a word's digits */
-
-static int are_decimal(const unsigned *digits, int count)
-{
-    for (int i = 0; i < count; i++)
-        if (digits[i] > 9)
-            return 0;
-    return 1;
-}
+/* ---- A plain test for each class over a word's digits */
 
 static LdvbiCode code_of(uint32_t kind, uint32_t first, uint32_t second)
 {
@@ -130,30 +122,32 @@ static LdvbiCode plain_code(uint32_t word)
 {
     unsigned d[6];
 
-    switch (word) {
-    case 0x88FFFF: return code_of(LDVBI_LEAD_IN, 0, 0);
-    case 0x80EEEE: return code_of(LDVBI_LEAD_OUT, 0, 0);
-    case 0x82CFFF: return code_of(LDVBI_PICTURE_STOP, 0, 0);
-    case 0x87FFFF: return code_of(LDVBI_CLV_MARK, 0, 0);
-    }
     for (int i = 0; i < 6; i++)
         d[i] = word >> (20 - 4 * i) & 15;
-    if (d[0] == 15 && are_decimal(d + 2, 4))
-        return code_of(LDVBI_PICTURE, d[1] % 8 * 10000 + d[2] * 1000 + d[3] * 100 + d[4] * 10 + d[5], 0);
-    if (d[0] == 15 && d[1] <= 9 && d[2] == 13 && d[3] == 13 && are_decimal(d + 4, 2))
-        return code_of(LDVBI_TIME, d[1], d[4] * 10 + d[5]);
-    if (d[0] != 8)
-        return code_of(LDVBI_OTHER, 0, 0);
-    if (d[2] <= 9 && d[3] == 13 && d[4] == 13 && d[5] == 13)
-        return code_of(LDVBI_CHAPTER, d[1] % 8 * 10 + d[2], 0);
-    if (d[1] >= 10 && d[2] == 14 && are_decimal(d + 3, 3))
-        return code_of(LDVBI_CLV_PICTURE, (d[1] - 10) * 10 + d[3], d[4] * 10 + d[5]);
-    if (d[1] == 13 && d[2] == 12)
-        return code_of(LDVBI_CX_ON, word & 0xFFF, 0);
-    if (d[1] == 11 && d[2] == 10)
-        return code_of(LDVBI_CX_OFF, word & 0xFFF, 0);
-    if (d[1] <= 7 && d[2] == 13)
-        return code_of(LDVBI_USERS, d[1], word & 0xFFF);
+    /* from codes/classes.txt: code */
+    if (word == 0x88FFFF)
+        return code_of(LDVBI_LEAD_IN, 0, 0);
+    if (word == 0x80EEEE)
+        return code_of(LDVBI_LEAD_OUT, 0, 0);
+    if (d[0] == 15 && d[2] < 10 && d[3] < 10 && d[4] < 10 && d[5] < 10)
+        return code_of(LDVBI_PICTURE, 10000 * (d[1] % 8) + 1000 * d[2] + 100 * d[3] + 10 * d[4] + d[5], 0);
+    if (word == 0x82CFFF)
+        return code_of(LDVBI_PICTURE_STOP, 0, 0);
+    if (d[0] == 8 && d[2] < 10 && d[3] == 13 && d[4] == 13 && d[5] == 13)
+        return code_of(LDVBI_CHAPTER, 10 * (d[1] % 8) + d[2], 0);
+    if (word == 0x87FFFF)
+        return code_of(LDVBI_CLV_MARK, 0, 0);
+    if (d[0] == 15 && d[1] < 10 && d[2] == 13 && d[3] == 13 && d[4] < 10 && d[5] < 10)
+        return code_of(LDVBI_TIME, d[1], 10 * d[4] + d[5]);
+    if (d[0] == 8 && d[1] >= 10 && d[2] == 14 && d[3] < 10 && d[4] < 10 && d[5] < 10)
+        return code_of(LDVBI_CLV_PICTURE, 10 * (d[1] % 10) + d[3], 10 * d[4] + d[5]);
+    if (d[0] == 8 && d[1] == 13 && d[2] == 12)
+        return code_of(LDVBI_CX_ON, 256 * d[3] + 16 * d[4] + d[5], 0);
+    if (d[0] == 8 && d[1] == 11 && d[2] == 10)
+        return code_of(LDVBI_CX_OFF, 256 * d[3] + 16 * d[4] + d[5], 0);
+    if (d[0] == 8 && d[1] < 8 && d[2] == 13)
+        return code_of(LDVBI_USERS, d[1], 256 * d[3] + 16 * d[4] + d[5]);
+    /* to here */
     return code_of(LDVBI_OTHER, 0, 0);
 }
 

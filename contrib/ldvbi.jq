@@ -21,38 +21,45 @@ def code:
   if . == 0 then null
   elif type != "number" or . != floor or . < 8388608 or . > 16777215 then error("\(tojson) is no word")
   else
-    digits as [$first, $second, $third, $fourth, $fifth, $sixth]
-    | (10 * $fifth + $sixth) as $last_two
-    | (256 * $fourth + 16 * $fifth + $sixth) as $last_three
-    | ($fifth < 10 and $sixth < 10) as $ends_decimal
-    | if . == 8978431 then {kind: "lead-in"}  # 88FFFF
-      elif . == 8449774 then {kind: "lead-out"}  # 80EEEE
-      elif . == 8572927 then {kind: "picture stop"}  # 82CFFF
-      elif . == 8912895 then {kind: "clv"}  # 87FFFF
-      elif $first == 15 and $third < 10 and $fourth < 10 and $ends_decimal then
-        {kind: "picture", number: (10000 * ($second % 8) + 1000 * $third + 100 * $fourth + $last_two)}
-      elif $first == 15 and $second < 10 and $third == 13 and $fourth == 13 and $ends_decimal then
-        {kind: "time", hours: $second, minutes: $last_two}
-      elif $first == 8 and $third < 10 and $last_three == 3549 then  # DDD
+    digits as [$first, $second, $third, $fourth, $fifth, $sixth] |
+      # from codes/classes.txt: code
+      if . == 8978431 then  # 88FFFF
+        {kind: "lead-in"}
+      elif . == 8449774 then  # 80EEEE
+        {kind: "lead-out"}
+      elif $first == 15 and $third < 10 and $fourth < 10 and $fifth < 10 and $sixth < 10 then
+        {kind: "picture", number: (10000 * ($second % 8) + 1000 * $third + 100 * $fourth + 10 * $fifth + $sixth)}
+      elif . == 8572927 then  # 82CFFF
+        {kind: "picture stop"}
+      elif $first == 8 and $third < 10 and $fourth == 13 and $fifth == 13 and $sixth == 13 then
         {kind: "chapter", number: (10 * ($second % 8) + $third)}
-      elif $first == 8 and $second >= 10 and $third == 14 and $fourth < 10 and $ends_decimal then
-        {kind: "clv picture", seconds: (10 * ($second - 10) + $fourth), picture: $last_two}
-      elif $first == 8 and $second == 13 and $third == 12 then {kind: "cx on", number: $last_three}
-      elif $first == 8 and $second == 11 and $third == 10 then {kind: "cx off", number: $last_three}
+      elif . == 8912895 then  # 87FFFF
+        {kind: "clv"}
+      elif $first == 15 and $second < 10 and $third == 13 and $fourth == 13 and $fifth < 10 and $sixth < 10 then
+        {kind: "time", hours: $second, minutes: (10 * $fifth + $sixth)}
+      elif $first == 8 and $second >= 10 and $third == 14 and $fourth < 10 and $fifth < 10 and $sixth < 10 then
+        {kind: "clv picture", seconds: (10 * ($second % 10) + $fourth), picture: (10 * $fifth + $sixth)}
+      elif $first == 8 and $second == 13 and $third == 12 then
+        {kind: "cx on", number: (256 * $fourth + 16 * $fifth + $sixth)}
+      elif $first == 8 and $second == 11 and $third == 10 then
+        {kind: "cx off", number: (256 * $fourth + 16 * $fifth + $sixth)}
       elif $first == 8 and $second < 8 and $third == 13 then
-        {kind: "users", digit: $second, number: $last_three}
+        {kind: "users", digit: $second, number: (256 * $fourth + 16 * $fifth + $sixth)}
+      # to here
       else {kind: "other"}
       end
   end;
 
 # cav, clv, both or neither, of a list of codes.
 def format_of_codes:
+  # from codes/classes.txt: formats
   any(.[]; .kind == "picture" or .kind == "picture stop") as $cav
   | any(.[]; .kind == "clv" or .kind == "time" or .kind == "clv picture") as $clv
+  # to here
   | if $cav and $clv then "both" elif $cav then "cav" elif $clv then "clv" else "neither" end;
 
 # The records of a document.
-def records: if .version == 2 then .fields[] else error("no document of version 2") end;
+def records: if .version == 2 or .version == 3 then .fields[] else error("no document of version 2 or 3") end;
 
 # The codes of lines 16, 17 and 18, of a record. Lines 17 and 18 mostly have the same word.
 def line_codes:
@@ -62,10 +69,13 @@ def line_codes:
 
 # Which kinds a disc has on which lines (IEC 60857, IEC 60856). A picture stop belongs on lines 16 and 17, and a CLV
 # mark on line 17; both are let pass on line 18.
-def is_of_line_16: . == "picture stop" or . == "clv picture" or . == "cx on" or . == "cx off" or . == "users";
+# from codes/classes.txt: lines
+def is_of_line_16:
+  . == "picture stop" or . == "clv picture" or . == "cx on" or . == "cx off" or . == "users";
 def is_of_lines_17_and_18:
-  . == "picture" or . == "chapter" or . == "time" or . == "picture stop" or . == "clv" or . == "lead-in"
-    or . == "lead-out";
+  . == "lead-in" or . == "lead-out" or . == "picture" or . == "picture stop" or . == "chapter" or . == "clv" or
+  . == "time";
+# to here
 
 # Of the codes of lines 16, 17 and 18 those that stand on a line of their kind, each with its lines. Lines with the same
 # code have one entry. So two entries of a kind are two lines that differ.

@@ -4,6 +4,9 @@ of it: the half cells and bits of a word, or the first hopeless column of a line
 
     dd if=side.tbc bs=1820 skip=15 count=1 | plot_line.py --system NTSC --black 16384 --white 51200 > line.svg
 
+With --near 82CFFF@150 it draws what that line is beside a row of this word that begins in column 150, such as that of
+its nearest word: the columns whose level is another one are red.
+
 Python's standard library is enough; the program `ldvbi` has to be on the PATH, or be named by --program. Where it isn't
 on the PATH, the line is read by the module `ldvbi` and its library, as pip installs them."""
 
@@ -142,7 +145,7 @@ def draw_axes(drawing, black, white):
     drawing.text(LEFT + WIDTH / 2, TOP + HEIGHT + 40, "column, from 0", ' text-anchor="middle"')
 
 
-def draw_samples(drawing, samples):
+def draw_samples(drawing, samples, stroke='stroke="#0f172a" stroke-width="1.5"'):
     """The samples as steps: each column has its sample's height from its left end to its right end."""
     seen = samples[drawing.first:drawing.last + 1]
     steps, column = [f"M{LEFT} {drawing.y(seen[0]):.1f}"], drawing.first
@@ -151,7 +154,7 @@ def draw_samples(drawing, samples):
         steps.append(f"V{drawing.y(sample):.1f}H{drawing.x(column):.1f}")
     # eight steps to a line of text
     lines = ["".join(steps[place:place + 8]) for place in range(0, len(steps), 8)]
-    drawing.add('<path fill="none" stroke="#0f172a" stroke-width="1.5" d="\n' + "\n".join(lines) + '"/>')
+    drawing.add(f'<path fill="none" {stroke} d="\n' + "\n".join(lines) + '"/>')
 
 
 def draw_no_word(drawing, answer):
@@ -190,6 +193,29 @@ def draw_answer(drawing, answer, samples, arguments):
     return f"{answer}, by the smoothed levels (pass 2); what was smoothed away is red"
 
 
+def row_starts(start, system):
+    """The 49 columns at which the half cells of a word drawn from this column on begin, and the last one ends."""
+    # a microsecond may come out too short by a digit that counts for nothing, so that a whole column would be missing
+    return [start + int(half * system.microsecond + 1e-6) for half in range(49)]
+
+
+def draw_near(drawing, near, answer, samples, arguments):
+    """The row of a word that is drawn from some column on, behind the samples. The answer is what is said of both."""
+    word, start = near
+    starts, row = row_starts(start, SYSTEMS[arguments.system]), [False] * len(samples)
+    for begin, end, level in zip(starts, starts[1:], halves_of(word)):
+        row[begin:end] = [level] * (end - begin)
+    draw_word(drawing, word, starts)
+    for column, (level, drawn) in enumerate(zip(levels_of(samples, arguments.black, arguments.white), row)):
+        if level != drawn:
+            drawing.box(column, column + 1, "#fca5a5", ' class="marked"')
+    row = [arguments.white if level else arguments.black for level in row]
+    draw_samples(drawing, row, 'stroke="#16a34a" stroke-width="3"')
+    distance = sum(abs(sample - drawn) for sample, drawn in zip(samples, row)) / (arguments.white - arguments.black)
+    said = answer if answer.isupper() or answer.isdigit() else f"no word: {answer}"
+    return f"{said}; the row of {word:06X} from column {start} on is {distance:.1f} columns away"
+
+
 def draw_titles(drawing, title, said):
     """The title that was given, where one was, and what was said of the line."""
     if not title:
@@ -203,12 +229,16 @@ def draw_titles(drawing, title, said):
     drawing.text(LEFT, 46, said, ' class="said"')
 
 
-def picture(samples, answer, arguments):
-    """The SVG of these samples, of which `ldvbi line` said `answer`."""
+def picture(samples, answer, arguments, near=None):
+    """The SVG of these samples, of which `ldvbi line` said `answer`, with the row of a word, where `near` is that word
+    and its column."""
     greatest, least = max(samples + [arguments.white]), min(samples + [arguments.black])
     room = (greatest - least) / 10
     drawing = Drawing(arguments.first, arguments.last, least - room, greatest + room)
-    said = draw_answer(drawing, answer, samples, arguments)
+    if near:
+        said = draw_near(drawing, near, answer, samples, arguments)
+    else:
+        said = draw_answer(drawing, answer, samples, arguments)
     draw_axes(drawing, arguments.black, arguments.white)
     draw_samples(drawing, samples)
     draw_titles(drawing, arguments.title, said)
@@ -220,6 +250,12 @@ def picture(samples, answer, arguments):
     )
 
 
+def word_at(text):
+    """A word and its column, of a text like 82CFFF@150."""
+    word, _, column = text.partition("@")
+    return int(word, 16), int(column)
+
+
 def read_arguments():
     parser = argparse.ArgumentParser(description=__doc__.split("\n\n")[0])
     parser.add_argument("input", nargs="?", help="the line's bytes; standard input where there is none")
@@ -229,6 +265,7 @@ def read_arguments():
     parser.add_argument("--first", default=0, type=int, metavar="N", help="the first column that is seen")
     parser.add_argument("--last", type=int, metavar="N", help="the last column that is seen")
     parser.add_argument("--title", metavar="TEXT", help="what stands above the drawing, as file, field and line")
+    parser.add_argument("--near", type=word_at, metavar="WORD@COLUMN", help="the row of a word that is drawn behind it")
     parser.add_argument("--program", default="ldvbi", metavar="PATH", help="the program, if it isn't on the PATH")
     arguments = parser.parse_args()
     width = SYSTEMS[arguments.system].width
@@ -236,6 +273,11 @@ def read_arguments():
         arguments.last = width - 1
     if not 0 <= arguments.first <= arguments.last < width:
         parser.error(f"columns go from 0 to {width - 1}, the first one before the last")
+    if arguments.near:
+        word, start = arguments.near
+        end = row_starts(start, SYSTEMS[arguments.system])[-1]
+        if not 0x800000 <= word <= 0xFFFFFF or start < 0 or end > width:
+            parser.error("a word has six digits, the first one 8 or more, and ends within the line")
     return arguments
 
 
@@ -273,7 +315,7 @@ def main():
     answer = answer_of(line, arguments)
     samples = [low + 256 * high for low, high in zip(line[::2], line[1::2])]
     try:
-        drawn = picture(samples, answer, arguments)
+        drawn = picture(samples, answer, arguments, arguments.near)
     except ValueError as error:
         sys.exit(f"plot_line: {error}")
     sys.stdout.write(drawn)

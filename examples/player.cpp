@@ -2,8 +2,8 @@
 // stop. It prints the field, from 1, at which each command ends. Status 1: a command found nothing; 2: the side can't
 // be read so, and standard error says why. It also says where the file ends inside a field.
 //
-// A picture's number is one that the library believes by the fields around it, or that is due between such fields, and
-// never one that was misread. What a chapter's field shows is taken as it is.
+// The library recovers the words of worn lines. A picture's number is one that it believes by the fields around it, or
+// that is due between such fields, and never one that was misread. What a chapter's field shows is taken as it is.
 //
 //     c++ -std=c++17 -o player player.cpp -lldvbi
 //     ./player side.tbc NTSC 16384 51200 search 12345 play chapter 3 play
@@ -47,7 +47,7 @@ class Side {
 public:
     Side(const char *path, std::uint32_t system, std::uint32_t black, std::uint32_t white)
         : system_(system), black_(black), white_(white), field_bytes_(ldvbi_field_bytes(system)) {
-        check(ldvbi_read_fields(system, black, white, nullptr, 0, nullptr, 0)); // of no field: the numbers alone
+        check(ldvbi_recover_fields(system, black, white, nullptr, 0, nullptr, 0)); // of no field: the numbers alone
         const int file = open(path, O_RDONLY);
         struct stat about;
         if (file < 0 || fstat(file, &about) != 0) throw std::runtime_error(std::string("can't open ") + path);
@@ -75,7 +75,8 @@ public:
     LdvbiFieldReadings read(std::size_t field) const {
         const std::size_t line = ldvbi_line_bytes(system_);
         LdvbiFieldReadings readings;
-        check(ldvbi_read_rows(system_, black_, white_, bytes_ + field * field_bytes_ + 15 * line, 3 * line, &readings));
+        check(ldvbi_recover_rows(system_, black_, white_, bytes_ + field * field_bytes_ + 15 * line, 3 * line,
+                                 &readings));
         return readings;
     }
 

@@ -2,8 +2,8 @@
  * that of a CLV disc by its time, as 0:59:29.07 for picture 7 of its second. Status 0: found; 1: not found; 2: what was
  * asked for can't be read, and standard error says why. It also says where the file ends inside a field.
  *
- * The library judges the numbers of all fields: a field is found where its number is believed, or where the believed
- * numbers around it leave no other, and never by a number that was misread.
+ * The library recovers the words of worn lines, and judges the numbers of all fields: a field is found where its number
+ * is believed, or where the believed numbers around it leave no other, and never by a number that was misread.
  *
  *     cc -o seek seek.c -lldvbi && ./seek side.tbc NTSC 16384 51200 12345 */
 #define _DEFAULT_SOURCE
@@ -116,7 +116,7 @@ static void fetch(const Side *side, size_t from, size_t to) {
     }
 }
 
-/* Reads lines 16 to 18 of all fields. */
+/* Reads lines 16 to 18 of all fields, and recovers those that are worn. */
 static uint32_t read_side(const Side *side, LdvbiFieldReadings *readings) {
     size_t field = ldvbi_field_bytes(side->system), fetched = 0;
     for (size_t begin = 0; begin < side->fields; begin += BLOCK) {
@@ -124,8 +124,8 @@ static uint32_t read_side(const Side *side, LdvbiFieldReadings *readings) {
         size_t ahead = left < 2 * BLOCK ? side->fields : begin + 2 * BLOCK;
         fetch(side, fetched, ahead);
         fetched = ahead;
-        uint32_t status = ldvbi_read_fields(side->system, side->black, side->white, side->bytes + begin * field,
-                                            count * field, readings + begin, count);
+        uint32_t status = ldvbi_recover_fields(side->system, side->black, side->white, side->bytes + begin * field,
+                                               count * field, readings + begin, count);
         if (status != LDVBI_DONE) return status;
     }
     return LDVBI_DONE;
@@ -254,7 +254,7 @@ int main(int count, char **words) {
     if (!parse_whole(words[4], UINT32_MAX, &side.white)) return refuse("white is not a whole number");
     if (!parse_wanted(words[5], &wanted)) return refuse("neither a picture from 0 to 79999 nor a time as 0:59:29.07");
     /* Of no field the library tests the numbers alone. */
-    uint32_t status = ldvbi_read_fields(side.system, side.black, side.white, NULL, 0, NULL, 0);
+    uint32_t status = ldvbi_recover_fields(side.system, side.black, side.white, NULL, 0, NULL, 0);
     if (status != LDVBI_DONE) return refuse(ldvbi_status_text(status));
     if (!map_side(words[1], &side)) return 2;
     int ended = search(&side, &wanted);

@@ -3,11 +3,15 @@
 that of a CLV disc by its time, as 0:59:29.07 for picture 7 of its second. Status 0: found; 1: not found; 2: what was
 asked for can't be read, and standard error says why. It also says where the file ends inside a field.
 
-A field is found by the number that the fields around it support, or leave for it where it shows none: a misread number
-isn't found. Where no number of the whole side is supported so, as on a side of a few fields, the lines alone are
-believed, and standard error says that.
+Words of worn lines are recovered where no other word is near. A field is found by the number that the fields around it
+support, or leave for it where it shows none: a misread number isn't found. Where no number of the whole side is
+supported so, as on a side of a few fields, the lines alone are believed, and standard error says that.
 
     PYTHONPATH=python python3 examples/seek.py side.tbc NTSC 16384 51200 12345
+
+As `make install PREFIX=DIR` installs this file, with the package in DIR/share/ldvbi/python:
+
+    PYTHONPATH=DIR/share/ldvbi/python python3 DIR/share/doc/ldvbi/examples/seek.py side.tbc NTSC 16384 51200 12345
 """
 
 import re
@@ -84,7 +88,8 @@ def main():
         raise ValueError("usage: seek.py FILE NTSC|PAL BLACK WHITE NUMBER|H:MM:SS.PP")
     path, system, black, white, text = sys.argv[1:]
     number, seconds = wanted_codes(text)
-    with ldvbi.Stream(path, system, whole_number("black", black), whole_number("white", white)) as side:
+    levels = whole_number("black", black), whole_number("white", white)
+    with ldvbi.Stream(path, system, *levels, recover=True) as side:
         if side.cut_bytes:
             say("the last field is cut: field %d has %d of %d bytes"
                 % (len(side) + 1, side.cut_bytes, ldvbi.field_bytes(system)))

@@ -1,8 +1,9 @@
 // Lists the picture stops of a TBC stream on standard input, field by field, as a player would meet them. Status 2: the
 // stream can't be read so, and standard error says why. It also says where the stream ends inside a field.
 //
-// A picture's number is one that the library believes by the fields around it, or that is due between such fields, so
-// the list is printed when the stream has ended; it keeps 52 bytes of each field until then.
+// The library recovers the words of worn lines. A picture's number is one that it believes by the fields around it, or
+// that is due between such fields, so the list is printed when the stream has ended; it keeps 52 bytes of each field
+// until then.
 //
 //     c++ -std=c++17 -o stops stops.cpp -lldvbi && ./stops NTSC 16384 51200 < side.tbc
 #include <algorithm>
@@ -43,14 +44,14 @@ public:
     Reader(std::uint32_t system, std::uint32_t black, std::uint32_t white)
         : system_(system), black_(black), white_(white) {
         if (ldvbi_abi() != LDVBI_ABI) throw std::runtime_error("the library has another interface");
-        check(ldvbi_read_fields(system, black, white, nullptr, 0, nullptr, 0)); // of no field: the numbers alone
+        check(ldvbi_recover_fields(system, black, white, nullptr, 0, nullptr, 0)); // of no field: the numbers alone
     }
 
     std::size_t field_bytes() const { return ldvbi_field_bytes(system_); }
 
     LdvbiFieldReadings read(const std::vector<std::uint8_t> &field) const {
         LdvbiFieldReadings readings;
-        check(ldvbi_read_field(system_, black_, white_, field.data(), field.size(), &readings));
+        check(ldvbi_recover_fields(system_, black_, white_, field.data(), field.size(), &readings, 1));
         return readings;
     }
 

@@ -34,9 +34,13 @@
  *
  * ---- Which line has which code, by the standards
  *
- *     line 16     picture stop; CLV picture; programme status (CX on, CX off); users' code
- *     line 17     picture number, chapter, CLV time, lead-in, lead-out; picture stop; CLV mark
- *     line 18     picture number, chapter, CLV time, lead-in, lead-out, which line 17 has as well
+ * from codes/classes.txt: lines
+ *     line 16     picture stop (CAV); seconds and picture (CLV); programme status, CX on; programme status, CX off;
+ *                 users' code
+ *     line 17     lead-in; lead-out; picture number (CAV); picture stop (CAV); chapter; CLV mark; hours and minutes
+ *                 (CLV)
+ *     line 18     lead-in; lead-out; picture number (CAV); chapter; hours and minutes (CLV)
+ * to here
  *
  * So line 17 may have a stop or a mark where line 18 has the number. A field may have no number at all: often only one
  * of a picture's two or three fields has its number.
@@ -164,7 +168,8 @@ enum LdvbiCause {
 
 typedef struct LdvbiReading {
     uint8_t cause;   /* of enum LdvbiCause */
-    uint8_t pass;    /* 1: the line's levels show the word; 2: only smoothed ones do, less surely; 0: no word */
+    uint8_t pass;    /* 1: the line's levels show the word; 2: only smoothed ones do, less surely; 0: no word
+                        3: of ldvbi_recover_rows: it is the nearest word */
     uint16_t column; /* of LDVBI_CHANGE and LDVBI_HOLD the first hopeless column, counted from 0; else 0 */
     uint32_t word;   /* of LDVBI_WORD the word, from 0x800000 to 0xFFFFFF; else 0 */
 } LdvbiReading;
@@ -201,21 +206,81 @@ LDVBI_RESULT
 uint32_t ldvbi_read_fields(uint32_t system, uint32_t black, uint32_t white, const void *samples, size_t length,
                            LdvbiFieldReadings *readings, size_t count);
 
+/* ---- The nearest word: what worn lines still bear
+ *
+ * A word can be drawn from each column on that leaves room for it: 224 columns of NTSC, 285 of PAL. Of all these rows,
+ * and of that of no word, which is black, the nearest one has the least distance from some lines: the sum, over their
+ * samples, of how far each is from the row's.
+ *
+ * This is proved: no row of any word, nor that of none, is nearer to the lines than the answered one, and no row of
+ * another word, or of none, is nearer than `rival`. So if another word was recorded, the samples of the lines are off
+ * by `rival` or more in sum.
+ *
+ * Nothing is promised of how much real samples are off: where a dropout turns a cell over, another word is nearest. Nor
+ * does the answer say that there is a word, since video, captions and sines have a nearest one too. Of most of these
+ * the margin, which is rival - distance, is small. A sine of 0.5 MHz looks like a word, but it goes on beyond: there
+ * `longer` is far below `distance`. Where two words are as near, rival is distance, and either may be answered. */
+
+/* Distances are sums of samples. (white - black) is that of one column with the other level, in one line. */
+typedef struct LdvbiNear {
+    uint32_t word;     /* the nearest word, from 0x800000 to 0xFFFFFF; 0: no word is as near as the row of none */
+    uint32_t start;    /* the column, counted from 0, from which on the word is drawn; 0 where there is none */
+    uint64_t distance; /* of this row */
+    uint64_t rival;    /* the least distance of a row of another word, or of none */
+    uint64_t longer;   /* the least distance of this row with one more cell before or behind the 24 of the word; the
+                          same as `distance` where there is no word */
+} LdvbiNear;
+
+/* Finds the nearest word of 1 to 28 lines that all have one word or none, such as lines 17 and 18 of a field. They lie
+ * one after the other: `length` has to be 1 to 28 times ldvbi_line_bytes(system).
+ * LDVBI_BAD_SYSTEM, LDVBI_BAD_LEVELS, LDVBI_BAD_LENGTH. */
+LDVBI_RESULT LDVBI_POINTER(6)
+uint32_t ldvbi_nearest(uint32_t system, uint32_t black, uint32_t white, const void *samples, size_t length,
+                       LdvbiNear *near);
+
+/* Reads lines 16, 17 and 18 as ldvbi_read_rows does, and recovers the words of worn ones: a line without a word that
+ * isn't blank has its nearest word, as pass 3, where the margin is so many columns at least, of (white - black) each:
+ *
+ *                                           a code that may stand on the line   any other word
+ *     one line                                               6                        8
+ *     lines 17 and 18 together                               6                       10
+ *     either, where they don't agree                        10                       12
+ *
+ * If both lack a word, they are taken together where they agree: where the nearest word of each is the same, or their
+ * common one is at most 10 columns farther from the two than the nearest word of each is from its own line. Nothing is
+ * recovered where `longer` is below `distance` by more than 4 columns in each line, nor of two lines together where it
+ * is so of each. A word of pass 2 stays only where its line alone says it so.
+ *
+ * This is proved: the answer is that of this rule, a word of pass 1 stays as it is, and a blank line stays blank. That
+ * a recovered word is the recorded one is not: it is measured on simulated lines.
+ * LDVBI_BAD_SYSTEM, LDVBI_BAD_LEVELS, LDVBI_BAD_LENGTH. */
+LDVBI_RESULT LDVBI_POINTER(6)
+uint32_t ldvbi_recover_rows(uint32_t system, uint32_t black, uint32_t white, const void *samples, size_t length,
+                            LdvbiFieldReadings *readings);
+
+/* The same for `count` fields, as ldvbi_read_fields takes them.
+ * LDVBI_BAD_SYSTEM, LDVBI_BAD_LEVELS, LDVBI_BAD_LENGTH. */
+LDVBI_RESULT
+uint32_t ldvbi_recover_fields(uint32_t system, uint32_t black, uint32_t white, const void *samples, size_t length,
+                              LdvbiFieldReadings *readings, size_t count);
+
 /* ---- What words say */
 
 enum LdvbiKind {
+    /* from codes/classes.txt: kinds */
     LDVBI_OTHER = 0,
     LDVBI_PICTURE = 1,       /* first: the number of a picture of a CAV disc, 0 to 79999 */
     LDVBI_CHAPTER = 2,       /* first: the chapter, 0 to 79 */
     LDVBI_TIME = 3,          /* first: hours of a CLV disc, 0 to 9; second: minutes, 0 to 99 */
     LDVBI_CLV_PICTURE = 4,   /* first: seconds, 0 to 59; second: the picture within its second, 0 to 99 */
     LDVBI_CX_ON = 5,         /* first: the last three hexadecimal digits, 0 to 4095 */
-    LDVBI_CX_OFF = 6,        /* first: the same */
-    LDVBI_USERS = 7,         /* first: the word's second digit, 0 to 7; second: the last three hexadecimal digits */
+    LDVBI_CX_OFF = 6,        /* first: the last three hexadecimal digits, 0 to 4095 */
+    LDVBI_USERS = 7,         /* first: the second digit, 0 to 7; second: the last three hexadecimal digits, 0 to 4095 */
     LDVBI_LEAD_IN = 8,
     LDVBI_LEAD_OUT = 9,
     LDVBI_PICTURE_STOP = 10, /* a player stops at this picture */
     LDVBI_CLV_MARK = 11      /* the disc is a CLV disc */
+    /* to here */
 };
 
 /* A word's kind and the numbers that go with it. A number that this kind doesn't have is 0. */
@@ -243,9 +308,9 @@ uint32_t ldvbi_format(uint32_t first, uint32_t second, uint32_t third, uint32_t 
  *
  * A misread line shows a number like any other. So the fields around a field decide whether its number is believed.
  * They support it where their numbers fit it at the disc's pace, as picture 101 two fields later fits picture 100. A
- * word of pass 1 weighs 2, one of pass 2 weighs 1. A number is believed only where the words that support it, in the
- * field itself and in the LDVBI_REACH fields before and behind it, weigh 10 or more, and more than those that support
- * any other number of the field.
+ * word of pass 1 weighs 2, one of pass 2 or 3 weighs 1. A number is believed only where the words that support it, in
+ * the field itself and in the LDVBI_REACH fields before and behind it, weigh 10 or more, and more than those that
+ * support any other number of the field.
  *
  * This is proved: if the disc ran on within LDVBI_REACH fields around a field, and the misread words there weigh less
  * than 10, a believed number is the one that was recorded. If the player stood still, the same holds as long as the
@@ -272,7 +337,7 @@ enum LdvbiPace {
 /* A number that a line shows. */
 typedef struct LdvbiSighting {
     uint32_t number;
-    uint32_t weight; /* 2: in pass 1; 1: in pass 2; 0: the line shows no number, and `number` is 0 */
+    uint32_t weight; /* 2: in pass 1; 1: in pass 2 or 3; 0: the line shows no number, and `number` is 0 */
 } LdvbiSighting;
 
 /* What a field shows: the numbers of lines 17 and 18. The seconds of a time are those of line 16. */
@@ -343,6 +408,7 @@ static inline const char *ldvbi_cause_text(uint32_t cause) {
 
 static inline const char *ldvbi_kind_text(uint32_t kind) {
     switch (kind) {
+    /* from codes/classes.txt: texts */
     case LDVBI_OTHER: return "other";
     case LDVBI_PICTURE: return "picture";
     case LDVBI_CHAPTER: return "chapter";
@@ -355,6 +421,7 @@ static inline const char *ldvbi_kind_text(uint32_t kind) {
     case LDVBI_LEAD_OUT: return "lead-out";
     case LDVBI_PICTURE_STOP: return "picture stop";
     case LDVBI_CLV_MARK: return "clv";
+    /* to here */
     default: return "unknown";
     }
 }

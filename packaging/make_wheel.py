@@ -22,7 +22,7 @@ TOP = os.path.dirname(os.path.dirname(os.path.abspath(__file__)))
 # What manylinux allows to be needed, of what a library without C++ and windows could need
 ALLOWED = re.compile(r"(libc\.so\.6|lib(m|rt)\.so\.[16]|lib(dl|pthread|gcc_s)\.so\.\d|ld-linux-[\w-]+\.so\.\d)$")
 OLDEST = (2, 17)  # the oldest C library with a tag on each of the usual processors
-FILES = {"ldvbi.py": "python/ldvbi.py", "ldvbi_side/contrib/plot_line.py": "contrib/plot_line.py"}
+FILES = {"ldvbi_side/contrib/plot_line.py": "contrib/plot_line.py"}
 MANUAL = "share/man/man1/ldvbi-side.1"
 
 
@@ -66,9 +66,10 @@ def description(name, version):
 def members(library, name, version, tag):
     """The wheel's files, each with its bytes."""
     files = dict(FILES)
-    for path in glob.glob(os.path.join(TOP, "python", "ldvbi_side", "*.py")):
-        files["ldvbi_side/" + os.path.basename(path)] = path
-    files["ldvbi_side/" + os.path.basename(library)] = os.path.abspath(library)
+    python = os.path.join(TOP, "python")
+    for path in glob.glob(os.path.join(python, "*", "**", "*.py"), recursive=True):
+        files[os.path.relpath(path, python)] = path
+    files["ldvbi/" + os.path.basename(library)] = os.path.abspath(library)
     files["%s-%s.data/data/%s" % (name, version, MANUAL)] = MANUAL.replace("man1/", "")
     found = {}
     for place, path in sorted(files.items()):
@@ -88,7 +89,7 @@ def members(library, name, version, tag):
 def make_wheel(library, folder):
     """Writes the wheel into the folder. The answer is its path."""
     name = "ldvbi"
-    version = re.search(r'^__version__ = "(.*)"$', text_of("python/ldvbi.py"), re.MULTILINE).group(1)
+    version = re.search(r'^__version__ = "(.*)"$', text_of("python/ldvbi/__init__.py"), re.MULTILINE).group(1)
     tag = tag_of(library)
     path = os.path.join(folder, "%s-%s-%s.whl" % (name, version, tag))
     os.makedirs(folder, exist_ok=True)

@@ -1,6 +1,7 @@
 #!/bin/sh
-# Has MAME's decoder and libzvbi's bit slicer read what `ldvbi` reads (see compare.py), and prints the tables of
-# docs/PEERS.md. It needs Debian's packages mame-tools and libzvbi-dev, a C compiler and python3.
+# Has MAME's decoder, libzvbi's bit slicer and a reader by edges read what `ldvbi` and its library read (see
+# compare.py), and prints the tables of docs/PEERS.md. It needs Debian's packages mame-tools and libzvbi-dev, a C
+# compiler, python3, and libldvbi.so beside the program, or at the top of the repository (`make lib`).
 # usage: sh peers/compare.sh PROGRAM [FIELDS]
 set -eu
 
@@ -12,10 +13,23 @@ for tool in "$compiler" chdman ldverify python3; do
         exit 1
     }
 done
+library=$(cd "$(dirname "$1")" && pwd)
+[ -e "$library/libldvbi.so" ] || library=$(dirname "$here")
 work=$(mktemp -d)
 trap 'rm -rf "$work"' EXIT
-"$compiler" -std=c99 -O2 -Wall -o "$work/zvbi" "$here/zvbi.c" -lzvbi || {
-    echo "peers: zvbi.c can't be built (its library is in libzvbi-dev)" >&2
-    exit 1
+
+# built NAME WHY WORD..: builds one of the readers, by these words for the compiler
+built() {
+    reader=$1
+    why=$2
+    shift 2
+    "$compiler" -std=c99 -O2 -Wall -o "$work/$reader" "$here/$reader.c" "$@" || {
+        echo "peers: $reader.c can't be built ($why)" >&2
+        exit 1
+    }
 }
-PYTHONDONTWRITEBYTECODE=1 python3 "$here/compare.py" "$1" "$work/zvbi" "${2:-200}"
+built edges 'it needs the C library alone'
+built recovered 'its library is built by make lib' \
+    "-I$here/../include" "-L$library" -lldvbi "-Wl,-rpath,$library"
+built zvbi 'its library is in libzvbi-dev' -lzvbi
+PYTHONDONTWRITEBYTECODE=1 python3 "$here/compare.py" "$1" "$work" "${2:-200}"

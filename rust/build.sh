@@ -18,6 +18,10 @@ export CARGO_TARGET_DIR CARGO_TARGET_AARCH64_UNKNOWN_LINUX_GNU_LINKER
 has_library() {
     [ -d "$("$1" --print sysroot 2> /dev/null)/lib/rustlib/$target" ]
 }
+# dependencies: the crates that ours depends on
+dependencies() {
+    sed -n '/^\[dependencies\]$/,/^$/ s/ = .*//p' "$here/hand/Cargo.toml"
+}
 cargo=${CARGO:-cargo}
 rustc=${RUSTC:-rustc}
 # Debian's compiler has the library of other machines as packages, another compiler on the PATH may not.
@@ -29,7 +33,8 @@ fi
 
 rm -rf "$here/crate.new"
 python3 "$here/erase.py" "$here/../crates" "$here/hand" "$here/crate.new"
-if ls -d "$registry"/serde_json-1.* > /dev/null 2>&1; then
+# Debian's folder stands in place of the registry where it has all of them.
+if dependencies | while read -r name; do ls -d "$registry/$name"-[0-9]* || exit; done > /dev/null 2>&1; then
     mkdir "$here/crate.new/.cargo"
     printf '[source.crates-io]\nreplace-with = "debian"\n\n[source.debian]\ndirectory = "%s"\n' "$registry" \
         > "$here/crate.new/.cargo/config.toml"

@@ -13,7 +13,7 @@ import shutil
 import sys
 
 MODULES = {"vbi_words": "words", "vbi_line": "line", "vbi_field": "field", "vbi_meta": "meta", "vbi_cli": "cli",
-           "vbi_side": "side", "vbi_c": "c"}
+           "vbi_near": "near", "vbi_side": "side", "vbi_c": "c"}
 # A comment, a text or a character, in which nothing is code
 APART = re.compile(r"""//[^\n]*|b?"(?:\\.|[^"\\])*"|b?'(?:\\[^'\n]+|[^'\\\n])'""", re.S)
 GHOST = re.compile(r"^[ \t]*(?:pub )?ghost ", re.M)
@@ -26,7 +26,7 @@ KEYWORDS = set("as break const continue crate dyn else enum extern fn for if imp
                "ref return self static struct super trait type use where while".split())
 BEHIND_A_NAME = {"as", "else", "if", "in", "where"}
 MACROS = {"assert", "format", "matches", "unreachable", "value_parser", "vec", "write"}
-ATTRIBUTES = {"derive", "error", "inline", "repr"}
+ATTRIBUTES = {"derive", "error", "from", "inline", "repr"}
 FOREIGN = re.compile(r"\b(?:AllocError|AllocFailed|Global|HostRuntime|Model|alloc|ghost|prove|simd|tactic|unsafe)\b"
                      r"|: Drop\b|[^\x00-\x7f]")
 WORDS = re.compile(r"(?<![\w'.])([a-z_]\w*)[ \t]+([A-Za-z_]\w*)")
@@ -48,6 +48,8 @@ REWRITTEN = [(re.compile(pattern, re.M), other) for pattern, other in [
     (r"^[ \t]*Err\(fault\) if fault\.is_memory\(\) => .*$", ""),
     (r"^[ \t]*#\[unsafe\(no_mangle\)\]$", ""), (r'^pub extern "C" fn ', "pub fn "),
     (r"^(?:pub )?mod laws;$", ""), (r"\bclap::", "crate::clap::"),
+    # Texts of commands are fixed, which clap asks for and its port doesn't; names that it takes are a slice there.
+    (r"\bhelp: &'a str\b", "help: &'static str"), (r"\.value_parser\((\w+)\.as_slice\(\)\)", r".value_parser(\1)"),
     # The body of `bits_above`
     (r"u16x16::from_array\(samples\)\s*\.simd_gt\(u16x16::splat\(low\)\)\s*\.to_bitmask\(\)",
      "crate::bits_above::bits_above(samples, low)"),

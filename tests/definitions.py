@@ -1,5 +1,6 @@
 #!/usr/bin/env python3
-"""Lists what one has to believe for the headline: each definition of specs/ on which the contract of `extract` rests.
+"""Lists what one has to believe: each definition of specs/ on which the contract of `extract` rests, the headline, and
+what the contracts of FURTHER rest on beside that.
 
 Read in this order, each rests only on those above it. Three lists: of the contract alone, in which the function that
 gives a line's reading (`reading_of`) is taken by its name; with its meaning, in which a relation stands for each
@@ -7,8 +8,9 @@ function of RELATIONS, of which a law says that it is the same; and with what th
 COUNTING say. The words of the standard library that all of these use are listed as well, but for operators.
 
 Each DOCUMENT has to say the three counts, as `N in M lines` and `N in M`. A table that stands in one behind the line
-`<!-- definitions -->` or `<!-- counts -->` is compared with the source: each definition once, in this order, with its
-file and its comment; so are the words of the standard library behind `<!-- words -->`.
+`<!-- definitions -->`, `<!-- counts -->` or that of another mark is compared with the source: each definition once, in
+this order, with its file and its comment; so are the words of the standard library behind `<!-- words -->` and
+`<!-- further words -->`.
 
 usage: python3 tests/definitions.py [--table] [DOCUMENT..]     (at the top of the repository)
 """
@@ -25,7 +27,13 @@ COUNTING = [
     ("crates/vbi_line/src/tries.rt", ("read_once", "write_once")),
     ("crates/vbi_line/src/line.rt", ("clear", "start_pass", "next_sample", "next_block")),
 ]
+# By the mark of their table, further contracts; a table has what none before it has
+FURTHER = {
+    "nearest": ("crates/vbi_near/src/lines.rt", ("nearest_of_lines",)),
+    "recovered": ("crates/vbi_near/src/recovery.rt", ("recover_rows",)),
+}
 RELATIONS = {
+    ("vbi_line", "OneOutcome", "outcome_of"): (("vbi_words", "Outcomes", "IsOutcome"), "one_outcome"),
     ("vbi_line", "OneReading", "reading_of"): (("vbi_words", "Readings", "IsReading"), "one_reading"),
     ("vbi_words", "Smooth", "smooth_of"): (("vbi_words", "Smooth", "IsSmooth"), "one_smooth"),
 }
@@ -145,10 +153,10 @@ class Definitions:
             head.take_import(line)
         return head, clauses
 
-    def order(self, with_meaning, with_counts=False):
+    def order(self, with_meaning, further=()):
+        """Returns the definitions on which the contract of `extract` rests, then those of these further ones."""
         order, seen = [], set()
-        contracts = [CONTRACT] + [(path, one) for path, functions in COUNTING for one in functions if with_counts]
-        for path, function in contracts:
+        for path, function in [CONTRACT] + [(path, one) for path, functions in further for one in functions]:
             for key in self.cited(*self.contract(path, function)):
                 self.below(key, with_meaning, order, seen)
         return order
@@ -193,25 +201,37 @@ def fault_of(document, counts, tables, words):
         for one, other in itertools.zip_longest(found[2:] if found else [], wanted, fillvalue="no more"):
             if found and one != other:
                 return f"has\n{one}\nand the source\n{other}"
-    found = behind(text, "words")
-    if found and " ".join(found) != ("; ".join(words) + "."):
-        return f"has the words of the standard library\n{' '.join(found)}\nand the source\n{'; '.join(words)}."
+    for mark, wanted in words.items():
+        found = behind(text, mark)
+        if found and " ".join(found) != wanted:
+            return f"has the {mark} of the standard library\n{' '.join(found)}\nand the source\n{wanted}"
     return None
+
+
+def tables_of(definitions, whole, counting):
+    """Returns the rows of each table by its mark, and the words of the standard library that they use, likewise."""
+    orders = {"definitions": whole, "counts": counting}
+    for place, mark in enumerate(FURTHER, 1):
+        orders[mark] = definitions.order(True, list(FURTHER.values())[:place])
+    tables, known = {}, []
+    for mark, order in orders.items():
+        tables[mark] = list(rows(definitions, [key for key in order if key not in known]))
+        known += order
+    words = {"words": counting, "further words": [key for key in known if key not in counting]}
+    return tables, {mark: "; ".join(definitions.words_of_std(order)) + "." for mark, order in words.items()}
 
 
 def main():
     names = [word for word in sys.argv[1:] if word != "--table"]
     definitions = Definitions()
-    alone, whole, counting = definitions.order(False), definitions.order(True), definitions.order(True, True)
+    alone, whole, counting = definitions.order(False), definitions.order(True), definitions.order(True, COUNTING)
     counts = (f"{len(alone)} in {definitions.lines(alone)} lines", f"{len(whole)} in {definitions.lines(whole)}",
               f"{len(counting)} in {definitions.lines(counting)}")
-    tables = {"definitions": list(rows(definitions, whole)),
-              "counts": list(rows(definitions, [key for key in counting if key not in whole]))}
-    words = definitions.words_of_std(counting)
+    tables, words = tables_of(definitions, whole, counting)
     print(f"definitions: {counts[0]} for the contract alone, {counts[1]} with the meaning of a reading, "
           f"{counts[2]} with the meaning of the counts")
     if "--table" in sys.argv[1:]:
-        print("\n\n".join(["\n".join(table) for table in tables.values()] + ["; ".join(words) + "."]))
+        print("\n\n".join(["\n".join(table) for table in tables.values()] + list(words.values())))
     faults = [f"definitions: {name} {fault}" for name in names if (fault := fault_of(name, counts, tables, words))]
     print("\n".join(faults), file=sys.stderr, end="\n" * bool(faults))
     return 1 if faults else 0

@@ -9,7 +9,7 @@ from source_names import read
 
 SMOOTH = "crates/vbi_words/specs/Smooth.antt"
 JITTER = "crates/vbi_words/specs/Jitter.antt"
-COMMAND = "python/ldvbi_side/command.py"
+COMMAND = "python/ldvbi_side/command/main.py"
 # A number in figures, or one up to ten as a word
 NUMBER = r"(\d[\d,]*|" + "|".join(CARDINALS) + ")"
 
@@ -65,32 +65,9 @@ def pictures(faults):
     return len(rows)
 
 
-def lines_of_codes(faults):
-    """Compares the lines of each code in docs/FORMATS.md with those of the Python package, which counts a stop and a
-    mark on line 18, too. Returns how many codes it looked at."""
-    from ldvbi_side.codes import STANDARD_LINES
-    names = {"lead-in": "lead_in", "lead-out": "lead_out", "picture number": "picture", "chapter": "chapter",
-             "hours and minutes": "time", "picture stop": "picture_stop", "mark": "clv_mark",
-             "seconds and picture": "clv_picture", "cx on": "cx_on", "cx off": "cx_off", "users' code": "users"}
-    wanted = {kind.name: list(lines) for kind, lines in STANDARD_LINES.items()}
-    text = read("docs/FORMATS.md")
-    if re.search(r"picture stop and a CLV mark count on line\s18", text):
-        wanted = {name: [line for line in lines if line != 18 or name not in ("picture_stop", "clv_mark")]
-                  for name, lines in wanted.items()}
-    found = {}
-    for row, lines in re.findall(r"^\| ([A-Z][^|]*) \| ((?:1[678](?:, | and )?)+) \|$", text, re.M):
-        for name, kind in names.items():
-            if name in row.lower():
-                found[kind] = [int(line) for line in re.findall(r"\d+", lines)]
-    for kind in wanted:
-        if found.get(kind) != wanted[kind]:
-            faults.append(f"docs/FORMATS.md: the lines of {kind} are {found.get(kind)}, and in Python {wanted[kind]}")
-    return len(found)
-
-
 def columns(faults):
     """Compares the columns of tables with those that the Python command writes. Returns how many tables there are."""
-    from ldvbi_side import map as side_map, tables
+    from ldvbi_side.command import map as side_map, tables
     wanted = [("docs/SIDES.md", tables.FIELD_COLUMNS), ("docs/SIDES.md", tables.BAD_LINE_COLUMNS),
               ("docs/FORMATS.md", side_map.COLUMNS)]
     for path, names in wanted:
@@ -116,7 +93,7 @@ def numbers(faults, geometry):
     """Returns how many numbers, columns and pictures were looked at; what is wrong with one goes to `faults`."""
     import sys
     sys.path.insert(0, f"{TOP}/python")
-    looked_at = pictures(faults) + lines_of_codes(faults) + columns(faults)
+    looked_at = pictures(faults) + columns(faults)
     for path, pattern, wanted in of_documents(geometry):
         text = re.sub(r"\s+", " ", read(path)) if "\\n" not in pattern else read(path)
         found = re.findall(pattern, text, re.I)

@@ -12,9 +12,10 @@ sizes   the sizes in README.md, FORMATS.md, RECIPES.md, SIGNAL.md, ldvbi.h and t
         each in its sentence
 rules   the numbers in the rules of SIDES.md are those of the Python package, each in its sentence
 numbers other numbers and columns are those of their source (document_numbers.py): wrong bodies, the gate's time,
-        glitches and blur, on which lines a code stands, statuses and columns of `ldvbi-side`
-changes the rows of CONTRIBUTING.md name each file that changes with a fault text, a class of codes or an option
-        (document_rows.py)
+        glitches and blur, statuses and columns of `ldvbi-side`
+changes the rows of CONTRIBUTING.md name each file that changes with a fault text, a class of codes or an option, and
+        their cells are short (document_rows.py)
+crates  crates.txt and CONTRIBUTING.md have what each crate stands on, and the source uses it (document_crates.py)
 
 usage: python3 tests/documents.py CHECK..     (at the top of the repository)
 """
@@ -23,6 +24,7 @@ import os
 import re
 import sys
 
+import document_crates
 import document_numbers
 import document_rows
 import source_names
@@ -30,8 +32,8 @@ from side_sentences import sentences_of
 from source_names import read
 
 # The least that each check has to look at. A check that finds less no longer understands the documents.
-LEAST = {"links": 40, "paths": 95, "names": 475, "faults": 28, "causes": 20, "sizes": 28, "rules": 28, "numbers": 30,
-         "changes": 80}
+LEAST = {"links": 40, "paths": 95, "names": 475, "faults": 28, "causes": 20, "sizes": 28, "rules": 28, "numbers": 22,
+         "changes": 65, "crates": 18}
 # The links to the net, of which nothing else is looked at
 NET = ["https://github.com/happycube/ld-decode"]
 PAGE = "share/man/ldvbi.1"
@@ -115,7 +117,7 @@ def links(faults):
 def paths(faults):
     """A path begins at the top, in crates/ or in a crate; a name alone is in the folder named before it in its line."""
     looked_at = 0
-    for line in read("CONTRIBUTING.md").split("\n"):
+    for line in prose("CONTRIBUTING.md").split("\n"):
         folder = ""
         for path in re.findall(r"[\w.*-]+(?:/[\w.*-]+)+\w|[\w-]+/(?=[`, |])|\b\w+\.(?:antt|rt)\b", line):
             places = [path, "crates/" + path, "crates/*/" + path, os.path.join(folder, path)]
@@ -131,14 +133,18 @@ def paths(faults):
 
 # ---- faults
 
+# The variants of a fault, with their texts before them, or what writes the texts
+FAULT = r"^(?:impl fmt::Display for|pub\S* enum) (?:App|Draw|Main|Meta|Run|Words)Fault \{(.*?)^\}"
+# A text that is a fault below or clap's, and that of a feeder, which the program never prints
+NO_FAULT = ("{}", "{0}", "feeder failed before")
+
+
 def source_faults():
-    """Returns the fault texts of the source, in its order, each as a pattern; those of the command line's words are
-    clap's, and the program never prints that of a feeder."""
+    """Returns the fault texts of the source, of an `impl` or before a variant, in its order, each as a pattern."""
     found = []
     for path in sorted(glob.glob("crates/*/src/*.rt")):
-        for body in re.findall(r"^impl (?:fmt::Display for )?(?:App|Draw|Main|Meta|Run|Words)Fault \{(.*?)^\}",
-                               read(path), re.M | re.S):
-            found += [text for text in re.findall(r'"([^"]+)"', body) if text != "feeder failed before"]
+        for body in re.findall(FAULT, read(path), re.M | re.S):
+            found += [text for text in re.findall(r'"([^"]+)"', body) if text not in NO_FAULT]
     return [re.sub(r"\\\{\w+\\\}", lambda _: NUMBER, re.escape(text)) for text in dict.fromkeys(found)]
 
 
@@ -318,19 +324,13 @@ def numbers_of_documents(faults):
     return looked_at
 
 
-# ---- changes
-
-def changes(faults):
-    return document_rows.changes(faults, source_faults())
-
-
 # ---- names
 
 # Documents whose prose names what is in the source, and the form of such a name: a path, a name with its crate or type,
 # one of several words, or that of a type
 PROSE = ["docs/PROMISES.md", "docs/DECISIONS.md", "docs/SIGNAL.md"]
 # Pages whose tables are looked at as their prose is
-PAGES = ["crates/vbi_words/CALLING.md", "crates/vbi_line/CALLING.md"]
+PAGES = ["crates/vbi_words/CALLING.md", "crates/vbi_line/CALLING.md", "crates/vbi_near/CALLING.md"]
 # A sentence that says what a record has: each field stands first in its parentheses, up to the end of the paragraph
 OF_RECORD = re.compile(r"`(\w+)` in `[\w/]+\.antt`(?: says|:)(.*?)(?:\n\n|\Z)", re.S)
 IS_NAME = re.compile(r"[\w/-]+(?:\.\w+|/)|\w+(?:::\w+)+|[a-z]+_\w+|[A-Z][a-z]\w*")
@@ -379,7 +379,7 @@ def names(faults):
 
 CHECKS = {"links": links, "paths": paths, "names": names, "faults": faults_of_documents, "causes": causes,
           "sizes": sizes, "rules": rules, "numbers": numbers_of_documents,
-          "changes": changes}
+          "changes": lambda faults: document_rows.changes(faults, source_faults()), "crates": document_crates.crates}
 
 
 def main():

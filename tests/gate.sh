@@ -12,9 +12,9 @@
 set -eu
 
 # What the gate tried when it last grew. With less of any it fails, so what is taken out is taken out here as well.
-crates=13
-unit_tests=109
-wrong_bodies=348
+crates=14
+unit_tests=110
+wrong_bodies=414
 # Scripts on what was proved, and on the Rust program
 scripts=29
 rust_scripts=15
@@ -97,7 +97,7 @@ if [ "$(awk '/^MemAvailable/ { print $2 }' /proc/meminfo)" -lt "$memory_of_both"
     ends_proofs
     part 'proofs and tests'
 fi
-make ldvbi lib || fails 'program and library are not built'
+make JOBS=1 ldvbi lib || fails 'program and library are not built'
 part 'program and library'
 python3 tests/wrong_bodies.py > "$work/wrong" || { cat "$work/wrong"; fails 'a wrong body was not refused'; }
 cat "$work/wrong"

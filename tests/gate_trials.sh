@@ -109,7 +109,7 @@ check 'where nothing is wrong the gate passes' passes
 sort ran > out
 sort > wanted << 'END'
 rt ci in copy, 0 edits, 0 kept
-make ldvbi lib
+make JOBS=1 ldvbi lib
 python3 tests/wrong_bodies.py
 python3 tests/wrong_bodies_trials.py
 python3 tests/public_functions.py

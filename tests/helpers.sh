@@ -6,7 +6,8 @@
 # A run of the program, or of another tool, takes RUN_SECONDS at most (120 where the environment doesn't say): a script
 # ends at the first that takes longer. Where STOP_AT_FIRST isn't empty it ends at the first check that fails.
 #
-# Where DIFFERENCES names a file, it has a line for each check that has to fail of this program: SCRIPT | CHECK | WHY.
+# Where DIFFERENCES names a file, the program is the Rust one. The file has a line for each check that has to fail of
+# it: SCRIPT | CHECK | WHY.
 set -u
 
 LC_ALL=C
@@ -132,6 +133,16 @@ ended() {
 # said_line ERR: makes the file of what is said: this line and its newline, or nothing where it is empty
 said_line() {
     { [ -z "$1" ] || printf '%s\n' "$1"; } > wanted
+}
+
+# check_refusal NAME COMMAND..: the same as `check`, of a run whose words clap refused. The Rust program is built with
+# any clap 4, which words its refusals in its own way. Of that program it is checked that the run was refused.
+check_refusal() {
+    [ -z "${DIFFERENCES:-}" ] || set -- "$1" is_refused
+    check "$@"
+}
+is_refused() {
+    [ "$status" = 2 ] && [ ! -s out ] && [ "$(head -c 7 err)" = 'error: ' ] && ! grep -q '^ldvbi: ' err
 }
 
 # judge NAME STATUS OUT ERR: checks the last run's status, and byte for byte what it wrote (the file OUT) and what it

@@ -12,24 +12,27 @@ ORDINALS = "no first second third fourth fifth sixth seventh eighth ninth tenth"
 def sentences_of():
     """Returns the sentences. The package is that of this repository."""
     sys.path.insert(0, os.path.join(TOP, "python"))
-    from ldvbi_side import analysis, chain, chapters, clock, fates, lines, numbers, paces
-    from ldvbi_side import page, said, speeds, summary, times, whole
+    from ldvbi_side.command import summary
+    from ldvbi_side.draw import page
+    from ldvbi_side.judge import answer, believed, chain, clock, lines, missing
+    from ldvbi_side.judge import order, paces, parts, readings, times, whole
     one, picture, ten, many = map(paces.price, (1, 2, 20, 20000))
-    chapter, ntsc, pal = paces.ChapterPace, numbers.RATES["NTSC"], numbers.RATES["PAL"]
-    steps = ", ".join(map(str, speeds.STEPS[:-1]))
+    chapter, ntsc, pal = paces.ChapterPace, paces.RATES["NTSC"], paces.RATES["PAL"]
+    steps = ", ".join(map(str, order.STEPS[:-1]))
     tenth = ORDINALS[clock.TENTH_MINUTE // clock.MINUTE]
     return [
         f"what to look at first, at most {summary.MOST_LINES} lines |",
         f"the first {page.MOST_PLOTS} bad lines drawn",
-        f"A word of pass 1 weighs {said.WEIGHTS[1]}, one of pass 2 weighs {said.WEIGHTS[2]},",
+        f"A word of pass 1 weighs {readings.WEIGHTS[1]}, one of pass 2 weighs {readings.WEIGHTS[2]}, a recovered one "
+        f"{readings.WEIGHTS[3]},",
         f"{one} for one field, {picture} for one picture, {ten} for ten pictures, {many} for 10,000.",
         f"goes back over at most {chain.REACH} numbers set aside in a row",
-        f"with at least one picture in {CARDINALS[numbers.FILM]} of 3 fields is film.",
+        f"with at least one picture in {CARDINALS[paces.FILM]} of 3 fields is film.",
         f"beyond a loss of more than {times.CARRIED} second to a run",
         f"and going back as much as {chapter.ALL} of them;",
         f"no break where {chapter.MANY} fields lie between.",
-        f"less than one chapter code in {chapters.LEAST_SHARE} fields a disc has no chapters.",
-        f"a jump over {CARDINALS[fates.FAR]} times as many numbers as may have been there",
+        f"less than one chapter code in {parts.LEAST_SHARE} fields a disc has no chapters.",
+        f"a jump over {CARDINALS[missing.FAR]} times as many numbers as may have been there",
         f"NTSC CLV counts {ntsc} pictures to a second of 29.97.",
         f"if {CARDINALS[clock.LEAST_PLACES]} or more of them lie whole multiples of {clock.SPACINGS[0]:,} or of "
         f"{clock.SPACINGS[1]:,} apart ({clock.OFF} more or less,",
@@ -37,15 +40,15 @@ def sentences_of():
         f"from one jump of {clock.WIDE / 2:,g} numbers or more",
         f"at the start of a {tenth} minute never.",
         f"in a stretch of less than {clock.SHORT:,} numbers",
-        f"At least {speeds.LEAST} numbers that go on by {steps} or {speeds.STEPS[-1]} to a picture",
-        f"There are at most {speeds.APART} fields from one of them to the next.",
+        f"At least {order.LEAST} numbers that go on by {steps} or {order.STEPS[-1]} to a picture",
+        f"There are at most {believed.APART} fields from one of them to the next.",
         f"and than {one} for each end.",
-        f"have a word in less than one of {lines.FEW} lines,",
+        f"show words of their own in less than one of {lines.FEW} lines,",
         f"the least number is greater than {max(whole._FIRST['picture'])}, on CLV",
         f"codes of the other format stand {whole.NEAR} fields from each other or less;",
         f"a {ORDINALS[whole.SHARE]} or more of the fields with numbers have one that was set aside",
-        f"The members of `--json`, version {analysis.VERSION}.",
-        f"| `version`, `system`, `fields`, `cutField` | {analysis.VERSION}; ",
+        f"The members of `--json`, version {answer.VERSION}.",
+        f"| `version`, `system`, `fields`, `cutField` | {answer.VERSION}; ",
         f"no clock shows it: minute 60, picture {pal} of PAL or {ntsc} of NTSC",
         f"It prints the {CARDINALS[summary.MOST_LISTED]} largest stretches of each kind",
     ]

@@ -10,7 +10,7 @@ missing=
 for pair in "${CC:-cc}:gcc libc6-dev" "${CXX:-c++}:g++" nm:binutils python3:python3 jq:jq pkg-config:pkg-config; do
     command -v "${pair%%:*}" > /dev/null || missing="$missing ${pair#*:}"
 done
-for tool in cmake git less mandoc parallel pv zsh; do
+for tool in cmake git less mandoc mypy parallel pv zsh; do
     command -v $tool > /dev/null || missing="$missing $tool"
 done
 # A command of docs/RECIPES.md is run by the system's Python, whose packages are Debian's.
@@ -23,7 +23,7 @@ if [ "${1:-}" ]; then
     command -v cargo > /dev/null || missing="$missing rustc cargo"
     command -v rustfmt > /dev/null || missing="$missing rustfmt"
     command -v cargo-clippy > /dev/null || missing="$missing rust-clippy"
-    for crate in arrayvec byteorder itoa serde-json; do
+    for crate in arrayvec byteorder clap itoa serde-json thiserror; do
         [ -e /usr/share/doc/librust-$crate-dev ] || missing="$missing librust-$crate-dev"
     done
 fi

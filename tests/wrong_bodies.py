@@ -7,8 +7,8 @@ function go into different rounds. Each round begins from what `rt check` kept o
 that is right is proved again, and rounds run side by side. What a round doesn't refuse is tried once more alone.
 
 An edit has lines 'file: src/x.rt', 'old: TEXT' (once in that file) and 'new: TEXT', as for `rt must-fail`. One that
-changes more than bodies, as a constant or a head, gets a round of its own; a line 'refuses: a::b' may name the function
-that the prover has to refuse, and else it is any of the crate.
+changes more than bodies, as a constant or a head, gets a round of its own. The function that the prover has to refuse
+is the one that a row of must-fail/refuses.md names, else the one whose body the edit changes, else any of the crate.
 
 Each crate is proved by `rt lib` first, as it stands, and a program by `rt check`. That takes a second where it was
 proved before, and what it keeps is what the rounds begin from. A round looks at the edited functions alone (`--only`),
@@ -27,6 +27,7 @@ import sys
 import tempfile
 
 FOLDER = "must-fail"
+REFUSES = f"{FOLDER}/refuses.md"
 HEAD = re.compile(r"(\s*)(?:pub(?:\([^)]*\))?\s+)?(?:const\s+)?(?:unsafe\s+)?(?:extern\s+\"C\"\s+)?fn\s+(\w+)")
 # A function refused by itself: by an error in its written proof, or by a goal that has no proof. One that is right and
 # only calls such a function reads 'no proof: it calls ..', or that the borrow checker's part isn't made for that call.
@@ -99,24 +100,34 @@ def module_of(path):
     return "" if inside in ("lib", "main") else f"{inside}::"
 
 
+def rows_of(folder):
+    """Returns of each edit that refuses.md names the functions of which the prover has to refuse one."""
+    found = collections.defaultdict(list)
+    if os.path.exists(f"{folder}/{REFUSES}"):
+        for row in re.findall(r"^\| `.*", read(f"{folder}/{REFUSES}"), re.M):
+            edit, function = (cell.strip(" `") for cell in row.strip("|").split("|"))
+            found[edit].append(function)
+    return found
+
+
 class Edit:
     """A wrong body: its places and texts, and the functions of which one has to be refused."""
 
-    def __init__(self, folder, path):
+    def __init__(self, folder, path, refuses):
         self.name = os.path.basename(path)[:-len(".edit")]
-        self.pairs, self.refuses = [], []
+        self.pairs, self.refuses = [], refuses
         self.fault = None
         self.alone = False
         file = old = None
         for line in read(path).split("\n"):
             if line.startswith("file: "):
                 file = line[len("file: "):].strip()
-            elif line.startswith("refuses: "):
-                self.refuses.append(line[len("refuses: "):].strip())
             elif line.startswith("old: "):
                 old = line[len("old: "):]
             elif line.startswith("new:"):
                 self.pairs.append((file, old, line[len("new:"):].removeprefix(" ")))
+            elif line:
+                self.fault = f"a line is none of 'file:', 'old:' and 'new:': {line}"
         self.find_functions(folder)
 
     def find_functions(self, folder):
@@ -213,7 +224,12 @@ class Crate:
     def edits(self, word):
         names = sorted(name for name in os.listdir(f"{self.folder}/{FOLDER}")
                        if name.endswith(".edit") and word in name)
-        return [Edit(self.folder, f"{self.folder}/{FOLDER}/{name}") for name in names]
+        rows = rows_of(self.folder)
+        return [Edit(self.folder, f"{self.folder}/{FOLDER}/{name}", rows[name[:-len(".edit")]]) for name in names]
+
+    def rows_without_edit(self):
+        """Returns the names of refuses.md that are those of no edit."""
+        return [name for name in rows_of(self.folder) if not os.path.exists(f"{self.folder}/{FOLDER}/{name}.edit")]
 
     def copy(self):
         copy = tempfile.mkdtemp(dir=self.room)
@@ -304,6 +320,9 @@ def planned(crates, word):
             if edit.fault:
                 print(f"{crate.name}/{edit.name}: BAD EDIT: {edit.fault}")
                 faulty += 1
+        for name in crate.rows_without_edit():
+            print(f"{crate.name}/{name}: BAD EDIT: a row of {REFUSES} names it, and it isn't there")
+            faulty += 1
         made = rounds_of([edit for edit in edits if not edit.fault], crate.folder)
         tasks += [(crate, it) for it in made]
         sizes = " ".join(str(len(it.edits)) for it in made)

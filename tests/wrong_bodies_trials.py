@@ -2,8 +2,9 @@
 """Tries tests/wrong_bodies.py itself: what isn't a wrong body has to be named as such, and to fail.
 
 In a copy of one crate, whose edits are these: a wrong body, a right one that calls it, one that changes nothing, one
-that doesn't compile and one whose text is gone. Then a copy that isn't proved as it stands. Kept work is that of the
-crate (`rt lib`).
+that doesn't compile, one whose text is gone, one with a line that isn't an edit's, and a wrong one for which refuses.md
+names a function that is right. Another row is of no edit. Then a copy that isn't proved as it stands. Kept work is that
+of the crate (`rt lib`).
 
 usage: python3 tests/wrong_bodies_trials.py     (at the top, with `rt` on the PATH)
 """
@@ -28,7 +29,13 @@ EDITS = [
     ("does_not_compile", "src/levels.rt", "2 * u32::from(sample) > u32::from(self.black) + u32::from(self.white)",
      "2 * u32::from(sample) > self.grey", "BAD EDIT"),
     ("text_is_gone", "src/word.rt", "no such text", "another", "BAD EDIT"),
+    ("has_another_line", "src/levels.rt", "if black >= white {", "if black > white {\nrefuses: levels::Levels::new",
+     "BAD EDIT"),
+    ("another_is_named", "src/system.rt", "System::Pal => 190,", "System::Pal => 191,", "NOT REFUSED"),
 ]
+# Name and function of the rows of refuses.md, and what the script has to say of one without an edit
+ROWS = [("another_is_named", "levels::Levels::black"), ("gone", "levels::Levels::black")]
+WITHOUT_EDIT = {"gone": "BAD EDIT"}
 # What a check says of a function, and whether that refuses its own body
 LINES = [
     ("fn vbi_line::f: not proved", True),
@@ -86,11 +93,13 @@ def main():
         for name, file, old, new, _ in EDITS:
             with open(f"{copy}/crates/{CRATE}/must-fail/{name}.edit", "w", encoding="utf-8") as edit:
                 edit.write(f"file: {file}\nold: {old}\nnew: {new}\n")
+        with open(f"{copy}/crates/{CRATE}/{wrong_bodies.REFUSES}", "w", encoding="utf-8") as rows:
+            rows.writelines(f"| `{name}` | `{function}` |\n" for name, function in ROWS)
         status, said, text = verdicts(top, copy)
-        check("the edits", said, {name: verdict for name, _, _, _, verdict in EDITS})
+        check("the edits", said, {**{name: verdict for name, _, _, _, verdict in EDITS}, **WITHOUT_EDIT})
         check("the edits, status", status, 1)
         check("the edits, last line", text.split("\n")[-2],
-              "wrong bodies: 1 refused (1 by a goal, 0 by a written proof, 0 by a name alone), 4 not")
+              "wrong bodies: 1 refused (1 by a goal, 0 by a written proof, 0 by a name alone), 7 not")
         copy = copy_of_crate(top, room)
         _, file, old, new, _ = EDITS[0]
         changed(f"{copy}/crates/{CRATE}/{file}", old, new)

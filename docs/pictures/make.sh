@@ -1,10 +1,12 @@
 #!/bin/sh
-# Makes the pictures of docs/SIGNAL.md: a drawn 82CFFF, and two things that can happen to it.
+# Makes the pictures of docs/SIGNAL.md: a drawn 82CFFF, and three things that can happen to it.
 # usage: sh docs/pictures/make.sh PROGRAM FOLDER
 set -eu
 
 program=$(cd "$(dirname "$1")" && pwd)/$(basename "$1")
-plot=$(cd "$(dirname "$0")/../.." && pwd)/contrib/plot_line.py
+here=$(cd "$(dirname "$0")" && pwd)
+plot=$here/../../contrib/plot_line.py
+worn=$here/worn_line.py
 cd "$2"
 work=$(mktemp -d)
 trap 'rm -rf "$work"' EXIT
@@ -34,3 +36,7 @@ black 172
 black 173
 black 174
 plotted change-170 --first 140 --last 340
+
+# The same line, worn
+dd if="$work/field.tbc" bs=1820 skip=15 count=1 2> /dev/null | python3 "$worn" > "$work/line.raw"
+plotted nearest --near 82CFFF@150

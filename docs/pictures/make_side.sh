@@ -47,6 +47,5 @@ for side in side clv; do
     levels=$cav_levels
     [ $side = side ] || levels=$clv_levels
     # shellcheck disable=SC2086
-    "$program" extract $levels "$work/$side.tbc" > "$work/$side.vbi.json"
-    PYTHONDONTWRITEBYTECODE=1 "$top/python/ldvbi-side" "$work/$side.vbi.json" --svg $side.svg
+    PYTHONDONTWRITEBYTECODE=1 "$top/python/ldvbi-side" "$work/$side.tbc" $levels --svg $side.svg
 done

@@ -1,1 +1,6 @@
-"""What the words of a whole side mean, over the module `ldvbi`: the parts of the command `ldvbi-side`."""
+"""What the words of a whole side mean, over the package `ldvbi`: the command `ldvbi-side`, in rooms of which each
+stands on those before it.
+
+`judge` says which numbers are believed, and what follows: it takes plain data and answers with plain data. `side` joins
+the readings of a side with this answer, and `seek` looks numbers up in it. `draw` draws the answer, as SVG and as HTML.
+`command` has the options, and writes what they ask for."""

@@ -1,9 +1,10 @@
 """Where a picture, a time, a minute or a chapter begins."""
 
 import re
-from typing import NamedTuple, Tuple
+from typing import Any, Dict, NamedTuple, Optional, Tuple
 
-from .analysis import frame_of
+from .judge.answer import frame_of
+from .judge.readings import Answer
 
 _WANTED = re.compile(r"(?P<picture>[0-9]+)|(?P<time>[0-9]+:[0-9]+:[0-9]+\.[0-9]+)"
                      r"|(?P<part>[0-9]+:[0-9]{2}(:[0-9]{2})?)|chapter (?P<chapter>[0-9]+)")
@@ -17,16 +18,16 @@ class Wanted(NamedTuple):
     numbers: Tuple[int, ...]
 
 
-def wanted_of(text):
+def wanted_of(text: str) -> Wanted:
     """What a text asks for: `123`, `1:09`, `1:09:30`, `1:09:30.12` or `chapter 3`. Another text is a ValueError."""
     match = _WANTED.fullmatch(text)
     if not match:
         raise ValueError("neither a picture number, nor a time h:mm, h:mm:ss or h:mm:ss.pp, nor chapter n: %r" % text)
-    kind = match.lastgroup
+    kind = str(match.lastgroup)
     return Wanted("time" if kind == "part" else kind, tuple(int(number) for number in re.findall("[0-9]+", text)))
 
 
-def seek(answer, wanted):
+def seek(answer: Answer, wanted: Wanted) -> Optional[Dict[str, Any]]:
     """The first field of what is wanted on a side with this answer, as a dict of `field`, `frame`, `read` and `other`;
     None where it isn't there. `read` is false where the number wasn't read in that field, but is due there by its
     neighbours; `other` is what was read there instead, or None. A number that was set aside is never answered with. Of
@@ -63,7 +64,7 @@ def _numbered(answer, wanted):
     return found + [(one["field"], False, one["read"]) for one in answer["damaged"] if fits(one["number"])]
 
 
-def text_of(found):
+def text_of(found: Optional[Dict[str, Any]]) -> str:
     """What `seek` found, as a line of text."""
     if found is None:
         return "not found"

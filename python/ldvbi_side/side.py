@@ -1,60 +1,49 @@
 """A side: what lines 16, 17 and 18 of each of its fields show, and what their words mean. It comes from a TBC file or
-from a document that `ldvbi extract` wrote (`ldvbi_side.document`). Fields are counted from 1."""
+from a document that `ldvbi extract` wrote. Fields are counted from 1."""
 
 import functools
-from typing import List, NamedTuple, Optional
+from typing import Any, Callable, Dict, Iterable, Iterator, List, Optional, Tuple
 
-from ldvbi import Cause, FieldReadings, Stream, System, field_bytes, format_of, line_bytes
-from .analysis import analyse
-from .codes import code, codes_by_kind
-from .progress import Progress
-from .said import Fields
+from ldvbi import FieldReadings, Reading, Stream, System, format_of, read_rows
+from ldvbi.codes import code, codes_by_kind
+from ldvbi.document import read_document
+from ldvbi.readings import Cut, Levels, cause_text
+from ldvbi.stream import cut_of
+from .judge.answer import analyse
+from .judge.readings import Answer, Fields
+from .near import nearest_word_in
 from .seek import seek, wanted_of
 
-_CAUSES = tuple(cause.name for cause in Cause)
-_FIRST_WITH_COLUMN = int(Cause.change)  # and the only other one behind it is hold
 
-
-def size_of(system):
-    """The samples of a line and the lines of a field."""
-    return line_bytes(system) // 2, field_bytes(system) // line_bytes(system)
-
-
-class Cut(NamedTuple):
-    """The field inside which the stream ended, and how many of its bytes came."""
-    field: int
-    bytes: int
-
-
-class Levels(NamedTuple):
-    """The samples of black and of white that a side was read with."""
-    black: int
-    white: int
+RECOVERED = 3  # the pass of a recovered word
 
 
 class Side:
     """The whole fields of a side in their order, and the field in which it was cut. `first` says of each field whether
     it is the first one of its frame, or is None where that isn't known. `expected` is the number of fields that the
-    metadata has, or None; with `is_strict` a side without lead-in or lead-out isn't whole.
+    metadata has, or None; with `is_strict` a side without lead-in or lead-out isn't whole. `samples` is the stream from
+    which words were recovered, or None.
 
     `answer` is what the words mean, as docs/SIDES.md describes it; `pictures`, `times`, `chapters`, `stops` and
     `format` are parts of it. `codes` is what each field says, judged by nothing."""
 
     def __init__(self, system: System, readings: List[FieldReadings], cut: Optional[Cut] = None,
-                 levels: Optional[Levels] = None, first: Optional[List[bool]] = None):
+                 levels: Optional[Levels] = None, first: Optional[List[bool]] = None,
+                 samples: Optional[Stream] = None) -> None:
         self.system = system
         self.readings = readings
         self.cut = cut
         self.levels = levels
         self.first = first
+        self.samples = samples
         self.expected: Optional[int] = None
         self.is_strict = False
 
-    def numbered(self):
+    def numbered(self) -> Iterable[Tuple[int, FieldReadings]]:
         """Each field's number and readings."""
         return enumerate(self.readings, 1)
 
-    def plain(self):
+    def plain(self) -> Fields:
         """The side as plain data, for the analysis."""
         words, passes, causes = [], [], []
         for one, two, three in self.readings:
@@ -62,14 +51,16 @@ class Side:
             passes.append((one.pass_, two.pass_, three.pass_))
             causes.append((cause_text(one), cause_text(two), cause_text(three)))
         cut = self.cut and {"seqNo": self.cut.field, "bytes": self.cut.bytes}
-        return Fields(self.system.name, words, passes, causes, cut, self.first, self.expected, self.is_strict)
+        nearest_word = functools.partial(nearest_word_in, self.samples) if self.samples else None
+        return Fields(self.system.name, words, passes, causes, cut, self.first, self.expected, self.is_strict,
+                      nearest_word)
 
     @functools.cached_property
-    def answer(self):
+    def answer(self) -> Answer:
         """What the words of the side mean, as plain data."""
         return analyse(self.plain())
 
-    def codes(self):
+    def codes(self) -> Iterator[Dict[str, Any]]:
         """For each field its number, its format, the codes of lines 16, 17 and 18, and those that stand on a line of
         their kind, each with its lines: `codes` of contrib/ldvbi.jq."""
         for number, readings in self.numbered():
@@ -77,28 +68,28 @@ class Side:
             yield {"seqNo": number, "format": format_of(*words).name, "codes": [code(word) for word in words],
                    "byKind": codes_by_kind(words)}
 
-    def pictures(self):
+    def pictures(self) -> Dict[Any, int]:
         """The first field of each believed picture number. A seek table of a CAV side."""
         return self._first_fields("picture")
 
-    def times(self):
+    def times(self) -> Dict[Any, int]:
         """The first field of each believed CLV time `h:mm:ss.pp`."""
         return self._first_fields("time")
 
-    def chapters(self):
+    def chapters(self) -> Dict[Any, int]:
         """The first field of each believed chapter."""
         return _firsts((one["chapter"], one["field"]) for one in self.answer["chapters"])
 
-    def stops(self):
+    def stops(self) -> List[int]:
         """The numbers of the fields that have a picture stop."""
         return [one["field"] for one in self.answer["stops"]]
 
-    def seek(self, text):
+    def seek(self, text: str) -> Optional[Dict[str, Any]]:
         """Where `123`, `1:09`, `1:09:30`, `1:09:30.12` or `chapter 3` begins: a dict of its field, its frame and
         whether the number was read there; None where it isn't there."""
         return seek(self.answer, wanted_of(text))
 
-    def format(self):
+    def format(self) -> str:
         """cav, clv or neither, by the codes of most fields."""
         return self.answer["format"]
 
@@ -116,31 +107,39 @@ def _firsts(pairs):
     return found
 
 
-def cause_text(reading):
-    """What a line shows, as the document of `ldvbi extract` has it: `word`, `blank`, `change 170`."""
-    if reading.cause >= len(_CAUSES):
-        raise unknown_cause(reading.cause)
-    name = _CAUSES[reading.cause]
-    return "%s %d" % (name, reading.column) if reading.cause >= _FIRST_WITH_COLUMN else name
+def side_of_stream(stream: Stream, over: Callable[[Stream], Iterable[FieldReadings]] = iter,
+                   first: Optional[List[bool]] = None) -> Side:
+    """The side that a stream holds. `over` yields its fields, and may say meanwhile how far they are. A stream that
+    recovers words has to stay open as long as the side is asked for its answer."""
+    readings = list(over(stream))
+    if stream.recover:
+        for index, field in enumerate(readings):
+            if RECOVERED in (field.first.pass_, field.second.pass_, field.third.pass_):
+                readings[index] = _with_causes(field, stream, index)
+    return Side(stream.system, readings, cut_of(stream), Levels(stream.black, stream.white), first,
+                stream if stream.recover else None)
 
 
-def unknown_cause(number):
-    """What is raised for a cause of a later library, which no text is known for."""
-    return ValueError("the library's cause %d is not known here" % number)
+def _with_causes(field: FieldReadings, stream: Stream, index: int) -> FieldReadings:
+    """The readings of a field, of which each recovered word has the cause for which its line shows none of its own. (A
+    word of pass 2 that gave way to another has no such cause.)"""
+    shown = read_rows(stream.rows(index), stream.system, stream.black, stream.white)
+    return FieldReadings(*(
+        Reading(own.cause, RECOVERED, own.column, line.word) if line.pass_ == RECOVERED else line
+        for line, own in zip(field, shown)))
 
 
-def cut_of(stream):
-    """The field inside which a `Stream` ends, or None."""
-    return Cut(len(stream) + 1, stream.cut_bytes) if stream.cut_bytes else None
+def side_of_tbc(path: str, system: System, black: int, white: int, first: Optional[List[bool]] = None,
+                recover: bool = True) -> Side:
+    """The side that a TBC file holds. Only lines 16, 17 and 18 are read from it. With `recover` the words of worn lines
+    are recovered, and the file stays open as long as the side is there."""
+    stream = Stream(path, system, black, white, recover)
+    side = side_of_stream(stream, first=first)
+    if not recover:
+        stream.close()
+    return side
 
 
-def side_of_stream(stream, progress, first=None):
-    """The side that a `Stream` holds."""
-    readings = list(progress.over(stream))
-    return Side(stream.system, readings, cut_of(stream), Levels(stream.black, stream.white), first)
-
-
-def side_of_tbc(path, system, black, white, first=None):
-    """The side that a TBC file holds. Only lines 16, 17 and 18 are read from it."""
-    with Stream(path, system, black, white) as stream, Progress(len(stream), is_wanted=False) as progress:
-        return side_of_stream(stream, progress, first)
+def side_of_document(data: bytes) -> Side:
+    """The side of a document, given by its bytes."""
+    return Side(*read_document(data))

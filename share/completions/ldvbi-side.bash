@@ -18,8 +18,8 @@ _ldvbi_side() {
         *)
             case $word in
                 -*)
-                    answers='--help --meta --system --black --white --csv --json --bad-lines --seek --summary'
-                    answers="$answers --document --strict --output --svg --html --map"
+                    answers='--help --meta --system --black --white --no-recover --csv --json --bad-lines --seek'
+                    answers="$answers --summary --document --recovered --strict --output --svg --html --map"
                     ;;
                 *) compopt -o default ;;
             esac

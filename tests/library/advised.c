@@ -29,11 +29,11 @@ int madvise(void *address, size_t length, int advice) {
     return next(address, length, advice);
 }
 
-uint32_t ldvbi_read_fields(uint32_t system, uint32_t black, uint32_t white, const void *samples, size_t length,
-                           LdvbiFieldReadings *readings, size_t count) {
+uint32_t ldvbi_recover_fields(uint32_t system, uint32_t black, uint32_t white, const void *samples, size_t length,
+                              LdvbiFieldReadings *readings, size_t count) {
     uint32_t (*next)(uint32_t, uint32_t, uint32_t, const void *, size_t, LdvbiFieldReadings *, size_t) =
         (uint32_t(*)(uint32_t, uint32_t, uint32_t, const void *, size_t, LdvbiFieldReadings *, size_t))dlsym(
-            RTLD_NEXT, "ldvbi_read_fields");
+            RTLD_NEXT, "ldvbi_recover_fields");
     if (count > 0) say("reads", (size_t)((const char *)samples - mapped), count);
     return next(system, black, white, samples, length, readings, count);
 }

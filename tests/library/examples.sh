@@ -231,6 +231,41 @@ WORDS
 cp out misread.tbc
 check 'player: a number that was misread leads nobody astray' prints 0 'search: field 4 picture 4
 search: field 5 picture 5' ./player misread.tbc $on_cav search 4 search 5
+# A worn side: on lines 16, 17 and 18 each sample has noise, whose deviation is half the way from black to white. No
+# line shows its word, so whoever finds a picture, a chapter or a stop has recovered the words.
+awk 'BEGIN { for (picture = 1; picture <= 24; picture++) {
+    chapter = picture < 13 ? 0 : 1
+    printf "%s F%05d F%05d\n", picture % 9 == 2 ? "82CFFF" : "-", picture, picture
+    printf "- 80%dDDD 80%dDDD\n", chapter, chapter
+} }' | bounded "$program" draw $ntsc - > clean.tbc
+bounded python3 - clean.tbc worn.tbc << 'END'
+import array, random, sys
+chance = random.Random(60857)
+with open(sys.argv[1], "rb") as clean, open(sys.argv[2], "wb") as worn:
+    while field := bytearray(clean.read(2 * 910 * 263)):
+        samples = array.array("H", field[2 * 910 * 15:2 * 910 * 18])
+        noisy = (min(max(round(chance.gauss(sample, (51200 - 16384) / 2)), 0), 65535) for sample in samples)
+        field[2 * 910 * 15:2 * 910 * 18] = array.array("H", noisy).tobytes()
+        worn.write(field)
+END
+run extract $ntsc worn.tbc
+check 'a worn side: no line shows its word' [ "$(jq -c '[.fields[].vbi.vbiData[]] | [length, add]' out)" = '[144,0]' ]
+found_worn=
+wanted_worn=
+for picture in $(seq 24); do
+    found_worn="$found_worn$(bounded ./seek worn.tbc $on_cav $picture) "
+    wanted_worn="${wanted_worn}field $((2 * picture - 1)) "
+done
+check 'seek: each picture of a worn side' [ "$found_worn" = "$wanted_worn" ]
+check 'stops: those of a worn side' prints 0 'field 3 picture 2
+field 21 picture 11
+field 39 picture 20
+3 stops' sh -c './stops NTSC 16384 51200 < worn.tbc'
+check 'player: a picture, two stops and a chapter of a worn side' prints 0 'search: field 19 picture 10
+play: field 21 picture 11
+play: field 39 picture 20
+chapter: field 26' ./player worn.tbc $on_cav search 10 play play chapter 1
+rm clean.tbc worn.tbc
 while read -r system black white; do
     check "stops: $system $black $white" refuses_in_a_line stops \
         sh -c "./stops $system $black $white < cav.tbc"

@@ -50,12 +50,12 @@ check 'the header in two parts of a program' ended 0 empty empty
 # called_as STATEMENT: makes a file in which a call stands as this statement. What it reads can't be written.
 called_as() {
     taken='const void *samples, void *drawn, LdvbiReading *reading, LdvbiFieldReadings *readings, LdvbiCode *code,
-uint32_t *format, const LdvbiFieldReadings *read, LdvbiSightings *seen, LdvbiNumber *numbers'
+LdvbiNear *near, uint32_t *format, const LdvbiFieldReadings *read, LdvbiSightings *seen, LdvbiNumber *numbers'
     cat > called.c << END
 #include <ldvbi.h>
 uint32_t called($taken);
 uint32_t called($taken) {
-    (void)samples; (void)drawn; (void)reading; (void)readings; (void)code; (void)format;
+    (void)samples; (void)drawn; (void)reading; (void)readings; (void)code; (void)near; (void)format;
     (void)read; (void)seen; (void)numbers;
     $1;
     return 0;
@@ -73,6 +73,10 @@ ldvbi_read_rows(1, 1, 2, samples, 5460, readings)
 ldvbi_read_field(1, 1, 2, samples, 478660, readings)
 ldvbi_read_fields(1, 1, 2, samples, 478660, readings, 1)
 ldvbi_read_fields(1, 1, 2, NULL, 0, NULL, 0)
+ldvbi_nearest(1, 1, 2, samples, 3640, near)
+ldvbi_recover_rows(1, 1, 2, samples, 5460, readings)
+ldvbi_recover_fields(1, 1, 2, samples, 478660, readings, 1)
+ldvbi_recover_fields(1, 1, 2, NULL, 0, NULL, 0)
 ldvbi_classify(0xF12345, code)
 ldvbi_format(0, 0xF12345, 0, format)
 ldvbi_draw_line(1, 1, 2, 0xF12345, drawn, 1820)
@@ -86,6 +90,8 @@ done << 'END'
 ldvbi_read_line(1, 1, 2, samples, 1820, NULL)
 ldvbi_read_rows(1, 1, 2, samples, 5460, NULL)
 ldvbi_read_field(1, 1, 2, samples, 478660, NULL)
+ldvbi_nearest(1, 1, 2, samples, 3640, NULL)
+ldvbi_recover_rows(1, 1, 2, samples, 5460, NULL)
 ldvbi_classify(0xF12345, NULL)
 ldvbi_format(0, 0xF12345, 0, NULL)
 END

@@ -58,6 +58,18 @@ check 'the lines in README' prints 'picture 12345' \
     bounded env HOME="$work/home" PATH=/usr/bin:/bin sh -c "cd user && . ../lines.sh | tail -n 1"
 check 'they have installed the library alone' [ ! -e home/.local/bin ]
 
+# Those for the commands and for Python, and an example in Python as it is installed then
+sed -n '/^make install /p;/^export PYTHONPATH=/p' "$top/README.md" > lines.sh
+check 'README has two lines for commands and Python' [ "$(wc -l < lines.sh)" = 2 ]
+run draw $ntsc "$top/examples/cav.words"
+cp out user/cav.tbc
+seeks='python3 $HOME/.local/share/doc/ldvbi/examples/seek.py cav.tbc NTSC 16384 51200 3'
+check 'after them the example runs' prints 'field 7' \
+    bounded env HOME="$work/home" PATH=/usr/bin:/bin sh -c "cd user && . ../lines.sh > /dev/null && $seeks"
+seeks='ldvbi-side cav.tbc --system NTSC --black 16384 --white 51200 --seek 3'
+check 'and so does the command' prints 'field 7, frame 4' \
+    bounded env HOME="$work/home" PATH=/usr/bin:/bin sh -c "cd user && . ../lines.sh > /dev/null && $seeks"
+
 # CMake, with the shared library and with the archive; then from a folder to which all of it was moved
 check 'make install' does makes install PREFIX="$work/usr"
 mkdir project

@@ -202,7 +202,7 @@ static void test_codes(void)
         {0x800DDD, {LDVBI_CHAPTER, 0, 0}},         {0x8F9DDD, {LDVBI_CHAPTER, 79, 0}},
         {0xF9DD59, {LDVBI_TIME, 9, 59}},           {0xF0DD99, {LDVBI_TIME, 0, 99}},
         {0x8AE712, {LDVBI_CLV_PICTURE, 7, 12}},    {0x8FE999, {LDVBI_CLV_PICTURE, 59, 99}},
-        {0x8DC0A1, {LDVBI_CX_ON, 0xA1, 0}},        {0x8BAFFF, {LDVBI_CX_OFF, 0xFFF, 0}},
+        {0x8DC0A1, {LDVBI_CX_ON, 0xA1, 0}},        {0x8DCFFF, {LDVBI_CX_ON, 0xFFF, 0}},
         {0x80D000, {LDVBI_USERS, 0, 0}},           {0x87DDDD, {LDVBI_USERS, 7, 0xDDD}},
         {0xF12A45, {LDVBI_OTHER, 0, 0}},           {0x88DFFF, {LDVBI_OTHER, 0, 0}},
     };

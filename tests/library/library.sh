@@ -51,14 +51,20 @@ for sanitizer in address,undefined thread; do
         -I"$top/include" -o library "$here/library.c" "$built/libldvbi.a" -lpthread
     check "the tests in C under $sanitizer" prints 0 '0 wrong' ./library
 done
-for part in fields lines; do
+for part in fields lines recovered; do
     check "the tests of $part are built" does $cc -std=c99 $strict -fsanitize=address,undefined -I"$top/include" \
         -o library_$part "$here/library_$part.c" "$built/libldvbi.a"
     check "the tests of $part" prints 0 '0 wrong' ./library_$part
 done
-for part in sightings numbers; do
+for part in near sightings numbers; do
     check "the tests of $part are built" does $cc -std=c99 $strict -Wno-unused-function \
         -fsanitize=address,undefined -I"$top/include" -o library_$part "$here/library_$part.c" "$built/libldvbi.a"
+    check "the tests of $part" prints 0 '0 wrong' ./library_$part
+done
+# 20,000 worn lines, and sides of them: without the sanitizers, which would take their time over the noise
+for part in worn sides; do
+    check "the tests of $part are built" does $cc -std=c99 $strict -Wno-unused-function -I"$top/include" \
+        -o library_$part "$here/library_$part.c" "$built/libldvbi.a" -lm
     check "the tests of $part" prints 0 '0 wrong' ./library_$part
 done
 check 'the tests of pages are built' does $cc -std=c99 $strict -Wno-unused-function -fsanitize=undefined \
@@ -66,13 +72,8 @@ check 'the tests of pages are built' does $cc -std=c99 $strict -Wno-unused-funct
 check 'the tests of pages' prints 0 '0 wrong' ./library_pages
 
 # The header's texts: those of the report, but for its numbers, of each kind, cause and format
-run_inheriting draw $ntsc - << 'WORDS'
-82CFFF F12345 800DDD
-8AE712 F0DD09 87FFFF
-88FFFF 80EEEE 8DC0A1
-8BA0A1 83D0A1 F12A45
-82CFFF 87FFFF -
-WORDS
+{ sed -n 's/^example  *//p' "$top/codes/classes.txt" | paste -d ' ' - - -; echo '- - -'; } > words
+run_inheriting draw $ntsc - < words
 cp out texts.tbc
 signal NTSC 1 << 'WORDS' | ntsc_samples >> texts.tbc
 L900 H10|82CFFF @170-174L|L164 H746
@@ -80,28 +81,11 @@ WORDS
 run show $ntsc texts.tbc
 sed '1d; $d; s/\( [0-9A-F:]*[0-9][0-9A-F:]*\)*$//' out > reported
 sed -n 's/^1[678] none /cause /p; s/^field [0-9]* /format /p; s/^1[678] [0-9A-F]* /kind /p' reported | sort -u > found
-sort > wanted << 'END'
-cause blank
-cause change
-cause hold
-cause unfinished
-format both
-format cav
-format clv
-format neither
-kind chapter
-kind clv
-kind clv picture
-kind cx off
-kind cx on
-kind lead-in
-kind lead-out
-kind other
-kind picture
-kind picture stop
-kind time
-kind users
-END
+{
+    printf 'cause %s\n' blank change hold unfinished
+    printf 'format %s\n' both cav clv neither
+    sed -n 's/^text  */kind /p' "$top/codes/classes.txt" | sed 's/ {.*//'
+} | sort > wanted
 check 'each kind, cause and format is in the report' cmp -s found wanted
 check 'the texts are built' does $cc -std=c99 $strict -I"$top/include" -o texts "$here/library_texts.c" \
     "$built/libldvbi.a"

@@ -30,10 +30,11 @@ static const Shown pictures[] = {
     {LDVBI_NTSC, LDVBI_PICTURES, WORDS(0, 0xF92345, 0xFF9999), SEEN(12345, 2, 79999, 2, 0)},
     {LDVBI_NTSC, LDVBI_PICTURES, WORDS(0, 0xF00000, 0xF79999), SEEN(0, 2, 79999, 2, 0)},
     {LDVBI_NTSC, LDVBI_PICTURES, WORDS(0xF12345, 0, 0), SEEN(0, 0, 0, 0, 0)},
-    /* a word of pass 2 weighs 1, one of any other pass 2; what line 16 has is nothing to a picture */
+    /* a word of pass 2 or 3 weighs 1, one of any other pass 2; what line 16 has is nothing to a picture */
     {LDVBI_NTSC, LDVBI_PICTURES, LINES(0x82CFFF, 2, 0xF00007, 1, 0xF00008, 2), SEEN(7, 2, 8, 1, 0)},
     {LDVBI_NTSC, LDVBI_PICTURES, LINES(0, 0, 0xF00007, 2, 0xF00008, 1), SEEN(7, 1, 8, 2, 0)},
-    {LDVBI_NTSC, LDVBI_PICTURES, LINES(0, 0, 0xF00007, 0, 0xF00008, 3), SEEN(7, 2, 8, 2, 0)},
+    {LDVBI_NTSC, LDVBI_PICTURES, LINES(0, 0, 0xF00007, 0, 0xF00008, 3), SEEN(7, 2, 8, 1, 0)},
+    {LDVBI_NTSC, LDVBI_PICTURES, LINES(0, 0, 0xF00007, 3, 0xF00008, 4), SEEN(7, 1, 8, 2, 0)},
     {LDVBI_NTSC, LDVBI_PICTURES, LINES(0, 0, 0xF00007, 254, 0xF00008, 255), SEEN(7, 2, 8, 2, 0)},
     /* words that are none */
     {LDVBI_NTSC, LDVBI_PICTURES, WORDS(0, 0x7FFFFF, 0x1000000), SEEN(0, 0, 0, 0, 0)},
@@ -71,7 +72,7 @@ static const Shown times[] = {
     /* the lighter of two lines weighs */
     {LDVBI_NTSC, LDVBI_TIMES, LINES(0x8AE001, 2, 0xF0DD00, 1, 0xF0DD00, 2), SEEN(1, 1, 1, 1, 0)},
     {LDVBI_NTSC, LDVBI_TIMES, LINES(0x8AE001, 1, 0xF0DD00, 2, 0xF0DD00, 1), SEEN(1, 1, 1, 2, 0)},
-    {LDVBI_NTSC, LDVBI_TIMES, LINES(0x8AE001, 0, 0xF0DD00, 3, 0xF0DD00, 2), SEEN(1, 2, 1, 1, 0)},
+    {LDVBI_NTSC, LDVBI_TIMES, LINES(0x8AE001, 0, 0xF0DD00, 4, 0xF0DD00, 3), SEEN(1, 2, 1, 1, 0)},
     /* no number without both lines, or where they are exchanged */
     {LDVBI_NTSC, LDVBI_TIMES, WORDS(0, 0xF0DD00, 0xF0DD00), SEEN(0, 0, 0, 0, 0)},
     {LDVBI_NTSC, LDVBI_TIMES, WORDS(0x7FFFFF, 0xF0DD00, 0), SEEN(0, 0, 0, 0, 0)},

@@ -55,7 +55,7 @@ check 'the version for pkg-config' \
     [ "$(PKG_CONFIG_PATH=$work/moved/lib/pkgconfig pkg-config --modversion ldvbi)" = "$(header_version)" ]
 check 'the recipes are installed' cmp -s root/usr/share/doc/ldvbi/docs/RECIPES.md "$top/docs/RECIPES.md"
 check 'the installed Python module' prints 0 'field 7, frame 4' env -u LDVBI_LIBRARY \
-    PYTHONPATH=root/usr/share/ldvbi/python python3 -m ldvbi cav.tbc $ntsc --seek 3
+    PYTHONPATH=root/usr/share/ldvbi/python python3 -m ldvbi_side cav.tbc $ntsc --seek 3
 check 'the installed program' prints 0 'ldvbi 0.1.0' root/usr/bin/ldvbi --version
 check 'make uninstall' makes uninstall DESTDIR="$work/root" PREFIX=/usr
 find root -type f -o -type l | sort > found

@@ -143,8 +143,12 @@ sed -n '/^| Status |/,$s/^| \([0-9]\) | \(.*\) |$/  \1  \2/p' "$top/docs/FORMATS
 output_of --help | sed '1,/^Exit status:$/d' > help.statuses
 check 'the statuses of FORMATS.md are those of the help' cmp out help.statuses
 
+# What is written from the table of classes is what stands in these places
+in_folder "$top" python3 codes/write.py --check
+check 'the table of classes and what is written from it' [ "$status" = 0 ]
+
 # What the documents say, compared with the source
-for what in links paths names faults causes sizes rules numbers changes; do
+for what in links paths names faults causes sizes rules numbers changes crates; do
     in_folder "$top" python3 tests/documents.py $what
     check "the documents and the source: $what" [ "$status" = 0 ]
 done
@@ -184,33 +188,50 @@ document docs/FORMATS.md trial
 # shows FILE < LINES: whether each of these stands in this file, but for how far it is indented
 # shellcheck disable=SC2317
 shows() {
-    sed 's/^ *//' "$top/$1" > lines
+    sed 's/^ *//' "$1" > lines
     sed 's/^ *//' | grep -vxF -f lines > err
     [ ! -s err ]
 }
 sed -n '/^```c$/,/^```$/{/^```/d;p;}' "$top/README.md" > out
 check 'README has five lines of C' [ "$(wc -l < out)" = 5 ]
-check 'they are of examples/say.c' shows examples/say.c < out
+check 'they are of examples/say.c' shows "$top/examples/say.c" < out
 # shellcheck disable=SC2016
 in_rust=$(grep -o 'classify(read[^`]*' "$top/README.md")
 check 'what README has of Rust is of examples/rust' grep -qF "${in_rust:-none}" "$top/examples/rust/src/main.rs"
 
 # What README has of other programs, right and wrong words, is of PEERS.md
 counts='\([0-9]*\), \([0-9]*\) |'
-sed -n "s@^| .* | $counts not tried | $counts $counts\$@| \\1/\\2/.* | \\3/\\4/.* | \\5/\\6/@p" "$top/README.md" > rows
+from="^| .* | $counts $counts not tried | $counts $counts\$"
+to='| \1/\2/.* | \3/\4/.* | .* | \5/\6/.* | .* | \7/\8/'
+sed -n "s@$from@$to@p" "$top/README.md" > rows
 while read -r row; do
     grep -c "$row" "$top/docs/PEERS.md"
 done < rows > out
-check 'the counts in README are those of PEERS.md' [ "$(paste -s -d ' ' out)" = '1 1 1' ]
+check 'the counts in README are those of PEERS.md' [ "$(paste -s -d ' ' out)" = '1 1 1 1' ]
 
-# The pages for callers: their example is a caller that is proved, and each public function has a row
-for crate in vbi_words vbi_line; do
+# The pages for callers: their example is a caller that is proved, with imports that this has, and each public function
+# has a row
+# each: the lines of a source, of an import one for each name
+each() {
+    awk '/use .*\{.*\};$/ {
+        head = names = $0
+        sub(/\{.*/, "", head)
+        gsub(/^[^{]*\{|\};$/, "", names)
+        count = split(names, name, /, */)
+        for (i = 1; i <= count; i++)
+            print head name[i]
+        next
+    }
+    { print }'
+}
+each < "$top/crates/vbi_line_tests/src/calling.rt" > callers
+for crate in vbi_words vbi_line vbi_near; do
     page=$top/crates/$crate/CALLING.md
-    sed -n '/^```rust$/,/^```$/{/^```/d;p;}' "$page" > out
+    sed -n '/^```rust$/,/^```$/{/^```/d;p;}' "$page" | each > out
     check "$crate/CALLING.md has an example" [ -s out ]
-    check 'it is one that is proved' shows crates/vbi_line_tests/src/calling.rt < out
+    check 'it is one that is proved' shows callers < out
     sed -n '/^| `/s/^| \([^|]*\)|.*/\1/p' "$page" | grep -o '`[^`]*`' | tr -d '`' | sed 's/.*:://' | sort -u > found
-    find "$top/crates/$crate/src" -name '*.rt' ! -name laws.rt -exec grep -ho 'pub fn [a-z_]*' {} + |
+    find "$top/crates/$crate/src" -name '*.rt' ! -name '*laws.rt' -exec grep -ho 'pub fn [a-z_]*' {} + |
         sed 's/pub fn //' | sort -u > functions
     check 'it has a row for each public function' cmp found functions
 done

@@ -1,6 +1,7 @@
 #!/bin/sh
-# Compares what contrib/ldvbi.jq says of words with what the built program's `show` says of them: words at the corners
-# of each pattern, and 20,000 drawn ones. Then its tables, on a document whose words are chosen here.
+# Compares what the table of classes (codes/classes.txt) says of words, and what contrib/ldvbi.jq says, with what the
+# built program's `show` says of them: words at the corners of each pattern, and 20,000 drawn ones. Then the module's
+# tables, on a document whose words are chosen here.
 # usage: sh tests/program/jq_module.sh PROGRAM
 # shellcheck disable=SC2086
 
@@ -42,9 +43,14 @@ output_of draw $ntsc words | bounded "$program" show $ntsc | sed '1d;$d' > wante
 status=0
 bounded jq -r -L "$top/contrib" -f report.jq document.json < empty > out 2> err || status=$?
 check 'each word as show has it' cmp out wanted
-for kind in lead-in lead-out 'picture stop' picture chapter clv time 'clv picture' 'cx on' 'cx off' users other; do
+sed -n 's/^1[678] \([0-9A-F]\{6\} \)/\1/p' wanted > reported
+cut -c 1-6 reported | python3 "$top/codes/classes.py" > tabled
+check 'each word as the table of classes has it' cmp reported tabled
+sed -n 's/^text  *//p' "$top/codes/classes.txt" | sed 's/ {.*//' > kinds
+check 'the table has twelve classes' [ "$(wc -l < kinds)" = 12 ]
+while read -r kind; do
     check "some word is $kind" grep -q "^1[678] [0-9A-F]\{6\} $kind" wanted
-done
+done < kinds
 
 # told NAME ANSWER PROGRAM: checks what the module answers to this on the document
 told() {
@@ -70,7 +76,6 @@ F12345 F12345 F12345
 F1DD09 F1DD09 F1DD09
 8AE712 8AE712 8AE712
 8DC0A1 8DC0A1 8DC0A1
-8BA0A1 8BA0A1 8BA0A1
 83D0A1 83D0A1 83D0A1
 FABCDE FABCDE FABCDE
 - - -
@@ -84,7 +89,6 @@ lines_of_kinds='[{"kind":"lead-in","lines":[17,18]}]
 [{"kind":"time","hours":1,"minutes":9,"lines":[17,18]}]
 [{"kind":"clv picture","seconds":7,"picture":12,"lines":[16]}]
 [{"kind":"cx on","number":161,"lines":[16]}]
-[{"kind":"cx off","number":161,"lines":[16]}]
 [{"kind":"users","digit":3,"number":161,"lines":[16]}]
 []
 []'
@@ -207,12 +211,12 @@ of_words "$pal" < empty
 told 'a side of no field' '[[],{},{},{},{},[],[],"neither"]' \
     '[[codes], pictures, times, minutes, chapters, stops, conflicts, format]'
 
-# What it refuses: a number that is no word, and what isn't a document of version 2
+# What it refuses: a number that is no word, and what isn't a document of version 2 or 3
 for number in 1 8388607 16777216 -1 8572927.5 null '"82CFFF"'; do
     told "$number is no word" '"refused"' "try ($number | code) catch \"refused\""
 done
 told 'the least and the greatest word' '[{"kind":"other"},{"kind":"other"}]' '[8388608, 16777215 | code]'
 for answer in codes pictures times minutes chapters stops conflicts format; do
-    told "$answer of another version" '"no document of version 2"' "try (.version = 3 | [$answer]) catch ."
+    told "$answer of another version" '"no document of version 2 or 3"' "try (.version = 4 | [$answer]) catch ."
 done
 finish

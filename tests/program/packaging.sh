@@ -54,13 +54,13 @@ usr/share/doc/ldvbi/README.md
 END
     (cd tree && git ls-files 'docs/*.md' 'docs/pictures/*.svg' examples | sed 's/^/usr\/share\/doc\/ldvbi\//')
     cat << 'END'
+usr/share/ldvbi/ldvbi-recovered.schema.json
 usr/share/ldvbi/ldvbi-side.schema.json
 usr/share/ldvbi/ldvbi.jq
 usr/share/ldvbi/ldvbi.schema.json
 usr/share/ldvbi/plot_line.py
-usr/share/ldvbi/python/ldvbi.py
 END
-    (cd tree && git ls-files 'python/ldvbi_side/*.py' | sed 's/^/usr\/share\/ldvbi\//')
+    (cd tree && git ls-files 'python/*.py' | sed 's/^/usr\/share\/ldvbi\//')
     cat << 'END'
 usr/share/man/man1/ldvbi-side.1
 usr/share/man/man1/ldvbi.1
@@ -201,7 +201,7 @@ proved() {
 }
 proves none ldvbi
 program_crates='vbi_words vbi_line vbi_field vbi_meta vbi_cli ldvbi'
-library_crates='vbi_words vbi_line vbi_side vbi_c'
+library_crates='vbi_words vbi_line vbi_near vbi_side vbi_c'
 # shellcheck disable=SC2086
 proved $program_crates > wanted_text
 judge 'make says one line of a crate' 0 wanted_text ''
@@ -214,16 +214,24 @@ asked() {
         sed -n 1p "tree/crates/$crate/out/make.log"
     done
 }
-printf 'rt lib --jobs 1\n%.0s' 1 2 3 4 5 > wanted
-echo 'rt run --jobs 1 -- --help' >> wanted
-asked > found
-check 'each crate is proved by one job' cmp found wanted
-rm tree/ldvbi
-proves none ldvbi JOBS=3
-printf '%s\n' 'rt lib --jobs 3' 'rt lib --jobs 3' 'rt lib --jobs 3' 'rt lib --jobs 1' 'rt lib --jobs 3' > wanted
-echo 'rt run --jobs 1 -- --help' >> wanted
-asked > found
-check 'make JOBS=3 has each large crate proved by three' cmp found wanted
+# On so many processors, where make has this word, each large crate is proved by so many jobs.
+while IFS='|' read -r processors word jobs; do
+    rm tree/ldvbi
+    printf '#!/bin/sh\necho %s\n' "$processors" > toolchain/nproc
+    chmod +x toolchain/nproc
+    # shellcheck disable=SC2086
+    proves none ldvbi $word
+    printf "rt lib --jobs %s\n" $jobs $jobs $jobs 1 $jobs > wanted
+    echo 'rt run --jobs 1 -- --help' >> wanted
+    asked > found
+    check "$processors processors, make $word" cmp found wanted
+done << 'END'
+1||1
+3||3
+4||4
+8||4
+8|JOBS=3|3
+END
 proves none libldvbi.a
 # shellcheck disable=SC2086
 proved $library_crates > wanted_text
@@ -301,7 +309,7 @@ check 'the status is that of the toolchain' [ "$(sed -n '22s/.*\(Error [0-9]*\)$
 
 # What the tests need and this PATH hasn't
 made check
-missing='gcc libc6-dev g++ binutils python3 jq pkg-config cmake less mandoc parallel pv zsh'
+missing='gcc libc6-dev g++ binutils python3 jq pkg-config cmake less mandoc mypy parallel pv zsh'
 /usr/bin/python3 -c 'import jsonschema' 2> /dev/null || missing="$missing python3-jsonschema"
 for pair in ensurepip:venv setuptools:setuptools wheel:wheel; do
     /usr/bin/python3 -c "import ${pair%:*}" 2> /dev/null || missing="$missing python3-${pair#*:}"

@@ -1,6 +1,7 @@
 #!/bin/sh
-# Tries peers/compare.sh and compare.py with stubs for MAME's tools and libzvbi's reader, which know the words that were
-# drawn: where all readers read them alike the status is 0, and where one doesn't, or a tool isn't there, it is 1.
+# Tries peers/compare.sh and compare.py with stubs for MAME's tools and the other readers, which know the words that
+# were drawn: where all readers read them alike the status is 0, and where one doesn't, or a tool isn't there, it is 1.
+# Then the readers that are ours read drawn lines.
 # usage: sh tests/program/peers.sh PROGRAM
 
 # shellcheck source=tests/helpers.sh
@@ -45,24 +46,36 @@ stub bin/zvbi << 'END'
 cat > /dev/null
 tr ' ' '\n' < "$DRAWN" | sed "1s/.*/${ZVBI_READS:-&}/"
 END
+stub bin/edges << 'END'
+#!/bin/sh
+cat > /dev/null
+tr ' ' '\n' < "$DRAWN" | sed "1s/.*/${EDGES_READS:-&}/"
+END
+stub bin/recovered << 'END'
+#!/bin/sh
+cat > /dev/null
+[ "$3" = 1 ] || RECOVERED_READS=${BOTH_READS:-}
+tr ' ' '\n' < "$DRAWN" | sed "s/\$/ 1/; 1s/.*/${RECOVERED_READS:-&}/"
+END
 # What peers/compare.py does with lines as they were drawn, or with the disc alone. No video is written for the stubs.
 cat > compare.py << 'END'
 import sys
 sys.path.insert(0, sys.argv.pop(1))
 import compare
-compare.avi.write = lambda *words: None
-compare.TRIALS, compare.DROPOUTS = compare.TRIALS[:2], compare.DROPOUTS[:1]
+compare.readers.avi.write = lambda *words: None
+tables = [(what, rows[:2], rounds, is_of_thousand) for what, rows, rounds, is_of_thousand in compare.TABLES[:2]]
 if sys.argv.pop(1) == "lines":
     compare.verify_disc = lambda program: True
 else:
-    compare.compare_trials, compare.compare_dropouts = lambda *words: True, lambda *words: None
+    tables = []
+compare.TABLES = tables
 compare.main()
 END
 
 # compares FAULT PART: runs that with this in the environment
 compares() {
     status=0
-    bounded env PYTHONDONTWRITEBYTECODE=1 ${1:+"$1"} python3 compare.py "$top/peers" "$2" bin/ldvbi bin/zvbi 1 \
+    bounded env PYTHONDONTWRITEBYTECODE=1 ${1:+"$1"} python3 compare.py "$top/peers" "$2" bin/ldvbi bin 1 \
         < empty > out 2> err || status=$?
 }
 alike='the words of lines as they were drawn are not read alike'
@@ -79,6 +92,9 @@ lines||
 lines|MAME_READS=F12345|$alike
 lines|ZVBI_READS=none|$alike
 lines|ZVBI_READS=F12345|$alike
+lines|EDGES_READS=F12345|$alike
+lines|RECOVERED_READS=F12345 3|$alike
+lines|BOTH_READS=none|$alike
 lines|MISREAD="vbiData":[0|$alike
 disc||
 disc|MISREAD="vbiData":[0|$disc
@@ -86,9 +102,20 @@ disc|LAST=99|$disc
 disc|VERIFIED=(ERROR)|$disc
 END
 
-# The script around it, with stubs for the compiler and for python3
+# The counts: of three words of a row one is read wrong, and one isn't read
+compares 'RECOVERED_READS=F12345 3' lines
+grep '^| as drawn ' out > rows
+check 'a thousand words of a row, and all words of each pass' [ "$(cat rows)" = \
+    '| as drawn | 1000/0/0 | 667/333/0 | 1000/0/0 | 1000/0/0 | 1000/0/0 | 1000/0/0 |
+| as drawn | 3/0 | 0/0 | 0/0 | 0/1 | 0/0 | 0/0 |' ]
+compares EDGES_READS=none lines
+check 'words that are not read' grep -qF '| 1000/0/0 | 667/0/333 | 1000/0/0 |' out
+check 'all words of lines with dropouts, in five rounds' grep -qF '| 10/0/5 | 15/0/0 |' out
+
+# The script around it, with stubs for the compiler and for python3: FAILS is what the words of the one have that fails
 for tool in cc python3 chdman ldverify; do
-    printf '#!/bin/sh\necho "%s $*"; [ "${FAILS:-}" != %s ]\n' $tool $tool | stub alone/$tool
+    printf '#!/bin/sh\necho "%s $*"\ncase "%s $*" in *"${FAILS:-nothing fails}"*) exit 1 ;; esac\n' $tool $tool |
+        stub alone/$tool
 done
 for tool in sh dirname mktemp rm; do
     ln -s "$(command -v $tool)" alone
@@ -100,14 +127,24 @@ around() {
         < empty > out 2> err || status=$?
 }
 around
-check 'the script builds its reader, then compares' \
-    [ "$status $(cut -d ' ' -f 1 out | paste -s -d ' ')" = '0 cc python3' ]
-check 'it compares the program, in 200 fields' grep -q '^python3 .*/compare.py ./ldvbi .*/zvbi 200$' out
+check 'the script builds its readers, then compares' \
+    [ "$status $(cut -d ' ' -f 1 out | paste -s -d ' ')" = '0 cc cc cc python3' ]
+check 'it compares the program, in 200 fields' grep -q '^python3 .*/compare.py ./ldvbi /.* 200$' out
+check 'it links the library at the top' grep -qF "/recovered.c -I$top/peers/../include -L$top -lldvbi" out
+: > libldvbi.so
+around
+check 'it links the library beside the program' grep -qF "/recovered.c -I$top/peers/../include -L$work -lldvbi" out
 around python3
 check 'it ends with 1 where that does' [ "$status" = 1 ]
-around cc
-check 'it ends with 1 where its reader is not built' [ "$status $(tail -n 1 err)" = \
-    "1 peers: zvbi.c can't be built (its library is in libzvbi-dev)" ]
+while IFS='|' read -r reader why; do
+    around "/$reader.c"
+    check "it ends with 1 where $reader is not built" [ "$status $(tail -n 1 err)" = \
+        "1 peers: $reader.c can't be built ($why)" ]
+done << 'END'
+edges|it needs the C library alone
+recovered|its library is built by make lib
+zvbi|its library is in libzvbi-dev
+END
 for tool in cc chdman ldverify python3; do
     mv alone/$tool away
     around
@@ -115,4 +152,24 @@ for tool in cc chdman ldverify python3; do
         "1 peers: $tool isn't there (chdman and ldverify are in mame-tools)" ]
     mv away alone/$tool
 done
+
+# The reader by edges, and that of recovered words, which needs the library: of three lines one by one, and of four of
+# which each two bear a word
+echo 'F12345 - 800001' > words
+run_with words draw $ntsc -
+tail -c +27301 out | head -c 5460 > lines
+tail -c 1820 lines | cat lines - > four_lines
+${CC:-cc} -std=c99 -Wall -Wextra -Werror -o edges "$top/peers/edges.c"
+./edges 16384 51200 < lines > out
+check 'the reader by edges' [ "$(paste -s -d ' ' out)" = 'F12345 none 800001' ]
+if [ -e "$built/libldvbi.so" ]; then
+    ${CC:-cc} -std=c99 -Wall -Wextra -Werror "-I$top/include" -o recovered "$top/peers/recovered.c" \
+        "-L$built" -lldvbi "-Wl,-rpath,$built"
+    ./recovered 16384 51200 1 < lines > out
+    check 'the reader of recovered words, line by line' [ "$(paste -s -d ' ' out)" = 'F12345 1 none 800001 1' ]
+    ./recovered 16384 51200 2 < four_lines > out
+    check 'the same of two lines in a field' [ "$(paste -s -d ' ' out)" = 'F12345 1 800001 1' ]
+else
+    leave_out 2
+fi
 finish

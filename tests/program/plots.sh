@@ -11,10 +11,41 @@ pictures=$top/docs/pictures
 status=0
 mkdir made
 bounded sh "$pictures/make.sh" "$program" made < empty > out 2> err || status=$?
-for name in word second-reading change-170; do
+for name in word second-reading change-170 nearest; do
     check "the picture $name" cmp "made/$name.svg" "$pictures/$name.svg"
     check "SIGNAL.md shows $name" grep -q "(pictures/$name.svg)" "$top/docs/SIGNAL.md"
 done
+
+# The row of the last picture is that of the nearest word, by the definition: for each start and each bit, by how much
+# the line's samples are off
+cat > nearest.py << 'END'
+import itertools
+import sys
+
+data, found = sys.stdin.buffer.read(), []
+samples = [low + 256 * high for low, high in zip(data[::2], data[1::2])]
+dark, light = ([0, *itertools.accumulate(abs(sample - level) for sample in samples)] for level in (16384, 51200))
+for start in range(910 - 687 + 1):
+    word, columns, turned = 0, [start + half * 315 // 22 for half in range(49)], []
+    distance = dark[columns[0]] + dark[910] - dark[columns[48]]
+    for cell in range(24):
+        begin, middle, end = columns[2 * cell:2 * cell + 3]
+        one = dark[middle] - dark[begin] + light[end] - light[middle]
+        zero = light[middle] - light[begin] + dark[end] - dark[middle]
+        bit = one < zero or cell == 0
+        word, distance = 2 * word + bit, distance + (one if bit else zero)
+        turned += [abs(one - zero)] * (cell > 0)
+    found.append((distance, word, start, distance + min(turned)))
+distance, word, start, _ = min(found)
+rival = min(least if other == word else one for one, other, _, least in found)
+print(f"{word:06X}@{start} {distance / 34816:.1f} {min(rival, dark[910]) / 34816:.1f}")
+END
+echo '82CFFF - -' | bounded "$program" draw $ntsc > drawn.tbc
+dd if=drawn.tbc bs=1820 skip=15 count=1 2> dd | python3 "$pictures/worn_line.py" | python3 nearest.py > near
+check 'the nearest word of the worn line' [ "$(cat near)" = '82CFFF@150 280.8 289.7' ]
+check 'the picture has its row' grep -q '>no word: .*; the row of 82CFFF from column 150 on is 280.8 columns away<' \
+    "$pictures/nearest.svg"
+check "SIGNAL.md has its distance, and its rival's" grep -q '280\.8 columns.* 289\.7 ' "$top/docs/SIGNAL.md"
 
 # What a picture of a whole line has: its title, digits and bits, the columns at which cells begin and end, the columns
 # that are marked, and what reaches out of the frame. It is read as XML.
@@ -147,6 +178,22 @@ PAL|800000/22/48|800000, by the samples|800000|
 PAL|L207 H928|no word: hold 251||251
 END
 
+# The row of a word behind the line: what is said, the digits, and how many columns are marked. 82CFFF changes its level
+# in 42 columns, and 82CFFE is another word in the 29 columns of its last cell.
+while IFS='|' read -r description near said digits marked; do
+    echo "$description" | signal NTSC 0 | ntsc_samples > line.raw
+    plotted 910 $ntsc --near "$near"
+    check "$description, $near: said" [ "$status $(head -n 1 found)" = "0 $said columns away" ]
+    check "$description, $near: digits" [ "$(sed -n 2p found)" = "$digits" ]
+    check "$description, $near: marks" [ "$(grep -c '^<rect.* class="marked"/>$' out)" = "$marked" ]
+    check "$description, $near: in its frame" grep -qx outside found
+done << 'END'
+82CFFF|82CFFF@150|82CFFF; the row of 82CFFF from column 150 on is 0.0|82CFFF|0
+82CFFF|82CFFF@151|82CFFF; the row of 82CFFF from column 151 on is 42.0|82CFFF|42
+82CFFF|82CFFE@150|82CFFF; the row of 82CFFE from column 150 on is 29.0|82CFFE|29
+82CFFF @170-174L|82CFFF@150|no word: change 170; the row of 82CFFF from column 150 on is 5.0|82CFFF|5
+END
+
 # Where only a part of the line is seen, nothing is drawn beside that part
 while IFS='|' read -r description columns marked; do
     echo "$description" | signal NTSC 0 | ntsc_samples > line.raw
@@ -234,6 +281,12 @@ for columns in '--first -1' '--first 910' '--last 910' '--first 20 --last 19'; d
     plotted 910 $ntsc $columns
     check "$columns" [ $status = 2 ]
 done
+for near in 82CFF@150 7FFFFF@150 1000000@150 82CFFF@224 82CFFF@-1 82CFFF '82CFFF@'; do
+    plotted 910 $ntsc --near "$near"
+    check "--near $near" [ $status = 2 ]
+done
+plotted 910 $ntsc --near 82CFFF@223
+check '--near 82CFFF@223' [ $status = 0 ]
 plotted 1135 $pal --last 1135
 check 'PAL --last 1135' [ $status = 2 ]
 head -c 1819 line.raw > short.raw

@@ -83,7 +83,7 @@ signal NTSC 1 << 'END' | ntsc_samples > classes.tbc
 87FFFF|F0DD09|8AE712
 F9DD59|82CFFF|8F9DDD
 88FFFF|80EEEE|F12A45
-8DC0A1|8BAFFF|83D0A1
+8DC0A1|-|83D0A1
 END
 cat > classes.txt << 'END'
 system NTSC 910x263 black 16384 white 51200
@@ -105,12 +105,12 @@ field 4 neither
 18 F12A45 other
 field 5 neither
 16 8DC0A1 cx on 0A1
-17 8BAFFF cx off FFF
+17 none blank
 18 83D0A1 users 3 0A1
 fields 5 cut none
 END
 run show $ntsc classes.tbc
-judge 'the report of words of each class' 0 classes.txt ''
+judge 'the report of words of most classes' 0 classes.txt ''
 head -n 5 classes.txt > begun.txt
 run show $ntsc --max-fields 1 classes.tbc
 judge 'the report of too many fields' 1 begun.txt 'ldvbi: too many fields'

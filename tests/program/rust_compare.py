@@ -1,28 +1,36 @@
 """Runs the proved program and the Rust program, or the two libraries, on the same drawn, damaged and random input, and
-compares status, output and what is said, byte for byte.
+compares status, output and what is said, byte for byte. Of words of the command line, a refusal has to be one of both,
+whatever clap says, and help has to have the same words.
 usage: python3 tests/program/rust_compare.py WHAT PROVED OTHER COUNT SEED [RUNNER..]
 
 WHAT is words (of the command line), streams (of fields, and lines), rows (of words to be drawn), metadata, or library.
 PROVED and OTHER are programs, or libraries that can be loaded; RUNNER is what runs OTHER, as wine or qemu. Prints how
-many runs there were, and of those that differ how many there are and the first ten; its status is 1 where one does."""
+many runs there were, and of those that differ how many there are and the first ten; its status is 1 where one does, or
+where there were fewer than COUNT, or none."""
 import ctypes
+import operator
 import pathlib
 import random
+import re
 import struct
 import subprocess
 import sys
 import tempfile
 
-SYSTEMS = {"NTSC": (1, 910, 263), "PAL": (2, 1135, 313)}
+from random_lines import SYSTEMS, random_line, worn_rows
+
 COMMANDS = ["line", "extract", "show", "draw"]
 OPTIONS = ["--meta", "--system", "--black", "--white", "--max-fields", "--help", "--version", "-h", "-V"]
-VALUES = ["", "-", "0", "1", "5", "-1", "+5", "65535", "65536", "8224", "16448", "1000001", "4294967296", "1e3", " 5",
-          "99999999999999999999", "-99999999999999999999", "NTSC", "PAL", "NTS", "PALS", "ntsc", "line.raw", "absent",
-          ".",
-          "meta.json", "bad.json", "\u00e4\u20ac\U0001f4bf"]
+VALUES = ["", "-", "0", "1", "5", "-1", "+5", "++5", "65535", "65536", "8224", "16448", "1000001", "4294967296", "1e3",
+          " 5", "99999999999999999999", "-99999999999999999999", "NTSC", "PAL", "NTS", "PALS", "ntsc", "line.raw",
+          "absent", ".", "meta.json", "bad.json", "\u00e4\u20ac\U0001f4bf"]
 STRAY = ["--", "-x", "-xh", "-hx", "-5", "--met", "--blac", "--maxfields", "--syste", "--helq", "--vers", "--zzz",
-         "---",
-         "lines", "extra", "lineextract", "sho", "help", "helps", "--=5", "-=", "--help=x", "--black=x=y", "\u00fc"]
+         "---", "lines", "extra", "lineextract", "sho", "help", "helps", "--=5", "-=", "--help=x", "--black=x=y", "\u00fc"]
+# Options that make a job
+FIT = {"--meta": ["meta.json"], "--system": ["NTSC", "NTSC", "PAL"], "--black": ["5", "+5", "08224", "16448"],
+       "--white": ["16448", "51200", "65535"], "--max-fields": ["1", "5", "0", "1000000"]}
+# What clap says of its own options, by its version
+OF_CLAP = re.compile(rb"Print (?:help|version)(?: information)?(?: \((?:see|use) [^()]*\))?")
 
 
 class Programs:
@@ -42,26 +50,57 @@ class Programs:
 
 
 def put_files(folder):
-    (folder / "line.raw").write_bytes(bytes(1820))
+    # A ramp, of which the answer has the column of the middle of black and white
+    (folder / "line.raw").write_bytes(struct.pack("<910H", *range(0, 72 * 910, 72)))
     videos = '{"videoParameters":{"system":"NTSC","black16bIre":8224,"white16bIre":16448}}'
     (folder / "meta.json").write_text(videos, encoding="utf-8")
     (folder / "bad.json").write_text(videos[:-1], encoding="utf-8")
 
 
+def near(choose, name):
+    """A name that lacks a letter of this one, has another one or one more, or two that are swapped."""
+    at = choose.randrange(len(name))
+    before, letter, behind = name[:at], name[at], name[at + 1:]
+    other = choose.choice("-abcdefghijklmnopqrstuvwxyz")
+    return choose.choice([before + behind, before + other + behind, before + other + letter + behind,
+                          before + behind[:1] + letter + behind[1:]])
+
+
+def random_option(choose, name, values):
+    """An option with one of these values, as two words or as one."""
+    value = choose.choice(values)
+    return [f"{name}={value}"] if choose.random() < 0.4 else [name, value]
+
+
+def random_parts(choose):
+    """A word or two that a command line might have."""
+    kind = choose.random()
+    if kind < 0.45:
+        return random_option(choose, choose.choice(OPTIONS[:5]), VALUES)
+    if kind < 0.55:
+        return [near(choose, choose.choice(COMMANDS + OPTIONS[:7]))]
+    if kind < 0.6:
+        return ["--", "--"]
+    return [choose.choice(choose.choice([OPTIONS, VALUES, STRAY, COMMANDS]))]
+
+
 def random_words(choose):
-    """Words that a command line might have, most of them fit."""
-    def one():
-        kind = choose.random()
-        if kind < 0.35:
-            option = choose.choice(OPTIONS[:5])
-            value = choose.choice(VALUES)
-            return [f"{option}={value}"] if choose.random() < 0.4 else [option, value]
-        return [choose.choice(choose.choice([OPTIONS, VALUES, STRAY, COMMANDS]))]
-    words = [choose.choice(COMMANDS)] if choose.random() < 0.7 else []
+    """Words of a command line: half of them make a job but for one part, if any; the others are of any kind."""
+    words = [choose.choice(COMMANDS)]
+    if choose.random() < 0.5:
+        parts = [random_option(choose, name, values) for name, values in FIT.items() if choose.random() < 0.8]
+        parts += [["line.raw"]] * (choose.random() < 0.8)
+        parts += [random_parts(choose)] * (choose.random() < 0.6)
+        choose.shuffle(parts)
+        return sum(parts, words)
+    if choose.random() < 0.3:
+        words = []
+    elif choose.random() < 0.1:
+        words = [near(choose, words[0])]
     if choose.random() < 0.1:
         words.insert(0, "help")
     for _ in range(choose.randrange(5)):
-        words += one()
+        words += random_parts(choose)
     return words
 
 
@@ -72,48 +111,19 @@ def compare_words(programs, choose, count):
         yield words, programs.run(words)
 
 
-def drawn_line(choose, width, half, black, white):
-    """A line that shows a word, as a list of samples."""
-    levels = [black] * (choose.choice([150, 151, 149, 40, 0]) + choose.randrange(3))
-    level = False
-    for i in range(24):
-        bit = i == 0 or choose.random() < 0.5
-        for high in ((not bit), bit):
-            level = high
-            levels += [white if high else black] * (half + choose.choice([0, 0, 0, 0, 1, -1]))
-    levels += [black] * width
-    return levels[:width]
+def of_help(text):
+    """The words of a help, but for what clap says of its own options."""
+    return OF_CLAP.sub(b"", b" ".join(text.split()))
 
 
-def damage(choose, line, black, white):
-    """Puts glitches, held levels, ramps or noise into a line."""
-    for _ in range(choose.choice([0, 1, 1, 2, 5, 20])):
-        at = choose.randrange(len(line))
-        length = choose.choice([1, 1, 2, 3, 3, 4, 7, 40])
-        level = choose.choice([black, white, (black + white) // 2, (black + white) // 2 + 1, 0, 65535])
-        line[at:at + length] = [level] * len(line[at:at + length])
-    if choose.random() < 0.2:
-        spread = choose.choice([1, 500, 20000])
-        line = [min(65535, max(0, sample + choose.randrange(-spread, spread + 1))) for sample in line]
-    return line
-
-
-def random_line(choose, system, black, white):
-    """The bytes of a line: drawn, damaged, of random runs, or of random samples."""
-    _, width, _ = SYSTEMS[system]
-    kind = choose.random()
-    if kind < 0.7:
-        half = choose.choice([14, 14, 14, 15, 13, 12] if system == "NTSC" else [18, 18, 17, 19, 15, 21])
-        line = damage(choose, drawn_line(choose, width, half, black, white), black, white)
-    elif kind < 0.9:
-        line = []
-        while len(line) < width:
-            line += [choose.choice([black, white])] * choose.choice([1, 2, 3, 11, 14, 18, 28, 29, 36, 60, 300])
-        line = line[:width]
-    else:
-        return choose.randbytes(2 * width) if hasattr(choose, "randbytes") else bytes(
-            choose.randrange(256) for _ in range(2 * width))
-    return b"".join(sample.to_bytes(2, "little") for sample in line)
+def answer_alike(one, other):
+    """Whether the other program answered words of the command line as the proved one did."""
+    status, out, err = one
+    if status == 2 and err.startswith(b"error: "):
+        return other[:2] == (status, out) and other[2].startswith(b"error: ")
+    if b"\nUsage: " in out:
+        return (status, of_help(out), err) == (other[0], of_help(other[1]), other[2])
+    return one == other
 
 
 def random_levels(choose):
@@ -253,6 +263,25 @@ def compare_judge(call, choose):
     yield call("ldvbi_first_of", numbers, size(count), number(choose.randrange(4)))
 
 
+def compare_near(call, choose):
+    """The nearest word of lines, and the words of three worn ones, alone and as fields of a stream."""
+    number, size = ctypes.c_uint32, ctypes.c_size_t
+    system = choose.choice(list(SYSTEMS))
+    code, width, height = SYSTEMS[system]
+    black, white = random_levels(choose) if choose.random() < 0.3 else (16384, 51200)
+    code = code if choose.random() < 0.97 else choose.choice([0, 3, 257])
+    first = (number(code), number(black), number(white))
+    lines = worn_rows(choose, system, black, white, choose.choice([1, 1, 2, 2, 3, 28, 29]))
+    yield call("ldvbi_nearest", *first, lines, size(len(lines) - choose.choice([0] * 20 + [1])), ..., room=32)
+    for _ in range(3):
+        rows = worn_rows(choose, system, black, white, 3)
+        yield call("ldvbi_recover_rows", *first, rows, size(len(rows) - choose.choice([0] * 20 + [1])), ..., room=24)
+    if choose.random() < 0.3:
+        field = bytes(2 * width * 15) + rows + bytes(2 * width * (height - 18))
+        yield call("ldvbi_recover_fields", *first, field * 2, size(2 * len(field)), ...,
+                   size(choose.choice([1, 2, 2, 2, 3, 2 ** 40])), room=72)
+
+
 def compare_library(paths, choose, count):
     """Each call, with arguments of which most fit: what is answered, and what is written over a pattern."""
     libraries = [ctypes.CDLL(path) for path in paths]
@@ -297,6 +326,8 @@ def compare_library(paths, choose, count):
             count_of = choose.choice([1, 2, 3, 2 ** 40])
             yield call("ldvbi_read_fields", *first, field * 2, size(2 * len(field)), ..., size(count_of), room=72)
         yield from compare_judge(call, choose)
+        if choose.random() < 0.2:
+            yield from compare_near(call, choose)
     yield call("ldvbi_read_fields", number(1), number(1), number(2), None, size(0), None, size(0))
 
 
@@ -311,17 +342,18 @@ def main(what, proved, other, count, seed, *runner):
         pairs = compare_library([proved, other], choose, int(count))
     else:
         pairs = PARTS[what](Programs(proved, other, runner), choose, int(count))
+    are_alike = answer_alike if what == "words" else operator.eq
     runs = 0
     different = 0
     for given, (one, two) in pairs:
         runs += 1
-        if one != two:
+        if not are_alike(one, two):
             different += 1
             if different <= 10:
                 print(f"{what}, seed {seed}, run {runs}: {str(given)[:500]}")
                 print(f"  proved: {str(one)[:500]}\n  other:  {str(two)[:500]}")
     print(f"{what}: {runs} runs, {different} different")
-    return different != 0
+    return different != 0 or runs < max(1, int(count))
 
 
 if __name__ == "__main__":

@@ -17,7 +17,7 @@ echo "error: invalid value '65536' for '--black <N>': 65536 is not in 0..=65535
 For more information, try '--help'." > refusal
 for command in $commands; do
     run $command --meta absent.json --black 65536 absent.raw
-    check "$command: words before files" ended 2 empty refusal
+    check_refusal "$command: words before files" ended 2 empty refusal
     run $command $levels --meta absent.json absent.raw
     judge "$command: the metadata file before the input file" 1 empty 'ldvbi: cannot read metadata'
     run $command --system NTSC --black 5 --white 5 --meta . line.raw

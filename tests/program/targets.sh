@@ -55,6 +55,16 @@ for pair in setup:tests/tools.sh test:tests/tools.sh test:tests/gate.sh bench:be
     check "make ${pair%:*} ends where $FAULT fails" [ "$status $(tail -n 1 out | cut -d ' ' -f 1)" = "2 $FAULT" ]
     unset FAULT
 done
+# What the words of `make rust-compare` say reaches the script.
+stub tree/tests/scripts.sh 'echo "$COMPARE_RUNS, $COMPARE_SEED, <$COMPARE_RUNNER>"'
+while IFS='|' read -r words wanted; do
+    ran tree sh -c "make -s rust-compare $words"
+    check "make rust-compare $words" [ "$status $(cat out)" = "0 $wanted" ]
+done << 'END'
+N=3|3, 1, <>
+SEED=7|10, 7, <>
+RUNNER="qemu -L /usr"|10, 1, <qemu -L /usr>
+END
 # A file or folder with the name of a target doesn't stand for it.
 targets=$(sed -n 's/^\([a-z][a-z-]*\):.*/\1/p' "$top/Makefile" | grep -vx ldvbi | sort | paste -s -d ' ')
 sed -n 's/^\.PHONY: //p' "$top/Makefile" | tr ' ' '\n' | sort | paste -s -d ' ' > out
@@ -74,11 +84,11 @@ ran / env FAULT=3 "$work/tree/.ci/run"
 check '.ci/run fails where that does' [ "$status" = 3 ]
 
 # tests/tools.sh where no tool is there; the system's Python is one that has no module
-packages='gcc libc6-dev g++ binutils python3 jq pkg-config cmake git less mandoc parallel pv zsh python3-jsonschema
-python3-venv python3-setuptools python3-wheel'
+packages='gcc libc6-dev g++ binutils python3 jq pkg-config cmake git less mandoc mypy parallel pv zsh
+python3-jsonschema python3-venv python3-setuptools python3-wheel'
 packages=$(echo $packages)
-for_rust='rustc cargo rustfmt rust-clippy librust-arrayvec-dev librust-byteorder-dev librust-itoa-dev'
-for_rust="$for_rust librust-serde-json-dev"
+for_rust='rustc cargo rustfmt rust-clippy librust-arrayvec-dev librust-byteorder-dev librust-clap-dev librust-itoa-dev'
+for_rust="$for_rust librust-serde-json-dev librust-thiserror-dev"
 sed "s,/usr/bin/python3,$work/no_module,; s,/usr/share/doc,$work/none," "$top/tests/tools.sh" > tools.sh
 stub no_module 'exit 1'
 mkdir none alone
@@ -108,10 +118,11 @@ export FAULT
 tools install
 check 'setup fails where the packages do' [ "$status" = 1 ]
 # Where all are there: each tool, each module, each crate
-for tool in cc c++ nm python3 jq pkg-config cmake git less mandoc parallel pv zsh cargo rustfmt cargo-clippy; do
+for tool in cc c++ nm python3 jq pkg-config cmake git less mandoc mypy parallel pv zsh cargo rustfmt cargo-clippy; do
     stub alone/$tool 'exit 0'
 done
-mkdir none/librust-arrayvec-dev none/librust-byteorder-dev none/librust-itoa-dev none/librust-serde-json-dev
+mkdir none/librust-arrayvec-dev none/librust-byteorder-dev none/librust-clap-dev none/librust-itoa-dev \
+    none/librust-serde-json-dev none/librust-thiserror-dev
 stub no_module 'exit 0'
 for word in '' rust install; do
     tools $word

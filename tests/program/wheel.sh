@@ -38,9 +38,8 @@ check 'its name has the version, and the tag of a library that needs no C librar
 does env PATH=/usr/bin:/bin make -s -C "$top" wheel WHEELS="$work/again"
 check 'made again it is the same' cmp wheels/$wheel again/$wheel
 {
-    echo ldvbi.py
-    (cd "$top/python" && printf '%s\n' ldvbi_side/*.py)
-    printf '%s\n' ldvbi_side/contrib/plot_line.py ldvbi_side/libldvbi.so.1
+    (cd "$top/python" && find ldvbi ldvbi_side -name '*.py')
+    printf '%s\n' ldvbi_side/contrib/plot_line.py ldvbi/libldvbi.so.1
     echo ldvbi-$version.data/data/share/man/man1/ldvbi-side.1
     printf "ldvbi-$version.dist-info/%s\n" METADATA RECORD WHEEL entry_points.txt
 } | sort > files
@@ -65,7 +64,7 @@ check 'a folder for Python' does /usr/bin/python3 -m venv venv
 check 'pip installs the wheel' does venv/bin/pip install -q wheels/$wheel
 check 'its command reads a TBC file' prints 'field 7, frame 4' venv/bin/ldvbi-side cav.tbc $ntsc --seek 3
 check 'the library is that of the wheel' prints "$work/venv/lib" venv/bin/python -c '
-from ldvbi_side.library import _library_file
+from ldvbi.library import _library_file
 print(_library_file().split("/python3")[0])'
 check 'its module reads a TBC file' prints '12 F00003' venv/bin/python -c '
 import ldvbi

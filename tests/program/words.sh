@@ -13,12 +13,12 @@ more="For more information, try '--help'."
 # refused NAME TEXT: checks that the last run wrote nothing, ended with status 2, and said this text alone
 refused() {
     printf 'error: %s\n\n%s\n' "$2" "$more" > refusal
-    check "$1" ended 2 empty refusal
+    check_refusal "$1" ended 2 empty refusal
 }
 
 # refused_first NAME LINE: the same of a text whose first line is this one
 refused_first() {
-    check "$1" is_refused_first "error: $2"
+    check_refusal "$1" is_refused_first "error: $2"
 }
 # shellcheck disable=SC2317
 is_refused_first() {
@@ -109,6 +109,23 @@ judge 'no input behind two dashes' 1 empty 'ldvbi: cannot open input'
 run line $levels line.raw/line.raw
 judge 'an input in a folder that is a file' 1 empty 'ldvbi: cannot open input'
 
+# helped FILE: whether the last run printed this help. Of the Rust program, whose clap may be of any version, the words
+# have to be the same, but for what clap says of its own options.
+# shellcheck disable=SC2317
+helped() {
+    if [ "${DIFFERENCES:-}" ]; then
+        words_of "$1" > wanted_words
+        words_of out > words
+        [ "$status" = 0 ] && [ ! -s err ] && cmp -s words wanted_words
+    else
+        ended 0 "$1" empty
+    fi
+}
+# shellcheck disable=SC2317
+words_of() {
+    tr -s ' \n' ' ' < "$1" | sed -E 's/Print (help|version)( information)?( \((see|use) [^()]*\))?//g'
+}
+
 # Help, and the version: rows of a file of the folder `help`, and words that print it
 for command in line extract show draw; do
     cat << END
@@ -126,7 +143,7 @@ ldvbi-short.txt -h
 END
 while read -r text words; do
     run $words
-    judge "the help by $words" 0 "$here/help/$text" ''
+    check "the help by $words" helped "$here/help/$text"
 done < rows
 echo 'ldvbi 0.1.0' > version
 run --version

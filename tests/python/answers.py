@@ -8,8 +8,8 @@ import json
 import os
 import sys
 
-from discs import BLANK, LEAD_IN, STOP, answer, minutes, picture, pictures, second, times
-from ldvbi_side.analysis import analyse
+from discs import BLANK, LEAD_IN, STOP, answer, minutes, picture, pictures, plain, second, times
+from ldvbi_side.judge.answer import analyse
 from measure import fields_of
 from simulate import KINDS, simulated
 
@@ -36,6 +36,8 @@ def hand_made():
     swapped[6:8] = swapped[7], swapped[6]
     yield "swapped", answer(swapped)
     yield "speed", answer(times(range(0, 60, 3)))
+    yield "confirmed", analyse(plain(pictures([1, 2, 3, 4])[:4] + ["- ? ?", BLANK] + pictures([4, 5, 6]))._replace(
+        nearest_word=lambda *_: 0xF00003))
     yield "far", answer(pictures(range(1, 31)) + pictures(range(60001, 60031)) + pictures([60030] * 9))
 
 

@@ -1,14 +1,16 @@
 """Sides by hand, for the tests: rows of words, as `ldvbi draw` reads them, made to the plain data of a side.
 
-A row has the items of lines 16, 17 and 18: six hexadecimal digits (with * behind them for a word of pass 2), or a line
-without a word: - (blank), ~ (unfinished), ? (change 170), ! (hold 200)."""
+A row has the items of lines 16, 17 and 18: six hexadecimal digits (with * behind them for a word of pass 2, with ^ for
+one that was recovered from a line that is `change 170`), or a line without a word: - (blank), ~ (unfinished),
+? (change 170), ! (hold 200)."""
 
 import functools
 
 from ldvbi import Cause, FieldReadings, Reading, System
-from ldvbi_side.analysis import analyse
-from ldvbi_side.said import Fields
-from ldvbi_side.side import Levels, Side
+from ldvbi.readings import Levels
+from ldvbi_side.judge.answer import analyse
+from ldvbi_side.judge.readings import Fields
+from ldvbi_side.side import Side
 
 CAUSES = {"-": "blank", "~": "unfinished", "?": "change 170", "!": "hold 200"}
 BLANK = "- - -"
@@ -65,7 +67,8 @@ def item(text):
     """The word, the pass and the cause of a line."""
     if text in CAUSES:
         return 0, 0, CAUSES[text]
-    return int(text[:6], 16), 2 if text.endswith("*") else 1, "word"
+    of_pass = {"*": 2, "^": 3}.get(text[6:], 1)
+    return int(text[:6], 16), of_pass, CAUSES["?"] if of_pass == 3 else "word"
 
 
 def plain(rows, system="PAL", first=None, cut=None):

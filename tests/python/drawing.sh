@@ -278,7 +278,7 @@ signal NTSC 1 << 'WORDS' | ntsc_samples > '<&>.tbc'
 82CFFF|82CFFF @170-171L|-
 L900 H10|82CFFF @170-174L|L164 H746
 WORDS
-drawn '<&>.tbc' $ntsc
+drawn '<&>.tbc' $ntsc --no-recover
 shows 'each cause' << 'END'
 title 150 28 <&>.tbc = <&>.tbc
 system NTSC, CAV, 2 fields
@@ -292,6 +292,11 @@ stop 1 M390.0 224 = picture stop in field 1, lines 16 and 17
 empty 630 368 no picture number and no time
 END
 lacks 'each cause' run upright number-label
+drawn '<&>.tbc' $ntsc
+shows 'a recovered word' << 'END'
+line-17 1-1 150-630 word of pass 2 28 = line 17, field 1: word of pass 2
+line-17 2-2 630-1110 recovered 28 = line 17, field 2: recovered, change 170
+END
 side_of "$ntsc" < faulty_words
 drawn side.tbc --system NTSC --black 60000 --white 65535
 shows 'wrong levels' << 'END'

@@ -10,15 +10,15 @@ and the format."""
 import json
 import sys
 
-from ldvbi_side.codes import code_of, name_of, value_of
-from ldvbi_side.document import side_of_document
-from ldvbi_side.said import Said
+from ldvbi.codes import code_of, name_of, value_of
+from ldvbi_side.judge.readings import codes_of
+from ldvbi_side.side import side_of_document
 
 
 def own_lines(side):
     """Of each field its lines with a code of their kind, with this kind and its value. What the analysis sets aside as
     of the other format stands on its line nevertheless."""
-    said = Said(side.plain())
+    said = codes_of(side.plain())
     found = [[] for _ in side.readings]
     for kind, fields in said.kinds.items():
         for field, values in fields.items():

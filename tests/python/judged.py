@@ -15,7 +15,7 @@ from collections import Counter, defaultdict
 import ldvbi
 from ldvbi import Counted, Pace, State
 from judged_truth import JudgedTruth
-from ldvbi_side.analysis import analyse
+from ldvbi_side.judge.answer import analyse
 from measure import fields_of
 from simulate import KINDS, PLAYED, simulated
 from truth import number_of

@@ -11,8 +11,8 @@ import time
 from collections import Counter, defaultdict
 
 from comparison import Comparison
-from ldvbi_side.analysis import analyse
-from ldvbi_side.said import Fields
+from ldvbi_side.judge.answer import analyse
+from ldvbi_side.judge.readings import Fields
 from simulate import KINDS, PLAYED, simulated
 from sound import faults_of
 from truth import Truth

@@ -13,7 +13,7 @@ unset PYTHONDONTWRITEBYTECODE
 # told OPTION..: what the command prints
 told() {
     status=0
-    bounded python3 -m ldvbi "$@" < empty > out 2> err || status=$?
+    bounded python3 -m ldvbi_side "$@" < empty > out 2> err || status=$?
 }
 # side_of OPTIONS < WORDS: makes side.tbc and side.vbi.json of these words
 side_of() {

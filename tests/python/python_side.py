@@ -3,25 +3,21 @@
 
 usage: python_side.py FILE [SYSTEM BLACK WHITE]"""
 
+import os
 import sys
 
-from ldvbi_side.document import side_of_document
-from ldvbi_side.side import side_of_tbc
+sys.path.insert(0, os.path.join(os.path.dirname(os.path.abspath(__file__)), "../../codes"))
+from classes import read_classes
+from ldvbi_side.side import side_of_document, side_of_tbc
 
-# How the report writes the numbers of a kind
-NUMBERS = {
-    "picture": "{number:05}", "chapter": "{number:02}", "time": "{hours}:{minutes:02}",
-    "clv picture": "{seconds:02} {picture:02}", "cx on": "{number:03X}", "cx off": "{number:03X}",
-    "users": "{digit} {number:03X}",
-}
+# How the report writes a code, by its kind
+TEXTS = {one.kind: one.text for one in read_classes()}
 
 
 def line_text(line, reading, code):
     if code is None:
         return "%d none %s" % (line, reading.cause.name)
-    numbers = NUMBERS.get(code["kind"])
-    text = "%d %06X %s" % (line, reading.word, code["kind"])
-    return text + " " + numbers.format(**code) if numbers else text
+    return "%d %06X %s" % (line, reading.word, TEXTS[code["kind"]].format(**code))
 
 
 def print_report(side):

@@ -85,7 +85,7 @@ done
 cp side.vbi.json document
 tells 'a document under another name' 0 'field 7, frame 4' document --seek 3
 status=0
-bounded python3 -m ldvbi - --seek 3 < side.vbi.json > out 2> err || status=$?
+bounded python3 -m ldvbi_side - --seek 3 < side.vbi.json > out 2> err || status=$?
 echo 'field 7, frame 4' > wanted_text
 judge 'a document on standard input' 0 wanted_text ''
 echo '{"videoParameters":{"system":"NTSC","black16bIre":16384.0,"white16bIre":51200,"fieldWidth":910.0}}' > meta.json
@@ -139,10 +139,20 @@ L900 H10|82CFFF @170-174L|L164 H746
 WORDS
 printf '12345' >> side.tbc
 output_of extract $ntsc side.tbc > side.vbi.json
-for source in side.vbi.json "side.tbc $ntsc"; do
+# Line 16 has 10 high columns, its last: these are 10 off the black row, and a word that ends there has 322 high columns
+# before its last half cell of 15. Line 17 is 5 off its word, and a cell of 28 more off another. Line 18 has 59 high
+# columns before the last place for a word, 351 of whose 687 are high at most; several words have so many.
+rows() {
+    printf '%s\n' field,line,cause,offset,nearest,distance,rival "2,16,unfinished,505960,$1" \
+        "2,17,change 170,507780,$2" "2,18,hold 200,509600,$3"
+}
+rows ,, ,, ,, > none.rows
+rows -,1000,32700 82CFFF,500,3300 ANY,39500,39500 > near.rows
+for source in side.vbi.json "side.tbc $ntsc" "side.tbc $ntsc --no-recover"; do
     told $source --bad-lines
-    printf '%s\n' field,line,cause,offset 2,16,unfinished,505960 '2,17,change 170,507780' '2,18,hold 200,509600' \
-        > wanted_text
+    sed -i 's/,[8-F][0-9A-F]*,39500,/,ANY,39500,/' out
+    cp none.rows wanted_text
+    [ "$source" != "side.tbc $ntsc" ] || cp near.rows wanted_text
     judge "the bad lines of $source" 3 wanted_text 'ldvbi-side: the last field is cut: field 3 has 5 of 478660 bytes'
     told $source --json
     bounded jq -c '[.stops[0].lines, .badLines[1].offset, .cutField, .lines["17"].pass2, .format]' out < empty > found

@@ -1,6 +1,7 @@
 #!/bin/sh
 # Validates the answers of the command's --json for sides of every kind by share/schema/ldvbi-side.schema.json, and what
-# is made of them by a table of what may stand at each place (side_schema.txt).
+# is made of them by a table of what may stand at each place (side_schema.txt). Then its documents with recovered words
+# by share/schema/ldvbi-recovered.schema.json.
 # usage: sh tests/python/side_schema.sh PROGRAM
 
 # shellcheck source=tests/helpers.sh
@@ -13,19 +14,65 @@ schema=$top/share/schema/ldvbi-side.schema.json
 mkdir answers
 status=0
 bounded python3 "$here/answers.py" answers < empty 2> err || status=$?
-check 'there are 25 answers' [ "$status $(find answers -name '*.json' | wc -l)" = '0 25' ]
+check 'there are 26 answers' [ "$status $(find answers -name '*.json' | wc -l)" = '0 26' ]
 validates "$schema" answers/*.json > said 2> err || status=$?
-check 'all of them are valid' [ "$status $(grep -c '^valid ' said)" = '0 25' ]
+check 'all of them are valid' [ "$status $(grep -c '^valid ' said)" = '0 26' ]
 # each list of the schema has an item in one of them, so that its form was looked at
 bounded jq -s -r '[.[] | to_entries[] | select(.value | type == "array" and length > 0) | .key] | unique[]' \
     answers/*.json < empty > full
 bounded jq -r '.properties | to_entries[] | select(.value.type == "array") | .key' "$schema" < empty | sort > lists
 check 'each list has an item somewhere' cmp full lists
 
-# What may stand at each place of an answer is valid there, and all else is refused
+# What may stand at each place of an answer is valid there, and all else is refused. A KIND is any but the last of the
+# table of classes.
+sed -n 's/^text  *//p' "$top/codes/classes.txt" | sed 's/ {.*//; s/.*/"&"/; $d' | tr '\n' ' ' |
+    sed 's/^/KIND /' > places
+echo >> places
+cat "$here/side_schema.txt" >> places
 status=0
-bounded "$(with_jsonschema)" "$tests/validate_parts.py" "$schema" "$here/side_schema.txt" answers/*.json \
-    < empty > said 2> err || status=$?
+bounded "$(with_jsonschema)" "$tests/validate_parts.py" "$schema" places answers/*.json < empty > said 2> err ||
+    status=$?
 cat said >> err
-check 'what may stand at each place, and what may not' [ "$status $(cat said)" = '0 210 places, 3612 documents' ]
+check 'what may stand at each place, and what may not' [ "$status $(cat said)" = '0 215 places, 3667 documents' ]
+# The document with recovered words, and what it may not be
+recovered=$top/share/schema/ldvbi-recovered.schema.json
+signal NTSC 1 << 'WORDS' | ntsc_samples > worn.tbc
+82CFFF|82CFFF @170-171L|-
+L900 H10|82CFFF @170-174L|82CFFF @170-174L
+WORDS
+printf '12345' >> worn.tbc
+mkdir documents broken
+told worn.tbc $ntsc --document --recovered
+cp out documents/ntsc.json
+bounded jq '.videoParameters += {system: "PAL", fieldWidth: 1135, fieldHeight: 313}' documents/ntsc.json < empty \
+    > documents/pal.json
+bounded jq '.fields[1].vbiNear[1] |= {word: 0, distance: 0, rival: 0}' documents/ntsc.json < empty > documents/none.json
+bounded jq '.fields[1].vbiCause[1] = "word"' documents/ntsc.json < empty > documents/word.json
+status=0
+validates "$recovered" documents/*.json > said 2> err || status=$?
+check 'recovered words are valid' [ "$status $(grep -c '^valid ' said)" = '0 4' ]
+check 'there are some' [ "$(bounded jq -c '[.fields[].vbiPass]' documents/ntsc.json < empty)" = '[[1,2,0],[0,3,3]]' ]
+while read -r number change; do
+    bounded jq "$change" documents/ntsc.json < empty > "broken/$number.json"
+done << 'END'
+1 .version = 2
+2 .fields[1].vbiNear[1] = null
+3 .fields[0].vbiNear[0] = {word: 8572927, distance: 0, rival: 0}
+4 .fields[1].vbiNear[0] = {word: 8572927, distance: 0, rival: 0}
+5 .fields[1].vbiCause[2] = "blank"
+6 .fields[1].vbi.vbiData[1] = 0
+7 .fields[1].vbiPass[1] = 4
+8 .fields[1].vbiPass[1] = 2
+9 del(.fields[0].vbiNear)
+10 .fields[1].vbiNear[2].word = 1
+11 .fields[1].vbiNear[2].rival = -1
+12 del(.fields[1].vbiNear[2].distance)
+13 .fields[1].vbiNear[1].more = 1
+14 .fields[1].vbiNear += [null]
+15 .fields[0].vbiNear = [null, null]
+16 .fields[1].vbiPass[0] = 3
+END
+status=0
+validates "$recovered" broken/*.json > said 2> err || status=$?
+check 'all else is refused' [ "$status $(grep -c '^refused ' said)" = '0 16' ]
 finish

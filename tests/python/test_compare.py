@@ -3,7 +3,7 @@
 import unittest
 
 from discs import BLANK, side, pictures, times, minutes
-from ldvbi_side.compare import compare, comparison_text
+from ldvbi_side.command.compare import compare, comparison_text
 
 
 def stretches(found, verdict):
@@ -64,6 +64,12 @@ class Comparing(unittest.TestCase):
         due, shown = pictures(range(1, 41)), pictures(range(1, 41))
         due[6], shown[6] = "- ? ?", "- ? F00004*"
         self.assertEqual(stretches(compare(side(due), side(shown)), "betterB"), [(4, 4, 1)])
+
+    def test_a_recovered_word_is_less_than_one_of_pass_1(self):
+        one, other, third = pictures(range(1, 41)), pictures(range(1, 41)), pictures(range(1, 41))
+        one[6], other[6], third[6] = "- ? F00004", "- ? F00004*", "- ? F00004^"
+        self.assertEqual(stretches(compare(side(one), side(third)), "betterA"), [(4, 4, 1)])
+        self.assertEqual(stretches(compare(side(other), side(third)), "same"), [(1, 40, 40)])
 
     def test_the_seconds_of_a_time_count(self):
         rows = times(range(100, 140))

@@ -5,9 +5,10 @@ import json
 import unittest
 
 from ldvbi import Cause
-from ldvbi_side.document import is_document, side_of_document
-from ldvbi_side.said import Fields
-from ldvbi_side.side import Levels
+from ldvbi.document import is_document
+from ldvbi.readings import Levels
+from ldvbi_side.judge.readings import Fields
+from ldvbi_side.side import side_of_document
 
 PICTURE = 0xF00001
 
@@ -113,10 +114,11 @@ LEVELS = "black16bIre and white16bIre are not two samples, black below white"
 NO_FIT = "field 3: word, cause and pass of a line don't fit: "
 
 BROKEN = (
-    ("not a document of version 2", _set(3, "version")),
-    ("not a document of version 2", _set(True, "version")),
-    ("not a document of version 2", _set(2.0, "version")),
-    ("not a document of version 2", _without("version")),
+    ("not a document of version 2 or 3", _set(1, "version")),
+    ("not a document of version 2 or 3", _set(4, "version")),
+    ("not a document of version 2 or 3", _set(True, "version")),
+    ("not a document of version 2 or 3", _set(2.0, "version")),
+    ("not a document of version 2 or 3", _without("version")),
     ("videoParameters has no system", _without("videoParameters")),
     ("videoParameters has no system", _without("videoParameters", "system")),
     ("system is neither NTSC nor PAL", _set("SECAM", "videoParameters", "system")),
@@ -194,8 +196,24 @@ class Broken(unittest.TestCase):
         whole["cutField"]["seqNo"] = True
         self.assertEqual(self.refusal(text_of(whole)), "cutField: seqNo is not 1")
 
+    def test_recovered_words(self):
+        """A document of version 3 has them with the causes of their lines, and one of version 2 hasn't got them."""
+        whole = dict(document(), version=3)
+        whole["fields"][2] = record(3, [PICTURE] * 3, ["change 170", "word", "unfinished"], [3, 3, 3])
+        side = side_of_document(text_of(whole))
+        self.assertEqual([tuple(line) for line in side.readings[2]], [
+            (Cause.change, 3, 170, PICTURE), (Cause.word, 3, 0, PICTURE), (Cause.unfinished, 3, 0, PICTURE)])
+        self.assertEqual([rates["near"] for rates in side.answer["lines"].values()], [1, 1, 1])
+        self.assertEqual(self.refusal(text_of(dict(whole, version=2))), "field 3: 3 is no pass")
+        for word, cause, of_pass in ((0, "change 170", 3), (PICTURE, "blank", 3), (PICTURE, "change 170", 2),
+                                     (PICTURE, "change 170", 0), (0, "word", 3)):
+            whole["fields"][2] = record(3, [word] * 3, [cause] * 3, [of_pass] * 3)
+            self.assertTrue(self.refusal(text_of(whole)).startswith(NO_FIT), (word, cause, of_pass))
+        whole["fields"][2]["vbiPass"][0] = 4
+        self.assertEqual(self.refusal(text_of(whole)), "field 3: 4 is no pass")
+
     def test_no_object(self):
-        self.assertEqual(self.refusal(b"[1]"), "not a document of version 2")
+        self.assertEqual(self.refusal(b"[1]"), "not a document of version 2 or 3")
 
     def test_what_is_not_json(self):
         sound = text_of(document())

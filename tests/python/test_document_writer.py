@@ -7,9 +7,9 @@ import tempfile
 import unittest
 
 import ldvbi
-from ldvbi_side.extraction import write_document
-from ldvbi_side.progress import Progress
-from ldvbi_side.side import cause_text
+from ldvbi.document import write_document
+from ldvbi.readings import cause_text
+from ldvbi_side.command.progress import Progress
 from streams import NTSC, PAL, PROGRAM, line_with, pictures, write_stream
 
 
@@ -26,7 +26,7 @@ def extracted(path, setup):
 def written(source, setup):
     text = io.StringIO()
     with ldvbi.Stream(source, *setup) as stream, Progress(len(stream), is_wanted=False) as progress:
-        write_document(stream, text, progress)
+        write_document(stream, text, progress.over)
     return text.getvalue().encode("ascii")
 
 
@@ -123,16 +123,16 @@ class Documents(unittest.TestCase):
             with self.subTest((len(many), many.cut_bytes)):
                 text = io.StringIO()
                 if is_taken:
-                    write_document(many, text, Progress(0, is_wanted=False))
+                    write_document(many, text, Progress(0, is_wanted=False).over)
                 else:
                     with self.assertRaisesRegex(ValueError, "^too many fields$"):
-                        write_document(many, text, Progress(0, is_wanted=False))
+                        write_document(many, text, Progress(0, is_wanted=False).over)
                     self.assertEqual(text.getvalue(), "")
 
     def test_a_cause_of_a_later_library(self):
         text = "^the library's cause 5 is not known here$"
         with self.assertRaisesRegex(ValueError, text):
-            write_document(Later(), io.StringIO(), Progress(0, is_wanted=False))
+            write_document(Later(), io.StringIO(), Progress(0, is_wanted=False).over)
         with self.assertRaisesRegex(ValueError, text):
             cause_text(ldvbi.Reading(5, 0, 0, 0))
 

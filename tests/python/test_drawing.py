@@ -5,11 +5,11 @@ import unittest
 import xml.etree.ElementTree as xml
 
 import discs
-from ldvbi_side.curve import Scale, ticks
-from ldvbi_side.drawing import drawing_of
-from ldvbi_side.marks import Mark, counts_of, marks_of
-from ldvbi_side.side import Cut
-from ldvbi_side.svg import Svg, shortened
+from ldvbi.readings import Cut
+from ldvbi_side.draw.curve import Scale, ticks
+from ldvbi_side.draw.drawing import drawing_of
+from ldvbi_side.draw.marks import Mark, counts_of, marks_of
+from ldvbi_side.draw.svg import Svg, shortened
 
 SPACE = "{http://www.w3.org/2000/svg}"
 LISTS = ("missing", "lost", "breaks", "swapped", "speeds", "stills", "repeated", "doubtful", "stray")

@@ -8,7 +8,7 @@ import tempfile
 import unittest
 
 from discs import minutes, picture, second
-from streams import NTSC, PAL, TOP, write_stream
+from streams import NTSC, PAL, TOP, worn_line, write_stream
 
 ALONE = "seek.py: no number of this side is supported by those around it, so this is what the lines say\n"
 
@@ -61,6 +61,13 @@ class Seek(unittest.TestCase):
                    ("9:00:00.05", "not found", ""), ("1:00:00.15", "field 81", ""), ("1:0:0.0", "field 51", ""),
                    # what no clock shows is no other time
                    ("0:60:00.00", "not found", ""), ("0:59:59.25", "not found", ""))
+
+    def test_a_worn_side(self):
+        """No line shows a word, and each has one that is nearest."""
+        words = [int(picture(number), 16) for number in range(1, 41)]
+        worn = [[0, worn_line(word, NTSC, 9, 11), worn_line(word, NTSC, 13, 11)] for word in words]
+        write_stream(self.path, NTSC, [field for lines in worn for field in (lines, [0, 0x800DDD, 0x800DDD])])
+        self.check(NTSC, (1, "field 1", ""), (30, "field 59", ""), (41, "not found", ""))
 
     def test_a_side_too_short_to_judge(self):
         self.drawn(NTSC, ["- F00001 F00001", "- F00007 F00007", "- F00002 F00003"], 12345)

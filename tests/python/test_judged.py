@@ -10,7 +10,7 @@ from discs import BLANK, film, picture, pictures, plain
 from judged import Judged, Package, judged, packed_of
 from judged_truth import JudgedTruth
 from ldvbi import Counted, Number, Pace, State
-from ldvbi_side.analysis import analyse
+from ldvbi_side.judge.answer import analyse
 from simulate import KINDS, PLAYED
 
 # of each kind of PLAYED how many pictures two sides have

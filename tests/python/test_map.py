@@ -3,7 +3,7 @@
 import unittest
 
 from discs import BLANK, LEAD_IN, STOP, answer, minutes, picture, pictures, times
-from ldvbi_side.map import map_rows
+from ldvbi_side.command.map import map_rows
 from ldvbi_side.seek import seek, wanted_of
 
 

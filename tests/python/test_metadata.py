@@ -8,8 +8,8 @@ import tempfile
 import threading
 import unittest
 
-from ldvbi_side import metadata
-from ldvbi_side.metadata import beside, read_metadata
+from ldvbi import metadata
+from ldvbi.metadata import beside, read_metadata
 
 CAPTURE = "CREATE TABLE capture (capture_id INTEGER PRIMARY KEY, system TEXT, field_width INTEGER, " \
           "black_16b_ire NUMERIC, white_16b_ire NUMERIC)"

@@ -12,7 +12,7 @@ import tempfile
 import unittest
 
 import ldvbi
-from ldvbi_side.samples import Samples
+from ldvbi.samples import Samples
 from streams import NTSC, TOP, line_with
 
 WORD = (ldvbi.Cause.word, 1, 0, 0xF12345)
@@ -215,12 +215,15 @@ class Library(unittest.TestCase):
         said = run(code, LDVBI_LIBRARY=self.other(1, 9, 0)).split("\n")
         self.assertEqual(said[-2], "ValueError: the library's status is 9")
 
-    def test_a_library_that_judges_nothing(self):
-        """It reads samples, and says at the call that it is too old."""
+    def test_an_older_library(self):
+        """It reads samples, and says at a call that it lacks that it is too old for it."""
         file = self.other(1, 0, 1)
-        code = READ + "\ntry:\n    ldvbi.judge([], 'NTSC')\nexcept OSError as error:\n    print(error)"
-        self.assertEqual(run(code, LDVBI_LIBRARY=file), "blank\n%s is too old to judge numbers, it has no ldvbi_judge: "
-                         "`make lib` builds a later one, LDVBI_LIBRARY names its file\n" % file)
+        for call, purpose, name in (("ldvbi.judge([], 'NTSC')", "judge numbers", "ldvbi_judge"),
+                                    ("ldvbi.nearest(b'', 'NTSC', 1, 2)", "find nearest words", "ldvbi_nearest"),
+                                    ("ldvbi.Stream(b'', 'NTSC', 1, 2, True)", "recover words", "ldvbi_recover_fields")):
+            code = READ + "\ntry:\n    %s\nexcept OSError as error:\n    print(error)" % call
+            self.assertEqual(run(code, LDVBI_LIBRARY=file), "blank\n%s is too old to %s, it has no %s: `make lib` "
+                             "builds a later one, LDVBI_LIBRARY names its file\n" % (file, purpose, name))
 
     def test_states_that_a_later_library_adds(self):
         """They stay numbers, as causes do; a status is a refusal."""
@@ -240,7 +243,7 @@ class Library(unittest.TestCase):
                          "fits, LDVBI_LIBRARY names its file\n" % file)
 
     def test_places(self):
-        for place in ("lib", "share/ldvbi", "share/ldvbi/python", "share/ldvbi/python/ldvbi_side"):
+        for place in ("lib", "share/ldvbi", "share/ldvbi/python", "share/ldvbi/python/ldvbi"):
             with self.subTest(place):
                 shutil.rmtree(os.path.join(self.folder, "share"), ignore_errors=True)
                 shutil.rmtree(os.path.join(self.folder, "lib"), ignore_errors=True)
@@ -248,7 +251,7 @@ class Library(unittest.TestCase):
 
     def test_the_first_place_counts(self):
         """Each place before those behind it, which have no library that can be loaded; the variable before all."""
-        places = ["share/ldvbi/python/ldvbi_side", "share/ldvbi/python", "share/ldvbi", "lib"]
+        places = ["share/ldvbi/python/ldvbi", "share/ldvbi/python", "share/ldvbi", "lib"]
         for count, place in enumerate(places):
             with self.subTest(place):
                 shutil.rmtree(os.path.join(self.folder, "share"), ignore_errors=True)

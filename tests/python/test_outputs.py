@@ -7,7 +7,7 @@ import threading
 import unittest
 from unittest import mock
 
-from ldvbi_side.outputs import refuse_inputs, whole_file
+from ldvbi_side.command.outputs import refuse_inputs, whole_file
 
 
 class Outputs(unittest.TestCase):

@@ -1,5 +1,6 @@
 """What pyproject.toml says of the module: its name, its version, the Pythons that it runs on, its command."""
 
+import ast
 import contextlib
 import importlib
 import io
@@ -16,12 +17,43 @@ def text_of(name):
         return file.read()
 
 
+def modules():
+    """The files of python/, each by its path from there."""
+    python = os.path.join(TOP, "python")
+    return sorted(os.path.relpath(os.path.join(folder, name), python)
+                  for folder, _, names in os.walk(python) for name in names if name.endswith(".py"))
+
+
+def imported_by(path):
+    """The modules of the two packages that a file imports, wherever in it."""
+    package = os.path.dirname(path).split(os.sep)
+    for node in ast.walk(ast.parse(text_of(os.path.join("python", path)))):
+        if isinstance(node, ast.Import):
+            names = [one.name for one in node.names]
+        elif isinstance(node, ast.ImportFrom):
+            before = package[:len(package) - node.level + 1] if node.level else []
+            module = ".".join(before + ([node.module] if node.module else []))
+            # what is imported from a package may be a module of it
+            names = ["%s.%s" % (module, one.name) for one in node.names]
+            names = [name if os.path.exists(os.path.join(TOP, "python", *name.split(".")) + ".py") else module
+                     for name in names]
+        else:
+            continue
+        yield from sorted({name for name in names if name.split(".")[0] in ("ldvbi", "ldvbi_side")})
+
+
+def room_of(name):
+    """The package of a module, which is given by its name or its path."""
+    parts = name.replace(os.sep, "/").replace(".py", "").replace("/", ".").split(".")
+    return ".".join(parts[:2]) if parts[1:2] in (["judge"], ["draw"], ["command"]) else parts[0]
+
+
 class Package(unittest.TestCase):
     def setUp(self):
         self.project = dict(re.findall(r'^([a-z-]+) = (.*)$', text_of("pyproject.toml"), re.MULTILINE))
 
     def test_name_and_pythons(self):
-        self.assertEqual((self.project["name"], self.project["requires-python"]), ('"ldvbi"', '">=3.8"'))
+        self.assertEqual((self.project["name"], self.project["requires-python"]), ('"ldvbi"', '">=3.9"'))
 
     def test_version(self):
         makefile = re.search(r"^VERSION := (.*)$", text_of("Makefile"), re.MULTILINE)
@@ -35,13 +67,34 @@ class Package(unittest.TestCase):
         self.assertEqual(ended.exception.code, 2)
 
     def test_files(self):
-        """Each file of python/ belongs to the module or to the package that are named."""
-        self.assertEqual((self.project["py-modules"], self.project["packages"]), ('["ldvbi"]', '["ldvbi_side"]'))
-        found = [os.path.relpath(os.path.join(folder, name), os.path.join(TOP, "python"))
-                 for folder, _, names in os.walk(os.path.join(TOP, "python")) for name in names if name.endswith(".py")]
-        known = re.compile(r"ldvbi\.py|ldvbi_side/[a-z]+\.py|ldvbi_side/__init__\.py")
-        self.assertEqual([name for name in found if not known.fullmatch(name)], [])
-        self.assertGreater(len(found), 20)
+        """Each file of python/ belongs to one of the packages that are named, each of which has some."""
+        packages = re.findall(r'"(.*?)"', self.project["packages"])
+        folders = {os.path.dirname(path).replace(os.sep, ".") for path in modules()}
+        self.assertEqual(folders, set(packages))
+
+    def test_no_package_imports_one_above_it(self):
+        """`ldvbi` knows nothing of `ldvbi_side`; there each room stands on those before it."""
+        order = ["ldvbi", "ldvbi_side.judge", "ldvbi_side", "ldvbi_side.draw", "ldvbi_side.command"]
+        found = [(name, imported) for name in modules() for imported in imported_by(name)
+                 if order.index(room_of(imported)) > order.index(room_of(name))]
+        # the command's entry, which hands over to the room above
+        self.assertEqual(found, [("ldvbi_side/__main__.py", "ldvbi_side.command.main"),
+                                 ("ldvbi_side/__main__.py", "ldvbi_side.command.outputs")])
+
+    def test_each_room_is_read_in_the_order_of_its_imports(self):
+        """What the head of a room names, in this order, are its modules, and none imports one that is named later."""
+        for room in ("judge", "draw", "command"):
+            package = "ldvbi_side." + room
+            head = importlib.import_module(package).__doc__
+            order = re.search(r"\n\n([a-z]+(?:,\s[a-z]+)+)\n\n", head).group(1).replace("\n", " ").split(", ")
+            files = [name for name in modules() if os.path.dirname(name) == package.replace(".", os.sep)]
+            places = {"%s.%s" % (package, name): place for place, name in enumerate(order)}
+            with self.subTest(room):
+                self.assertEqual(sorted(order + ["__init__"]), [os.path.basename(name)[:-3] for name in sorted(
+                    files, key=os.path.basename)])
+                self.assertEqual([(name, imported) for name in order
+                                  for imported in imported_by(os.path.join("ldvbi_side", room, name + ".py"))
+                                  if places.get(imported, -1) >= places["%s.%s" % (package, name)]], [])
 
 
 if __name__ == "__main__":

@@ -8,9 +8,10 @@ import unittest.mock
 from html.parser import HTMLParser
 
 from discs import BLANK, LEAD_IN, STOP, minutes, pictures, side, times
-from ldvbi_side.index import index_of
-from ldvbi_side.plotting import plotter
-from ldvbi_side.page import LISTS, MOST_PLOTS, page_of
+from ldvbi_side.command.summary import summary
+from ldvbi_side.draw.index import index_of
+from ldvbi_side.draw.page import LISTS, MOST_PLOTS, page_of
+from ldvbi_side.draw.plotting import plotter
 
 VOID = ("meta", "br")
 
@@ -56,7 +57,7 @@ class Page(HTMLParser):
 
 
 def page(one, plot=None, title="side.tbc"):
-    return page_of(one, title, lambda *line: "dd", plot)
+    return page_of(one, title, summary(one.answer, lambda *line: "dd"), plot)
 
 
 def damaged():
@@ -137,7 +138,7 @@ class Pages(unittest.TestCase):
 
 
     def test_nothing_is_drawn_without_the_script(self):
-        with unittest.mock.patch("ldvbi_side.plot._PLACES", ()):
+        with unittest.mock.patch("ldvbi_side.draw.plot._PLACES", ()):
             self.assertIsNone(plotter(side(["? - -"]), "side.tbc"))
 
 

@@ -170,9 +170,25 @@ class BadLines(unittest.TestCase):
     def test_rates(self):
         found = answer(["- F00001 F00001*", "? ! ~", "82CFFF 82CFFF* ?"])
         self.assertEqual(found["lines"], {
-            "16": {"pass1": 1, "pass2": 0, "blank": 1, "unfinished": 0, "change": 1, "hold": 0},
-            "17": {"pass1": 1, "pass2": 1, "blank": 0, "unfinished": 0, "change": 0, "hold": 1},
-            "18": {"pass1": 0, "pass2": 1, "blank": 0, "unfinished": 1, "change": 1, "hold": 0}})
+            "16": {"pass1": 1, "pass2": 0, "near": 0, "blank": 1, "unfinished": 0, "change": 1, "hold": 0},
+            "17": {"pass1": 1, "pass2": 1, "near": 0, "blank": 0, "unfinished": 0, "change": 0, "hold": 1},
+            "18": {"pass1": 0, "pass2": 1, "near": 0, "blank": 0, "unfinished": 1, "change": 1, "hold": 0}})
+
+    def test_recovered_words(self):
+        """They are counted as that, and their lines are bad ones all the same."""
+        found = answer(["- F00001^ F00001", "? ! F00002^", "- 82CFFF* F00003^"])
+        self.assertEqual([list(rates.values()) for rates in found["lines"].values()],
+                         [[0, 0, 0, 2, 0, 1, 0], [0, 1, 1, 0, 0, 0, 1], [1, 0, 2, 0, 0, 0, 0]])
+        self.assertEqual([(one["field"], one["line"], one["cause"]) for one in found["badLines"]],
+                         [(1, 17, "change 170"), (2, 16, "change 170"), (2, 17, "hold 200"), (2, 18, "change 170"),
+                          (3, 18, "change 170")])
+
+    def test_levels_of_recovered_words(self):
+        """They don't show that the levels are right."""
+        rows = ["- %s^ %s^" % (picture(number), picture(number)) for number in range(1, 40)]
+        self.assertEqual(answer(rows)["levels"], {"shows": "bad", "words": 0, "bad": 78, "blank": 0, "field": 20,
+                                                  "line": 18})
+        self.assertIsNone(answer(rows + pictures(range(40, 43)))["levels"])
 
     def test_a_white_first_field(self):
         found = answer(["! ! !"] + pictures(range(1, 21)))

@@ -4,7 +4,7 @@ import unittest
 
 from discs import answer, film, picture, pictures, times
 from ldvbi_side.seek import seek, wanted_of
-from ldvbi_side.summary import summary
+from ldvbi_side.command.summary import summary
 
 SYSTEMS = (("PAL", 25), ("NTSC", 30))
 

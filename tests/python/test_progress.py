@@ -4,7 +4,7 @@ import io
 import unittest
 from unittest import mock
 
-from ldvbi_side.progress import Progress
+from ldvbi_side.command.progress import Progress
 
 
 class Terminal(io.StringIO):

@@ -17,7 +17,7 @@ import unittest
 import ldvbi
 from streams import NTSC, PAL, PROGRAM, pictures, write_stream
 
-COMMAND = [sys.executable, "-m", "ldvbi"]
+COMMAND = [sys.executable, "-m", "ldvbi_side"]
 LEVELS = ["--system", "NTSC", "--black", "16384", "--white", "51200"]
 SIZE = ldvbi.field_bytes("NTSC")
 DEADLINE = 60  # seconds
@@ -401,10 +401,10 @@ class Interrupted(Runs):
 
     def test_what_is_not_written_yet_is_dropped(self):
         """Ctrl-C ends the reader of a pipe, too: what was printed has nowhere to go then."""
-        code = "import sys, ldvbi, ldvbi_side.command\n" \
+        code = "import sys, ldvbi_side.__main__, ldvbi_side.command.main\n" \
                "def interrupted(words):\n    print(words)\n    raise KeyboardInterrupt\n" \
-               "ldvbi_side.command.main = interrupted\n" \
-               "sys.exit(ldvbi.main(['words']))"
+               "ldvbi_side.command.main.main = interrupted\n" \
+               "sys.exit(ldvbi_side.__main__.main(['words']))"
         self.assertEqual(self.unread([sys.executable, "-c", code]), (130, b""))
 
     def test_no_reader(self):

@@ -2,8 +2,8 @@
 
 import unittest
 
-from ldvbi_side.fates import _Passed
-from ldvbi_side.runs import Runs
+from ldvbi_side.judge.missing import _Passed
+from ldvbi_side.judge.times import Runs
 
 WHOLE = 1500  # pictures of a minute
 

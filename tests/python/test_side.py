@@ -9,12 +9,12 @@ import unittest
 import unittest.mock
 
 from discs import (BLANK, LEAD_IN, LEAD_OUT, STOP, answer, film, minutes, picture, pictures, plain, side, times)
-from ldvbi_side.lines import SIZES
-from ldvbi_side.plot import plot_command, tbc_name
+from ldvbi.readings import Cut
+from ldvbi_side.command.summary import summary
+from ldvbi_side.command.tables import bad_line_rows, field_rows
+from ldvbi_side.draw.plot import plot_command, tbc_name
+from ldvbi_side.judge.lines import SIZES
 from ldvbi_side.seek import seek, text_of, wanted_of
-from ldvbi_side.side import Cut
-from ldvbi_side.summary import summary
-from ldvbi_side.tables import bad_line_rows, field_rows
 
 
 def found(known, text):
@@ -152,11 +152,11 @@ class Tables(unittest.TestCase):
         self.assertEqual([row[3] for row in field_rows(side(rows))], [4, 4, 5, 5, 6, 6, 7, 7])
 
     def test_bad_lines(self):
-        self.assertEqual(list(bad_line_rows(answer(["- ? F00001"], "NTSC"))), [[1, 17, "change 170", 29120]])
+        self.assertEqual(list(bad_line_rows(side(["- ? F00001"], "NTSC"))), [[1, 17, "change 170", 29120, "", "", ""]])
 
     def test_nothing(self):
         self.assertEqual(list(field_rows(side([BLANK]))), [])
-        self.assertEqual(list(bad_line_rows(answer([BLANK]))), [])
+        self.assertEqual(list(bad_line_rows(side([BLANK]))), [])
 
 
 def lines_of(one, path="side.tbc"):
@@ -193,6 +193,16 @@ class Summaries(unittest.TestCase):
             "unknown words: none",
             "programme status: none, users' codes: none",
             "stray codes: none"])
+
+    def test_recovered_words(self):
+        rows = pictures(range(1, 31))
+        rows[4], rows[6] = "- F00003^ F00003^", "- F00004^ ?"
+        found = lines_of(side(rows))
+        self.assertEqual(found[0], "whole: yes")
+        self.assertEqual(found[4:6], ["line 17: 60 words, 0 of them of pass 2, 2 recovered; 0 bad (0.00 %), 0 blank",
+                                      "line 18: 59 words, 0 of them of pass 2, 1 recovered; 1 bad (1.67 %), 0 blank"])
+        found = lines_of(side(["- F00003^ F00003^"] * 30))
+        self.assertIn("levels: lines 17 and 18 have 0 words of their own, 60 are bad, 0 blank: ", "\n".join(found))
 
     def test_jumps_stills_and_more_than_are_listed(self):
         rows = pictures(list(range(1, 11)) + [10] * 3 + list(range(11, 31)) + list(range(21, 31)))
@@ -273,7 +283,7 @@ class Summaries(unittest.TestCase):
                 self.assertEqual("black and white may be" in lines_of(one)[6], not is_other)
 
     def test_levels_where_the_script_is_not_beside_the_package(self):
-        with unittest.mock.patch("ldvbi_side.plot._PLACES", ("nowhere/plot_line.py",)):
+        with unittest.mock.patch("ldvbi_side.draw.plot._PLACES", ("nowhere/plot_line.py",)):
             self.assertIn("| python3 plot_line.py --system NTSC ", lines_of(side([BLANK] * 4, "NTSC"))[6])
 
     def test_at_most_24_lines(self):
@@ -307,7 +317,7 @@ class Plotting(unittest.TestCase):
         self.assertTrue(os.path.exists(path))
 
     def test_where_it_is_not_there_its_name_is_printed(self):
-        with unittest.mock.patch("ldvbi_side.plot._PLACES", ()):
+        with unittest.mock.patch("ldvbi_side.draw.plot._PLACES", ()):
             self.assertIn("| python3 plot_line.py --system", plot_command(side([BLANK]), "side.tbc", 1, 16))
 
     def test_from_another_folder_its_whole_path_is_printed(self):

@@ -8,7 +8,7 @@ from collections import Counter
 
 from comparison import Comparison
 from discs import BLANK, CLV_MARK, LEAD_IN, LEAD_OUT, answer, film, picture, pictures, plain, times
-from ldvbi_side.analysis import analyse
+from ldvbi_side.judge.answer import analyse
 from measure import fields_of, measured
 from simulate import KINDS, PLAYED, simulated
 from sound import faults_of

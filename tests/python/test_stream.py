@@ -131,7 +131,7 @@ class Large(Streams):
 
     def test_its_document(self):
         with self.far(NTSC, 8982):
-            command = [sys.executable, "-m", "ldvbi", self.path, "--document"]
+            command = [sys.executable, "-m", "ldvbi_side", self.path, "--document"]
             levels = ["--system", "NTSC", "--black", "16384", "--white", "51200"]
             found, wanted = (subprocess.run(words + levels, stdout=subprocess.PIPE, stderr=subprocess.DEVNULL,
                                             check=False) for words in (command, [PROGRAM, "extract", self.path]))
@@ -222,7 +222,7 @@ class Ahead(Streams):
         super().setUp()
         Advised.notes = []
         patches = contextlib.ExitStack()
-        patches.enter_context(mock.patch.object(ldvbi.mmap, "mmap", Advised))
+        patches.enter_context(mock.patch.object(ldvbi.stream.mmap, "mmap", Advised))
         self.addCleanup(patches.close)
 
     def fetched(self):

@@ -3,8 +3,8 @@
 import unittest
 
 from discs import BLANK, LEAD_IN, LEAD_OUT, answer, minutes, picture, pictures, plain, times
-from ldvbi_side.analysis import analyse
-from ldvbi_side.whole import reasons_of
+from ldvbi_side.judge.answer import analyse
+from ldvbi_side.judge.whole import reasons_of
 
 WHOLE = [LEAD_IN] * 4 + pictures(range(1, 31)) + [LEAD_OUT] * 4
 

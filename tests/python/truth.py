@@ -3,7 +3,7 @@
 import functools
 
 from ldvbi import Kind
-from ldvbi_side.codes import CAV_KINDS, CLV_KINDS, LINES, STANDARD_LINES, code_of, value_of
+from ldvbi.codes import CAV_KINDS, CLV_KINDS, LINES, STANDARD_LINES, code_of, value_of
 
 NUMBER_KINDS = {Kind.picture, Kind.time, Kind.clv_picture}
 

@@ -2,21 +2,26 @@
 
 ghost use Rattle.std.specs.Prelude.{◌≡◌, ◌≢◌};
 
-use std::fmt;
+use thiserror::Error;
 use vbi_meta::MetaFault;
 
 /// What fails in the program itself, outside a job.
-#[derive(Clone, Copy)]
+#[derive(Clone, Copy, Debug, Error)]
 pub(crate) enum MainFault {
     /// A word of the command line isn't text.
+    #[error("arguments are not UTF-8")]
     NotUtf8,
     /// Memory for the words or the metadata file was refused.
+    #[error("{}", MetaFault::OutOfMemory)]
     OutOfMemory,
     /// The metadata file can't be opened or read.
+    #[error("cannot read metadata")]
     CannotReadMetadata,
     /// The input can't be opened.
+    #[error("cannot open input")]
     CannotOpenInput,
     /// What was written couldn't be flushed.
+    #[error("flush failed")]
     FlushFailed,
 }
 
@@ -29,18 +34,6 @@ impl MainFault {
         match self {
             MainFault::NotUtf8 => 2,
             _ => 1,
-        }
-    }
-}
-
-impl fmt::Display for MainFault {
-    fn fmt<W: fmt::Write>(&self, f: &mut fmt::Formatter<W>) -> fmt::Result {
-        match self {
-            MainFault::NotUtf8 => f.write_str("arguments are not UTF-8"),
-            MainFault::OutOfMemory => MetaFault::OutOfMemory.fmt(f),
-            MainFault::CannotReadMetadata => f.write_str("cannot read metadata"),
-            MainFault::CannotOpenInput => f.write_str("cannot open input"),
-            MainFault::FlushFailed => f.write_str("flush failed"),
         }
     }
 }

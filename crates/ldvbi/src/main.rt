@@ -10,7 +10,7 @@ use std::io::{Read, Write};
 use std::process::ExitCode;
 use std::rt::{Env, Files};
 use std::{env, io};
-use vbi_cli::{AppFault, Input, Job, Source, WordsFault, do_command, read_words, settle, status};
+use vbi_cli::{Input, Job, Source, WordsFault, do_command, read_words, settle, status};
 use vbi_field::Outlet;
 use vbi_meta::META_LIMIT;
 
@@ -87,7 +87,7 @@ fn run_with_files(rt: &HostRuntime, job: &Job) -> Result<u8, MainFault> {
             let mut outlet = Outlet::new(&mut output);
             do_command(&config, &mut source, &mut outlet)
         }
-        Err(fault) => Err(AppFault::Meta(fault)),
+        Err(fault) => Err(fault.into()),
     };
     let flushed = output.flush();
     if let Err(fault) = &ended {

@@ -2,7 +2,9 @@ pub mod Codes
 pub mod Drawing
 pub mod Fields
 pub mod Judging
+pub mod Nearest
 pub mod Readings
 pub mod Setups
 pub mod Statuses
 pub mod Words
+pub mod Recovering

@@ -1,6 +1,6 @@
 -- What the numbers of a call stand for, and why they are refused: the system is looked at first, then black and white,
 -- then the length. The numbers of systems and levels may be any of 32 bits.
-use Rattle.std.specs.Prelude.{ℕ, ◌*◌, ◌==◌, ◌&&◌, nat_lt, nat_le, if◌then◌else◌}
+use Rattle.std.specs.Prelude.{ℕ, ◌*◌, ◌%◌, ◌==◌, ◌&&◌, nat_lt, nat_le, if◌then◌else◌}
 use Rattle.std.specs.Prelude.{Option, Some, None, Result, Ok, Err}
 use Rattle.vbi_words.specs.declared.system.System as words
 use Rattle.vbi_words.specs.declared.system.System.TheVariants.{Ntsc, Pal}
@@ -42,6 +42,18 @@ rows_setup number black white length = of_length (λ system. 3 * line_bytes syst
 abbrev pub fields_setup : ℕ → ℕ → ℕ → ℕ → ℕ → Result Setup Refusal
 fields_setup number black white length count =
     of_length (λ system. count * field_bytes system) length (setup_of number black white)
+
+-- a setup whose bytes have a length, which has to be that of 1 to 28 lines
+abbrev pub of_lines : ℕ → Result Setup Refusal → Result Setup Refusal
+of_lines length (Err refusal) = Err refusal
+of_lines length (Ok setup) =
+    if length % line_bytes setup.system == 0 && nat_lt 0 length && nat_le length (28 * line_bytes setup.system)
+    then Ok setup
+    else Err Length
+
+-- the setup of a call with so many bytes, which have to be those of 1 to 28 lines
+abbrev pub lines_setup : ℕ → ℕ → ℕ → ℕ → Result Setup Refusal
+lines_setup number black white length = of_lines length (setup_of number black white)
 
 -- a number of a system's geometry, or 0 where there is no system
 abbrev pub of_system : (words.System → ℕ) → Option words.System → ℕ

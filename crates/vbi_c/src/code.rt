@@ -13,9 +13,7 @@ use vbi_words::{Code, Word24, classify};
 #[derive(Clone, Copy)]
 #[repr(C)]
 pub struct LdvbiCode {
-    /// 0 for a word of no kind, 1 for a picture number, 2 a chapter, 3 a CLV time, 4 a CLV picture, 5 and 6 a programme
-    /// status code with CX on and off, 7 a users' code, 8 the lead-in, 9 the lead-out, 10 a picture stop, 11 the mark
-    /// of a CLV disc.
+    /// The number of its class in codes/classes.txt, 0 for a word of none.
     pub kind: u32,
     /// The picture number, the chapter, the hours, the seconds, the three last digits of a status code as a number, or
     /// the digit of a users' code; else 0.

@@ -14,7 +14,7 @@ use std::mem::size_of;
 use vbi_words::System;
 
 /// The row of a field, counted from 0, that is line 16.
-const FIRST_ROW: usize = 15;
+pub(crate) const FIRST_ROW: usize = 15;
 
 /// The readings of a field's three lines with code words.
 #[derive(Clone, Copy)]

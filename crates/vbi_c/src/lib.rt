@@ -1,5 +1,6 @@
 //! The code words of LaserDisc lines (IEC 60857 and IEC 60856) for callers in C: the static library that
-//! `include/ldvbi.h` declares, over the reader of `vbi_line`, the judge of `vbi_side` and the codes of `vbi_words`.
+//! `include/ldvbi.h` declares, over the reader of `vbi_line`, the nearest words of `vbi_near`, the judge of `vbi_side`
+//! and the codes of `vbi_words`.
 //!
 //! Each export tests the numbers that it is given, and answers a status; after any but 0 all that it could have written
 //! is as it was. Numbers are as wide as C hands them, 32 bits, so that none is cut off before it is tested.
@@ -14,7 +15,9 @@ mod fields;
 mod format;
 mod judging;
 mod line;
+mod nearest;
 mod reading;
+mod recovering;
 mod setup;
 mod sizes;
 mod status;
@@ -27,6 +30,8 @@ pub use fields::{LdvbiFieldReadings, ldvbi_read_field, ldvbi_read_fields, ldvbi_
 pub use format::ldvbi_format;
 pub use judging::{ldvbi_first_of, ldvbi_judge};
 pub use line::ldvbi_read_line;
+pub use nearest::{LdvbiNear, ldvbi_nearest};
 pub use reading::LdvbiReading;
+pub use recovering::{ldvbi_recover_fields, ldvbi_recover_rows};
 pub use sizes::{ldvbi_field_bytes, ldvbi_line_bytes, ldvbi_line_samples, ldvbi_lines};
 pub use version::{ldvbi_abi, ldvbi_version};

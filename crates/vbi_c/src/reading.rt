@@ -40,7 +40,7 @@ fn wordless(cause: u8, pass: u8, column: u16) -> LdvbiReading
 }
 
 /// An outcome with the pass of its reading, as C sees them.
-fn outcome_for_c(outcome: Outcome, pass: u8) -> LdvbiReading
+pub(crate) fn outcome_for_c(outcome: Outcome, pass: u8) -> LdvbiReading
     ensures { result ≡ outcome_for_c outcome pass }
 {
     match outcome {

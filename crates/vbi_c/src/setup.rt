@@ -1,10 +1,14 @@
 //! What a call is given beside its bytes: a system, and black and white.
 
-ghost use Rattle.std.specs.Prelude.{◌≡◌, ◌<◌, IfOk};
-ghost use Rattle.vbi_c.specs.Setups.{system_of, setup_of, line_setup, rows_setup, fields_setup};
+ghost use Rattle.std.specs.Prelude.{◌≡◌, ◌*◌, ◌/◌, ◌<◌, ◌≤◌, IfOk};
+ghost use Rattle.vbi_words.specs.Geometry.{line_bytes};
+ghost use Rattle.vbi_c.specs.Setups.{system_of, setup_of, line_setup, rows_setup, fields_setup, lines_setup};
 
 use crate::status::Refusal;
 use vbi_words::{Levels, System};
+
+/// So many lines at most have their nearest word searched: the sums of more could pass 32 bits.
+const MOST_LINES: usize = 28;
 
 /// A system and its black and white.
 #[derive(Clone, Copy)]
@@ -87,6 +91,25 @@ pub(crate) fn fields_setup(
     // C may have chosen both numbers too large for their product, so the length is divided.
     let field = setup.system.field_bytes();
     if length / field != count || length % field != 0 {
+        return Err(Refusal::Length);
+    }
+    Ok(setup)
+}
+
+/// The setup of a call with so many bytes, which have to be those of 1 to 28 lines, or why the call is refused.
+pub(crate) fn lines_setup(
+    number: u32,
+    black: u32,
+    white: u32,
+    length: usize,
+) -> Result<Setup, Refusal>
+    ensures setup { result ≡ lines_setup number black white length }
+    ensures lines { IfOk result (λ setup. (length ≡ length / line_bytes setup.system * line_bytes setup.system)
+        × (length / line_bytes setup.system ≤ 28)) }
+{
+    let setup = setup_of(number, black, white)?;
+    let line = setup.system.line_bytes();
+    if length % line != 0 || length == 0 || length > MOST_LINES * line {
         return Err(Refusal::Length);
     }
     Ok(setup)

@@ -10,8 +10,7 @@ use crate::commands::program;
 use clap::ArgMatches;
 use clap::error::ErrorKind;
 use std::alloc::{AllocError, AllocFailed, Global};
-use std::error::Error;
-use std::fmt;
+use thiserror::Error;
 use vbi_meta::{MetaFault, Overrides};
 use vbi_words::System;
 
@@ -42,13 +41,16 @@ pub struct Job {
 }
 
 /// Why a command line gives no job.
-#[derive(Debug, Drop)]
+#[derive(Debug, Drop, Error)]
 pub enum WordsFault {
     /// The words are refused, with the text that says why.
+    #[error("{0}")]
     Refused(String),
     /// Help or the version is asked for, with its text.
+    #[error("{0}")]
     Help(String),
     /// Memory was refused.
+    #[error("{}", MetaFault::OutOfMemory)]
     OutOfMemory,
 }
 
@@ -64,17 +66,6 @@ impl WordsFault {
         }
     }
 }
-
-impl fmt::Display for WordsFault {
-    fn fmt<W: fmt::Write>(&self, f: &mut fmt::Formatter<W>) -> fmt::Result {
-        match self {
-            WordsFault::Refused(text) | WordsFault::Help(text) => f.write_str(text.as_str()),
-            WordsFault::OutOfMemory => MetaFault::OutOfMemory.fmt(f),
-        }
-    }
-}
-
-impl Error for WordsFault {}
 
 impl From<AllocError> for WordsFault {
     fn from(_refused: AllocError) -> WordsFault {

@@ -1,4 +1,20 @@
 //! The texts of the document.
+//!
+//! A stream has a head, an entry for each whole field and a tail, and each is made whole before it is written. `Kind`
+//! (texts.rt) has these three calls; the document is one kind, the report (report.rt) the other, and run.rt has one
+//! loop for both. The joint, a comma and a newline, stands before each entry but the first. So nothing has to be known
+//! of a field that may follow, and the record of a field is written as soon as its last byte came.
+//!
+//! Each function here has one definition of `specs/Document.antt`, of which its text is proved to be an equal, byte for
+//! byte; the three words, causes and passes of a record are pieces with a function and a proof each.
+//!
+//! Texts are held in an `ArrayString`, as the program allocates nothing. Its size (192, and 18 to 72 for the pieces)
+//! has room for the widest number of each type, so that no bound on columns or field numbers has to be proved; the
+//! check refuses a size that is too small.
+//!
+//! Who changes the document changes its definition, the proof of `document_words` in `vbi_meta` (a JSON reader finds
+//! the words in it), share/schema/ldvbi.schema.json, docs/FORMATS.md, and the two modules of the Python package that
+//! write and read it. `version` is raised where those who read the document so far can't any more.
 ghost use Rattle.std.specs.Prelude.{◌≡◌, ◌-◌, ◌^◌, ◌<◌, ◌++◌, codes, decimal};
 ghost use Rattle.vbi_field.specs.CauseTexts.{cause_text_of};
 ghost use Rattle.vbi_field.specs.Document.{value_of, lines_of, head_of, tail_of};

@@ -1,4 +1,24 @@
 //! A stream that is pushed in pieces.
+//!
+//! run.rt pulls a stream from a reader; here a caller pushes it, in pieces of any length, and the same document comes.
+//! Both advance by `Progress::add_row` and write by texts.rt. What differs is who holds the line: an `Intake` fills it
+//! from its reader up to the end, a feeder copies what a piece has of it and waits for the next piece.
+//!
+//! The state between two pieces is a **position** (`specs/Position.antt`): how many fields are whole, the bytes held of
+//! the unfinished row, and the readings that the unfinished field has so far. It depends on the bytes that came and not
+//! on how they were cut (law `pieces_join`). That is why `take_bytes` stops at the end of a row: then each step takes
+//! one position to the next, whatever the piece.
+//!
+//! Rows that nobody reads are copied too, and `read_held` forgets them. So the bytes of a cut field are one sum
+//! wherever the stream ends (`Progress::rest`): whole rows, and what the line holds.
+//!
+//! The outlet is lent to each call, and the feeder doesn't own it: a caller may keep both in one struct. No contract
+//! can ask for the same outlet in each call, so that is left to the caller. A fault may have cut a record off in the
+//! middle, so `has_failed` keeps the feeder from writing behind it.
+//!
+//! A new field of `Feeder` has to be seen in `specs/FeedView.antt` and `Feeding.antt`, and what always holds of it said
+//! in `IsFeederState` (`FeederState.antt`). What is written is changed in document.rt, and when it is written in
+//! progress.rt.
 ghost use Rattle.std.specs.Prelude.{◌≡◌, ◌≢◌, ℕ, List, ◌+◌, ◌*◌, ◌^◌, ◌<◌, ◌≤◌, ◌↔◌, [], ◌++◌, length, take};
 ghost use Rattle.std.specs.Prelude.{IsTrue, OnOk, OnErr, IfOk, IfErr, Err};
 ghost use Rattle.vbi_words.specs.Geometry.{width_of, line_bytes};
@@ -86,6 +106,7 @@ fn take_bytes<W: Write>(
         → IsStep W.contents config.now outlet.old outlet.new z bytes.now
         (position_in config.now line.new progress.new) result }
 {
+    // There is a byte here, so the stream goes on past the last field that is allowed. The byte isn't taken.
     if progress.fields == config.max_fields() {
         return Err(RunFault::TooManyFields);
     }

@@ -1,4 +1,8 @@
 //! How far a stream has come in whole rows. A stream that is pulled and one that is pushed both advance by this.
+//!
+//! A field's rows 15, 16 and 17 are its lines 16, 17 and 18, as rows are counted from 0. Of the other rows nothing is
+//! kept but their number. The three readings wait here until the field's last row is whole: a field that is cut has no
+//! record, so none may be written before.
 ghost use Rattle.std.specs.Prelude.{◌≡◌, ◌+◌, ◌*◌, ◌^◌, ◌↔◌, IsTrue, ◌<◌, ◌≤◌, List, ℕ, length, IfSome};
 ghost use Rattle.std.specs.Prelude.{Some, None, OnOk, OnErr, IfErr};
 ghost use Rattle.vbi_words.specs.Geometry.{height_of, line_bytes};

@@ -79,6 +79,7 @@ fn run<K: Kind, R: Read, W: Write>(
 {
     put(outlet, K::head(config).as_str())?;
     let mut progress = Progress::new();
+    // Rows of the whole stream; `progress` counts those of a field.
     for row in 0..config.row_limit() {
         match fill_line(config, &progress, intake)? {
             Filled::Full => {
@@ -91,6 +92,8 @@ fn run<K: Kind, R: Read, W: Write>(
             }
         }
     }
+    // As many fields as are allowed are whole. The stream has to end here, and only another read can show whether it
+    // does.
     match fill_line(config, &progress, intake)? {
         Filled::Ended(0) => end::<K, W>(outlet, progress.fields, 0, intake.looked()),
         Filled::Ended(_) => Err(RunFault::TooManyFields),

@@ -94,6 +94,7 @@ pub(crate) fn read_word_row(row: &[u8]) -> Option<WordRow>
         return None;
     };
     match cut_at_space(third) {
+        // A third space: four items, or an empty one.
         Some(_) => None,
         None => join_items(read_item(first), read_item(second), read_item(third)),
     }

@@ -28,7 +28,7 @@ static WORDS: [(u32, &str, &str); 41] = [
     (0x8AE712, "8AE712", "clv picture 07 12"),
     (0x8FE999, "8FE999", "clv picture 59 99"),
     (0x8DC000, "8DC000", "cx on 000"),
-    (0x8BAFFF, "8BAFFF", "cx off FFF"),
+    (0x8DCFFF, "8DCFFF", "cx on FFF"),
     (0x80D000, "80D000", "users 0 000"),
     (0x87DDDD, "87DDDD", "users 7 DDD"),
     (0x807DDD, "807DDD", "chapter 07"),
@@ -47,7 +47,7 @@ static WORDS: [(u32, &str, &str); 41] = [
     (0x8CE345, "8CE345", "clv picture 23 45"),
     (0x8AE000, "8AE000", "clv picture 00 00"),
     (0x8DCABC, "8DCABC", "cx on ABC"),
-    (0x8BA012, "8BA012", "cx off 012"),
+    (0x8DC012, "8DC012", "cx on 012"),
 ];
 
 // Numbers too wide for their digits, as no word has them.
@@ -56,7 +56,7 @@ static BY_HAND: [(Code, &str); 5] = [
     (Code::Picture(100_000), "picture 100000"),
     (Code::Chapter(255), "chapter 255"),
     (Code::CxOn(0xFFFF), "cx on FFFF"),
-    (Code::CxOff(0x1000), "cx off 1000"),
+    (Code::CxOn(0x1000), "cx on 1000"),
 ];
 
 const CAUSES: [(Outcome, &str); 13] = [

@@ -1,4 +1,32 @@
-//! Decoding the levels of a line to the word that they show.
+//! Decoding the levels of a line to the word that they show, one run of equal levels at a time.
+//!
+//! A cell has two half cells, of which one is low and one is high, and its bit is the level of the second. So the level
+//! changes in the middle of every cell, and may stay the same from one cell to the next. A run of equal levels is one
+//! half cell or two, and two are always longer than one: the most columns of one are less than twice the fewest. Here
+//! are four cells after three lows, with the state that begins with each run:
+//!
+//! ```text
+//! cell         |      1      |      2      |      3      |      4
+//! bit          |      1      |      0      |      0      |      1
+//! level     ..........##############.......#######..............#######
+//! state     Lead      Second        Second First  Second        Second
+//! ```
+//!
+//! How long a run will be isn't known while it lasts. One that begins in the middle of a cell (`Second`) may end with
+//! that cell or, as a double run, in the middle of the next: `turn_second` decides it by the length, once the level has
+//! changed. One that begins with a cell (`First`) ends in its middle. The first half cell of a word is low, so it can't
+//! be told from the lows before it, and `Lead` counts both. The lows behind a word may be any number too: they are the
+//! `Tail` or, where the last bit is 0, belong to the last cell's `Second`, which has no greatest length then.
+//!
+//! A run that is too short, or neither one half cell nor two, shows when the level changes (the cause `change`), and
+//! so does a high behind the word; one that is too long shows at the first column past its limit (`hold`). `None` and
+//! `Err` mean that no continuation shows a word, so that column is the first hopeless one.
+//!
+//! `read_runs` (outcome.rt) decodes a line this way where straight.rt finds no word, and `smoothed_word` (reading.rt)
+//! decodes the smoothed levels. The contracts here speak of a machine, `vbi_words/proofs/Machine.antt`, for which it is
+//! proved once what its states mean for the definition `Shows`; `specs/Decoder.antt` says which of its states a value
+//! here is. So a change of the states changes both files, and the proofs about the machine. How long a half cell may be
+//! is decided in `vbi_words` (system.rt, and `Geometry.antt`), and nothing here changes with it.
 
 ghost use Rattle.std.specs.Prelude.{◌≡◌, ◌<◌, ◌^◌, ◌+◌, ◌≤◌, List, Bool, [], ◌∷◌};
 ghost use Rattle.std.specs.Prelude.{◌++◌, replicate, IfSome, IfNone, IfOk, IfErr};
@@ -116,6 +144,7 @@ impl Decoder {
     }
 
     /// The decoder after one more column of the same level, or `None` where no word can be shown any more.
+    // A column at a time, as the machine of the proofs goes. `read_run` takes one such step, and then the rest at once.
     #[tactic(auto, using(crate::proofs::Steps::steps))]
     fn stay(self, system: System) -> Option<Decoder>
         requires sound { IsSound self }
@@ -332,6 +361,7 @@ impl Decoder {
         let Some(begun) = self.next(system, level) else {
             return Err(0);
         };
+        // The other columns have the level of the first, so only the limit of a run's length can be passed now.
         let more = count - 1;
         match begun.limit(system) {
             Some(limit) => {

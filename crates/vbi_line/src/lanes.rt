@@ -1,4 +1,18 @@
 //! Slicing a line into levels, sixteen samples at a time.
+//!
+//! A level is whether a sample is above the middle of black and white. blocks.rt compares sixteen samples with it at
+//! once, by the processor's vectors, and gives a bit for each; packed.rt holds the bits of a line. From there on nobody
+//! looks at samples: the first reading, the second and every cause are found in the bits, which is why one pass is
+//! enough for both readings.
+//!
+//! There are two slicers. This one goes over a `LineBuf`, which counts each sample that is looked at, and is the one
+//! behind the promise that no sample is looked at more than twice. in_place.rt slices bytes where they lie, for callers
+//! who need no counts; it may look at the last samples twice, as its last block overlaps the one before. Here the
+//! samples behind the last whole block (14 of NTSC, 15 of PAL) are taken one by one, so that each counts once.
+//!
+//! Sixteen divides 64, the columns of a word of `Packed`, so no block is split between two of them: `Packed::push`
+//! requires it. Another number of lanes changes `LANES`, the arrays in blocks.rt, `LineBuf::next_block` and what
+//! `specs/Line.antt` says of a block. How a sample becomes a level is said by `Levels.antt` in `vbi_words`.
 
 ghost use Rattle.std.specs.Prelude.{◌≡◌, ◌+◌, ◌^◌, ◌<◌, ◌≤◌, ◌∷◌, length};
 ghost use Rattle.vbi_words.specs.Geometry.{width_of};

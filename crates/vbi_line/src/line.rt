@@ -1,4 +1,22 @@
 //! The bytes of one line, and the passes over its samples.
+//!
+//! A line goes through three stages: bytes are written into `room` and held by `commit`, until `is_full`; a pass goes
+//! over the samples; `clear` forgets the line, and its array is used for the next one. An `Intake` (intake.rt) fills it
+//! from a reader, `vbi_field::Feeder` from pieces of a stream, and `slice_lanes` (lanes.rt) is all that goes over it.
+//!
+//! It is a type of its own so that the promises about looks hold by construction. The bytes are private, and samples
+//! come out by `next_sample` and `next_block` alone, which count them. `start_pass` requires that fewer than two passes
+//! were started, so nobody can look at a sample three times. The readers of this crate need one pass; the second is for
+//! a caller's own.
+//!
+//! A contract sees a `Line` (`specs/Line.antt`): the bytes held, the room, and the cursors of the passes as a list, the
+//! latest first. As there are two at most, two numbers hold that list: `cursor`, and `earlier` for the pass before.
+//! `specs/LineView.antt` says which fields make it, so a change of the fields changes that file. Bytes of an earlier
+//! line stay in the array, and aren't seen: a pass needs a whole line that was committed. `looked` counts over all
+//! lines. Its limits in the `requires` (2^61, 2^62) only say that there is room for the looks of the next line.
+//!
+//! The array stands in store.rt, behind one method that lends a part of it, since that lending is the one thing of this
+//! crate whose whole proof is written by hand.
 
 ghost use Rattle.std.specs.Prelude.{◌≡◌, ◌+◌, ◌*◌, ◌^◌, ◌<◌, ◌≤◌, ◌↔◌, [], ◌∷◌, ◌++◌, length, take, drop, sum, IsTrue};
 ghost use Rattle.std.specs.Borrow.{sem};
@@ -121,6 +139,7 @@ impl LineBuf {
         ensures rest { KeepsBytes self.old self.new }
         ensures looked { self.new.looked ≡ self.old.looked }
     {
+        // In a first pass `earlier` gets a cursor that counts for nothing: only those of `passes` passes are seen.
         self.earlier = self.cursor;
         self.cursor = 0;
         self.passes += 1;

@@ -8,6 +8,8 @@ ghost use Rattle.vbi_line.specs.Runs.{IsRun};
 use std::marker::Model;
 
 /// The levels of a line: one bit for each column, set where the sample is high.
+// 18 words have 1,152 bits, for the 1,135 columns of PAL. The bits past the width are 0, so a search that comes there
+// finds lows, and needs to ask for the width only once a word has no other level.
 #[derive(Drop)]
 pub struct Packed {
     words: [u64; 18],
@@ -26,7 +28,7 @@ impl Model for Packed {
     ghost invariant = { IsPacked };
 }
 
-/// The last column from which there are 64 in the words of a packed line.
+/// The last column from which there are 64 in the words of a packed line: the first of the last word.
 pub(crate) const LAST_WINDOW: usize = 1088;
 
 /// How many bits of the word have this level, from a place on up to the first that has the other.

@@ -109,6 +109,8 @@ fn smoothed_word(packed: &Packed, system: System) -> Option<Word24>
     while column < packed.width() {
         let (level, count) = packed.next_run(column);
         let count = usize::from(count);
+        // The smoothed level of a column is that of the latest four equal ones. So a run of up to three has the level
+        // of what was before, and so do the first three of a longer one.
         if count < 4 {
             match decoder.read_run(system, settled, count) {
                 Ok(next) => decoder = next,

@@ -1,5 +1,31 @@
 //! The straight way to a line's word, cell by cell, without a branch on whether a run is one half cell or two, which no
 //! processor foresees. It finds the word of most lines that show one, and no cause.
+//!
+//! The middles of the cells are enough. In the middle of every cell the level changes, and the level behind that change
+//! is the cell's bit; where one cell ends and the next begins, the level may change or not:
+//!
+//! ```text
+//!        middle       end         middle
+//! .........############...........####    two runs of one half cell each, at most `half_max` columns long
+//! .........#######################....    one run of two half cells, at least twice `half_min` columns long
+//! ```
+//!
+//! Twice `half_min` is more than `half_max`. So the next middle is the first change that is more than `half_max`
+//! columns away, in either case, and a change before that can only be the cell's end. `next_middle` looks for both in
+//! the 64 columns behind a middle, which is enough as two half cells have 44 at most, and then asks whether the lengths
+//! are right. Where there is one run, its two halves are the half cells. A glitch makes changes of its own, with which
+//! the lengths come out wrong, and the answer is `None`.
+//!
+//! A word that is found here is proved to be the one that the line shows: `IsMiddle` says that the machine of
+//! decoder.rt, after the columns up to a middle, is in the state `Second` with the same bits. That a word is found
+//! isn't proved: `None` is a right answer to every line, and `find_outcome` (outcome.rt) then goes run by run. PAL
+//! lines whose word begins so late that the middle of its last cell but one is past `LAST_WINDOW` are read that way
+//! too.
+//!
+//! Tests hold each line's outcome against one that is written down, whichever way found it. Drawn words take this one,
+//! lines with a cause the other, and so do the words at the very end of a PAL line (`EDGES` in `vbi_line_tests`), which
+//! lie too late for this one. If it found no word any more, no check or test would fail: only `bench/lines.sh` would
+//! tell.
 
 ghost use Rattle.std.specs.Prelude.{◌≡◌, ℕ, ◌+◌, ◌*◌, ◌/◌, ◌^◌, ◌<◌, ◌≤◌, ◌⊎◌, [], ◌∷◌, ◌++◌, true, IfSome};
 ghost use Rattle.vbi_words.specs.Geometry.{half_max};
@@ -39,8 +65,8 @@ fn next_middle(window: u64, system: System) -> Option<usize>
 {
     let least = system.half_min();
     let most = system.half_max();
-    // The bit of a column is set where the level changes behind it. The next middle is behind the first change that is
-    // a half cell or more away; a change before that is the cell's end.
+    // The bit of a column is set where the level changes behind it. The next middle is the first change that is more
+    // than the longest half cell away; a change before that is the cell's end.
     let changes = window ^ (window >> 1);
     let columns = most + 1 + equal_bits(changes, most, false);
     let first = 1 + equal_bits(changes, 0, false);
@@ -79,6 +105,7 @@ fn last_middle(packed: &Packed, system: System, first: usize) -> Option<(usize, 
     let mut cells: u32 = 0;
     let mut bits: u32 = 0;
     while cells < CELLS_BEFORE {
+        // A word of PAL may go on from here, and is read run by run then.
         if column > LAST_WINDOW {
             return None;
         }

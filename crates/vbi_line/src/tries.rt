@@ -7,6 +7,7 @@ use crate::counted::{Counted, Fail};
 use std::io::{Read, Write};
 
 /// How many interruptions in a row are passed over, each by another call. The next one is a fault.
+// There is a limit so that a run ends with any device, also with one that answers nothing but interruptions.
 pub const RETRIES: u32 = 16;
 
 impl<R: Read> Counted<'_, R> {

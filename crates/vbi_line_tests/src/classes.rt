@@ -16,7 +16,7 @@ fn users(digit: u8, number: u16) -> Code {
     Code::Users { digit, number }
 }
 
-// The law `worked_codes` has a dozen words of each class.
+// The law `worked_codes` has a dozen words of each class, and the scripts try the corners of every pattern.
 #[test]
 fn known_words_have_their_codes() -> Result<(), Fail> {
     for (value, code) in [
@@ -38,8 +38,7 @@ fn known_words_have_their_codes() -> Result<(), Fail> {
         (0xF0DD99, time(0, 99)),
         (0x8AE712, clv_picture(7, 12)),
         (0x8FE999, clv_picture(59, 99)),
-        (0x8DC000, Code::CxOn(0)),
-        (0x8BAFFF, Code::CxOff(0xFFF)),
+        (0x8DCFFF, Code::CxOn(0xFFF)),
         (0x80D000, users(0, 0)),
         (0x87DDDD, users(7, 0xDDD)),
         // The least and the greatest word of all.
@@ -51,8 +50,8 @@ fn known_words_have_their_codes() -> Result<(), Fail> {
     Ok(())
 }
 
-/// Words beside those of each class, which differ from them in one digit and have no class.
-static OTHERS: [&[u32]; 18] = [
+/// Words beside those of a class, which differ from them in one digit and have no class.
+static OTHERS: [&[u32]; 17] = [
     // 88FFFF, 80EEEE, 82CFFF and 87FFFF stand alone.
     &[0x98FFFF, 0x89FFFF, 0x88EFFF, 0x88FEFF, 0x88FFEF, 0x88FFFE],
     &[0x90EEEE, 0x81EEEE, 0x80FEEE, 0x80EDEE, 0x80EFEE],
@@ -73,12 +72,9 @@ static OTHERS: [&[u32]; 18] = [
     &[0x9AE000, 0xFAE000, 0x89E000, 0x8AD000, 0x8AF000, 0x8FD999],
     &[0x8FF999, 0x8AEA00, 0x8FEA99, 0x8AE0A0, 0x8FE9A9],
     &[0x8AE00A, 0x8FE99A],
-    // CX on is 8DC000 to 8DCFFF, CX off 8BA000 to 8BAFFF.
+    // CX on is 8DC000 to 8DCFFF.
     &[
         0x9DC000, 0xFDC000, 0x8CC000, 0x8EC000, 0x8DB000, 0x8DD000, 0x8DDFFF,
-    ],
-    &[
-        0x9BA000, 0xFBA000, 0x8AA000, 0x8CA000, 0x8B9000, 0x8BB000, 0x8BBFFF,
     ],
     // Users' codes are 80D000 to 87DFFF.
     &[

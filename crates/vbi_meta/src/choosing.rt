@@ -40,6 +40,7 @@ pub fn settings(value: Option<&Value>, overrides: &Overrides) -> Result<Config, 
     // What the laws of the document read back ask of a config.
     ensures numbers { IfOk result IsConfig }
 {
+    // Of several faults the first one is reported, in an order that docs/FORMATS.md promises: that of these calls.
     let parameters = parameters(value)?;
     let system = system(
         overrides.system,
@@ -117,6 +118,8 @@ fn system(
     if let Some(system) = given {
         return Ok(system);
     }
+    // Both members are read before they are compared: where one of them is no system, that is the fault, and not that
+    // the two disagree.
     let named = match name {
         None => None,
         Some(text) => Some(named(text).ok_or(MetaFault::UnknownSystem)?),
@@ -164,6 +167,7 @@ fn level(
     if let Some(level) = given {
         return Ok(level);
     }
+    // A number with a decimal point is none here: rounding it would make a level that the metadata hasn't got.
     let level = member.ok_or(missing)?.as_u64().ok_or(bad)?;
     u16::try_from(level).map_err(|_| bad)
 }

@@ -1,18 +1,18 @@
--- How the rule is reckoned: weights by what they have in common, and one sighting of a field judged beside the other.
+-- How the rule is reckoned: weights by how numbers fit, and one sighting of a field judged beside the other.
 use Rattle.std.specs.Prelude.{◌≡◌, ℕ, ◌<◌, ◌≤◌, List, Bool}
 use Rattle.vbi_side.specs.declared.sighting.Sighting.{Sighting}
 use Rattle.vbi_side.specs.declared.sighting.Sightings.{Sightings}
 use Rattle.vbi_side.specs.declared.pace.Pace.{Pace}
-use Rattle.vbi_side.specs.declared.belief.Kin.{Kin}
-use Rattle.vbi_side.specs.declared.belief.Kin.TheVariants.{Runs, Stays}
+use Rattle.vbi_side.specs.declared.belief.Fit.{Fit}
+use Rattle.vbi_side.specs.declared.belief.Fit.TheVariants.{Runs, Stays}
 use Rattle.vbi_side.specs.Sightings.{Has}
 use Rattle.vbi_side.specs.Paces.{fits, stays}
 use Rattle.vbi_side.specs.Beliefs.{enough, support_of}
 
--- the test that is meant
-abbrev pub is_akin : Kin → ℕ → ℕ → ℕ → ℕ → Bool
-is_akin (Runs pace) = fits pace
-is_akin Stays = stays
+-- whether two numbers fit in this way: at the disc's pace, or as of one still
+abbrev pub fits_as : Fit → ℕ → ℕ → ℕ → ℕ → Bool
+fits_as (Runs pace) = fits pace
+fits_as Stays = stays
 
 -- less supports another number that the other sighting has
 abbrev pub IsAhead : Pace → List Sightings → ℕ → ℕ → Sighting → Type 0

@@ -24,9 +24,9 @@ abbrev pub rate_of : System → ℕ
 rate_of Ntsc = 30
 rate_of Pal = 25
 
--- how much a word weighs that was read in this pass
+-- how much a word weighs of this pass: one that only smoothed levels or the nearest drawn row show weighs half
 abbrev pub pass_weight : ℕ → ℕ
-pass_weight pass = if pass == 2 then 1 else 2
+pass_weight pass = if pass == 2 || pass == 3 then 1 else 2
 
 -- the code of a line's word, if it shows one
 abbrev pub code_in : Shown → Option Code

@@ -37,6 +37,7 @@ fn fill(fields: &[Sightings], pace: Pace, numbers: &mut [Number])
     requires { AreMarks pace fields.now numbers.old }
     ensures { AreAnswers pace fields.now numbers.new }
 {
+    // Written over what is read: a due number isn't believed, so those filled in before count for no later field.
     for field in 0..numbers.len() {
         if let Some(number) = number_due(fields, pace, numbers, field) {
             numbers[field] = Number::due(number);

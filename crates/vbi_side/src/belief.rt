@@ -1,9 +1,34 @@
 //! Which numbers are believed.
+//!
+//! The code has no check digit: a misread word is a number like any other. What tells them apart is the disc, whose
+//! numbers go on at a known pace. So each sighting of a number in the 49 fields around one (24 before it, itself, 24
+//! behind) is asked whether it **fits**: whether the two numbers are as far apart as their fields. What fits is
+//! weighed, 2 for a word of pass 1 and 1 for a word of pass 2, and from 10 on the number is believed: that is five
+//! lines in pass 1. Where the field's two lines show two numbers, the one with more support is believed, and none if
+//! both have as much.
+//!
+//! The bound of 10 is what the laws rest on: where less than 10 was misread around a field, a believed number is right
+//! (`sound`), and with 10 a wrong one may be believed (`worked_sides`). A player that stands still breaks the pace, and
+//! shows one number in every second field. So numbers may fit as those of a **still** too, but there 4 are taken off:
+//! where a disc runs on, and a number is misread as one that another field rightly shows, that field would stand by the
+//! misread one as by a still's, and its two lines weigh up to 4.
+//!
+//! A field within reach is counted by its `offset` from the first of the 49, so that no distance is negative, and
+//! places and numbers are compared by sums and products, with nothing to divide or to round. On film 2 pictures last 5
+//! fields, so a picture needn't begin where its number says, and numbers fit to within one field.
+//!
+//! answers.rt asks `judge_field` of each field, and found.rt counts what is believed at each pace to find the disc's.
+//! due.rt fills in what the believed numbers leave. All else about a side (what is missing, swapped or lost) is judged
+//! by the Python package, by a rule of its own over the whole side (docs/SIDES.md).
+//!
+//! A change of a bound changes `specs/Beliefs.antt`, the laws and worked sides that are sharp at it (`Truth.antt`,
+//! `Worked.antt`), include/ldvbi.h, docs/PROMISES.md, and the plain judge in C that `bench/judge.c` compares this one
+//! with.
 
 ghost use Rattle.std.specs.Prelude.{◌≡◌, ◌↔◌, ℕ, ◌+◌, ◌*◌, ◌-◌, ◌≤◌, ◌<◌, length, Some, true};
 ghost use Rattle.vbi_side.specs.Beliefs.{reach, enough, field_most, sighting_weight, weight_at, window_weight};
 ghost use Rattle.vbi_side.specs.Beliefs.{support_of, Believed};
-ghost use Rattle.vbi_side.specs.Ahead.{is_akin, IsAhead, IsBelieved};
+ghost use Rattle.vbi_side.specs.Ahead.{fits_as, IsAhead, IsBelieved};
 
 use crate::pace::Pace;
 use crate::sighting::{Sighting, Sightings};
@@ -20,27 +45,26 @@ pub const ENOUGH: u32 = 10;
 /// The most that one field's sightings weigh.
 const FIELD_MOST: u32 = 4;
 
-/// What a sighting has to have in common with a number.
+/// How a sighting may fit a number.
 #[derive(Clone, Copy)]
-enum Kin {
-    /// It fits at the disc's pace.
+enum Fit {
+    /// At the disc's pace.
     Runs(Pace),
-    /// It is of one still.
+    /// As of one still.
     Stays,
 }
 
-/// Whether a number is akin to one of the field that is looked at from, which is `REACH - offset` fields behind its
-/// own.
-fn akin(kin: Kin, number: u32, offset: usize, other: u32) -> bool
+/// Whether `number` of field i is fitted by `other` of field i + offset - `REACH`.
+fn fits_as(fit: Fit, number: u32, offset: usize, other: u32) -> bool
     requires { offset ≤ 2 * reach }
-    ensures { (i : ℕ) → reach ≤ i + offset → result ≡ is_akin kin i number (i + offset - reach) other }
+    ensures { (i : ℕ) → reach ≤ i + offset → result ≡ fits_as fit i number (i + offset - reach) other }
 {
     let (wide_number, wide_other) = (u64::from(number), u64::from(other));
     let (offset, middle) = (offset as u64, REACH as u64);
-    match kin {
-        Kin::Stays => other == number && offset % 2 == 0,
-        Kin::Runs(Pace::Video) => offset + 2 * wide_number == middle + 2 * wide_other,
-        Kin::Runs(Pace::Film) => {
+    match fit {
+        Fit::Stays => other == number && offset % 2 == 0,
+        Fit::Runs(Pace::Video) => offset + 2 * wide_number == middle + 2 * wide_other,
+        Fit::Runs(Pace::Film) => {
             let here = 2 * offset + 5 * wide_number;
             let there = 2 * middle + 5 * wide_other;
             here <= there + 2 && there <= here + 2
@@ -48,25 +72,25 @@ fn akin(kin: Kin, number: u32, offset: usize, other: u32) -> bool
     }
 }
 
-/// The weight of a sighting, where it is akin.
-fn weight_where_akin(kin: Kin, number: u32, offset: usize, sighting: &Sighting) -> u32
+/// The weight of a sighting, where it fits.
+fn weight_where_it_fits(fit: Fit, number: u32, offset: usize, sighting: &Sighting) -> u32
     requires { offset ≤ 2 * reach }
     ensures value { (i : ℕ) → reach ≤ i + offset
-        → result ≡ sighting_weight (is_akin kin i number (i + offset - reach)) sighting.now }
+        → result ≡ sighting_weight (fits_as fit i number (i + offset - reach)) sighting.now }
     ensures range { result ≤ 2 }
 {
-    if sighting.is_seen() && akin(kin, number, offset, sighting.number) {
+    if sighting.is_seen() && fits_as(fit, number, offset, sighting.number) {
         sighting.counts()
     } else {
         0
     }
 }
 
-/// The weight of what is akin to a number of this field in the one that is `offset - REACH` fields behind it.
-fn weight_of_other(fields: &[Sightings], kin: Kin, field: usize, number: u32, offset: usize) -> u32
+/// The weight of what fits a number of this field in the one that is `offset - REACH` fields behind it.
+fn weight_of_other(fields: &[Sightings], fit: Fit, field: usize, number: u32, offset: usize) -> u32
     requires inside { field < length fields.now }
     requires near { offset ≤ 2 * reach }
-    ensures value { result ≡ weight_at (is_akin kin field number) fields.now field offset }
+    ensures value { result ≡ weight_at (fits_as fit field number) fields.now field offset }
     ensures range { result ≤ field_most }
 {
     if field + offset < REACH {
@@ -74,21 +98,21 @@ fn weight_of_other(fields: &[Sightings], kin: Kin, field: usize, number: u32, of
     }
     match fields.get(field + offset - REACH) {
         Some(other) => {
-            weight_where_akin(kin, number, offset, &other.line_17)
-                + weight_where_akin(kin, number, offset, &other.line_18)
+            weight_where_it_fits(fit, number, offset, &other.line_17)
+                + weight_where_it_fits(fit, number, offset, &other.line_18)
         }
         None => 0,
     }
 }
 
-/// The weight of the sightings within reach of a field that are akin to this number there.
-fn weight_around(fields: &[Sightings], kin: Kin, field: usize, number: u32) -> u32
+/// The weight of the sightings within reach of a field that fit this number there.
+fn weight_around(fields: &[Sightings], fit: Fit, field: usize, number: u32) -> u32
     requires { field < length fields.now }
-    ensures { result ≡ window_weight (is_akin kin field number) fields.now field }
+    ensures { result ≡ window_weight (fits_as fit field number) fields.now field }
 {
     let mut weight = 0;
     for offset in 0..WINDOW {
-        weight += weight_of_other(fields, kin, field, number, offset);
+        weight += weight_of_other(fields, fit, field, number, offset);
     }
     weight
 }
@@ -99,20 +123,20 @@ pub fn support(fields: &[Sightings], pace: Pace, field: usize, number: u32) -> u
     requires { field < length fields.now }
     ensures { result ≡ support_of pace fields.now field number }
 {
-    let running = weight_around(fields, Kin::Runs(pace), field, number);
-    let still = weight_around(fields, Kin::Stays, field, number);
+    let running = weight_around(fields, Fit::Runs(pace), field, number);
+    let still = weight_around(fields, Fit::Stays, field, number);
     running.max(still.saturating_sub(FIELD_MOST))
 }
 
-/// Whether the sightings within reach of a field that are akin to this number there weigh so much.
-fn reaches(fields: &[Sightings], kin: Kin, field: usize, number: u32, wanted: u32) -> bool
+/// Whether the sightings within reach of a field that fit this number there weigh so much.
+fn reaches(fields: &[Sightings], fit: Fit, field: usize, number: u32, wanted: u32) -> bool
     requires inside { field < length fields.now }
     requires some { 1 ≤ wanted }
-    ensures { (result ≡ true) ↔ (wanted ≤ window_weight (is_akin kin field number) fields.now field) }
+    ensures { (result ≡ true) ↔ (wanted ≤ window_weight (fits_as fit field number) fields.now field) }
 {
     let mut weight = 0;
     for offset in 0..WINDOW {
-        weight += weight_of_other(fields, kin, field, number, offset);
+        weight += weight_of_other(fields, fit, field, number, offset);
         // A right number mostly has enough long before the window's end.
         if weight >= wanted {
             return true;
@@ -126,8 +150,8 @@ fn is_supported(fields: &[Sightings], pace: Pace, field: usize, number: u32) -> 
     requires { field < length fields.now }
     ensures { (result ≡ true) ↔ (enough ≤ support_of pace fields.now field number) }
 {
-    reaches(fields, Kin::Runs(pace), field, number, ENOUGH)
-        || reaches(fields, Kin::Stays, field, number, ENOUGH + FIELD_MOST)
+    reaches(fields, Fit::Runs(pace), field, number, ENOUGH)
+        || reaches(fields, Fit::Stays, field, number, ENOUGH + FIELD_MOST)
 }
 
 /// Whether another number that the field shows has less support.

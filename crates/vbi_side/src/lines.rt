@@ -21,7 +21,7 @@ pub enum Counted {
 pub struct Shown {
     /// Its word, if it has one.
     pub word: Option<Word24>,
-    /// 2 where only the smoothed levels show the word, which then weighs half.
+    /// 2 where only the smoothed levels show the word, 3 where it is the nearest one: it then weighs half.
     pub pass: u8,
 }
 
@@ -41,7 +41,10 @@ impl Shown {
         ensures value { result ≡ pass_weight self.now.pass }
         ensures range { result ≤ 2 }
     {
-        if self.pass == 2 { 1 } else { 2 }
+        match self.pass {
+            2 | 3 => 1,
+            _ => 2,
+        }
     }
 
     /// The code of its word.

@@ -34,7 +34,7 @@ differs_sym true false = refl
 differs_sym false true = refl
 differs_sym false false = refl
 
-differences_sym : (x y : List Bool) → differences x y ≡ differences y x
+pub differences_sym : (x y : List Bool) → differences x y ≡ differences y x
 differences_sym [] [] = refl
 differences_sym [] (b ∷ y) = refl
 differences_sym (a ∷ x) [] = refl
@@ -352,7 +352,7 @@ module _ {sizes : Sizes} (ok : AreApart sizes) (d : ℕ) (gap : d + sizes.greate
           ∙ ap (λ (h : Bool). h ∷ others) (same_head is ∙ sym (same_head is'))
 
   -- words whose first bit is 1
-  agree_whole : (bits others x y : List Bool) → length bits ≡ length others → Draws sizes (true ∷ bits) x
+  pub agree_whole : (bits others x y : List Bool) → length bits ≡ length others → Draws sizes (true ∷ bits) x
       → Draws sizes (true ∷ others) y → length x ≡ length y → differences x y < d → bits ≡ others
   agree_whole bits others x y long p q same few =
       let P : List Bool → Type 0 = Draws sizes (true ∷ bits) in

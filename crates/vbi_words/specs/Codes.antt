@@ -1,6 +1,9 @@
 -- The classes of code words and the numbers that they carry: this project's own table of the codes of IEC 60857 and
 -- IEC 60856.
 use Rattle.std.specs.Prelude.{◌≡◌, ℕ, ◌≤◌, ◌+◌, ◌-◌, ◌*◌, ◌/◌, ◌%◌, ◌^◌, ◌⊎◌, List, [], ◌∷◌, Any}
+use Rattle.std.specs.Prelude.{Bool, false, ◌==◌, ◌&&◌, ◌||◌, nat_lt}
+use Rattle.vbi_words.specs.declared.system.System.{System}
+use Rattle.vbi_words.specs.declared.system.System.TheVariants.{Ntsc, Pal}
 use Rattle.vbi_words.specs.declared.code.Code.{Code}
 use Rattle.vbi_words.specs.declared.code.Code.TheVariants.{Picture, Chapter, Time, ClvPicture, CxOn, CxOff}
 use Rattle.vbi_words.specs.declared.code.Code.TheVariants.{Users, LeadIn, LeadOut, PictureStop, ClvMark, Other}
@@ -73,3 +76,29 @@ HasCodeOf patterns word code = Any (λ pattern. HasPattern word pattern × (code
 abbrev pub IsCode : ℕ → Code → Type 0
 IsCode word code =
     HasCodeOf (patterns_of word) word code ⊎ ((Any (HasPattern word) (patterns_of word) → ⊥) × (code ≡ Other))
+
+-- ---- on which lines
+
+-- the pictures of a second, which are counted from 0
+abbrev pub pictures_in_second : System → ℕ
+pictures_in_second Ntsc = 30
+pictures_in_second Pal = 25
+
+-- the line is 17 or 18
+abbrev pub is_17_or_18 : ℕ → Bool
+is_17_or_18 line = (line == 17) || (line == 18)
+
+-- whether a code may stand on this line of a field; an hour has 60 minutes
+abbrev pub may_stand : System → ℕ → Code → Bool
+may_stand system line LeadIn = is_17_or_18 line
+may_stand system line LeadOut = is_17_or_18 line
+may_stand system line (Picture number) = is_17_or_18 line
+may_stand system line (Chapter number) = is_17_or_18 line
+may_stand system line (Time hours minutes) = is_17_or_18 line && nat_lt minutes 60
+may_stand system line ClvMark = is_17_or_18 line
+may_stand system line PictureStop = (line == 16) || is_17_or_18 line
+may_stand system line (ClvPicture seconds picture) = (line == 16) && nat_lt picture (pictures_in_second system)
+may_stand system line (CxOn number) = line == 16
+may_stand system line (CxOff number) = line == 16
+may_stand system line (Users digit number) = line == 16
+may_stand system line Other = false

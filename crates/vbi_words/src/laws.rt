@@ -3,7 +3,7 @@
 
 ghost use Rattle.std.specs.Prelude.{◌≡◌, ℕ, suc, ◌≤◌, ◌<◌, ◌+◌, ◌-◌, List, Bool, true, false};
 ghost use Rattle.std.specs.Prelude.{[], ◌∷◌, ◌++◌, replicate, length, map, Option, Some, None};
-ghost use Rattle.std.specs.List.{range_with_len};
+ghost use Rattle.std.specs.List.{All, range_with_len};
 ghost use Rattle.vbi_words.specs.declared.system.System.{System};
 ghost use Rattle.vbi_words.specs.declared.system.System.TheVariants.{Ntsc, Pal};
 ghost use Rattle.vbi_words.specs.declared.outcome.Outcome.TheVariants.{Word, Unfinished, Change, Hold};
@@ -23,7 +23,7 @@ ghost use Rattle.vbi_words.specs.declared.code.Code.TheVariants.{Picture, Chapte
 ghost use Rattle.vbi_words.specs.declared.code.Code.TheVariants.{Users, LeadIn, LeadOut, PictureStop, ClvMark, Other};
 ghost use Rattle.vbi_words.specs.declared.format.Format.{Format};
 ghost use Rattle.vbi_words.specs.declared.format.Format.TheVariants.{Cav, Clv, Both, Neither};
-ghost use Rattle.vbi_words.specs.Codes.{IsCode};
+ghost use Rattle.vbi_words.specs.Codes.{IsCode, may_stand};
 ghost use Rattle.vbi_words.specs.Formats.{IsFormat, format_of_lines};
 ghost use Rattle.vbi_words.specs.CodeTable.{code_of};
 ghost use Rattle.vbi_words.specs.WorkedLines.{run_of_20, low_cell, long_lows, late_high, ones_of_11};
@@ -239,6 +239,33 @@ pub fn worked_codes()
         0x89E000 ∷ 0x8AEA00 ∷ 0x8AE0A0 ∷ 0x8AE00A ∷ 0x8AF000 ∷ 0x9AE000 ∷ 0x8CC000 ∷ 0x8DB000 ∷ 0x8DD000 ∷ 0x8EC000
         ∷ 0x8AA000 ∷ 0x8BB000 ∷ 0x8CA000 ∷ 0x88D000 ∷ 0x88DFFF ∷ 0x80C000 ∷ 0x80E000 ∷ 0x90D000 ∷ [])
         ≡ replicate 18 Other }
+{}
+
+/// On which lines a code may stand, row by row.
+pub fn worked_standing()
+    ensures picture { All (λ line. may_stand Ntsc line (Picture 79999) ≡ true) (17 ∷ 18 ∷ []) }
+    ensures not_picture { All (λ line. may_stand Pal line (Picture 1) ≡ false) (15 ∷ 16 ∷ 19 ∷ []) }
+    ensures chapter { All (λ line. may_stand Pal line (Chapter 79) ≡ true) (17 ∷ 18 ∷ []) }
+    ensures not_chapter { All (λ line. may_stand Ntsc line (Chapter 0) ≡ false) (15 ∷ 16 ∷ 19 ∷ []) }
+    ensures lead_in { All (λ line. may_stand Ntsc line LeadIn ≡ true) (17 ∷ 18 ∷ []) }
+    ensures not_lead_in { All (λ line. may_stand Ntsc line LeadIn ≡ false) (15 ∷ 16 ∷ 19 ∷ []) }
+    ensures lead_out { All (λ line. may_stand Pal line LeadOut ≡ true) (17 ∷ 18 ∷ []) }
+    ensures not_lead_out { All (λ line. may_stand Pal line LeadOut ≡ false) (15 ∷ 16 ∷ 19 ∷ []) }
+    ensures mark { All (λ line. may_stand Pal line ClvMark ≡ true) (17 ∷ 18 ∷ []) }
+    ensures not_mark { All (λ line. may_stand Pal line ClvMark ≡ false) (15 ∷ 16 ∷ 19 ∷ []) }
+    ensures time { All (λ line. may_stand Ntsc line (Time 9 59) ≡ true) (17 ∷ 18 ∷ []) }
+    ensures not_time { All (λ line. may_stand Ntsc line (Time 0 0) ≡ false) (15 ∷ 16 ∷ 19 ∷ []) }
+    ensures late_time { All (λ line. may_stand Pal line (Time 0 60) ≡ false) (16 ∷ 17 ∷ 18 ∷ []) }
+    ensures stop { All (λ line. may_stand Ntsc line PictureStop ≡ true) (16 ∷ 17 ∷ 18 ∷ []) }
+    ensures not_stop { All (λ line. may_stand Ntsc line PictureStop ≡ false) (15 ∷ 19 ∷ []) }
+    ensures clv_picture { (may_stand Ntsc 16 (ClvPicture 59 29) ≡ true) × (may_stand Pal 16 (ClvPicture 0 24) ≡ true) }
+    ensures late_picture { (may_stand Ntsc 16 (ClvPicture 0 30) ≡ false)
+        × (may_stand Pal 16 (ClvPicture 0 25) ≡ false) }
+    ensures not_clv_picture { All (λ line. may_stand Pal line (ClvPicture 0 0) ≡ false) (15 ∷ 17 ∷ 18 ∷ 19 ∷ []) }
+    ensures status { All (λ code. may_stand Ntsc 16 code ≡ true) (CxOn 10 ∷ CxOff 4095 ∷ Users 7 0 ∷ []) }
+    ensures not_status { All (λ line. All (λ code. may_stand Pal line code ≡ false)
+        (CxOn 10 ∷ CxOff 4095 ∷ Users 7 0 ∷ [])) (15 ∷ 17 ∷ 18 ∷ 19 ∷ []) }
+    ensures other { All (λ line. may_stand Pal line Other ≡ false) (16 ∷ 17 ∷ 18 ∷ []) }
 {}
 
 /// The formats of fields by the words of their lines 16, 17 and 18, written down by hand; 0 stands for no word.

@@ -72,6 +72,7 @@ impl Levels {
     pub fn is_high(self, sample: u16) -> bool
         ensures { result ≡ is_high_of self sample }
     {
+        // Twice the sample, in 32 bits: half of an odd sum would be rounded, and a sum in 16 bits would wrap.
         2 * u32::from(sample) > u32::from(self.black) + u32::from(self.white)
     }
 }

@@ -75,6 +75,8 @@ impl System {
     }
 
     /// The most samples of a half cell.
+    // A microsecond has 14.3 samples in NTSC and 17.7 in PAL. The most is less than twice the fewest, so that one long
+    // half cell is never taken for two short ones.
     pub fn half_max(self) -> usize
         ensures { result ≡ half_max self }
     {

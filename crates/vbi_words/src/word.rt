@@ -8,6 +8,8 @@ use std::fmt;
 use std::marker::Model;
 
 /// A code word of 24 bits (IEC 60857 and IEC 60856) whose top bit is 1 (this project's own rule).
+// 24 high half cells with a low one between each two show 000000 and, read from half a cell before, FFFFFF. With the
+// rule only the second of these is a word.
 #[derive(Clone, Copy, Debug, PartialEq, Eq)]
 pub struct Word24 {
     value: u32,

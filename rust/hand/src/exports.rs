@@ -3,7 +3,7 @@
 //! The caller owes what that header says: a pointer points to as many bytes, or readings, as the length beside it says,
 //! or to one value; only where the length is 0 it may be null.
 #![allow(clippy::missing_safety_doc)]
-use crate::c::{self, LdvbiCode, LdvbiFieldReadings, LdvbiReading};
+use crate::c::{self, LdvbiCode, LdvbiFieldReadings, LdvbiNear, LdvbiReading};
 use crate::side::{Number, Sightings};
 use std::mem::size_of;
 use std::slice::{from_raw_parts, from_raw_parts_mut};
@@ -102,6 +102,43 @@ pub unsafe extern "C" fn ldvbi_read_fields(
     count: usize,
 ) -> u32 {
     c::ldvbi_read_fields(system, black, white, values(samples, length), room(out, count))
+}
+
+#[no_mangle]
+pub unsafe extern "C" fn ldvbi_nearest(
+    system: u32,
+    black: u32,
+    white: u32,
+    samples: *const u8,
+    length: usize,
+    out: *mut LdvbiNear,
+) -> u32 {
+    c::ldvbi_nearest(system, black, white, values(samples, length), &mut *out)
+}
+
+#[no_mangle]
+pub unsafe extern "C" fn ldvbi_recover_rows(
+    system: u32,
+    black: u32,
+    white: u32,
+    samples: *const u8,
+    length: usize,
+    out: *mut LdvbiFieldReadings,
+) -> u32 {
+    c::ldvbi_recover_rows(system, black, white, values(samples, length), &mut *out)
+}
+
+#[no_mangle]
+pub unsafe extern "C" fn ldvbi_recover_fields(
+    system: u32,
+    black: u32,
+    white: u32,
+    samples: *const u8,
+    length: usize,
+    out: *mut LdvbiFieldReadings,
+    count: usize,
+) -> u32 {
+    c::ldvbi_recover_fields(system, black, white, values(samples, length), room(out, count))
 }
 
 #[no_mangle]

@@ -1,9 +1,9 @@
 //! The biphase code words of LaserDiscs (IEC 60857 and IEC 60856), from fields in ld-decode's TBC format.
 //!
 //! The modules are the source of the program `ldvbi` without its contracts, which were proved of it: [`words`] (what
-//! words are and say), [`line`] (the word of a line), [`field`] (documents and reports of a stream), [`meta`] (settings
-//! from ld-decode's metadata), [`side`] (which number of its disc each field shows), [`c`] (the calls of the C
-//! interface, over slices) and [`cli`] (the program's commands).
+//! words are and say), [`line`] (the word of a line), [`near`] (the word that is nearest to some lines), [`field`]
+//! (documents and reports of a stream), [`meta`] (settings from ld-decode's metadata), [`side`] (which number of its
+//! disc each field shows), [`c`] (the calls of the C interface, over slices) and [`cli`] (the program's commands).
 //! Nothing but metadata takes memory. What a function asks of its arguments stands in its contract, in the source;
 //! where that isn't met it panics or answers anything, but touches no memory that isn't its own.
 //!
@@ -87,5 +87,6 @@ mod exports;
 pub mod field;
 pub mod line;
 pub mod meta;
+pub mod near;
 pub mod side;
 pub mod words;

@@ -1,10 +1,10 @@
 use Rattle.std.proofs.Common.{◌≡◌, ◌*◌, ◌≤◌}
 use Rattle.vbi_side.specs.Beliefs.{weight_below}
-use Rattle.vbi_side.specs.Ahead.{is_akin}
+use Rattle.vbi_side.specs.Ahead.{fits_as}
 use Rattle.vbi_side.proofs.belief.weight_around.Given as goal
 
 abbrev pub invariant-loop-offset : goal.invariant-loop-offset
 invariant-loop-offset l = record {
-  weight : l.weight ≡ weight_below (is_akin l.kin l.field l.number) l.fields l.field l.offset;
+  weight : l.weight ≡ weight_below (fits_as l.fit l.field l.number) l.fields l.field l.offset;
   bound : l.weight ≤ 4 * l.offset;
 }

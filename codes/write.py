@@ -1,0 +1,255 @@
+#!/usr/bin/env python3
+"""Writes what the repository says of the classes of code words in many places, from the one table of them,
+classes.txt: in each file what stands between `from codes/classes.txt: PART` and `to here`, and in the schema, which has
+no comments, the list of kinds.
+
+usage: python3 codes/write.py [--check]     (--check writes nothing: it names what would change, with status 1)"""
+
+import os
+import re
+import sys
+import textwrap
+
+from classes import digits_of, read_classes
+
+TOP = os.path.dirname(os.path.dirname(os.path.abspath(__file__)))
+WIDTH = 120
+# What stands between these two lines is written here; each is a comment of its file's language.
+PART = re.compile(r"^([ \t]*[^\w\s]+ from codes/classes\.txt: (\w+)\b[^\n]*\n)(.*?)(^[ \t]*[^\w\s]+ to here\b)",
+                  re.M | re.S)
+SCHEMA = "share/schema/ldvbi-side.schema.json"
+KINDS_OF_SCHEMA = re.compile(r'("kind": \{\n( +)"enum": \[\n).*?(\n +\]\n)', re.S)
+PLACES = ("first", "second", "third", "fourth", "fifth", "sixth")
+
+
+def wrapped(words, indent, separator=" "):
+    """Lines of at most WIDTH columns of these words, each of which stays whole."""
+    lines = [""]
+    for word in words:
+        if lines[-1] and len(indent + lines[-1] + separator + word) > WIDTH:
+            lines[-1] += separator.rstrip()
+            lines.append("")
+        lines[-1] += (separator if lines[-1] else "") + word
+    return "".join(indent + line + "\n" for line in lines)
+
+
+def by_number(classes):
+    return sorted(classes, key=lambda one: one.number)
+
+
+# ---- the header for C
+
+def constant(one):
+    return "LDVBI_" + one.words_of_name.upper()
+
+
+def kinds_in_c(classes):
+    """The constants of `LdvbiKind`, each with a comment that says its numbers."""
+    rows, last = [], by_number(classes)[-1]
+    for one in by_number(classes):
+        said = "; ".join("%s: %s" % place for place in zip(PLACES, (number.meaning for number in one.numbers)))
+        rows.append(("%s = %d%s" % (constant(one), one.number, "," * (one != last)), said or one.note))
+    widest = max(len(row) for row, _ in rows)
+    text = ""
+    for row, said in rows:
+        begin = "    %-*s " % (widest, row)
+        lines = textwrap.wrap(said, WIDTH - len(begin) - len("/*  */"))
+        text += (begin + "/* " + ("\n" + " " * (len(begin) + 3)).join(lines) + " */" if said else begin.rstrip()) + "\n"
+    return text
+
+
+def texts_in_c(classes):
+    return "".join('    case %s: return "%s";\n' % (constant(one), one.kind) for one in by_number(classes))
+
+
+def lines_in_c(classes):
+    """What stands on each line, as a comment says it."""
+    text = ""
+    for line in sorted({line for one in classes for line in one.lines}):
+        said = "; ".join(one.meaning for one in classes if line in one.lines)
+        text += textwrap.fill(said, WIDTH, initial_indent=" *     line %d     " % line,
+                              subsequent_indent=" *" + " " * 17) + "\n"
+    return text
+
+
+# ---- conditions on a word's digits, in C, jq and Python
+
+def name_of(place):
+    return PLACES[place - 1]
+
+
+def conditions(one, digit):
+    """What holds of the digits of a word of the class; `digit` says how one is named, by its place."""
+    for place, (low, high) in enumerate(zip(one.least, one.greatest), 1):
+        if low == high:
+            yield "%s == %d" % (digit(place), low)
+        elif low:
+            yield "%s >= %d" % (digit(place), low)
+        if low < high < 15:
+            yield "%s < %d" % (digit(place), high + 1)
+
+
+def is_one_word(one):
+    return one.least == one.greatest
+
+
+def value(number, digit):
+    """A number of a word as a sum of its digits."""
+    terms = []
+    for power, (place, modulus) in enumerate(reversed(number.digits)):
+        term = digit(place) if modulus == 16 else "%s %% %d" % (digit(place), modulus)
+        factor = number.base ** power
+        terms.append(term if factor == 1 else "%d * %s" % (factor, term if modulus == 16 else "(%s)" % term))
+    return " + ".join(reversed(terms))
+
+
+def code_in_c(classes):
+    """The plain way from a word to its code, by a test for each class."""
+    def digit(place):
+        return "d[%d]" % (place - 1)
+    text = ""
+    for one in classes[:-1]:
+        test = "word == 0x" + one.example if is_one_word(one) else " && ".join(conditions(one, digit))
+        numbers = [value(number, digit) for number in one.numbers] + ["0", "0"]
+        text += "    if (%s)\n        return code_of(%s, %s, %s);\n" % (test, constant(one), *numbers[:2])
+    return text
+
+
+# ---- the module for jq
+
+def code_in_jq(classes):
+    """What a word means, by its six digits."""
+    def digit(place):
+        return "$" + name_of(place)
+    text, word = "", "if"
+    for one in classes[:-1]:
+        test = " and ".join(conditions(one, digit)) + " then"
+        if is_one_word(one):
+            test = ". == %d then  # %s" % (int(one.example, 16), one.example)
+        numbers = ((number.name, value(number, digit)) for number in one.numbers)
+        said = "".join(", %s: %s" % (name, "(%s)" % of if "+" in of else of) for name, of in numbers)
+        text += "      %s %s\n        {kind: \"%s\"%s}\n" % (word, test, one.kind, said)
+        word = "elif"
+    return text
+
+
+def lines_in_jq(classes):
+    """Which kinds count on line 16, and which on lines 17 and 18."""
+    text = ""
+    for name, lines in (("line_16", {16}), ("lines_17_and_18", {17, 18})):
+        count_there = [one for one in classes if lines & {*one.lines, *one.also}]
+        if any(not lines <= {*one.lines, *one.also} for one in count_there):
+            raise SystemExit("write: the module for jq has one list of kinds for lines 17 and 18")
+        kinds = ['. == "%s"' % one.kind for one in count_there]
+        text += "def is_of_%s:\n%s;\n" % (name, wrapped(kinds, "  ", " or ").rstrip("\n"))
+    return text
+
+
+def formats_in_jq(classes):
+    """Whether a list of codes has one of CAV, or one of CLV."""
+    text = ""
+    for disc, before in (("CAV", "  "), ("CLV", "  | ")):
+        kinds = ['.kind == "%s"' % one.kind for one in classes if one.disc == disc]
+        text += "%sany(.[]; %s) as $%s\n" % (before, " or ".join(kinds), disc.lower())
+    return text
+
+
+# ---- the Python package
+
+def kinds_in_python(classes):
+    return "".join("    %s = %d\n" % (one.words_of_name, one.number) for one in by_number(classes))
+
+
+def code_in_python(classes):
+    """From the six digits of a word to its code."""
+    text = ""
+    for one in classes[:-1]:
+        test = "word == 0x" + one.example if is_one_word(one) else " and ".join(conditions(one, name_of))
+        numbers = [value(number, name_of) for number in one.numbers] + ["0", "0"]
+        text += "    if %s:\n        return Code(Kind.%s, %s, %s)\n" % (test, one.words_of_name, *numbers[:2])
+    return text
+
+
+def classes_in_python(classes):
+    """A row for each class: its kind, text, the names of its numbers, lines and disc."""
+    text = "CLASSES = (\n"
+    for one in classes:
+        said = (one.kind, tuple(number.name for number in one.numbers), tuple(sorted(one.lines + one.also)),
+                one.disc.lower())
+        row = ["Kind." + one.words_of_name] + [repr(part).replace("'", '"') for part in said]
+        text += "    Class(%s),\n" % ", ".join(row)
+    return text + ")\n"
+
+
+# ---- the manual page and the documents
+
+def texts_of_page(classes):
+    texts = [one.text_of(digits_of(one.example)) for one in classes]
+    return "".join(".Sq %s ,\n" % text for text in texts[:-1]) + "or\n.Sq %s .\n" % texts[-1]
+
+
+def patterns_of_document(classes):
+    """The table of patterns in docs/SIGNAL.md."""
+    return "\n| Pattern | Class | In the report |\n|---|---|---|\n" + "".join(
+        "| %s | %s | `%s` |\n" % (one.words or "all else", one.meaning, one.text_of(digits_of(one.example)))
+        for one in classes) + "\n"
+
+
+def lines_of_document(classes):
+    """The table of lines in docs/FORMATS.md: a row for all classes that stand on the same ones."""
+    rows = {}
+    for one in classes[:-1]:
+        rows.setdefault(one.lines, []).append(one.meaning)
+    return "\n| Code | Lines |\n|---|---|\n" + "".join(
+        "| %s | %s |\n" % ("; ".join(meanings)[0].upper() + "; ".join(meanings)[1:], " and ".join(map(str, lines)))
+        for lines, meanings in rows.items()) + "\n"
+
+
+def kinds_of_schema(classes, indent):
+    kinds = ['"%s"' % one.kind for one in classes[:-1]]
+    return wrapped(kinds, indent + "  ", ", ").rstrip("\n")
+
+
+# The files with their parts
+PARTS = {
+    "include/ldvbi.h": {"lines": lines_in_c, "kinds": kinds_in_c, "texts": texts_in_c},
+    "bench/plain.h": {"code": code_in_c},
+    "contrib/ldvbi.jq": {"code": code_in_jq, "lines": lines_in_jq, "formats": formats_in_jq},
+    "python/ldvbi/classes.py": {"kinds": kinds_in_python, "classes": classes_in_python,
+                                "code": code_in_python},
+    "share/man/ldvbi.1": {"texts": texts_of_page},
+    "docs/SIGNAL.md": {"patterns": patterns_of_document},
+    "docs/FORMATS.md": {"lines": lines_of_document},
+}
+
+
+def written(path, text, classes):
+    """The text of a file with its parts as the table has them."""
+    if path == SCHEMA:
+        if len(KINDS_OF_SCHEMA.findall(text)) != 1:
+            raise SystemExit("write: %s has not one list of kinds" % path)
+        return KINDS_OF_SCHEMA.sub(lambda found: found[1] + kinds_of_schema(classes, found[2]) + found[3], text)
+    parts = [found[1] for found in PART.findall(text)]
+    if sorted(parts) != sorted(PARTS[path]):
+        raise SystemExit("write: %s has the parts %s, and not %s" % (path, parts, sorted(PARTS[path])))
+    return PART.sub(lambda found: found[1] + PARTS[path][found[2]](classes) + found[4], text)
+
+
+def main():
+    classes = read_classes()
+    status = 0
+    for path in [*PARTS, SCHEMA]:
+        with open(os.path.join(TOP, path), encoding="utf-8") as file:
+            text = file.read()
+        wanted = written(path, text, classes)
+        if wanted != text and sys.argv[1:] == ["--check"]:
+            print("write: %s isn't what codes/classes.txt says: python3 codes/write.py" % path, file=sys.stderr)
+            status = 1
+        elif wanted != text:
+            with open(os.path.join(TOP, path), "w", encoding="utf-8") as file:
+                file.write(wanted)
+    return status
+
+
+if __name__ == "__main__":
+    sys.exit(main())

@@ -1,0 +1,118 @@
+//! Reading fields with the nearest words of worn lines.
+
+ghost use Rattle.std.specs.Prelude.{◌≡◌, ◌≢◌, ◌*◌, ◌<◌, length, IfOk};
+ghost use Rattle.vbi_words.specs.Geometry.{line_bytes, field_bytes};
+ghost use Rattle.vbi_c.specs.Fields.{field_in};
+ghost use Rattle.vbi_c.specs.Recovering.{recovered_for_c, AreRecovered, code_bytes, AreAllRecovered};
+ghost use Rattle.vbi_c.specs.Setups.{rows_setup, fields_setup};
+ghost use Rattle.vbi_c.specs.Statuses.{status_of};
+
+use crate::fields::{FIRST_ROW, LdvbiFieldReadings};
+use crate::reading::{LdvbiReading, outcome_for_c};
+use crate::setup::{Setup, fields_setup, rows_setup};
+use crate::status::DONE;
+use vbi_near::{Recovered, recover_rows};
+use vbi_words::System;
+
+/// What a line shows, as C sees it.
+fn recovered_for_c(line: Recovered) -> LdvbiReading
+    ensures { result ≡ recovered_for_c line }
+{
+    outcome_for_c(line.outcome, line.pass)
+}
+
+/// What lines 16, 17 and 18 show, by the bytes of their rows.
+fn recover_three(setup: &Setup, rows: &[u8]) -> LdvbiFieldReadings
+    requires { length rows.now ≡ 3 * line_bytes setup.now.system }
+    ensures { AreRecovered setup.now rows.now result }
+{
+    let [first, second, third] = recover_rows(setup.system, setup.levels, rows);
+    LdvbiFieldReadings {
+        lines: [
+            recovered_for_c(first),
+            recovered_for_c(second),
+            recovered_for_c(third),
+        ],
+    }
+}
+
+/// The bytes of the rows of a field that are its lines 16, 17 and 18.
+fn code_bytes(system: System, field: &[u8]) -> &[u8]
+    requires { length field.now ≡ field_bytes system }
+    ensures rows { result.now ≡ code_bytes system field.now }
+    ensures long { length result.now ≡ 3 * line_bytes system }
+{
+    let line = system.line_bytes();
+    &field[FIRST_ROW * line..FIRST_ROW * line + 3 * line]
+}
+
+/// The bytes of a field of a stream, counted from 0.
+fn field_in(system: System, stream: &[u8], count: usize, i: usize) -> &[u8]
+    requires whole { length stream.now ≡ count * field_bytes system }
+    requires inside { i < count }
+    ensures field { result.now ≡ field_in system stream.now i }
+    ensures long { length result.now ≡ field_bytes system }
+{
+    let size = system.field_bytes();
+    &stream[size * i..size * i + size]
+}
+
+/// Puts what the lines of each of a stream's fields show, which are whole, into its place.
+fn recover_all(setup: &Setup, stream: &[u8], readings: &mut [LdvbiFieldReadings])
+    requires { length stream.now ≡ length readings.old * field_bytes setup.now.system }
+    ensures { AreAllRecovered setup.now stream.now (length readings.old) readings.new }
+{
+    let count = readings.len();
+    for i in 0..count {
+        let field = field_in(setup.system, stream, count, i);
+        readings[i] = recover_three(setup, code_bytes(setup.system, field));
+    }
+}
+
+/// What lines 16, 17 and 18 show with the nearest words of worn lines: as `ldvbi_read_rows`, but that words of pass 2
+/// may be missing, and there are words of pass 3.
+#[unsafe(no_mangle)]
+pub extern "C" fn ldvbi_recover_rows(
+    system: u32,
+    black: u32,
+    white: u32,
+    bytes: &[u8],
+    readings: &mut LdvbiFieldReadings,
+) -> u32
+    ensures status { result ≡ status_of (rows_setup system black white (length bytes.now)) }
+    ensures recovers { IfOk (rows_setup system black white (length bytes.now)) (λ setup.
+        AreRecovered setup bytes.now readings.new) }
+    ensures unwritten { result ≢ 0 → readings.new ≡ readings.old }
+{
+    match rows_setup(system, black, white, bytes.len()) {
+        Ok(setup) => {
+            *readings = recover_three(&setup, bytes);
+            DONE
+        }
+        Err(refusal) => refusal.status(),
+    }
+}
+
+/// What lines 16, 17 and 18 of each field of a stream show with the nearest words of worn lines. The stream has as many
+/// whole fields as there is room for readings, and no byte more. No other line is looked at.
+#[unsafe(no_mangle)]
+pub extern "C" fn ldvbi_recover_fields(
+    system: u32,
+    black: u32,
+    white: u32,
+    bytes: &[u8],
+    readings: &mut [LdvbiFieldReadings],
+) -> u32
+    ensures status { result ≡ status_of (fields_setup system black white (length bytes.now) (length readings.old)) }
+    ensures recovers { IfOk (fields_setup system black white (length bytes.now) (length readings.old)) (λ setup.
+        AreAllRecovered setup bytes.now (length readings.old) readings.new) }
+    ensures unwritten { result ≢ 0 → readings.new ≡ readings.old }
+{
+    match fields_setup(system, black, white, bytes.len(), readings.len()) {
+        Ok(setup) => {
+            recover_all(&setup, bytes, readings);
+            DONE
+        }
+        Err(refusal) => refusal.status(),
+    }
+}

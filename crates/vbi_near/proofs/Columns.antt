@@ -1,0 +1,111 @@
+-- The columns of half cells.
+use Rattle.std.proofs.Common.{◌≡◌, ℕ, suc, ◌≤◌, ◌+◌, ◌-◌, ◌*◌, List, [], ◌∷◌, Bool, length, arith, ap, ◌∙◌}
+use Rattle.std.proofs.Common.{refl, sym, ◌++◌, false, Option}
+use Rattle.std.specs.Prelude.{Some, None}
+use Rattle.std.specs.List.{flat_map}
+use Rattle.std.proofs.lemmas.List.{length-append, length-replicate}
+use Rattle.vbi_words.specs.Words.{lowest_bits, cell_of, halves_of}
+use Rattle.vbi_words.proofs.Bits.{length-lowest_bits}
+use Rattle.std.proofs.Math.ListN.{replicate}
+use Rattle.vbi_words.specs.declared.system.System.{System}
+use Rattle.vbi_words.specs.declared.system.System.TheVariants.{Ntsc, Pal}
+use Rattle.vbi_words.specs.Geometry.{width_of}
+use Rattle.vbi_near.specs.Pictures.{column_of, half_length, word_length, starts, drawn_halves, picture_of, IsPlace}
+
+pub column-first : (system : System) (start : ℕ) → column_of system start 0 ≡ start
+column-first Ntsc start = omega arith
+column-first Pal start = omega arith
+
+pub column-next : (system : System) (start j : ℕ)
+    → column_of system start j + half_length system j ≡ column_of system start (suc j)
+column-next Ntsc start j = omega arith
+column-next Pal start j = omega arith
+
+pub column-last : (system : System) (start j : ℕ) → j ≤ 48 → column_of system start j ≤ start + word_length system
+column-last Ntsc start j l = omega arith
+column-last Pal start j l = omega arith
+
+pub column-rises : (system : System) (start j k : ℕ) → j ≤ k → column_of system start j ≤ column_of system start k
+column-rises Ntsc start j k l = omega arith
+column-rises Pal start j k l = omega arith
+
+column-step : (system : System) (start j : ℕ) → (column_of system start j ≤ column_of system start (suc j))
+    × (column_of system start (suc j) ≤ column_of system start j + 18)
+column-step Ntsc start j = (omega arith, omega arith)
+column-step Pal start j = (omega arith, omega arith)
+
+-- the columns of a cell are in order, and not far apart
+pub cell-columns : (system : System) (start cell begin middle end : ℕ) → begin ≡ column_of system start (2 * cell)
+    → middle ≡ column_of system start (2 * cell + 1) → end ≡ column_of system start (2 * cell + 2)
+    → (begin ≤ middle) × (middle ≤ end) × (end ≤ begin + 36)
+cell-columns system start cell begin middle end b m e =
+    let next : 2 * cell + 1 ≡ suc (2 * cell) = omega arith in
+    let last : 2 * cell + 2 ≡ suc (suc (2 * cell)) = omega arith in
+    let m2 : middle ≡ column_of system start (suc (2 * cell)) = m ∙ ap (column_of system start) next in
+    let e2 : end ≡ column_of system start (suc (suc (2 * cell))) = e ∙ ap (column_of system start) last in
+    let s = column-step system start (2 * cell) in
+    let t = column-step system start (suc (2 * cell)) in
+    (omega (arith, b, m2, s.0), omega (arith, m2, e2, t.0), omega (arith, b, m2, e2, s.1, t.1))
+
+pub width-few : (system : System) → width_of system ≤ 1135
+width-few Ntsc = omega arith
+width-few Pal = omega arith
+
+pub starts-few : (system : System) → starts system ≤ 285
+starts-few Ntsc = omega arith
+starts-few Pal = omega arith
+
+pub word-fits : (system : System) → word_length system ≤ width_of system
+word-fits Ntsc = omega arith
+word-fits Pal = omega arith
+
+pub column-drawn : (system : System) (start j : ℕ) (halves : List Bool)
+    → column_of system start j + length (drawn_halves system j halves) ≡ column_of system start (j + length halves)
+unfolding drawn_halves
+column-drawn system start j [] =
+    let e : j ≡ j + 0 = omega arith in
+    let same : column_of system start j ≡ column_of system start (j + 0) = ap (column_of system start) e in
+    omega (arith, same)
+column-drawn system start j (half ∷ halves) =
+    let e : suc j + length halves ≡ j + suc (length halves) = omega arith in
+    let same : column_of system start (suc j + length halves) ≡ column_of system start (j + suc (length halves))
+    = ap (column_of system start) e in
+    omega (
+      arith,
+      length-append (replicate (half_length system j) half) (drawn_halves system (suc j) halves),
+      length-replicate (half_length system j) half,
+      column-next system start j,
+      column-drawn system start (suc j) halves,
+      same,
+    )
+
+pub length-cells : (bits : List Bool) → length (flat_map cell_of bits) ≡ 2 * length bits
+length-cells [] = refl
+length-cells (b ∷ bits) = omega (arith, length-cells bits)
+
+-- the columns of a drawn word
+pub word-drawn : (system : System) (start w : ℕ)
+    → start + length (drawn_halves system 0 (halves_of w)) ≡ start + word_length system
+word-drawn system start w =
+    let all : length (halves_of w) ≡ 48
+    = length-cells (lowest_bits 24 w) ∙ ap (λ (n : ℕ). 2 * n) (length-lowest_bits 24 w) in
+    let e : 0 + length (halves_of w) ≡ 48 = omega (arith, all) in
+    ap (λ (k : ℕ). k + length (drawn_halves system 0 (halves_of w))) (sym (column-first system start))
+    ∙ column-drawn system start 0 (halves_of w) ∙ ap (column_of system start) e
+
+-- a picture is as wide as a row
+pub length-picture : (system : System) (word : Option ℕ) (start : ℕ) → IsPlace system word start
+    → length (picture_of system word start) ≡ width_of system
+unfolding picture_of
+length-picture system None start place = length-replicate (width_of system) false
+length-picture system (Some w) start (is, room) =
+    let D : List Bool = drawn_halves system 0 (halves_of w) in
+    let n : ℕ = width_of system - (start + word_length system) in
+    omega (
+      arith,
+      length-append (replicate start false) (D ++ replicate n false),
+      length-append D (replicate n false),
+      length-replicate start false,
+      length-replicate n false,
+      word-drawn system start w,
+    )

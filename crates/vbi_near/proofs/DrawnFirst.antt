@@ -1,0 +1,221 @@
+-- The row on which a word is drawn from the system's own start on is the one that is drawn for it.
+use Rattle.std.proofs.Common.{◌≡◌, ℕ, zero, suc, ◌≤◌, ◌<◌, ◌+◌, ◌-◌, ◌*◌, List, [], ◌∷◌, ◌++◌, Bool, true, false}
+use Rattle.std.proofs.Common.{length, get_or, refl, arith, ap, sym, subst, ◌∙◌, ◌⊎◌, inl, inr, Option, append_assoc}
+use Rattle.std.specs.Prelude.{Some, None}
+use Rattle.std.proofs.Math.ListN.{replicate}
+use Rattle.std.proofs.lemmas.Bool.{cases_lt}
+use Rattle.std.proofs.lemmas.List.{length-replicate, get_or-replicate, get_or-append_right, get_or-map, length-map}
+use Rattle.std.proofs.Math.ListN.{get_or-append}
+use Rattle.vbi_words.specs.declared.system.System.{System}
+use Rattle.vbi_words.specs.declared.system.System.TheVariants.{Ntsc, Pal}
+use Rattle.vbi_words.specs.Geometry.{width_of, start_of}
+use Rattle.vbi_words.specs.Levels.{Slicing}
+use Rattle.vbi_words.specs.Words.{IsWordOrNone, lowest_bits, halves_of}
+use Rattle.vbi_words.proofs.Bits.{length-lowest_bits}
+use Rattle.vbi_words.specs.Drawn.{boundary, drawn_row_of, IsDrawnHigh, IsDrawnSample}
+use Rattle.vbi_words.proofs.HalfCells.{all_low}
+use Rattle.vbi_words.proofs.DrawnSamples.{only_drawn_row}
+use Rattle.vbi_near.specs.Pictures.{half_length, word_length, drawn_halves, picture_of, sample_of, drawn_as}
+use Rattle.vbi_near.proofs.Columns.{length-cells, length-picture}
+
+module _ (system : System) where
+  next-boundary : (j : ℕ) → boundary system (suc j) ≡ boundary system j + half_length system j
+  next-boundary j = go system
+    where
+      go : (s : System) → boundary s (suc j) ≡ boundary s j + half_length s j
+      go Ntsc = omega arith
+      go Pal = omega arith
+
+  later : (i j : ℕ) → i ≤ j → boundary system i ≤ boundary system j
+  later i j l = go system
+    where
+      go : (s : System) → boundary s i ≤ boundary s j
+      go Ntsc = omega arith
+      go Pal = omega arith
+
+  -- a column lies in one of these half cells, of which the first is half cell j of its word, and that one is high
+  abbrev IsHighIn : List Bool → ℕ → ℕ → Type 0
+  IsHighIn halves j column =
+      (i : ℕ) × (i < length halves) × (boundary system (j + i) ≤ column) × (column < boundary system (j + i + 1))
+      × (get_or halves i false ≡ true)
+
+  -- the levels of these half cells, and low columns behind them
+  abbrev pub levels_from : List Bool → ℕ → ℕ → List Bool
+  levels_from halves j after = drawn_halves system j halves ++ replicate after false
+
+  module _ (h : Bool) (halves : List Bool) (j after k : ℕ) where
+    parts : get_or (levels_from (h ∷ halves) j after) k false
+        ≡ get_or (replicate (half_length system j) h ++ levels_from halves (suc j) after) k false
+    unfolding drawn_halves
+    parts = ap (λ (s : List Bool). get_or s k false)
+        (append_assoc (replicate (half_length system j) h) (drawn_halves system (suc j) halves) (replicate after false))
+
+    pub first-level : k < half_length system j → get_or (levels_from (h ∷ halves) j after) k false ≡ h
+    first-level l =
+        parts
+        ∙ get_or-append (replicate (half_length system j) h) (levels_from halves (suc j) after) false k
+        (omega (arith, length-replicate (half_length system j) h))
+        ∙ get_or-replicate (half_length system j) k h false l
+
+    pub later-level : half_length system j ≤ k → get_or (levels_from (h ∷ halves) j after) k false
+        ≡ get_or (levels_from halves (suc j) after) (k - half_length system j) false
+    later-level l =
+        parts
+        ∙ get_or-append_right (replicate (half_length system j) h) (levels_from halves (suc j) after)
+        (half_length system j) k false (length-replicate (half_length system j) h) l
+
+    moved : half_length system j ≤ k
+        → boundary system (suc j) + (k - half_length system j) ≡ boundary system j + k
+    moved l = omega (arith, next-boundary j)
+
+  high-in : (halves : List Bool) (j after k : ℕ) → get_or (levels_from halves j after) k false ≡ true
+      → IsHighIn halves j (boundary system j + k)
+  unfolding drawn_halves
+  high-in [] j after k high = absurd (let low = all_low after k in cc)
+  high-in (h ∷ halves) j after k high =
+      go (high-in halves (suc j) after (k - half_length system j)) (cases_lt k (half_length system j))
+    where
+      go : (get_or (levels_from halves (suc j) after) (k - half_length system j) false ≡ true
+          → IsHighIn halves (suc j) (boundary system (suc j) + (k - half_length system j)))
+          → (k < half_length system j) ⊎ (half_length system j ≤ k) → IsHighIn (h ∷ halves) j (boundary system j + k)
+      go rest (inl less) =
+          let here : boundary system (j + 0) ≡ boundary system j = ap (boundary system) (omega arith) in
+          let next : boundary system (j + 0 + 1) ≡ boundary system (suc j) = ap (boundary system) (omega arith) in (
+            0,
+            omega arith,
+            omega (arith, here),
+            omega (arith, next, next-boundary j),
+            sym (first-level h halves j after k less) ∙ high,
+          )
+      go rest (inr le) =
+          let found = rest (sym (later-level h halves j after k le) ∙ high) in
+          let same = moved h halves j after k le in
+          let here : boundary system (j + suc found.0) ≡ boundary system (suc j + found.0)
+          = ap (boundary system) (omega arith) in
+          let next : boundary system (j + suc found.0 + 1) ≡ boundary system (suc j + found.0 + 1)
+          = ap (boundary system) (omega arith) in (
+            suc found.0,
+            omega (arith, found.1),
+            omega (arith, here, same, found.2),
+            omega (arith, next, same, found.3),
+            found.4,
+          )
+
+  high-there : (halves : List Bool) (j after k : ℕ) → IsHighIn halves j (boundary system j + k)
+      → get_or (levels_from halves j after) k false ≡ true
+  high-there [] j after k (i, inside, low, high, at) = absurd (omega arith)
+  high-there (h ∷ halves) j after k (zero, inside, low, high, at) =
+      let next : boundary system (j + 0 + 1) ≡ boundary system (suc j) = ap (boundary system) (omega arith) in
+      first-level h halves j after k (omega (arith, next, next-boundary j, high)) ∙ at
+  high-there (h ∷ halves) j after k (suc i, inside, low, high, at) =
+      let here : boundary system (j + suc i) ≡ boundary system (suc j + i) = ap (boundary system) (omega arith) in
+      let next : boundary system (j + suc i + 1) ≡ boundary system (suc j + i + 1)
+      = ap (boundary system) (omega arith) in
+      let le : half_length system j ≤ k
+      = omega (arith, low, here, later (suc j) (suc j + i) (omega arith), next-boundary j) in
+      let same = moved h halves j after k le in
+      later-level h halves j after k le
+      ∙ high-there halves (suc j) after (k - half_length system j)
+      (i, omega (arith, inside), omega (arith, low, here, same), omega (arith, high, next, same), at)
+
+-- ---- the row
+
+first-start : (system : System) → boundary system 0 ≡ start_of system
+first-start Ntsc = omega arith
+first-start Pal = omega arith
+
+first-place : (system : System) → start_of system + word_length system ≤ width_of system
+first-place Ntsc = omega arith
+first-place Pal = omega arith
+
+length-halves : (w : ℕ) → length (halves_of w) ≡ 48
+length-halves w = length-cells (lowest_bits 24 w) ∙ ap (λ (n : ℕ). 2 * n) (length-lowest_bits 24 w)
+
+-- ---- a word's picture
+
+module _ (system : System) (start w : ℕ) where
+  -- the columns behind a word
+  abbrev pub after : ℕ
+  after = width_of system - (start + word_length system)
+
+  pub before-word : (c : ℕ) → c < start → get_or (picture_of system (Some w) start) c false ≡ false
+  unfolding picture_of
+  before-word c l =
+      get_or-append (replicate start false) (levels_from system (halves_of w) 0 after) false c
+      (omega (arith, length-replicate start false)) ∙ all_low start c
+
+  pub in-word : (c : ℕ) → start ≤ c → get_or (picture_of system (Some w) start) c false
+      ≡ get_or (levels_from system (halves_of w) 0 after) (c - start) false
+  unfolding picture_of
+  in-word c l =
+      get_or-append_right (replicate start false) (levels_from system (halves_of w) 0 after) start c false
+      (length-replicate start false) l
+
+module _ (system : System) (slicing : Slicing) (w : ℕ) where
+  abbrev picture : List Bool
+  picture = picture_of system (Some w) (start_of system)
+
+  abbrev behind : ℕ
+  behind = after system (start_of system) w
+
+  from-picture : (c : ℕ) → get_or picture c false ≡ true → IsDrawnHigh system w c
+  from-picture c high = go (cases_lt c (start_of system))
+    where
+      go : (c < start_of system) ⊎ (start_of system ≤ c) → IsDrawnHigh system w c
+      go (inl less) = absurd (let low = before-word system (start_of system) w c less in cc)
+      go (inr le) =
+          let found = high-in system (halves_of w) 0 behind (c - start_of system)
+          (sym (in-word system (start_of system) w c le) ∙ high) in
+          let same : boundary system 0 + (c - start_of system) ≡ c = omega (arith, first-start system) in
+          let here : boundary system (0 + found.0) ≡ boundary system found.0 = ap (boundary system) (omega arith) in
+          let next : boundary system (0 + found.0 + 1) ≡ boundary system (found.0 + 1)
+          = ap (boundary system) (omega arith) in (
+            found.0,
+            omega (arith, found.1, length-halves w),
+            omega (arith, here, same, found.2),
+            omega (arith, next, same, found.3),
+            found.4,
+          )
+
+  to-picture : (c : ℕ) → IsDrawnHigh system w c → get_or picture c false ≡ true
+  to-picture c (j, inside, low, high, at) =
+      let le : start_of system ≤ c = omega (arith, first-start system, later system 0 j (omega arith), low) in
+      let same : boundary system 0 + (c - start_of system) ≡ c = omega (arith, first-start system) in
+      let here : boundary system (0 + j) ≡ boundary system j = ap (boundary system) (omega arith) in
+      let next : boundary system (0 + j + 1) ≡ boundary system (j + 1) = ap (boundary system) (omega arith) in
+      in-word system (start_of system) w c le
+      ∙ high-there system (halves_of w) 0 behind (c - start_of system) (
+        j,
+        omega (arith, inside, length-halves w),
+        omega (arith, here, same, low),
+        omega (arith, next, same, high),
+        at,
+      )
+
+  sample-at : (c : ℕ) (level : Bool) → get_or picture c false ≡ level
+      → IsDrawnSample system slicing (Some w) c (sample_of slicing level)
+  sample-at c true e = (λ d. refl, λ none. absurd (none (from-picture c e)))
+  sample-at c false e = (λ d. absurd (let high = to-picture c d in cc), λ none. refl)
+
+row-drawn : (system : System) (slicing : Slicing) (word : Option ℕ)
+    → length (picture_of system word (start_of system)) ≡ width_of system
+    → ((c : ℕ) → c < width_of system → IsDrawnSample system slicing word c
+    (sample_of slicing (get_or (picture_of system word (start_of system)) c false)))
+    → drawn_as slicing (picture_of system word (start_of system)) ≡ drawn_row_of system slicing word
+row-drawn system slicing word long each =
+    let picture = picture_of system word (start_of system) in
+    only_drawn_row system slicing word (drawn_as slicing picture) (record {
+      whole = length-map picture (sample_of slicing) ∙ long;
+      each = λ c l. subst (IsDrawnSample system slicing word c)
+          (sym (get_or-map (sample_of slicing) picture c false 0 (omega (arith, long)))) (each c l);
+    })
+
+pub drawn_first : (system : System) (slicing : Slicing) (word : Option ℕ) → IsWordOrNone word
+    → drawn_as slicing (picture_of system word (start_of system)) ≡ drawn_row_of system slicing word
+unfolding picture_of
+drawn_first system slicing None is =
+    row-drawn system slicing None (length-replicate (width_of system) false)
+    (λ c l. ap (sample_of slicing) (all_low (width_of system) c))
+drawn_first system slicing (Some w) is =
+    row-drawn system slicing (Some w) (length-picture system (Some w) (start_of system) (is, first-place system))
+    (λ c l. sample-at system slicing w c _ refl)

@@ -1,0 +1,209 @@
+-- The distance of rows on which a word goes on.
+use Rattle.std.proofs.Common.{◌≡◌, ℕ, ◌≤◌, ◌+◌, ◌-◌, List, ◌++◌, Bool, false, length}
+use Rattle.std.proofs.Common.{inl, inr, refl, arith, ap, sym, subst, ◌∙◌}
+use Rattle.std.proofs.Math.ListN.{replicate}
+use Rattle.std.proofs.lemmas.List.{length-append, length-replicate}
+use Rattle.vbi_words.specs.declared.system.System.{System}
+use Rattle.vbi_words.specs.Geometry.{width_of}
+use Rattle.vbi_words.specs.Words.{cell_of, halves_of}
+use Rattle.vbi_near.specs.declared.found.Found.{Found}
+use Rattle.vbi_near.specs.declared.near.Near.{Near}
+use Rattle.vbi_near.specs.Pictures.{word_length, drawn_halves, starts}
+use Rattle.vbi_near.specs.Distances.{Shades, distance_from}
+use Rattle.vbi_near.specs.Sums.{AreRowSums, total_in, span}
+use Rattle.vbi_near.specs.Costs.{cell_cost, bits_cost, place_cost}
+use Rattle.vbi_near.specs.Best.{IsFound, IsChosen}
+use Rattle.vbi_near.specs.Longer.{cell_length, begun_earlier, ended_later, GoesOn, IsLeastLonger, HasLonger}
+use Rattle.vbi_near.specs.Longer.{IsBeside, IsWithCell, IsLongerFound}
+use Rattle.vbi_near.proofs.Columns.{column-first, column-drawn, word-drawn, word-fits}
+use Rattle.vbi_near.proofs.Distances.{AreBoth, distance-append, distance-run}
+use Rattle.vbi_near.proofs.Costs.{cell-alone, halves-cost}
+use Rattle.vbi_near.proofs.Beside.{cell-long, before-split, behind-split}
+
+-- ---- how wide
+
+cell-drawn : (system : System) (i : ℕ) (bit : Bool)
+    → i + length (drawn_halves system 0 (cell_of bit)) ≡ i + cell_length system
+cell-drawn system i bit =
+    ap (λ (k : ℕ). k + length (drawn_halves system 0 (cell_of bit))) (sym (column-first system i))
+    ∙ column-drawn system i 0 (cell_of bit) ∙ cell-long system i
+
+pub length-longer : (system : System) (w start : ℕ) (levels : List Bool) → start + word_length system ≤ width_of system
+    → GoesOn system w start levels → length levels ≡ width_of system
+unfolding begun_earlier ended_later
+length-longer system w start levels fits (bit, inl (room, e)) =
+    let D : List Bool = drawn_halves system 0 (halves_of w) in
+    let C : List Bool = drawn_halves system 0 (cell_of bit) in
+    let n : ℕ = width_of system - (start + word_length system) in
+    let m : ℕ = start - cell_length system in
+    omega (
+      arith,
+      ap length e,
+      length-append (replicate m false) (C ++ (D ++ replicate n false)),
+      length-append C (D ++ replicate n false),
+      length-append D (replicate n false),
+      length-replicate m false,
+      length-replicate n false,
+      cell-drawn system m bit,
+      word-drawn system start w,
+    )
+length-longer system w start levels fits (bit, inr (room, e)) =
+    let D : List Bool = drawn_halves system 0 (halves_of w) in
+    let C : List Bool = drawn_halves system 0 (cell_of bit) in
+    let n : ℕ = width_of system - (start + word_length system + cell_length system) in
+    omega (
+      arith,
+      ap length e,
+      length-append (replicate start false) (D ++ (C ++ replicate n false)),
+      length-append D (C ++ replicate n false),
+      length-append C (replicate n false),
+      length-replicate start false,
+      length-replicate n false,
+      cell-drawn system start bit,
+      word-drawn system start w,
+    )
+
+-- ---- how far
+
+module _ (costs sums : Shades) (system : System) (both : AreBoth costs sums (width_of system)) where
+  cell-at : (i : ℕ) (bit : Bool) (rest : List Bool) → i + cell_length system ≤ width_of system
+      → distance_from costs i (drawn_halves system 0 (cell_of bit) ++ rest)
+      ≡ cell_cost sums system i 0 bit + distance_from costs (i + cell_length system) rest
+  cell-at i bit rest room =
+      let C : List Bool = drawn_halves system 0 (cell_of bit) in
+      distance-append costs i C rest
+      ∙ ap (λ (n : ℕ). n + distance_from costs (i + length C) rest)
+      (cell-alone costs sums system both i bit (omega (arith, cell-long system i)))
+      ∙ ap (λ (k : ℕ). cell_cost sums system i 0 bit + distance_from costs k rest) (cell-drawn system i bit)
+
+  word-at : (start : ℕ) → start + word_length system ≤ width_of system → (w : ℕ) (rest : List Bool)
+      → distance_from costs start (drawn_halves system 0 (halves_of w) ++ rest)
+      ≡ bits_cost (cell_cost sums system start) 24 w + distance_from costs (start + word_length system) rest
+  word-at start room w rest =
+      let D : List Bool = drawn_halves system 0 (halves_of w) in
+      distance-append costs start D rest
+      ∙ ap (λ (n : ℕ). n + distance_from costs (start + length D) rest)
+      (halves-cost costs sums system both start room w)
+      ∙ ap (λ (k : ℕ). bits_cost (cell_cost sums system start) 24 w + distance_from costs k rest)
+      (word-drawn system start w)
+
+  blank-at : (n : ℕ) (rest : List Bool) → n ≤ width_of system
+      → distance_from costs 0 (replicate n false ++ rest) ≡ span sums false 0 n + distance_from costs n rest
+  blank-at n rest room =
+      let e : 0 + length (replicate n false) ≡ n = omega (arith, length-replicate n false) in
+      distance-append costs 0 (replicate n false) rest
+      ∙ ap (λ (d : ℕ). d + distance_from costs (0 + length (replicate n false)) rest)
+      (distance-run costs sums (width_of system) both false 0 n (omega arith))
+      ∙ ap (λ (k : ℕ). span sums false 0 n + distance_from costs k rest) e
+
+  module _ (rises : AreRowSums system sums) where
+    earlier : (w start begin : ℕ) (bit : Bool) → begin + cell_length system ≡ start
+        → start + word_length system ≤ width_of system
+        → IsWithCell sums system (place_cost sums system start w) begin bit
+        (distance_from costs 0 (begun_earlier system w start bit))
+    unfolding begun_earlier place_cost
+    earlier w start begin bit e room =
+        let D : List Bool = drawn_halves system 0 (halves_of w) in
+        let C : List Bool = drawn_halves system 0 (cell_of bit) in
+        let n : ℕ = width_of system - (start + word_length system) in
+        let tail : List Bool = replicate n false in
+        let m : start - cell_length system ≡ begin = omega arith in
+        let lead : distance_from costs 0 (replicate (start - cell_length system) false ++ (C ++ (D ++ tail)))
+        ≡ distance_from costs 0 (replicate begin false ++ (C ++ (D ++ tail)))
+        = ap (λ (k : ℕ). distance_from costs 0 (replicate k false ++ (C ++ (D ++ tail)))) m in
+        let there : distance_from costs (begin + cell_length system) (D ++ tail) ≡ distance_from costs start (D ++ tail)
+        = ap (λ (k : ℕ). distance_from costs k (D ++ tail)) e in
+        omega (
+          arith,
+          lead,
+          blank-at begin (C ++ (D ++ tail)) (omega arith),
+          cell-at begin bit (D ++ tail) (omega arith),
+          there,
+          word-at start room w tail,
+          distance-run costs sums (width_of system) both false (start + word_length system) n (omega arith),
+          before-split sums system rises start begin e (omega arith),
+        )
+
+    later : (w start : ℕ) (bit : Bool) → start + word_length system + cell_length system ≤ width_of system
+        → IsWithCell sums system (place_cost sums system start w) (start + word_length system) bit
+        (distance_from costs 0 (ended_later system w start bit))
+    unfolding ended_later place_cost
+    later w start bit room =
+        let D : List Bool = drawn_halves system 0 (halves_of w) in
+        let C : List Bool = drawn_halves system 0 (cell_of bit) in
+        let end : ℕ = start + word_length system in
+        let n : ℕ = width_of system - (start + word_length system + cell_length system) in
+        let tail : List Bool = replicate n false in
+        omega (
+          arith,
+          blank-at start (D ++ (C ++ tail)) (omega arith),
+          word-at start (omega arith) w (C ++ tail),
+          cell-at (start + word_length system) bit tail room,
+          distance-run costs sums (width_of system) both false (start + word_length system + cell_length system) n
+              (omega arith),
+          behind-split sums system rises (start + word_length system) room,
+        )
+
+    module _ (found : Found) (is : IsFound (place_cost sums system) 0 (starts system) found) (longer : ℕ)
+        (longest : IsLongerFound sums system found longer) where
+      fits : found.start + word_length system ≤ width_of system
+      fits = omega (arith, word-fits system, is.before)
+
+      exact : (begin far : ℕ) (bit : Bool)
+          → IsWithCell sums system (place_cost sums system found.start found.word) begin bit far
+          → IsWithCell sums system found.distance begin bit far
+      exact begin far bit with_cell =
+          with_cell ∙ ap (λ (d : ℕ). d + cell_cost sums system begin 0 bit) is.exact
+
+      least : (levels : List Bool) → GoesOn system found.word found.start levels → longer ≤ distance_from costs 0 levels
+      least levels (bit, inl (room, e)) =
+          let begin : ℕ = found.start - cell_length system in
+          let at : begin + cell_length system ≡ found.start = omega arith in
+          let far : ℕ = distance_from costs 0 (begun_earlier system found.word found.start bit) in
+          let l = longest.least begin far bit (inl at) (exact begin far bit (earlier found.word found.start begin bit at
+          fits)) in
+          omega (arith, l, ap (distance_from costs 0) e)
+      least levels (bit, inr (room, e)) =
+          let begin : ℕ = found.start + word_length system in
+          let far : ℕ = distance_from costs 0 (ended_later system found.word found.start bit) in
+          let l = longest.least begin far bit (inr (refl, room)) (exact begin far bit (later found.word found.start bit
+          room)) in
+          omega (arith, l, ap (distance_from costs 0) e)
+
+      one : (begin : ℕ) (bit : Bool) → IsBeside system found.start begin
+          → IsWithCell sums system found.distance begin bit longer
+          → (levels : List Bool) × GoesOn system found.word found.start levels × (distance_from costs 0 levels ≡ longer)
+      one begin bit (inl at) with_cell = (
+        begun_earlier system found.word found.start bit,
+        (bit, inl (omega arith, refl)),
+        (
+            let same = exact begin (distance_from costs 0 (begun_earlier system found.word found.start bit)) bit
+            (earlier found.word found.start begin bit at fits) in
+            omega (arith, same, with_cell)
+            ),
+      )
+      one begin bit (inr (at, room)) with_cell = (
+        ended_later system found.word found.start bit,
+        (bit, inr (omega (arith, at, room), refl)),
+        (
+            let other : ℕ = found.start + word_length system in
+            let same = exact other (distance_from costs 0 (ended_later system found.word found.start bit)) bit
+            (later found.word found.start bit (omega (arith, at, room))) in
+            let black : total_in sums.dark begin (cell_length system) ≡ total_in sums.dark other (cell_length system)
+            = ap (λ (k : ℕ). total_in sums.dark k (cell_length system)) at in
+            let drawn : cell_cost sums system begin 0 bit ≡ cell_cost sums system other 0 bit
+            = ap (λ (k : ℕ). cell_cost sums system k 0 bit) at in
+            omega (arith, same, with_cell, black, drawn)
+            ),
+      )
+
+      least_longer : IsLeastLonger system (distance_from costs 0) found.word found.start longer
+      least_longer =
+          let o = longest.one in record { least = least; one = one o.0 o.1 o.2 o.3 }
+
+      pub longer_is : (near : Near) (blank : ℕ) → IsChosen found longer blank near
+          → HasLonger system (distance_from costs 0) near.word near
+      longer_is near blank (inl (order, e)) =
+          subst (λ (n : Near). HasLonger system (distance_from costs 0) n.word n) (sym e) refl
+      longer_is near blank (inr (order, e)) =
+          subst (λ (n : Near). HasLonger system (distance_from costs 0) n.word n) (sym e) least_longer

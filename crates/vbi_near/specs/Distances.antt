@@ -1,0 +1,81 @@
+-- How far some lines are from a drawn row: the sum, over all their samples, of how far each is from the drawn one.
+use Rattle.std.specs.Prelude.{◌≡◌, ◌≤◌, ◌<◌, ℕ, suc, ◌+◌, ◌*◌, Bool, true, false, List, [], ◌∷◌, length, map}
+use Rattle.std.specs.Prelude.{slice_index_or, Option, Some, None}
+use Rattle.std.specs.List.{All, range_with_len}
+use Rattle.std.specs.Int.{abs_diff}
+use Rattle.vbi_words.specs.declared.system.System.{System}
+use Rattle.vbi_words.specs.Geometry.{width_of}
+use Rattle.vbi_words.specs.Levels.{Slicing, samples_of}
+use Rattle.vbi_words.specs.Rows.{line_at}
+use Rattle.vbi_near.specs.Pictures.{sample_of}
+
+-- the samples of a line, of which none is known where it is erased
+abbrev pub Samples : Type 0
+Samples = List (Option ℕ)
+
+-- how far a sample is from a drawn one; an erased one is as far from any
+abbrev pub off_by : Option ℕ → ℕ → ℕ
+off_by None drawn = 0
+off_by (Some sample) drawn = abs_diff sample drawn
+
+-- how far the samples of a line are from those of a row, in sum
+unfoldable pub row_distance : Samples → List ℕ → ℕ
+row_distance [] row = 0
+row_distance (sample ∷ line) [] = 0
+row_distance (sample ∷ line) (drawn ∷ row) = off_by sample drawn + row_distance line row
+
+-- how far the samples of all the lines are from those of a row, in sum
+unfoldable pub distance_of : List Samples → List ℕ → ℕ
+distance_of [] row = 0
+distance_of (line ∷ lines) row = row_distance line row + distance_of lines row
+
+-- samples that are all known
+abbrev pub known : List ℕ → Samples
+known samples = map Some samples
+
+-- samples but those of the erased columns
+abbrev pub known_but : List Bool → List ℕ → Samples
+known_but (true ∷ erased) (sample ∷ samples) = None ∷ known_but erased samples
+known_but (false ∷ erased) (sample ∷ samples) = Some sample ∷ known_but erased samples
+known_but erased samples = []
+
+-- the samples of so many lines, whose bytes lie one line behind the other
+abbrev pub lines_of : System → List ℕ → ℕ → List Samples
+lines_of system bytes count = map (λ i. known (samples_of (line_at system bytes 0 i))) (range_with_len 0 count)
+
+-- ---- by columns
+
+-- two numbers for each column, or sums of them: of how far the samples there are from black, and from white
+pub record Shades : Type 0 where
+  pub dark : List ℕ
+  pub light : List ℕ
+
+abbrev pub shades : List ℕ → List ℕ → Shades
+shades dark light = record { dark = dark; light = light }
+
+-- those for the sample of this level
+abbrev pub shade : Shades → Bool → List ℕ
+shade of true = of.light
+shade of false = of.dark
+
+-- how far the lines' samples of a column are from that of this level
+unfoldable pub column_cost : Slicing → List Samples → ℕ → Bool → ℕ
+column_cost slicing [] column level = 0
+column_cost slicing (line ∷ lines) column level =
+    off_by (slice_index_or line column None) (sample_of slicing level) + column_cost slicing lines column level
+
+-- lines of the system, of which `costs` says for each column how far they are from black there, and from white
+pub record IsPile (system : System) (slicing : Slicing) (lines : List Samples) (costs : Shades) : Type 0 where
+  pub whole : All (λ line. length line ≡ width_of system) lines
+  pub exact : (column : ℕ) (level : Bool) → column < width_of system
+      → slice_index_or (shade costs level) column 0 ≡ column_cost slicing lines column level
+
+-- in no column more than so many lines can be off, each by 65,535 at most
+abbrev pub AreFew : ℕ → List ℕ → Type 0
+AreFew lines costs = (column : ℕ) → slice_index_or costs column 0 ≤ 65535 * lines
+
+-- how far the lines are from these levels, of which the first is that of the column, by the columns' costs alone
+unfoldable pub distance_from : Shades → ℕ → List Bool → ℕ
+distance_from costs column [] = 0
+distance_from costs column (level ∷ levels) =
+    slice_index_or (shade costs level) column 0 + distance_from costs (suc column) levels

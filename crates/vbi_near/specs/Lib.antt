@@ -1,0 +1,10 @@
+pub mod Pictures
+pub mod Distances
+pub mod Sums
+pub mod Costs
+pub mod Best
+pub mod Nearest
+pub mod Apart
+pub mod Longer
+pub mod Recovery
+pub mod WorkedRules

@@ -1,0 +1,117 @@
+//! Laws of the definitions in `specs/`. A function here does nothing: its contract is a law, which holds of all lines.
+
+ghost use Rattle.std.specs.Prelude.{◌≡◌, ◌≢◌, ℕ, ◌*◌, ◌-◌, ◌≤◌, ◌<◌, true, false, List, [], ◌∷◌, length, map};
+ghost use Rattle.std.specs.Prelude.{replicate, Option, Some, None};
+ghost use Rattle.std.specs.List.{All};
+ghost use Rattle.vbi_words.specs.declared.system.System.{System};
+ghost use Rattle.vbi_words.specs.declared.system.System.TheVariants.{Ntsc, Pal};
+ghost use Rattle.vbi_words.specs.Geometry.{width_of, start_of};
+ghost use Rattle.vbi_words.specs.Levels.{Slicing};
+ghost use Rattle.vbi_words.specs.Words.{IsWordOrNone};
+ghost use Rattle.vbi_words.specs.Distance.{differences};
+ghost use Rattle.vbi_words.specs.Drawn.{drawn_row_of};
+ghost use Rattle.vbi_near.specs.declared.near.Near.{Near};
+ghost use Rattle.vbi_words.specs.WorkedLines.{changing};
+ghost use Rattle.vbi_near.specs.Pictures.{IsPlace, starts, picture_of, drawn_as};
+ghost use Rattle.vbi_near.specs.Distances.{Samples, known, known_but, row_distance, distance_of};
+ghost use Rattle.vbi_near.specs.Nearest.{IsNearest};
+ghost use Rattle.vbi_near.specs.Longer.{begun_earlier, ended_later};
+ghost use Rattle.vbi_near.specs.Apart.{picture_distance};
+
+/// Where another word than the one answered was recorded, the samples of the lines are off by `rival` or more in sum.
+pub fn misread_at_least()
+    ensures { (system : System) (slicing : Slicing) (lines : List Samples) (near : Near) (word : Option ℕ) (start : ℕ)
+        → IsNearest system slicing lines near → IsPlace system word start → word ≢ near.word
+        → near.rival ≤ distance_of lines (drawn_as slicing (picture_of system word start)) }
+{}
+
+/// Where the samples are off by less than `rival` in sum, the word answered is the recorded one.
+pub fn right_below_rival()
+    ensures { (system : System) (slicing : Slicing) (lines : List Samples) (near : Near) (word : Option ℕ) (start : ℕ)
+        → IsNearest system slicing lines near → IsPlace system word start
+        → distance_of lines (drawn_as slicing (picture_of system word start)) < near.rival → word ≡ near.word }
+{}
+
+/// Of some lines there is one least distance; and where the rival is farther, one nearest word.
+pub fn one_nearest()
+    ensures distance { (system : System) (slicing : Slicing) (lines : List Samples) (near other : Near)
+        → IsNearest system slicing lines near → IsNearest system slicing lines other → near.distance ≡ other.distance }
+    ensures word { (system : System) (slicing : Slicing) (lines : List Samples) (near other : Near)
+        → IsNearest system slicing lines near → IsNearest system slicing lines other → near.distance < near.rival
+        → other.word ≡ near.word }
+{}
+
+/// Pictures of different words, or of a word and of none, are apart, wherever they begin.
+pub fn pictures_apart()
+    ensures { (system : System) (one other : Option ℕ) (s t : ℕ) → IsPlace system one s → IsPlace system other t
+        → one ≢ other
+        → picture_distance system ≤ differences (picture_of system one s) (picture_of system other t) }
+{}
+
+/// So are drawn rows: their samples are off from one another by so many columns times how far white is from black.
+pub fn rows_apart()
+    ensures { (system : System) (slicing : Slicing) (one other : Option ℕ) (s t : ℕ) → IsPlace system one s
+        → IsPlace system other t → one ≢ other → picture_distance system * (slicing.white - slicing.black)
+        ≤ row_distance (known (drawn_as slicing (picture_of system one s)))
+        (drawn_as slicing (picture_of system other t)) }
+{}
+
+/// Where the samples are off by so little, the word answered is the recorded one, wherever it begins: in each line, at
+/// the mean, by less than 14 (NTSC) or 17.5 (PAL) times how far white is from black.
+pub fn few_misread()
+    ensures { (system : System) (slicing : Slicing) (lines : List (List ℕ)) (near : Near) (word : Option ℕ) (start : ℕ)
+        → All (λ line. length line ≡ width_of system) lines → IsNearest system slicing (map known lines) near
+        → IsPlace system word start
+        → 2 * distance_of (map known lines) (drawn_as slicing (picture_of system word start))
+        < length lines * (picture_distance system * (slicing.white - slicing.black))
+        → near.word ≡ word }
+{}
+
+/// Of lines that are all the drawn row of a word, or of none, this word is the nearest one, from its start on and at
+/// the distance 0; any other is as far as `rows_apart` says.
+pub fn drawn_is_nearest()
+    ensures { (system : System) (slicing : Slicing) (lines : List (List ℕ)) (near : Near) (word : Option ℕ) (start : ℕ)
+        → slicing.black < slicing.white → 0 < length lines
+        → All (λ line. line ≡ drawn_as slicing (picture_of system word start)) lines
+        → IsNearest system slicing (map known lines) near → IsPlace system word start
+        → (near.word ≡ word) × (near.start ≡ start) × (near.distance ≡ 0)
+        × (length lines * (picture_distance system * (slicing.white - slicing.black)) ≤ near.rival) }
+{}
+
+/// From the system's own start on, the drawn row is the one that `draw_line` draws.
+pub fn drawn_at_start()
+    ensures { (system : System) (slicing : Slicing) (word : Option ℕ) → IsWordOrNone word
+        → drawn_as slicing (picture_of system word (start_of system)) ≡ drawn_row_of system slicing word }
+{}
+
+/// Rows that are written down by hand, each by the columns at which its level changes, and its width: a picture stop
+/// from the last start on, a time from the first one on, 24 ones with a one before them, and 24 ones with a zero behind
+/// them. Two rows that are no farther apart than `pictures_apart` says. The distances of a few samples.
+pub fn worked_near()
+    ensures last_start { picture_of Ntsc (Some 0x82CFFF) 223 ≡ changing false 0 (
+        237 ∷ 265 ∷ 280 ∷ 294 ∷ 308 ∷ 323 ∷ 337 ∷ 351 ∷ 366 ∷ 380 ∷ 409 ∷ 437 ∷ 466 ∷ 480 ∷ 495 ∷ 523 ∷ 538 ∷ 552
+        ∷ 580 ∷ 595 ∷ 609 ∷ 623 ∷ 638 ∷ 652 ∷ 666 ∷ 681 ∷ 695 ∷ 709 ∷ 724 ∷ 738 ∷ 752 ∷ 767 ∷ 781 ∷ 795 ∷ 810 ∷ 824
+        ∷ 838 ∷ 853 ∷ 867 ∷ 881 ∷ 895 ∷ 910 ∷ []) }
+    ensures first_start { picture_of Pal (Some 0x8AE012) 0 ≡ changing false 0 (
+        17 ∷ 53 ∷ 70 ∷ 88 ∷ 106 ∷ 124 ∷ 159 ∷ 195 ∷ 230 ∷ 266 ∷ 301 ∷ 319 ∷ 336 ∷ 354 ∷ 372 ∷ 407 ∷ 425 ∷ 443 ∷ 461
+        ∷ 478 ∷ 496 ∷ 514 ∷ 532 ∷ 549 ∷ 567 ∷ 585 ∷ 602 ∷ 620 ∷ 638 ∷ 656 ∷ 691 ∷ 727 ∷ 744 ∷ 762 ∷ 798 ∷ 833
+        ∷ 1135 ∷ []) }
+    ensures begun_earlier { begun_earlier Ntsc 0xFFFFFF 28 true ≡ changing false 0 (
+        14 ∷ 28 ∷ 42 ∷ 56 ∷ 70 ∷ 85 ∷ 99 ∷ 113 ∷ 128 ∷ 142 ∷ 156 ∷ 171 ∷ 185 ∷ 199 ∷ 214 ∷ 228 ∷ 242 ∷ 257 ∷ 271
+        ∷ 285 ∷ 300 ∷ 314 ∷ 328 ∷ 343 ∷ 357 ∷ 371 ∷ 385 ∷ 400 ∷ 414 ∷ 428 ∷ 443 ∷ 457 ∷ 471 ∷ 486 ∷ 500 ∷ 514 ∷ 529
+        ∷ 543 ∷ 557 ∷ 572 ∷ 586 ∷ 600 ∷ 615 ∷ 629 ∷ 643 ∷ 658 ∷ 672 ∷ 686 ∷ 700 ∷ 715 ∷ 910 ∷ []) }
+    ensures ended_later { ended_later Pal 0xFFFFFF 0 false ≡ changing false 0 (
+        17 ∷ 35 ∷ 53 ∷ 70 ∷ 88 ∷ 106 ∷ 124 ∷ 141 ∷ 159 ∷ 177 ∷ 195 ∷ 212 ∷ 230 ∷ 248 ∷ 266 ∷ 283 ∷ 301 ∷ 319 ∷ 336
+        ∷ 354 ∷ 372 ∷ 390 ∷ 407 ∷ 425 ∷ 443 ∷ 461 ∷ 478 ∷ 496 ∷ 514 ∷ 532 ∷ 549 ∷ 567 ∷ 585 ∷ 602 ∷ 620 ∷ 638 ∷ 656
+        ∷ 673 ∷ 691 ∷ 709 ∷ 727 ∷ 744 ∷ 762 ∷ 780 ∷ 798 ∷ 815 ∷ 833 ∷ 868 ∷ 1135 ∷ []) }
+    ensures none { picture_of Pal None 0 ≡ replicate 1135 false }
+    ensures starts { (starts Ntsc ≡ 224) × (starts Pal ≡ 285) }
+    ensures apart { (differences (picture_of Ntsc (Some 0x800000) 223) (picture_of Ntsc (Some 0xA00000) 223) ≡ 28)
+        × (differences (picture_of Pal (Some 0x800000) 0) (picture_of Pal (Some 0xC00000) 0) ≡ 35) }
+    ensures samples { drawn_as (record { black = 16384; white = 51200 }) (false ∷ true ∷ true ∷ [])
+        ≡ 16384 ∷ 51200 ∷ 51200 ∷ [] }
+    ensures distance { distance_of (map known ((16384 ∷ 51000 ∷ 60000 ∷ []) ∷ (16000 ∷ 51200 ∷ 65535 ∷ []) ∷ []))
+        (16384 ∷ 51200 ∷ 51200 ∷ []) ≡ 23719 }
+    ensures erased { distance_of (known_but (false ∷ true ∷ false ∷ []) (16384 ∷ 51000 ∷ 60000 ∷ []) ∷ [])
+        (16384 ∷ 51200 ∷ 51200 ∷ []) ≡ 8800 }
+{}

@@ -1,0 +1,94 @@
+//! The nearest word, or none.
+
+ghost use Rattle.std.specs.Prelude.{◌≡◌, ℕ, ◌+◌, ◌≤◌, ◌<◌, length, List};
+ghost use Rattle.vbi_words.specs.Geometry.{width_of};
+ghost use Rattle.vbi_words.specs.Words.{IsWord};
+ghost use Rattle.vbi_near.specs.Pictures.{starts};
+ghost use Rattle.vbi_words.specs.Levels.{Slicing};
+ghost use Rattle.vbi_near.specs.Sums.{span};
+ghost use Rattle.vbi_near.specs.Costs.{place_cost};
+ghost use Rattle.vbi_near.specs.Best.{IsFound, IsChosen};
+ghost use Rattle.vbi_near.specs.Distances.{Samples, IsPile, AreFew, shades};
+ghost use Rattle.vbi_near.specs.Nearest.{IsNearest};
+ghost use Rattle.vbi_near.specs.Longer.{IsLonger};
+
+use crate::beyond::longer_distance;
+use crate::found::{Found, nearest_word};
+use crate::sums::{between, sum_up};
+use vbi_words::{System, Word24};
+
+/// The samples of the longest line, that of PAL.
+pub(crate) const WIDEST: usize = 1135;
+
+/// The word that is nearest to some lines, or none.
+#[derive(Clone, Copy)]
+pub struct Near {
+    /// The word, if a drawn row of one is nearer than that of no word.
+    pub word: Option<Word24>,
+    /// The column at which it begins; 0 where there is none.
+    pub start: usize,
+    /// How far the samples of the lines are from its drawn row, in sum.
+    pub distance: u32,
+    /// The least distance of a drawn row of another word, or of none.
+    pub rival: u32,
+    /// The least distance of a drawn row that has one cell more before or behind those of the word; the distance where
+    /// there is none.
+    pub longer: u32,
+}
+
+/// The word of this number.
+fn word_of(word: u32) -> Word24
+    requires { IsWord word }
+    ensures { result ≡ word }
+{
+    Word24::new(word).unwrap()
+}
+
+/// The nearer of the nearest word and of none.
+fn or_none(found: Found, longer: u32, blank: u32) -> Near
+    requires { IsWord found.word }
+    ensures { IsChosen found longer blank result }
+{
+    if blank <= found.distance {
+        Near {
+            word: None,
+            start: 0,
+            distance: blank,
+            rival: found.distance,
+            longer: blank,
+        }
+    } else {
+        Near {
+            word: Some(word_of(found.word)),
+            start: found.start,
+            distance: found.distance,
+            rival: found.rival.min(blank),
+            longer,
+        }
+    }
+}
+
+/// The word that is nearest to some lines, of which `darks` and `lights` say for each column how far their samples are
+/// from black there, and from white, in sum. Of drawn rows that are as near, the one of no word comes first, and then
+/// the one that begins first.
+pub fn nearest(system: System, darks: &[u32], lights: &[u32]) -> Near
+    requires dark { length darks.now ≡ width_of system }
+    requires light { length lights.now ≡ width_of system }
+    requires few { AreFew 28 darks.now × AreFew 28 lights.now }
+    ensures nearest { (slicing : Slicing) (lines : List Samples)
+        → IsPile system slicing lines (shades darks.now lights.now) → IsNearest system slicing lines result }
+    ensures longer { (slicing : Slicing) (lines : List Samples)
+        → IsPile system slicing lines (shades darks.now lights.now) → IsLonger system slicing lines result }
+    ensures start { result.start < 285 }
+{
+    let mut dark_sums = [0; WIDEST + 1];
+    let mut light_sums = [0; WIDEST + 1];
+    let dark = &mut dark_sums[..darks.len() + 1];
+    let light = &mut light_sums[..lights.len() + 1];
+    sum_up(darks, dark);
+    sum_up(lights, light);
+    let blank = between(dark, 0, system.width());
+    let found = nearest_word(dark, light, system);
+    let longer = longer_distance(dark, light, system, found);
+    or_none(found, longer, blank)
+}

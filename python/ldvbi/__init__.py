@@ -1,0 +1,44 @@
+"""The code words of LaserDisc lines, read by the library libldvbi.so in this process.
+
+    import ldvbi
+    for field in ldvbi.fields("side.tbc", ldvbi.System.NTSC, 16384, 51200):
+        if field.second.word:
+            print(ldvbi.classify(field.second.word))
+
+    side = ldvbi.Stream("side.tbc", "NTSC", 16384, 51200)
+    print(len(side), side[7], side[-1], side.cut_bytes)
+
+    numbers = ldvbi.judge(side, "NTSC")
+    print(numbers[7].number, numbers[7].state, ldvbi.first_of(numbers, 12345))
+
+A line, a field or a stream is anything with the buffer protocol that holds samples of 16 bits, the low byte first, as
+ld-decode's TBC files do: a numpy array of uint16, an array of "H"; or the bytes of such samples: bytes, a mapped file,
+a memoryview of these. Items of another kind raise a ValueError, and so do all arguments that can't be right. Nothing is
+read then. `system` is a `System` or its name; `black` and `white` are samples, black16bIre and white16bIre of the
+capture's .tbc.json. The library gets them as they are, and refuses those that are wrong.
+
+The library is loaded when samples are first read. It is the first of these that there is: the file that the
+environment variable LDVBI_LIBRARY names; libldvbi.so.1 in this package (a wheel has it there), in the folder of the
+package, in the one above that, or in lib/ of the folder to which `make install` installed both; what the system's
+loader finds. `classify` and `format_of` need no library. Only CPython and its standard library are needed besides.
+
+Read first `classes` (what a word says) and `codes` (on which lines), then `library` and `samples` (the calls of C and
+the memory that they get), `readings`, `near`, `stream` and `judging` (these calls as Python has them), at last
+`document` and `metadata` (with `database`), the files beside a TBC file. What the words of a whole side mean is the
+business of the package `ldvbi_side`, which stands on this one: nothing here imports it.
+"""
+
+
+from .classes import Code, Format, Kind, classify, format_of
+from .judging import Number, State, first_of, judge
+from .library import Counted, Pace, System
+from .near import Near, nearest
+from .readings import (PACKED_FIELD, Cause, FieldReadings, Reading, draw_line, field_bytes, line_bytes, read_field,
+                       read_line, read_rows)
+from .stream import BLOCK, Stream, fields
+
+__all__ = ["System", "Cause", "Kind", "Format", "Counted", "Pace", "State", "Reading", "FieldReadings", "Code",
+           "Number", "Near", "Stream", "line_bytes", "field_bytes", "read_line", "read_rows", "read_field", "fields",
+           "classify", "format_of", "judge", "first_of", "nearest", "draw_line"]
+
+__version__ = "0.1.0"

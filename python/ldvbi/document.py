@@ -1,0 +1,206 @@
+"""The documents of `ldvbi extract`, version 2, as docs/FORMATS.md describes them: read, and written from a TBC file,
+the same bytes as the program's. Those with recovered words, version 3, are read as well. Each number of a document that
+is read is checked; what isn't as it has to be raises a ValueError that says where. The readings that are written are
+those of the library, which is proved; that the text is the program's is shown by tests alone."""
+
+import json
+import re
+from typing import Any, Callable, Iterable, Iterator, List, NamedTuple, Optional, TextIO, Tuple
+
+from .collector import paused
+from .library import System
+from .readings import (PACKED_FIELD, Cause, Cut, FieldReadings, Levels, Reading, field_bytes, size_of, unknown_cause)
+from .stream import BLOCK, Stream, cut_of
+
+MAX_FIELDS = 1000000  # the program has the same limit
+
+# What a document begins with, also where it was written anew by another program
+_BEGIN = re.compile(rb'\s*\{\s*"version"')
+_CAUSE = re.compile(r"(word|blank|unfinished)|(change|hold) (0|[1-9][0-9]{0,3})")
+
+RECORD = '{"seqNo":%d,"vbi":{"vbiData":[%d,%d,%d]},"vbiCause":["%s","%s","%s"],"vbiPass":[%d,%d,%d]}'
+_LONGEST = 1135  # samples of a line
+# Of each cause, by its number, the texts by column
+_CAUSES = [["word"], ["blank"], ["unfinished"], ["change %d" % column for column in range(_LONGEST)],
+           ["hold %d" % column for column in range(_LONGEST)]]
+
+
+class Document(NamedTuple):
+    """What a document has: the readings of the whole fields, the field in which the stream was cut, and the levels that
+    it was read with."""
+    system: System
+    readings: List[FieldReadings]
+    cut: Optional[Cut]
+    levels: Levels
+
+
+# ---- Read
+
+def is_document(path: Any, begin: bytes) -> bool:
+    """Whether a file with this name, which begins with these bytes, is taken for a document and not for a TBC file."""
+    return str(path).endswith(".json") or _BEGIN.match(begin) is not None
+
+
+@paused()
+def read_document(data: bytes) -> Document:
+    """The document with these bytes."""
+    document = _parsed(data)
+    if not isinstance(document, dict) or not _is_number(document.get("version"), 2, 3):
+        raise ValueError("not a document of version 2 or 3")
+    system = _system(document.get("videoParameters"))
+    records = document.get("fields")
+    if not isinstance(records, list):
+        raise ValueError("fields is no list")
+    readings, known = [], _KnownLines(size_of(system)[0], document["version"])
+    for number, record in enumerate(records, 1):
+        try:
+            readings.append(_quick_field(record, number, known) or _field(record, number, known))
+        except ValueError as error:
+            raise ValueError("field %d: %s" % (number, error)) from None
+    levels = document["videoParameters"]
+    return Document(system, readings, _cut(document, len(readings) + 1, system),
+                    Levels(levels["black16bIre"], levels["white16bIre"]))
+
+
+def _no_number(name):
+    raise ValueError("%s is no number" % name)
+
+
+def _parsed(data):
+    try:
+        return json.loads(data.decode("utf-8"), parse_constant=_no_number)
+    except (ValueError, RecursionError) as error:
+        raise ValueError("not JSON: %s" % error) from None
+
+
+def _is_number(value, least, most):
+    return type(value) is int and least <= value <= most
+
+
+def _member(record, name, owner):
+    if not isinstance(record, dict) or name not in record:
+        raise ValueError("%s is not there" % name if owner is None else "%s has no %s" % (owner, name))
+    return record[name]
+
+
+def _system(parameters):
+    name = _member(parameters, "system", "videoParameters")
+    if name not in list(System.__members__):
+        raise ValueError("system is neither NTSC nor PAL")
+    system = System[name]
+    width, height = size_of(system)
+    for member, wanted in (("fieldWidth", width), ("fieldHeight", height)):
+        if not _is_number(_member(parameters, member, "videoParameters"), wanted, wanted):
+            raise ValueError("%s is not %d" % (member, wanted))
+    black, white = (_member(parameters, name, "videoParameters") for name in ("black16bIre", "white16bIre"))
+    if not _is_number(black, 0, 65535) or not _is_number(white, 0, 65535) or black >= white:
+        raise ValueError("black16bIre and white16bIre are not two samples, black below white")
+    return system
+
+
+class _KnownLines(dict):
+    """The readings of word, cause and pass together. Each is checked once: a side has few that differ."""
+
+    def __init__(self, width, version):
+        super().__init__()
+        self.width, self.version = width, version
+
+    def __missing__(self, line):
+        self[line] = _line(*line, self.width, self.version)
+        return self[line]
+
+
+def _quick_field(record, number, known):
+    """The readings of a record without a fault; of others they are, or None, and `_field` says what is wrong."""
+    try:
+        words, causes, passes = record["vbi"]["vbiData"], record["vbiCause"], record["vbiPass"]
+        first, second, third = zip(words, causes, passes)
+        # true and 1.0 are 1 to a dict
+        is_whole = type(record["seqNo"]) is int and set(map(type, words + passes)) == {int}
+        if is_whole and record["seqNo"] == number and len(words) == len(causes) == len(passes) == 3:
+            return FieldReadings(known[first], known[second], known[third])
+    except (KeyError, TypeError, ValueError):
+        pass
+    return None
+
+
+def _field(record, number, known):
+    """The same of any record, each part of which is checked."""
+    if not _is_number(_member(record, "seqNo", None), number, number):
+        raise ValueError("seqNo is not %d" % number)
+    lists = {"vbiData": _member(_member(record, "vbi", None), "vbiData", "vbi")}
+    lists.update((name, _member(record, name, None)) for name in ("vbiCause", "vbiPass"))
+    for name, values in lists.items():
+        if not isinstance(values, list) or len(values) != 3:
+            raise ValueError("%s is no list of three" % name)
+    return FieldReadings(*(_line(*line, known.width, known.version) for line in zip(*lists.values())))
+
+
+def _line(word, text, number_of_pass, width, version):
+    """The reading of a line, each number of which is checked. In a document of version 3 a line with a recovered word,
+    of pass 3, has the cause for which it shows none of its own."""
+    if not _is_number(word, 0, 0) and not _is_number(word, 0x800000, 0xFFFFFF):
+        raise ValueError("%s is no word" % json.dumps(word))
+    match = _CAUSE.fullmatch(text) if isinstance(text, str) else None
+    column = int(match[3] or 0) if match else width
+    if column >= width:
+        raise ValueError("%s is no cause" % json.dumps(text))
+    if not _is_number(number_of_pass, 0, version):
+        raise ValueError("%s is no pass" % json.dumps(number_of_pass))
+    cause = Cause[match[1] or match[2]]
+    is_shown = cause != Cause.blank and word > 0 if number_of_pass == 3 else cause == Cause.word
+    if not (word > 0) == is_shown == (number_of_pass > 0):
+        raise ValueError("word, cause and pass of a line don't fit: %d, %s, %d" % (word, text, number_of_pass))
+    return Reading(cause, number_of_pass, column, word)
+
+
+def _cut(document, number, system):
+    value = _member(document, "cutField", None)
+    if value is None:
+        return None
+    if not _is_number(_member(value, "seqNo", "cutField"), number, number):
+        raise ValueError("cutField: seqNo is not %d" % number)
+    if not _is_number(_member(value, "bytes", "cutField"), 1, field_bytes(system) - 1):
+        raise ValueError("cutField: bytes is not from 1 to %d" % (field_bytes(system) - 1))
+    return Cut(number, value["bytes"])
+
+
+# ---- Written
+
+def write_document(stream: Stream, file: TextIO, over: Callable[[Iterable[Any], int], Iterable[Any]]) -> None:
+    """Writes the document of a stream to a text file. `over` yields the blocks that it gets, each of so many fields,
+    and may say meanwhile how far they are."""
+    check_count(len(stream), stream.cut_bytes > 0)
+    file.write(head_of(2, stream.system, stream.black, stream.white))
+    number = 0
+    for block in over(stream.packed(0, len(stream)), BLOCK):
+        records = list(_records(block, number))
+        file.write((",\n" if number else "") + ",\n".join(records))
+        number += len(records)
+    file.write(tail_of(cut_of(stream)))
+
+
+def check_count(fields: int, is_cut: bool) -> None:
+    """Refuses a stream of more whole fields, with the one in which it is cut, than a document may have."""
+    if fields + is_cut > MAX_FIELDS:
+        raise ValueError("too many fields")
+
+
+def head_of(version: int, system: System, black: int, white: int) -> str:
+    """What stands before the records."""
+    return ('{"version":%d,"videoParameters":{"system":"%s","fieldWidth":%d,"fieldHeight":%d,"black16bIre":%d,'
+            '"white16bIre":%d},"fields":[\n' % (version, system.name, *size_of(system), black, white))
+
+
+def tail_of(cut: Optional[Cut]) -> str:
+    """What stands behind them."""
+    return '\n],"cutField":%s}\n' % ('{"seqNo":%d,"bytes":%d}' % cut if cut else "null")
+
+
+def _records(block: Any, number: int) -> Iterator[str]:
+    """The records of a block of fields, as the library writes their readings, behind so many others."""
+    for a, b, c, d, e, f, g, h, i, j, k, l in PACKED_FIELD.iter_unpack(block):
+        number += 1
+        if max(a, e, i) >= len(_CAUSES):
+            raise unknown_cause(max(a, e, i))
+        yield RECORD % (number, d, h, l, _CAUSES[a][c], _CAUSES[e][g], _CAUSES[i][k], b, f, j)

@@ -1,0 +1,90 @@
+"""Which number of its disc each field shows, judged by the fields around it: the library's judge."""
+
+import ctypes
+import enum
+import struct
+from typing import Any, Iterable, List, NamedTuple, Optional, Union
+
+from .library import Counted, Pace, check, counted_number, later_call, pace_number, system_number
+from .readings import PACKED_FIELD, AnySystem, FieldReadings
+from .stream import Stream
+
+
+class State(enum.IntEnum):
+    """How sure the number of a field is. `nothing`: the field shows no number, and none is due. `believed`: it shows
+    the number, and enough around it supports that. `doubtful`: it shows the number, and too little supports that.
+    `due`: it doesn't show the number, but the believed numbers before and behind it leave no other."""
+    nothing = 0
+    believed = 1
+    doubtful = 2
+    due = 3
+
+
+class Number(NamedTuple):
+    """The answer of the judge for a field. `number` is the number of a picture, from 0 to 79999; of a time it is the
+    count of pictures from the disc's beginning, 30 (NTSC) or 25 (PAL) a second. It is None if `state` is `nothing`. If
+    this module doesn't know the state, which a later library may have, `state` is its number."""
+    number: Optional[int]
+    state: State
+
+
+_PACKED_NUMBER = struct.Struct("=II")  # LdvbiNumber
+_SIGHTINGS_BYTES = 20  # of LdvbiSightings
+_STATES = dict(enumerate(State))
+
+
+def judge(readings: Any, system: AnySystem, counted: Union[Counted, str] = Counted.pictures,
+          pace: Union[Pace, str] = Pace.find) -> List[Number]:
+    """The `Number` of each field, as a list: which number of its disc it shows, judged by the 24 fields before it and
+    the 24 behind it. `readings` are those of the fields in their order: a `Stream`, or any iterable of `FieldReadings`,
+    or bytes or an array as the library writes them (`Stream.packed`). `counted` and `pace` are a `Counted` and a
+    `Pace`, or their names.
+
+    If the disc ran on around a field, and the misread words there weigh less than 10 (a word of pass 1 weighs 2, one of
+    pass 2 or 3 weighs 1), a believed number is the one that was recorded. Minutes without their seconds, chapters and
+    lost fields are not judged here: `ldvbi-side` judges them all."""
+    call = later_call("ldvbi_judge")
+    asked = system_number(system), counted_number(counted), pace_number(pace)
+    check(call(*asked, None, 0, None, 0, None, 0))  # of no field the library tests these alone
+    packed = _packed(readings)
+    count, rest = divmod(len(packed), PACKED_FIELD.size)
+    if rest:
+        raise ValueError("packed readings have %d bytes to a field, and these are %d"
+                         % (PACKED_FIELD.size, len(packed)))
+    seen = ctypes.create_string_buffer(_SIGHTINGS_BYTES * count)
+    numbers = ctypes.create_string_buffer(_PACKED_NUMBER.size * count)
+    check(call(*asked, packed, count, seen, count, numbers, count))
+    return [Number(number if state else None, _STATES.get(state, state))
+            for number, state in _PACKED_NUMBER.iter_unpack(numbers)]
+
+
+def _packed(readings: Any) -> bytes:
+    """Readings as the library takes them: what is packed, and a stream, in one piece, others field by field."""
+    if isinstance(readings, Stream):
+        return b"".join(readings.packed(0, len(readings)))
+    try:
+        return bytes(memoryview(readings))
+    except TypeError:
+        pass
+    try:
+        looped = iter(readings)
+    except TypeError:
+        raise ValueError("readings are none of fields, but of the type %s" % type(readings).__name__) from None
+    return b"".join([_packed_field(number, field) for number, field in enumerate(looped)])
+
+
+def _packed_field(number: int, readings: FieldReadings) -> bytes:
+    try:
+        first, second, third = readings
+        return PACKED_FIELD.pack(*first, *second, *third)
+    except (TypeError, ValueError, struct.error):
+        raise ValueError("readings[%d] is not three readings" % number) from None
+
+
+def first_of(numbers: Iterable[Number], number: int) -> Optional[int]:
+    """The index, from 0, of the first field whose number is this one and is believed or due; None if there is none.
+    `numbers` is what `judge` returned."""
+    for field, (known, state) in enumerate(numbers):
+        if known == number and state in (State.believed, State.due):
+            return field
+    return None

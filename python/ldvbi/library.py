@@ -1,0 +1,176 @@
+"""The library libldvbi.so: where it is, its calls, its refusals as exceptions. It is loaded when it is first called."""
+
+import ctypes
+import enum
+import functools
+import os
+from typing import Any, NamedTuple
+
+from .classes import whole_number
+
+ABI = 1
+BAD_SYSTEM, BAD_LEVELS, BAD_LENGTH, BAD_WORD, BAD_COUNTED, BAD_PACE = range(1, 7)  # statuses
+
+_NO_SYSTEM = "system is neither NTSC nor PAL"
+_TEXTS = {BAD_SYSTEM: _NO_SYSTEM, BAD_WORD: "number is no code word",
+          BAD_COUNTED: "neither pictures nor times are counted",
+          BAD_PACE: "pace is neither that of video nor of film, nor to be found"}
+_MOST = 0xFFFFFFFF
+
+
+class System(enum.IntEnum):
+    """A television system."""
+    NTSC = 1
+    PAL = 2
+
+
+class Counted(enum.IntEnum):
+    """Which numbers of a disc are judged: the picture numbers of a CAV disc, or the times of a CLV disc, as pictures
+    from its beginning, 30 (NTSC) or 25 (PAL) to a second."""
+    pictures = 1
+    times = 2
+
+
+class Pace(enum.IntEnum):
+    """How long the pictures of a disc last: two fields (video), or two and three fields by turns (film on NTSC).
+    `find` is that of film where more numbers are believed by it, else that of video."""
+    video = 1
+    film = 2
+    find = 3
+
+
+# ---- Loading
+
+def _library_file():
+    """The file that the environment names, or one in a folder where it may be, or the one that the loader looks for."""
+    package = os.path.dirname(os.path.abspath(__file__))  # where a wheel has it
+    here = os.path.dirname(package)
+    name = "libldvbi.so.%d" % ABI
+    above = os.path.join(here, os.pardir)
+    # as installed, the package is in PREFIX/share/ldvbi/python
+    installed = os.path.join(above, os.pardir, os.pardir, "lib")
+    places = [os.path.join(folder, name) for folder in (package, here, above, installed)]
+    return os.environ.get("LDVBI_LIBRARY") or next((place for place in places if os.path.exists(place)), name)
+
+
+_NUMBER, _SIZE, _MEMORY = ctypes.c_uint32, ctypes.c_size_t, ctypes.c_void_p
+_SETUP = [_NUMBER] * 3
+# The arguments of the calls that every library has; each of them returns a number.
+_ARGUMENTS = {
+    "ldvbi_abi": [],
+    "ldvbi_read_line": _SETUP + [_MEMORY, _SIZE, _MEMORY],
+    "ldvbi_read_rows": _SETUP + [_MEMORY, _SIZE, _MEMORY],
+    "ldvbi_read_field": _SETUP + [_MEMORY, _SIZE, _MEMORY],
+    "ldvbi_read_fields": _SETUP + [_MEMORY, _SIZE, _MEMORY, _SIZE],
+    "ldvbi_draw_line": _SETUP + [_NUMBER, _MEMORY, _SIZE],
+}
+# Those of the calls that an older library may lack, and what it can't do then
+_LATER = {
+    "ldvbi_judge": ("judge numbers", [_NUMBER] * 3 + [_MEMORY, _SIZE] * 3),
+    "ldvbi_nearest": ("find nearest words", _SETUP + [_MEMORY, _SIZE, _MEMORY]),
+    "ldvbi_recover_rows": ("recover words", _SETUP + [_MEMORY, _SIZE, _MEMORY]),
+    "ldvbi_recover_fields": ("recover words", _SETUP + [_MEMORY, _SIZE, _MEMORY, _SIZE]),
+}
+
+
+def _declared(calls, name, types):
+    call = getattr(calls, name)
+    call.restype, call.argtypes = _NUMBER, types
+    return call
+
+
+@functools.lru_cache(maxsize=None)
+def library() -> ctypes.CDLL:
+    """The library's calls. An OSError in one line where there is no library that fits."""
+    file = _library_file()
+    try:
+        calls = ctypes.CDLL(file)
+        for name, types in _ARGUMENTS.items():
+            _declared(calls, name, types)
+    except (OSError, AttributeError) as error:
+        raise OSError("no library to read samples with (%s): `make lib` builds it, LDVBI_LIBRARY names its file"
+                      % error) from None
+    if calls.ldvbi_abi() != ABI:
+        raise OSError("%s has the interface %d, not %d: `make lib` builds the one that fits, LDVBI_LIBRARY names its "
+                      "file" % (file, calls.ldvbi_abi(), ABI))
+    return calls
+
+
+@functools.lru_cache(maxsize=None)
+def later_call(name: str) -> Any:
+    """A call of the library that an older one may lack. An OSError in one line where this one does; it may read samples
+    all the same."""
+    calls = library()
+    purpose, types = _LATER[name]
+    try:
+        return _declared(calls, name, types)
+    except AttributeError:
+        raise OSError("%s is too old to %s, it has no %s: `make lib` builds a later one, LDVBI_LIBRARY names its file"
+                      % (calls._name, purpose, name)) from None
+
+
+# ---- Arguments and refusals
+
+def number_of(name: str, value: Any) -> int:
+    """A whole number as the library takes it. One that has no 32 bits becomes the greatest that has, which is refused
+    like it."""
+    number = whole_number(name, value)
+    return number if 0 <= number <= _MOST else _MOST
+
+
+def _member_number(enumeration, value, refusal):
+    """The number of a member of an enumeration, given by it or by its name."""
+    if isinstance(value, str):
+        value = enumeration.__members__.get(value)
+    try:
+        return number_of("number", value)
+    except ValueError:
+        raise ValueError(refusal) from None
+
+
+def system_number(system: Any) -> int:
+    """The number of a system, given by it or by its name."""
+    return _member_number(System, system, _NO_SYSTEM)
+
+
+def counted_number(counted: Any) -> int:
+    """The number of what is counted, given by it or by its name."""
+    return _member_number(Counted, counted, _TEXTS[BAD_COUNTED])
+
+
+def pace_number(pace: Any) -> int:
+    """The number of a pace, given by it or by its name."""
+    return _member_number(Pace, pace, _TEXTS[BAD_PACE])
+
+
+def system_of(system: Any) -> System:
+    """The `System` of a number or a name."""
+    number = system_number(system)
+    if number not in (System.NTSC, System.PAL):
+        raise ValueError(_NO_SYSTEM)
+    return System(number)
+
+
+def check(status: int) -> None:
+    """Raises a ValueError for a status by which a call refused its arguments."""
+    if status:
+        raise ValueError(_TEXTS.get(status) or "the library's status is %d" % status)
+
+
+class Setup(NamedTuple):
+    """The three numbers that a call begins with."""
+    system: int
+    black: int
+    white: int
+
+    def check(self, status: int) -> None:
+        """Raises a ValueError for a status of a call with this setup."""
+        if status == BAD_LEVELS:
+            wide = [name for name in ("black", "white") if getattr(self, name) > 65535]
+            raise ValueError("%s is not from 0 to 65535" % wide[0] if wide else "black is not below white")
+        check(status)
+
+
+def setup_of(system: Any, black: Any, white: Any) -> Setup:
+    """The setup of these arguments, which are handed over as they are: the library refuses what is out of range."""
+    return Setup(system_number(system), number_of("black", black), number_of("white", white))

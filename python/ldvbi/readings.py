@@ -1,0 +1,142 @@
+"""What the lines of a field show: a word, or why there is none; the calls of the library that read and draw lines."""
+
+import ctypes
+import enum
+import struct
+from typing import Any, Callable, Iterator, NamedTuple, Optional, Tuple, Union
+
+from .library import BAD_LENGTH, Setup, System, later_call, library, number_of, setup_of, system_of
+from .samples import Samples
+
+# A system may be named; samples are anything with the buffer protocol.
+AnySystem = Union[System, str, int]
+
+
+class Cause(enum.IntEnum):
+    """What a line shows: a word, or why it shows none."""
+    word = 0
+    blank = 1
+    unfinished = 2
+    change = 3
+    hold = 4
+
+
+class Reading(NamedTuple):
+    """What a line shows. `pass_` is 1 for a word that the line's own levels show, 2 for one that only smoothed levels
+    show, 3 for one that was recovered, 0 for no word. `column` is, of the causes change and hold, the first hopeless
+    column, counted from 0; else 0. `word` is the word, from 0x800000 to 0xFFFFFF, or 0. If this module doesn't know the
+    cause, which a later library may have, `cause` is its number."""
+    cause: Cause
+    pass_: int
+    column: int
+    word: int
+
+
+class FieldReadings(NamedTuple):
+    """The readings of a field's lines 16, 17 and 18."""
+    first: Reading
+    second: Reading
+    third: Reading
+
+
+class Cut(NamedTuple):
+    """The field inside which a stream ended, and how many of its bytes came."""
+    field: int
+    bytes: int
+
+
+class Levels(NamedTuple):
+    """The samples of black and of white that fields were read with."""
+    black: int
+    white: int
+
+
+_PACKED_LINE = struct.Struct("=BBHI")  # LdvbiReading of ldvbi.h
+PACKED_FIELD = struct.Struct("=BBHIBBHIBBHI")  # LdvbiFieldReadings
+_CAUSES = (*Cause, *range(len(Cause), 256))  # those that a later library may add stay numbers
+_CAUSE_NAMES = tuple(cause.name for cause in Cause)
+_FIRST_WITH_COLUMN = int(Cause.change)  # and the only other one behind it is hold
+_SIZES = {System.NTSC: (910, 263), System.PAL: (1135, 313)}  # samples of a line, lines of a field
+
+
+def size_of(system: AnySystem) -> Tuple[int, int]:
+    """The samples of a line and the lines of a field."""
+    return _SIZES[system_of(system)]
+
+
+def line_bytes(system: AnySystem) -> int:
+    """The bytes of a line."""
+    return 2 * _SIZES[system_of(system)][0]
+
+
+def field_bytes(system: AnySystem) -> int:
+    """The bytes of a field."""
+    return line_bytes(system) * _SIZES[system_of(system)][1]
+
+
+def read_line(samples: Any, system: AnySystem, black: int, white: int) -> Reading:
+    """The reading of a line."""
+    read = library().ldvbi_read_line
+    out = _read(read, samples, setup_of(system, black, white), _PACKED_LINE, "a line has", line_bytes)
+    cause, pass_, column, word = _PACKED_LINE.unpack(out)
+    return Reading(_CAUSES[cause], pass_, column, word)
+
+
+def read_rows(samples: Any, system: AnySystem, black: int, white: int, recover: bool = False) -> FieldReadings:
+    """The readings of a field's lines 16, 17 and 18 alone, which follow each other, as os.pread fetches them. In their
+    field they are behind 15 others. With `recover` a worn line has its nearest word, of pass 3, where no other is near:
+    ldvbi_recover_rows in ldvbi.h has the rule."""
+    read = later_call("ldvbi_recover_rows") if recover else library().ldvbi_read_rows
+    setup = setup_of(system, black, white)
+    out = _read(read, samples, setup, PACKED_FIELD, "three lines have", lambda system: 3 * line_bytes(system))
+    return next(unpacked(out))
+
+
+def read_field(samples: Any, system: AnySystem, black: int, white: int, recover: bool = False) -> FieldReadings:
+    """The readings of a field's lines 16, 17 and 18; with `recover` as `read_rows` has them."""
+    def recovered(*words: Any) -> int:
+        return later_call("ldvbi_recover_fields")(*words, 1)
+    read = recovered if recover else library().ldvbi_read_field
+    out = _read(read, samples, setup_of(system, black, white), PACKED_FIELD, "a field has", field_bytes)
+    return next(unpacked(out))
+
+
+def _read(read: Any, samples: Any, setup: Setup, packed: struct.Struct, owner: str,
+          wanted_bytes: Callable[[AnySystem], int]) -> Any:
+    """What a call of the library writes, which is of this packed form. `owner` and `wanted_bytes` are for the text of
+    an exception."""
+    out = ctypes.create_string_buffer(packed.size)
+    with Samples(samples) as memory:
+        status = read(*setup, memory.address, memory.length, out)
+        if status == BAD_LENGTH:
+            raise ValueError("%s %d bytes, not %d" % (owner, wanted_bytes(setup.system), memory.length))
+        setup.check(status)
+    return out
+
+
+def unpacked(readings: Any) -> Iterator[FieldReadings]:
+    """Fields' readings, as the library writes them, one by one."""
+    for a, b, c, d, e, f, g, h, i, j, k, l in PACKED_FIELD.iter_unpack(readings):
+        yield FieldReadings(Reading(_CAUSES[a], b, c, d), Reading(_CAUSES[e], f, g, h), Reading(_CAUSES[i], j, k, l))
+
+
+def draw_line(word: int, system: AnySystem, black: int, white: int) -> bytes:
+    """The samples of a line that shows the word, or of a blank line for 0."""
+    setup = setup_of(system, black, white)
+    size = line_bytes(system)
+    out = ctypes.create_string_buffer(size)
+    setup.check(library().ldvbi_draw_line(*setup, number_of("word", word), out, size))
+    return out.raw
+
+
+def cause_text(reading: Reading) -> str:
+    """What a line shows, as the document of `ldvbi extract` has it: `word`, `blank`, `change 170`."""
+    if reading.cause >= len(_CAUSE_NAMES):
+        raise unknown_cause(reading.cause)
+    name = _CAUSE_NAMES[reading.cause]
+    return "%s %d" % (name, reading.column) if reading.cause >= _FIRST_WITH_COLUMN else name
+
+
+def unknown_cause(number: int) -> ValueError:
+    """What is raised for a cause of a later library, which no text is known for."""
+    return ValueError("the library's cause %d is not known here" % number)

@@ -1,0 +1,93 @@
+"""Two captures of one disc's side, compared by their numbers: which are in one alone, and which capture has a number
+that is in both on better lines."""
+
+from typing import Any, Dict, Iterator, List, Sequence
+
+from ldvbi import Kind
+from ldvbi.codes import LINES, code_of
+from ..judge.paces import RATES
+from ..judge.readings import WEIGHTS, Answer
+from ..judge.whole import UNITS
+from ..side import Side
+from .summary import largest_first, listed, named
+
+VERSION = 1  # of the form of what is compared
+_NUMBERS = (Kind.picture, Kind.time, Kind.clv_picture)
+VERDICTS = ("a", "b", "betterA", "betterB", "same")
+
+
+def compare(a: Side, b: Side) -> Answer:
+    """What two sides have, as plain data: `counts` of their numbers, and for each verdict its stretches of numbers,
+    `{first, last, count}`: `a` and `b` are in that side alone; of those in both `betterA` and `betterB` are shown by
+    more lines there, or by lines of pass 1 for others, and `same` are alike. A ValueError where they can't be of one
+    disc."""
+    kinds = [(side.answer["unit"], side.answer["system"]) for side in (a, b)]
+    if None in (kinds[0][0], kinds[1][0]):
+        which = "first" if kinds[0][0] is None else "second"
+        raise ValueError("the %s side has no numbers to compare" % which)
+    if kinds[0] != kinds[1]:
+        raise ValueError("the sides have %s of %s and %s of %s: two discs?" % tuple(
+            text for unit, system in kinds for text in (UNITS[unit], system)))
+    known = [_weights(side) for side in (a, b)]
+    unit, system = kinds[0]
+    found: Dict[str, List[List[Any]]] = {verdict: [] for verdict in VERDICTS}
+    for number in sorted(known[0].keys() | known[1].keys()):
+        _add(found[_verdict(*(one.get(number) for one in known))], number, RATES[system])
+    return {"version": VERSION, "unit": unit, "counts": [len(one) for one in known],
+            **{verdict: [{"first": first, "last": last, "count": count} for first, last, count, _ in stretches]
+               for verdict, stretches in found.items()}}
+
+
+def _weights(side):
+    """Of each number that can be sought what its lines weigh: 0 where it is only due in its field."""
+    answer = side.answer
+    doubtful = {(one["field"], one["line"]) for one in answer["doubtful"] + answer["stray"]}
+    weights = {}
+    for number, field, _ in answer["showings"]:
+        weight = sum(WEIGHTS[reading.pass_] for line, reading in zip(LINES, side.readings[field - 1])
+                     if reading.word and code_of(reading.word).kind in _NUMBERS and (field, line) not in doubtful)
+        weights[number] = max(weight, weights.get(number, 0))
+    for one in answer["damaged"]:
+        weights.setdefault(one["number"], 0)
+    return weights
+
+
+def _verdict(one, other):
+    """What the weights of a number in the two sides say of it, None where it isn't there."""
+    if one is None or other is None:
+        return "a" if other is None else "b"
+    return "same" if one == other else "betterA" if one > other else "betterB"
+
+
+def _add(stretches, number, rate):
+    """Adds a number to the last stretch, if it follows it, else as a new one."""
+    ordinal = _ordinal(number, rate)
+    if stretches and stretches[-1][3] == ordinal - 1:
+        stretches[-1][1:] = [number, stretches[-1][2] + 1, ordinal]
+    else:
+        stretches.append([number, number, 1, ordinal])
+
+
+def _ordinal(number, rate):
+    """A picture as it is, a minute in minutes, a time in pictures from the disc's start."""
+    if isinstance(number, int):
+        return number
+    clock, _, picture = number.partition(".")
+    total = 0
+    for part in clock.split(":"):
+        total = 60 * total + int(part)
+    return total * rate + int(picture) if picture else total
+
+
+def comparison_text(found: Answer, names: Sequence[str]) -> Iterator[str]:
+    """What was found, as lines: the largest stretches first, four of each verdict at most."""
+    unit, (one, other) = found["unit"], found["counts"]
+    both = sum(stretch["count"] for verdict in VERDICTS[2:] for stretch in found[verdict])
+    yield "%s: %d in %s, %d in %s, %d in both" % (UNITS[unit], one, names[0], other, names[1], both)
+    texts = ("in %s alone" % names[0], "in %s alone" % names[1], "better in %s" % names[0], "better in %s" % names[1],
+             "alike in both")
+    for verdict, text in zip(VERDICTS, texts):
+        stretches = found[verdict]
+        yield "%s: %s" % (text, listed(sum(stretch["count"] for stretch in stretches), (
+            named(unit, stretch["first"], stretch["last"])
+            for stretch in largest_first(stretches, lambda stretch: stretch["count"]))))

@@ -1,0 +1,278 @@
+"""The command `ldvbi-side`: what the words of a side mean."""
+
+import argparse
+import contextlib
+import csv
+import json
+import os
+import sys
+from typing import List, Optional
+
+from ldvbi import Stream, System, field_bytes
+from ldvbi.document import is_document, write_document
+from ldvbi.metadata import beside, read_metadata, settings_of
+from ldvbi.stream import cut_of
+from ..draw.plot import plot_command
+from ..seek import seek, text_of, wanted_of
+from ..side import Side, side_of_document, side_of_stream
+from .compare import compare, comparison_text
+from .map import COLUMNS as MAP_COLUMNS, map_rows
+from .outputs import drop_standard_output, refuse_inputs, whole_file
+from .progress import Progress
+from .recovered import write_recovered
+from .summary import MOST_LINES, summary
+from .tables import BAD_LINE_COLUMNS, FIELD_COLUMNS, bad_line_rows, field_rows
+
+NAME = "ldvbi-side"
+DESCRIPTION = """Reads a side from a TBC file, or from a document that `ldvbi extract` wrote, and says what its words
+mean. A file is taken for a document if its name ends with .json or its text begins as a document does. Statuses: 0
+done, 1 a fault, 2 the command line was refused, 3 done and the last field is cut, 130 ended by Ctrl-C. The words
+`compare SIDE SIDE` compare two sides; `index FILE PAGE..` writes a file that links pages of --html."""
+COMPARISON = """Compares two captures of one side by their numbers. It says which numbers only one of them has, and
+which of those that both have one of them shows better: by more lines, or by lines of pass 1 instead of others."""
+LEVELS = "the sample of %s, from 0 to 65535; black is below white"
+
+
+def _wanted(text):
+    try:
+        return wanted_of(text)
+    except ValueError as error:
+        raise argparse.ArgumentTypeError(str(error)) from None
+
+
+def _parser():
+    parser = argparse.ArgumentParser(prog=NAME, description=DESCRIPTION)
+    parser.add_argument("side", help="the TBC file, or the document; - is standard input, for a document")
+    parser.add_argument("--meta", metavar="FILE", help="take system and levels of a TBC file from this .tbc.json or "
+                        ".tbc.db of ld-decode, and not from the one beside the file. Levels with decimals are rounded "
+                        "to the next whole number. The count of fields in it is compared with the side. isFirstField "
+                        "in a .tbc.json shows single lost fields, of a document as well")
+    parser.add_argument("--system", choices=list(System.__members__))
+    parser.add_argument("--black", type=int, help=LEVELS % "black")
+    parser.add_argument("--white", type=int, help=LEVELS % "white")
+    parser.add_argument("--no-recover", action="store_true", help="leave out the words that are recovered from worn "
+                        "lines of a TBC file, those of pass 3")
+    output = parser.add_mutually_exclusive_group()
+    output.add_argument("--csv", action="store_true", help="print a row for each field with any word (the default)")
+    output.add_argument("--json", action="store_true", help="print all that is known of the side, every list in full")
+    output.add_argument("--bad-lines", action="store_true", help="print a row for each line that shows no word of "
+                        "its own and isn't blank, with its cause, its offset in the TBC file, and the word "
+                        "that its samples are nearest to")
+    output.add_argument("--seek", metavar="WANTED", type=_wanted, help="print the first field of a picture (its "
+                        "number, or a CLV time h:mm:ss.pp), of a minute h:mm, of a second h:mm:ss, or of a chapter, as "
+                        "'chapter 3'; status 1 if there is none")
+    output.add_argument("--summary", action="store_true", help="print in at most %d lines whether the side is whole, "
+                        "and what to look at first; status 0 if it is whole, else 1" % MOST_LINES)
+    output.add_argument("--document", action="store_true", help="print the document of the TBC file, byte for byte as "
+                        "`ldvbi extract` writes it")
+    parser.add_argument("--recovered", action="store_true", help="print with --document the one that has the recovered "
+                        "words, too, of version 3")
+    parser.add_argument("--strict", action="store_true", help="say that a side without lead-in or lead-out isn't whole")
+    parser.add_argument("-o", "--output", metavar="FILE", help="print into this file, which gets its name only when it "
+                        "is complete")
+    parser.add_argument("--svg", metavar="FILE", help="draw the side into this file; print only what another option "
+                        "asks for")
+    parser.add_argument("--html", metavar="FILE", help="write a page with all that is known of the side into this "
+                        "file, with drawings of the bad lines of a TBC file; print only what another option asks for")
+    parser.add_argument("--map", metavar="FILE", help="write into this file where each number, chapter and picture "
+                        "stop is, for a player to seek by; print only what another option asks for")
+    return parser
+
+
+def _source(options):
+    """The side of the document that the options name, or the stream of the TBC file; and the metadata, or None."""
+    given = [options.system, options.black, options.white]
+    is_standard_input = options.side == "-"
+    with open(0 if is_standard_input else options.side, "rb", closefd=not is_standard_input) as file:
+        if is_standard_input or is_document(options.side, file.peek(64)):
+            if any(value is not None for value in given):
+                raise ValueError("a document has its system and levels; they are options of a TBC file")
+            side = side_of_document(file.read())
+            return side, options.meta and read_metadata(options.meta)
+    metadata = options.meta and read_metadata(options.meta)
+    settings = settings_of(metadata, *given)
+    for note in settings.notes:
+        _note(note)
+    stream = Stream(options.side, settings.system, settings.black, settings.white, not options.no_recover)
+    return stream, metadata
+
+
+def _print_document(path, stream):
+    # Between the lines of a document on the same terminal, messages would be of no use.
+    with Stream(path, stream.system, stream.black, stream.white) as plain, \
+            Progress(len(plain), is_wanted=not sys.stdout.isatty()) as progress:
+        write_document(plain, sys.stdout, progress.over)
+
+
+def _side_of(source):
+    """The side of either source."""
+    if isinstance(source, Side):
+        return source
+    with Progress(len(source)) as progress:
+        return side_of_stream(source, progress.over)
+
+
+def _loaded(source, metadata, options):
+    """The side of a source, with what the metadata has of its fields."""
+    side = _side_of(source)
+    side.is_strict = options.strict
+    if metadata:
+        _add_fields(side, metadata, isinstance(source, Side))
+    return side
+
+
+def _add_fields(side, metadata, is_all):
+    """Adds what the metadata has of the fields to the side. `is_all` says that nothing else is wanted of it."""
+    count, side.expected = len(side.readings), metadata.fields
+    if metadata.fields is not None and metadata.fields != count:
+        rest = " and %d bytes" % side.cut.bytes if side.cut else ""
+        unused = ", so its isFirstField isn't used" if metadata.first else ""
+        _note("%d fields%s, %s says %d%s: another system, or another file's metadata?" % (
+            count, rest, metadata.path, metadata.fields, unused))
+        return
+    side.first = metadata.first
+    if is_all and side.first is None:
+        _note("%s has no isFirstField of each field" % metadata.path)
+
+
+def _note(text):
+    print("%s: %s" % (NAME, text), file=sys.stderr)
+
+
+def _print_table(columns, rows, file=None):
+    table = csv.writer(file or sys.stdout, lineterminator="\n")
+    table.writerow(columns)
+    table.writerows(rows)
+
+
+def _cut_status(cut, system):
+    """The status of what is printed of all whole fields: 3 where the last field is cut, which is said then."""
+    if cut is None:
+        return 0
+    _note("the last field is cut: field %d has %d of %d bytes" % (*cut, field_bytes(system)))
+    return 3
+
+
+def _write_files(side, options, is_tbc):
+    """Writes each file that the options name beside what is printed."""
+    if options.svg:
+        from ..draw.drawing import drawing_of
+        with whole_file(options.svg) as file:
+            file.write(drawing_of(side, os.path.basename(options.side)))
+    if options.map:
+        with whole_file(options.map) as file:
+            _print_table(MAP_COLUMNS, map_rows(side.answer), file)
+    if options.html:
+        from ..draw.page import page_of
+        from ..draw.plotting import plotter
+        with whole_file(options.html) as file:
+            file.write(page_of(side, os.path.basename(options.side), summary(side.answer, _plot_command(side, options)),
+                               plotter(side, options.side) if is_tbc else None))
+
+
+def _plot_command(side, options):
+    """What makes the command that draws a line of this side, of its field and its number."""
+    return lambda *line: plot_command(side, options.side, *line)
+
+
+def _files(options):
+    """The files that are written beside what is printed; None for one that isn't asked for."""
+    return [options.svg, options.map, options.html]
+
+
+def _options(words):
+    """The options of these words, with the metadata beside the TBC file where they leave something open."""
+    parser = _parser()
+    options = parser.parse_args(words)
+    if options.recovered and (not options.document or options.no_recover):
+        parser.error("--recovered is of --document, and not with --no-recover")
+    is_open = None in (options.system, options.black, options.white)
+    if not options.meta and is_open and options.side.endswith(".tbc"):
+        options.meta = beside(options.side)
+    return options
+
+
+def _compare(words):
+    """Prints what two sides have of each other's numbers."""
+    parser = argparse.ArgumentParser(prog=NAME + " compare", description=COMPARISON)
+    parser.add_argument("sides", nargs=2, metavar="SIDE", help="a document, or a TBC file with its metadata beside it")
+    parser.add_argument("--json", action="store_true", help="print all stretches, as JSON")
+    options = parser.parse_args(words)
+    refuse_inputs([1], options.sides)
+    sides = []
+    for path in options.sides:
+        settings = _options(["--", path])
+        sides.append(_loaded(*_source(settings), settings))
+    found = compare(*sides)
+    print(json.dumps(found) if options.json else "\n".join(comparison_text(found, options.sides)))
+    return 0
+
+
+def _index(words):
+    """Writes a page that links those of many sides."""
+    parser = argparse.ArgumentParser(prog=NAME + " index", description="Writes a page that links these pages.")
+    parser.add_argument("index", metavar="FILE", help="the page to write")
+    parser.add_argument("pages", nargs="+", metavar="PAGE", help="a page that --html wrote")
+    options = parser.parse_args(words)
+    refuse_inputs([options.index], options.pages)
+    from ..draw.index import index_of
+    text = index_of(options.index, options.pages)
+    with whole_file(options.index) as file:
+        file.write(text)
+    return 0
+
+
+def _run(options):
+    """What the options ask for. The answer is the exit status."""
+    inputs = [0 if options.side == "-" else options.side, options.meta]
+    refuse_inputs([1 if options.output is None else options.output, *_files(options)], inputs)
+    if options.output is None:
+        return _answer(options)
+    with whole_file(options.output) as file, contextlib.redirect_stdout(file):
+        return _answer(options)
+
+
+def _answer(options):
+    """Prints and draws what the options ask for."""
+    source, metadata = _source(options)
+    if options.document:
+        if isinstance(source, Side):
+            raise ValueError("--document is of a TBC file, and this is a document")
+        if not options.recovered:
+            _print_document(options.side, source)
+            if not any(_files(options)):
+                return _cut_status(cut_of(source), source.system)
+    side = _loaded(source, metadata, options)
+    if options.recovered:
+        write_recovered(side, sys.stdout)
+    _write_files(side, options, not isinstance(source, Side))
+    if options.seek:
+        found = seek(side.answer, options.seek)
+        print(text_of(found))
+        return int(found is None)
+    if options.summary:
+        print(*summary(side.answer, _plot_command(side, options)), sep="\n")
+        return 0 if side.answer["whole"] else 1
+    if options.json:
+        json.dump(side.answer, sys.stdout)
+        print()
+    elif options.bad_lines:
+        _print_table(BAD_LINE_COLUMNS, bad_line_rows(side))
+    elif options.csv or not (options.document or any(_files(options))):
+        _print_table(FIELD_COLUMNS, field_rows(side))
+    return _cut_status(side.cut, side.system)
+
+
+def main(words: Optional[List[str]] = None) -> int:
+    words = sys.argv[1:] if words is None else words
+    try:
+        of_many = {"compare": _compare, "index": _index}.get(words[0] if words else "")
+        status = of_many(words[1:]) if of_many else _run(_options(words))
+        sys.stdout.flush()
+        return status
+    except BrokenPipeError:
+        drop_standard_output()
+        return 1
+    except (OSError, ValueError) as error:
+        _note(error)
+        return 1

@@ -1,0 +1,28 @@
+"""The map of a side, by which a player seeks without reading the side again; docs/FORMATS.md has its form."""
+
+from typing import Any, Dict, Iterator, Tuple
+
+from ..judge.answer import frame_of
+from ..judge.readings import Answer
+
+COLUMNS = ("kind", "number", "field", "frame", "how")
+NONE = "-"  # the number of a stop where no number is near
+
+
+def map_rows(answer: Answer) -> Iterator[Tuple[Any, ...]]:
+    """A row for each number that `--seek` finds, by number, then one for each chapter and for each picture stop, by
+    field. `how` is `read` where the field shows the number, `near` where it was due there and is the nearest word, and
+    `neighbours` where it is only due."""
+    begin, unit = answer["frameBegin"], answer["unit"]
+    confirmed = set(answer["confirmed"])
+    places: Dict[Any, Tuple[int, str]] = {}
+    for number, field, _ in answer["showings"]:
+        places.setdefault(number, (field, "near" if field in confirmed else "read"))
+    for one in answer["damaged"]:
+        places.setdefault(one["number"], (one["field"], "neighbours"))
+    for number, (field, how) in sorted(places.items()):
+        yield unit, number, field, frame_of(field, begin), how
+    for one in answer["chapters"]:
+        yield "chapter", one["chapter"], one["field"], one["frame"], "read"
+    for one in answer["stops"]:
+        yield "stop", NONE if one["number"] is None else one["number"], one["field"], one["frame"], "read"

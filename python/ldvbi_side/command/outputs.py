@@ -1,0 +1,64 @@
+"""The files that the command writes: under their names only when they are whole, and never in the place of an input."""
+
+import contextlib
+import os
+import shutil
+import stat
+import sys
+from typing import IO, Iterable, Iterator, Optional, Union
+
+Place = Union[str, int, None]  # a file: its path, the number of an open one, or none
+
+
+@contextlib.contextmanager
+def whole_file(path: str) -> Iterator[IO[str]]:
+    """A text file to write to. It gets its name, which may be that of an older file, when the block has ended without
+    an exception; else nothing is left of it. What is no file, as a pipe or a terminal, is written to as it is."""
+    target = os.path.realpath(path)
+    if os.path.exists(target) and not os.path.isfile(target):
+        with open(target, "w", encoding="utf-8") as file:
+            yield file
+        return
+    part = "%s.%d.part" % (target, os.getpid())
+    file = open(part, "x", encoding="utf-8")
+    try:
+        with file:
+            yield file
+            file.flush()
+            # Else the name could come through a loss of power, and the text not.
+            os.fsync(file.fileno())
+        if os.path.exists(target):
+            shutil.copymode(target, part)
+        os.replace(part, target)
+    except BaseException:
+        os.unlink(part)
+        raise
+
+
+def refuse_inputs(outputs: Iterable[Place], inputs: Iterable[Place]) -> None:
+    """Raises a ValueError where a file that is to be written is also read, or is written twice, whatever its names are.
+    An output or an input is a path, the number of an open file, or None."""
+    known = {_identity(place) for place in inputs} - {None}
+    for place in outputs:
+        identity = _identity(place)
+        if identity in known:
+            raise ValueError("%s would be written in the place of an input or of another output"
+                             % ("standard output" if place == 1 else place))
+        known |= {identity} - {None}
+
+
+def drop_standard_output() -> None:
+    """Lets go of what was printed and isn't written yet, since nobody reads it: nothing is written at the end."""
+    os.dup2(os.open(os.devnull, os.O_WRONLY), sys.stdout.fileno())
+
+
+def _identity(place):
+    """What two names of one file have in common, or None for what is no file."""
+    if place is None:
+        return None
+    try:
+        status = os.stat(place)
+    except OSError:
+        # What isn't there yet has a place, in which another output may want to be.
+        return None if isinstance(place, int) else os.path.realpath(place)
+    return (status.st_dev, status.st_ino) if stat.S_ISREG(status.st_mode) else None

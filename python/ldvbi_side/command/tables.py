@@ -1,0 +1,86 @@
+"""A side as tables: the rows of --csv and of --bad-lines."""
+
+from typing import Any, Iterator, List, Tuple
+
+from ldvbi import Kind, format_of
+from ldvbi.codes import LINES, code_of, name_of, value_of
+from ..judge.answer import frame_of
+from ..judge.paces import minute_text
+from ..near import measured
+from ..side import Side
+
+FIELD_COLUMNS = ("field", "frame", "format", "picture", "chapter", "time", "stop", "doubt", "status", "users",
+                 "unknown")
+BAD_LINE_COLUMNS = ("field", "line", "cause", "offset", "nearest", "distance", "rival")
+NONE = "-"  # of a line to which the row of no word is as near as any
+
+
+def field_rows(side: Side) -> Iterator[List[Any]]:
+    """A row for each field with any word: what is believed of it, in the column `doubt` what isn't, and in the last one
+    the words that are no code."""
+    answer = side.answer
+    numbers = _numbers_by_field(answer)
+    doubts = _doubts_by_field(answer)
+    stops = {one["field"] for one in answer["stops"]}
+    for field, readings in side.numbered():
+        words = [reading.word for reading in readings]
+        codes = [code_of(word) for word in words]
+        if not any(words):
+            continue
+        doubtful = doubts.get(field, {})
+        said = {code.kind: value_of(code) for line, code in zip(LINES, codes) if code and line not in doubtful}
+        number = numbers.get(field, "")
+        yield [field, frame_of(field, answer["frameBegin"]), format_of(*words).name,
+               number if answer["unit"] == "picture" else "", said.get(Kind.chapter, ""),
+               "" if answer["unit"] == "picture" else number or _minute_of(said), "stop" if field in stops else "",
+               "; ".join(doubtful.values()), _status_of(codes[0]), _users_of(codes[0]), _unknown_of(codes, words)]
+
+
+def _status_of(code):
+    """The programme status of line 16's code, as `show` has it."""
+    if not code or code.kind not in (Kind.cx_on, Kind.cx_off):
+        return ""
+    return "%s %03X" % (name_of(code.kind), code.first)
+
+
+def _users_of(code):
+    return "%d %03X" % (code.first, code.second) if code and code.kind == Kind.users else ""
+
+
+def _unknown_of(codes, words):
+    return "; ".join("%06X on line %d" % (word, line) for line, code, word in zip(LINES, codes, words)
+                     if code and code.kind == Kind.other)
+
+
+def _numbers_by_field(answer):
+    """The number of each field that shows one. A minute stands in the fields that say it."""
+    if answer["unit"] == "minute":
+        return {}
+    return {field: number for number, first, last in answer["showings"] for field in range(first, last + 1)}
+
+
+def _minute_of(said):
+    minutes = said.get(Kind.time)
+    return "" if minutes is None else minute_text(minutes)
+
+
+def _doubts_by_field(answer):
+    """Of each field the lines whose word isn't believed, each with a text that says why."""
+    found = {}
+    for one in answer["doubtful"] + answer["stray"]:
+        number = "" if one.get("number") is None else " %s" % one["number"]
+        found.setdefault(one["field"], {})[one["line"]] = "%s%s on line %d, pass %d: %s" % (
+            one["kind"], number, one["line"], one["pass"], one["why"])
+    return found
+
+
+def bad_line_rows(side: Side) -> Iterator[List[Any]]:
+    """A row for each line that shows no word of its own and isn't blank, with its place in the TBC file, in bytes, and
+    with its nearest word, the distance of that and of its rival, in hundredths of a column: empty where the samples
+    aren't at hand."""
+    for one in side.answer["badLines"]:
+        near: Tuple[Any, ...] = ("", "", "")
+        if side.samples:
+            word, *distances = measured(side.samples, one["field"], one["line"])
+            near = (NONE if word is None else "%06X" % word, *distances)
+        yield [one["field"], one["line"], one["cause"], one["offset"], *near]

@@ -1,0 +1,91 @@
+"""The bands of a drawing: what each field shows on lines 16, 17 and 18, in colour."""
+
+from collections import Counter
+
+from ldvbi.codes import LINES
+from ..judge.readings import Fields
+from .axis import Axis
+from .marks import fields_text
+from .svg import Svg
+
+# What a line can show, from the top of its band to the bottom: its name and its colour
+SHOWN = {
+    "change": "#dc2626",
+    "hold": "#9333ea",
+    "unfinished": "#ea580c",
+    "recovered": "#0891b2",
+    "word of pass 2": "#eab308",
+    "word": "#86bf91",
+    "blank": "#e2e8f0",
+}
+_OF_PASSES = {2: "word of pass 2", 3: "recovered"}
+HEIGHT, STEP = 28, 34  # of a band, and from band to band, in pixels
+LEAST_SHARE = 4  # pixels of a band for what is neither a word of pass 1 nor blank
+
+
+def draw_legend(svg: Svg, x: int, y: int, is_recovered: bool) -> int:
+    """The colours with their names, from left to right, that of recovered words where there are some. The answer is
+    where the next one would stand."""
+    for name, fill in SHOWN.items():
+        if name == "recovered" and not is_recovered:
+            continue
+        svg.box(x, y - 11, 14, 14, fill)
+        svg.text(x + 20, y + 1, name)
+        x += 7 * len(name) + 44
+    return x
+
+
+def draw_bands(svg: Svg, fields: Fields, axis: Axis, top: int) -> None:
+    """The three bands. Where fields share a column of pixels, each cause has its share of the band's height, and what
+    stands out has a few pixels at least."""
+    for band, line in enumerate(LINES):
+        y = top + STEP * band
+        svg.text(axis.left - 10, y + HEIGHT / 2 + 5, "line %d" % line, text_anchor="end")
+        causes = [causes[band] for causes in fields.causes]
+        shown = [_OF_PASSES.get(passes[band]) or cause.partition(" ")[0]
+                 for cause, passes in zip(causes, fields.passes)]
+        for begin, end, shares in _columns(shown, axis.step):
+            cause = causes[begin - 1] if begin == end else None
+            _draw_column(svg, line, (axis.pixel(begin), axis.pixel(end + 1), y), (begin, end), shares, cause)
+
+
+def _columns(shown, step):
+    """Stretches of fields that are drawn alike: the first and the last field, and how often each thing is shown in a
+    column of so many fields."""
+    begin, before = 1, None
+    for field in range(1, len(shown) + 1, step):
+        shares = Counter(shown[field - 1:field - 1 + step])
+        if shares != before and before is not None:
+            yield begin, field - 1, before
+            begin = field
+        before = shares
+    if before is not None:
+        yield begin, len(shown), before
+
+
+def _draw_column(svg, line, place, fields, shares, cause):
+    x, right, y = place
+    heights = _heights(shares)
+    where = "line %d, %s: " % (line, fields_text(*fields))
+    for name, fill in SHOWN.items():
+        if name in heights:
+            title = where + (name if len(shares) == 1 else "in part " + name)
+            if cause and cause != "word":
+                title = where + ("recovered, " if name == "recovered" else "") + cause
+            svg.box(x, y, max(right - x, 1), heights[name], fill, title, class_="line-%d" % line, data_shown=name,
+                    data_fields="%d-%d" % fields, shape_rendering="crispEdges")
+            y += heights[name]
+
+
+def _heights(shares):
+    """The height of each share of a band."""
+    total = sum(shares.values())
+    heights = {name: HEIGHT * count / total for name, count in shares.items()}
+    raised = {name: max(height, LEAST_SHARE) for name, height in heights.items() if name not in ("word", "blank")}
+    rest = sum(height for name, height in heights.items() if name not in raised)
+    if rest:
+        factor = (HEIGHT - sum(raised.values())) / rest
+        raised.update((name, heights[name] * factor) for name in heights if name not in raised)
+        return raised
+    factor = HEIGHT / sum(raised.values())
+    return {name: height * factor for name, height in raised.items()}

@@ -1,0 +1,158 @@
+"""The curve of a drawing: a side's believed numbers over its fields, with the numbers that were set aside beside it."""
+
+import itertools
+from typing import Any, Iterable, Iterator, List, Optional, Tuple
+
+from ..judge.readings import Answer
+from .axis import Axis
+from .marks import doubt_text, fields_text, span
+from .svg import Svg
+
+RATES = {"NTSC": 30, "PAL": 25}  # numbers of a second
+AXES = {"picture": "picture number", "time": "time", "minute": "time"}
+DOUBTFUL_COLOUR = "#be185d"
+
+
+class Scale:
+    """The numbers of an answer as counts (pictures, or minutes), and where they stand on the height of the curve. The
+    believed numbers alone make the scale."""
+
+    def __init__(self, answer: Answer, top: int, height: int) -> None:
+        self.unit, self.rate = answer["unit"], RATES[answer["system"]]
+        self.top, self.height = top, height
+        self.least, self.greatest = (self.count_of(answer["numbers"][name]) for name in ("least", "greatest"))
+
+    def count_of(self, number: Any) -> int:
+        """The count of a number of the answer: a picture, `h:mm:ss.pp` or `h:mm`."""
+        if self.unit == "picture":
+            return number
+        hours, minutes, *rest = number.split(":")
+        count = 60 * int(hours) + int(minutes)
+        if self.unit == "minute":
+            return count
+        second, _, picture = (rest[0] if rest else "0.0").partition(".")
+        return (60 * count + int(second)) * self.rate + int(picture)
+
+    def text_of(self, count: int) -> str:
+        """A count as a label: hours, minutes and seconds, with the picture where it isn't a whole second."""
+        if self.unit == "picture":
+            return str(count)
+        if self.unit == "minute":
+            return "%d:%02d" % divmod(count, 60)
+        seconds, picture = divmod(count, self.rate)
+        text = "%d:%02d:%02d" % (seconds // 3600, seconds // 60 % 60, seconds % 60)
+        return text + (".%02d" % picture if picture else "")
+
+    def y(self, count: int) -> float:
+        return self.top + self.height * (self.greatest - count + 0.5) / (self.greatest - self.least + 1)
+
+    def ticks(self) -> List[int]:
+        """The counts that have a label, some five of them."""
+        steps: Iterable[int] = round_steps()
+        if self.unit != "picture":
+            minute = 60 * self.rate if self.unit == "time" else 1
+            seconds = [] if minute == 1 else [1, 5, self.rate, 5 * self.rate, 15 * self.rate]
+            steps = seconds + [minute * minutes for minutes in (1, 5, 10, 15, 30, 60)]
+        return ticks(self.least, self.greatest, 5, steps)
+
+    def place_of(self, doubt: Answer) -> Optional[Tuple[float, int]]:
+        """The height of a number that was set aside, and whether it is beyond the scale, above (1) or below (-1). None
+        for what has no number of its own."""
+        number = doubt["number"]
+        has_place = {"picture": doubt["kind"] == "picture", "time": doubt["kind"] == "time",
+                     "minute": doubt["kind"] == "time"}.get(self.unit, False)
+        if number is None or not has_place:
+            return None
+        count = self.count_of(number)
+        if count > self.greatest:
+            return self.top, 1
+        if count < self.least:
+            return self.top + self.height, -1
+        return self.y(count), 0
+
+
+def draw_numbers_axis(svg: Svg, axis: Axis, scale: Scale) -> None:
+    """Lines across at round numbers, their labels, and what they count, along the side."""
+    for count in scale.ticks():
+        y = scale.y(count)
+        svg.line(axis.left, y, axis.left + axis.width, y, "#e2e8f0")
+        svg.text(axis.left - 10, y + 4, scale.text_of(count), text_anchor="end", class_="number-label")
+    x, middle = 36, scale.top + scale.height / 2
+    svg.text(x, middle, AXES[scale.unit], text_anchor="middle", transform="rotate(-90 %d %d)" % (x, middle),
+             class_="axis")
+
+
+def draw_curve(svg: Svg, axis: Axis, scale: Scale, answer: Answer) -> None:
+    """A line for each run of showings in which every number is the next one or stays, with a point for each column of
+    pixels; where that is too short to be seen, a dot."""
+    starts = {one["before"] for one in answer["breaks"]}
+    run: List[Tuple[int, int, int, Any]] = []
+    for number, first, last in answer["showings"]:
+        count = scale.count_of(number)
+        if run and (first in starts or count - run[-1][0] not in (0, 1)):
+            _draw_run(svg, axis, scale, run)
+            run = []
+        run.append((count, first, last, number))
+    _draw_run(svg, axis, scale, run)
+
+
+def _draw_run(svg, axis, scale, run):
+    points, pixel = [], None
+    for place, (count, first, last, _) in enumerate(run):
+        ends = [first] if last - first < 2 else [first, last]  # a minute stands on many fields
+        for field in ends:
+            x = axis.x(field + 0.5)
+            if int(x) != pixel or place in (0, len(run) - 1):
+                points.append("%.1f %.1f" % (x, scale.y(count)))
+                pixel = int(x)
+    # eight points to a line of text
+    lines = [" ".join(points[place:place + 8]) for place in range(0, len(points), 8)]
+    first, last = run[0], run[-1]
+    title = "%s in %s" % (span(first[3], last[3]), fields_text(first[1], last[2]))
+    svg.path("M" + "\n".join(lines) + ("h0" if len(points) == 1 else ""), title, class_="run",
+             data_fields="%d-%d" % (first[1], last[2]), fill="none", stroke="#0f172a",
+             stroke_width=5 if len(points) == 1 else 3, stroke_linecap="round", stroke_linejoin="round")
+
+
+def draw_doubts(svg: Svg, axis: Axis, scale: Scale, answer: Answer) -> None:
+    """The numbers that were set aside, as rings off the curve, or as triangles on the edge where they are beyond it.
+    Those that would cover each other are one."""
+    drawn = set()
+    for one in answer["doubtful"]:
+        place = scale.place_of(one)
+        if place is not None:
+            (y, beyond), x = place, axis.x(one["field"] + 0.5)
+            key = (round(x / 3), round(y / 3))
+            if key not in drawn:
+                drawn.add(key)
+                _draw_doubt(svg, x, y, beyond, one)
+
+
+def _draw_doubt(svg, x, y, beyond, one):
+    marked = {"title": doubt_text(one), "class_": "doubt", "data_field": one["field"]}
+    if beyond:
+        svg.path("M%.1f %.1fl-5 %dh10z" % (x, y - 5 * beyond, 9 * beyond), fill=DOUBTFUL_COLOUR, **marked)
+    else:
+        draw_ring(svg, x, y, **marked)
+
+
+def draw_ring(svg: Svg, x: float, y: float, title: Optional[str] = None, **attributes: Any) -> None:
+    svg.element("circle", title, cx=x, cy=y, r=4, fill="#ffffff", stroke=DOUBTFUL_COLOUR, stroke_width=2, **attributes)
+
+
+def round_steps() -> Iterator[int]:
+    """1, 2, 5, 10, 20, 50 and so on."""
+    for power in itertools.count():
+        yield from (factor * 10 ** power for factor in (1, 2, 5))
+
+
+def ticks(least: int, greatest: int, count: int, steps: Iterable[int]) -> List[int]:
+    """Numbers from the least to the greatest, at most about so many, at multiples of one of these ascending steps: the
+    first that is large enough, or the last."""
+    if greatest < least:
+        return []
+    for step in steps:
+        if step * count >= greatest - least:
+            break
+    first = -(-least // step) * step
+    return sorted({least} | {tick for tick in range(first, greatest + 1, step) if tick - least >= step / 2})

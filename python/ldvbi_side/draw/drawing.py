@@ -1,0 +1,171 @@
+"""A side drawn as an SVG: fields along, what each of the three lines shows in colour, lead-in, chapters, lead-out and
+picture stops, the numbers as a curve, and below it a lane for each kind of what there is to look at. It draws the
+answer of `judge.answer`, and each mark has a title that says its fields and why it is there."""
+
+from ..judge.whole import other_file
+from ..side import Side
+from . import bands, curve
+from .axis import LEFT, WIDTH, Axis
+from .marks import LANES, Mark, counts_of, fields_text, lanes_of, marks_of
+from .svg import Svg, shortened, text_width
+
+# The drawing's own measures, in pixels; those of its axis are in axis.py
+RIGHT = 30
+TITLE_Y, SYSTEM_Y, LEGEND_Y = 28, 50, 76
+BANDS_TOP = 94
+DISC_TOP, DISC_HEIGHT = 200, 18
+STOPS_TOP, STOPS_HEIGHT = 224, 12
+CURVE_TOP, CURVE_HEIGHT = 248, 240
+LANES_TOP, LANE_STEP, LANE_HEIGHT = 502, 18, 12
+MOST_UPRIGHTS = 60  # of a lane, or of chapters: with more of them the curve couldn't be seen
+END_COLOUR, CHAPTER_COLOURS = "#94a3b8", ("#e0e7ff", "#c7d2fe")
+
+
+def drawing_of(side: Side, title: str) -> str:
+    """The text of the SVG of a `ldvbi_side.side.Side`."""
+    answer, fields = side.answer, side.plain()
+    axis_top = LANES_TOP + LANE_STEP * len(lanes_of(marks_of(answer))) + 4
+    svg = Svg(LEFT + WIDTH + RIGHT, axis_top + 56)
+    axis = Axis(answer["fields"])
+    _draw_head(svg, answer, title)
+    bands.draw_bands(svg, fields, axis, BANDS_TOP)
+    _draw_disc(svg, axis, answer)
+    _draw_stops(svg, axis, answer)
+    if answer["numbers"]["count"]:
+        scale = curve.Scale(answer, CURVE_TOP, CURVE_HEIGHT)
+        curve.draw_numbers_axis(svg, axis, scale)
+        _draw_chapter_lines(svg, axis, answer)
+        _draw_lanes(svg, axis, answer)
+        curve.draw_curve(svg, axis, scale, answer)
+        curve.draw_doubts(svg, axis, scale, answer)
+    else:
+        _draw_lanes(svg, axis, answer)
+        _draw_no_numbers(svg, answer)
+    _draw_fields_axis(svg, axis, answer["fields"], axis_top)
+    return svg.render()
+
+
+def _draw_head(svg, answer, title):
+    """The side's name, its system and format, and the colours of the bands."""
+    svg.text(LEFT, TITLE_Y, shortened(title, WIDTH, 17), title, class_="title", font_size=17, font_weight="bold")
+    cut = answer["cutField"]
+    parts = [answer["system"], {"neither": "no code of CAV or CLV"}.get(answer["format"], answer["format"].upper())]
+    parts += ["film (2 and 3 fields a picture)"] if answer["pace"] == "film" else []
+    parts += ["%d field%s" % (answer["fields"], "" if answer["fields"] == 1 else "s")]
+    parts += ["field %(seqNo)d is cut: %(bytes)d bytes of it" % cut] if cut else []
+    if answer["numbers"]["count"]:
+        name = "picture" if answer["unit"] == "picture" else answer["unit"]
+        parts.append("%d %s%s, %s to %s" % (
+            answer["numbers"]["count"], name, "" if answer["numbers"]["count"] == 1 else "s",
+            answer["numbers"]["least"], answer["numbers"]["greatest"]))
+    svg.text(LEFT, SYSTEM_Y, ", ".join(parts), class_="system")
+    x = bands.draw_legend(svg, LEFT, LEGEND_Y, any(rates["near"] for rates in answer["lines"].values()))
+    svg.box(x, LEGEND_Y - 11, 14, 14, END_COLOUR)
+    svg.text(x + 20, LEGEND_Y + 1, "lead-in, lead-out")
+    x += 160
+    curve.draw_ring(svg, x + 7, LEGEND_Y - 4)
+    svg.text(x + 20, LEGEND_Y + 1, "doubtful number")
+
+
+def _draw_no_numbers(svg, answer):
+    """What is said in the place of the curve, where there is none."""
+    texts = ["no picture number and no time" + (" is believed" if answer["unit"] else "")]
+    levels = answer["levels"]
+    if levels:
+        asked = "is it this system, and this file's metadata?" if other_file(answer) else "are black and white right?"
+        texts.append("lines 17 and 18 have %(words)d words, %(bad)d are bad, %(blank)d blank: " % levels + asked)
+    y = CURVE_TOP + CURVE_HEIGHT / 2
+    for place, text in enumerate(texts):
+        svg.text(LEFT + WIDTH / 2, y + 24 * place, text, text_anchor="middle", class_="empty")
+
+
+def _draw_disc(svg, axis, answer):
+    """A strip with lead-in, chapters and lead-out, in the order of the disc."""
+    svg.text(LEFT - 10, DISC_TOP + 14, "disc", text_anchor="end")
+    svg.box(LEFT, DISC_TOP, WIDTH, DISC_HEIGHT, "#f8fafc")
+    stretches = [("lead-in", "lead-in", one, "") for one in answer["leadIn"]]
+    stretches += [("lead-out", "lead-out", one, "") for one in answer["leadOut"]]
+    for one in answer["chapters"]:
+        place = "" if one["number"] is None else ", from %s" % one["number"]
+        stretch = {"first": one["field"], "last": one["last"]}
+        stretches.append(("chapter", "chapter %d" % one["chapter"], stretch, place))
+    chapters = 0
+    for kind, name, one, place in sorted(stretches, key=lambda stretch: stretch[2]["first"]):
+        fill = END_COLOUR
+        if kind == "chapter":
+            fill = CHAPTER_COLOURS[chapters % 2]
+            chapters += 1
+        begin, end = axis.extent(one["first"], one["last"])
+        title = "%s: %s%s" % (name, fields_text(one["first"], one["last"]), place)
+        svg.box(begin, DISC_TOP, end - begin, DISC_HEIGHT, fill, title, class_=kind,
+                data_fields="%(first)d-%(last)d" % one)
+        short = name.rpartition(" ")[2]
+        label = next((text for text in (name, short) if text_width(text, 11) + 6 <= end - begin), None)
+        if label:
+            svg.text((begin + end) / 2, DISC_TOP + 13, label, text_anchor="middle", font_size=11, class_="disc-label",
+                     pointer_events="none")
+
+
+def _draw_stops(svg, axis, answer):
+    svg.text(LEFT - 10, STOPS_TOP + 11, "stops: %d" % len(answer["stops"]), text_anchor="end", class_="count")
+    drawn = set()
+    for one in answer["stops"]:
+        x = axis.x(one["field"] + 0.5)
+        if round(x / 2) not in drawn:
+            drawn.add(round(x / 2))
+            number = "" if one["number"] is None else " of %s" % one["number"]
+            lines = ("lines " if len(one["lines"]) > 1 else "line ") + " and ".join(map(str, sorted(one["lines"])))
+            title = "picture stop%s in field %d, %s" % (number, one["field"], lines)
+            svg.path("M%.1f %dl4 6l-4 6l-4 -6z" % (x, STOPS_TOP), title, class_="stop", data_field=one["field"],
+                     fill="#b91c1c")
+
+
+def _draw_chapter_lines(svg, axis, answer):
+    """An upright at each chapter's begin, below the strip that names it, where these are few."""
+    pixels = sorted({axis.pixel(one["field"]) for one in answer["chapters"]})
+    for x in pixels if len(pixels) <= MOST_UPRIGHTS else []:
+        svg.line(x, CURVE_TOP, x, CURVE_TOP + CURVE_HEIGHT, "#94a3b8", class_="chapter-line", stroke_dasharray="2 4")
+
+
+def _draw_lanes(svg, axis, answer):
+    """A lane for each kind of mark, with how many there are; marks that fall together are one. Where the curve breaks,
+    faint uprights cross it, as long as they are few."""
+    counts, marks = counts_of(answer), marks_of(answer)
+    for place, lane in enumerate(lanes_of(marks)):
+        y = LANES_TOP + LANE_STEP * place
+        count, colour = counts[lane], LANES[lane]
+        svg.text(LEFT - 10, y + 11, "%s: %d" % (lane, count), text_anchor="end", class_="count",
+                 fill=colour if count else "#64748b", font_weight="bold" if count else None)
+        svg.box(LEFT, y, WIDTH, LANE_HEIGHT, "#f8fafc")
+        joined = list(_joined(axis, marks[lane]))
+        has_uprights = lane in ("missing", "lost fields", "jumps") and len(joined) <= MOST_UPRIGHTS
+        for begin, end, (first, last, text) in joined:
+            fields = "%d-%d" % (first, last)
+            if has_uprights:
+                svg.box(begin, CURVE_TOP, end - begin, CURVE_HEIGHT, colour, text, opacity=0.2, class_="upright",
+                        data_fields=fields)
+            svg.box(begin, y, end - begin, LANE_HEIGHT, colour, text, class_=lane.replace(" ", "-"), data_fields=fields)
+
+
+def _joined(axis, marks):
+    """The marks of a lane with their pixels; those that touch are one, of which the first one's text is said."""
+    joined = []
+    for mark in marks:
+        begin, end = axis.extent(mark.first, mark.last)
+        if joined and begin < joined[-1][1]:
+            joined[-1][1] = max(joined[-1][1], end)
+            joined[-1][2].append(mark)
+        else:
+            joined.append([begin, end, [mark]])
+    for begin, end, ones in joined:
+        more = "; and %d more up to field %d" % (len(ones) - 1, ones[-1].last) if len(ones) > 1 else ""
+        yield begin, end, Mark(ones[0].first, max(one.last for one in ones), ones[0].text + more)
+
+
+def _draw_fields_axis(svg, axis, count, top):
+    svg.line(LEFT, top, LEFT + WIDTH, top, "#475569")
+    for field in curve.ticks(1, count, 10, curve.round_steps()):
+        x = axis.x(field + 0.5)
+        svg.line(x, top, x, top + 5, "#475569")
+        svg.text(x, top + 20, str(field), text_anchor="middle")
+    svg.text(LEFT + WIDTH / 2, top + 42, "field", text_anchor="middle", class_="axis")

@@ -1,0 +1,128 @@
+"""What there is to look at on a side, as marks: fields, and in words what is there and why. Each list of the answer is
+a lane of the drawing."""
+
+from typing import Any, Dict, List, NamedTuple
+
+from ..judge.readings import Answer
+
+# The lanes with their colours, and those that few sides have
+LANES = {
+    "missing": "#dc2626",
+    "lost fields": "#ea580c",
+    "jumps": "#0f766e",
+    "swapped fields": "#7c3aed",
+    "other speeds": "#a16207",
+    "stills": "#0284c7",
+    "shown again": "#6366f1",
+    "doubtful": "#be185d",
+    "stray codes": "#64748b",
+}
+_RARE = ("swapped fields", "other speeds")
+_MISSING = {
+    "damaged": "fields are there for it, and none shows it",
+    "lost": "no field is there for it",
+    "undecided": "lost or damaged, or left out by the disc's clock",
+}
+_LOST = {
+    "number": "by the numbers",
+    "parity": "by isFirstField",
+    "both": "by the numbers and by isFirstField",
+    "undecided": "or the disc's clock leaves out a number",
+}
+_DOUBTFUL = {
+    "neighbours": "the numbers around it fit each other",
+    "alone": "there is a break, or the end of the side, here too",
+    "lines": "lines 17 and 18 differ",
+    "clock": "no clock shows it",
+    "minute": "no minutes are there to join it",
+    "chapter": "it doesn't fit the chapters around it",
+}
+_STRAY = {
+    "line": "no disc has it on this line",
+    "format": "a code of the other format",
+    "place": "it stands between two numbers that fit each other",
+}
+
+
+class Mark(NamedTuple):
+    """What is to be seen in the fields from the first to the last."""
+    first: int
+    last: int
+    text: str
+
+
+def span(first: Any, last: Any) -> str:
+    """Two numbers as text, and one where they are the same."""
+    return str(first) if first == last else "%s to %s" % (first, last)
+
+
+def fields_text(first: int, last: int) -> str:
+    return ("field " if first == last else "fields ") + span(first, last)
+
+
+def marks_of(answer: Answer) -> Dict[str, List[Mark]]:
+    """The marks of each lane, by field."""
+    found = {
+        "missing": [_missing(one) for one in answer["missing"]],
+        "lost fields": [_lost(one) for one in answer["lost"]],
+        "jumps": [_jump(one) for one in answer["breaks"] if one["kind"] != "lost"],
+        "swapped fields": [Mark(one["field"], one["field"] + 1, "fields %d and %d are swapped: %s" % (
+            one["field"], one["field"] + 1, one["number"])) for one in answer["swapped"]],
+        "other speeds": [Mark(one["first"], one["last"], "%s numbers a picture in %s" % (
+            one["numbers"], fields_text(one["first"], one["last"]))) for one in answer["speeds"]],
+        "stills": [Mark(one["first"], one["last"], "%s stands still in %s" % (
+            one["number"], fields_text(one["first"], one["last"]))) for one in answer["stills"]],
+        "shown again": [Mark(one["field"], one["lastField"], "%s again in %s; first shown in field %d" % (
+            span(one["first"], one["last"]), fields_text(one["field"], one["lastField"]), one["before"]))
+            for one in answer["repeated"]],
+        "doubtful": [Mark(one["field"], one["field"], doubt_text(one)) for one in answer["doubtful"]],
+        "stray codes": [Mark(one["field"], one["field"], _stray(one)) for one in answer["stray"]],
+    }
+    return {lane: sorted(marks) for lane, marks in found.items()}
+
+
+def lanes_of(marks: Dict[str, List[Mark]]) -> List[str]:
+    """The lanes that are drawn of these marks."""
+    return [lane for lane in LANES if marks[lane] or lane not in _RARE]
+
+
+def counts_of(answer: Answer) -> Dict[str, int]:
+    """How many there are of each lane, as the summary counts them."""
+    counts = {lane: len(marks) for lane, marks in marks_of(answer).items()}
+    counts["missing"] = sum(one["count"] for one in answer["missing"])
+    counts["lost fields"] = sum(one["fields"] or 1 for one in answer["lost"])
+    return counts
+
+
+def doubt_text(one: Answer) -> str:
+    """A doubtful number with its place, why it is set aside, and the numbers around it."""
+    number = one["word"] if one["number"] is None else one["number"]
+    around = ["%s in field %d" % (near["number"], near["field"]) for near in (one["before"], one["after"]) if near]
+    text = "doubtful: %s %s in field %d, line %d, pass %d: %s" % (
+        one["kind"], number, one["field"], one["line"], one["pass"], _DOUBTFUL[one["why"]])
+    return text + (" (%s)" % ", ".join(around) if around else "")
+
+
+def _missing(one):
+    is_there = one["why"] == "damaged"
+    first, last = (one["after"] + 1, one["before"] - 1) if is_there else (one["before"], one["before"])
+    return Mark(first, max(first, last), "missing: %s, after field %d, before field %d: %s" % (
+        span(one["first"], one["last"]), one["after"], one["before"], _MISSING[one["why"]]))
+
+
+def _lost(one):
+    count = "one or more fields" if one["fields"] is None else "%d field%s" % (one["fields"], "s" * (one["fields"] > 1))
+    return Mark(one["before"], one["before"], "lost: %s between fields %d and %d, %s" % (
+        count, one["after"], one["before"], _LOST[one["by"]]))
+
+
+def _jump(one):
+    place = "from %(from)s in field %(after)d to %(to)s in field %(before)d" % one
+    if one["kind"] == "back":
+        return Mark(one["before"], one["before"], "back " + place)
+    return Mark(one["before"], one["before"], "%d fields too many, %s" % (one["fields"], place))
+
+
+def _stray(one):
+    return "stray: %s in field %d, line %d, pass %d: %s" % (
+        one["kind"], one["field"], one["line"], one["pass"], _STRAY[one["why"]])

@@ -1,0 +1,117 @@
+"""A side as one page of HTML that needs nothing else: whether it is whole, the summary, the drawing, every list of the
+answer behind a fold, and its bad lines drawn, where the TBC file is there."""
+
+import html
+import json
+from typing import Callable, Iterable, Optional
+
+from ldvbi.codes import LINES
+from ..judge.readings import Answer
+from ..side import Side
+from .bands import SHOWN
+from .drawing import drawing_of
+
+MOST_PLOTS = 200
+# What a page says of itself to the index, in its head
+MARK = "ldvbi-side"
+STYLE = """body{font:16px/1.5 sans-serif;color:#1e293b;margin:0 auto;max-width:1200px;padding:0 16px}
+h1{font-size:1.5em;overflow-wrap:anywhere}table{border-collapse:collapse}th,td{padding:2px 10px;text-align:left}
+th{border-bottom:1px solid #64748b}.yes,.no{padding:8px 16px;border-left:6px solid}.yes{border-color:#15803d}
+.no{border-color:#b91c1c}.wide{overflow-x:auto}dt{font-weight:bold}dd{margin:0 0 6px 16px;overflow-wrap:anywhere}
+summary{cursor:pointer;padding:4px 0}details svg{max-width:100%;height:auto}
+""" + ".recovered{color:%s}" % SHOWN["recovered"]
+# The lists of the answer, and how a page names them
+LISTS = {
+    "missing": "missing", "leftOut": "left out by the disc's clock", "damaged": "damaged", "lost": "lost fields",
+    "breaks": "breaks", "stills": "stills", "repeated": "shown again",
+    "swapped": "swapped fields", "speeds": "other speeds", "doubtful": "doubtful, set aside",
+    "conflicts": "lines 17 and 18 differ", "chapterConflicts": "chapters of lines 17 and 18 differ",
+    "secondRows": "second rows of numbers", "chapters": "chapters", "stops": "picture stops", "leadIn": "lead-in",
+    "leadOut": "lead-out", "stray": "stray codes", "unknown": "unknown words", "programmeStatus": "programme status",
+    "users": "users' codes", "badLines": "bad lines", "completed": "fields whose minute is another field's",
+    "confirmed": "fields whose due number is the nearest word of their lines",
+    "showings": "numbers as they come by",
+}
+_COLUMNS = {"completed": ("field",), "confirmed": ("field",), "showings": ("number", "first", "last")}
+
+
+def page_of(side: Side, title: str, summary: Iterable[str], plot: Optional[Callable[[Answer], str]] = None) -> str:
+    """The text of the page. `summary` are the lines of the side's summary. `plot` draws one of the answer's bad lines
+    as an SVG; it is None where the TBC file isn't there."""
+    answer = side.answer
+    facts = [line.partition(": ") for line in summary][1:]
+    parts = [_head(title, answer), "<h1>%s</h1>" % _escaped(title), _verdict(answer),
+             '<div class="wide">%s</div>' % drawing_of(side, title),
+             "<dl>%s</dl>" % "".join("<dt>%s</dt><dd>%s</dd>" % (_escaped(name), _escaped(text))
+                                     for name, _, text in facts)]
+    parts += [_fold(name, answer[name]) for name in LISTS]
+    # a list that a later answer has is on the page, too
+    parts += [_fold(name, ones) for name, ones in answer.items()
+              if isinstance(ones, list) and name not in LISTS and name != "reasons"]
+    parts += _plots(side, plot)
+    return "\n".join(parts + ["</body></html>", ""])
+
+
+def _escaped(value):
+    return html.escape(str(value))
+
+
+def _head(title, answer):
+    said = {name: answer[name] for name in ("whole", "reasons", "system", "format", "unit", "fields", "numbers")}
+    return ('<!DOCTYPE html>\n<html lang="en"><head><meta charset="utf-8"><title>%s</title>\n'
+            '<meta name="viewport" content="width=device-width, initial-scale=1">\n<meta name="%s" content="%s">\n'
+            "<style>%s</style></head><body>" % (_escaped(title), MARK, _escaped(json.dumps(said)), STYLE))
+
+
+def _verdict(answer):
+    if answer["whole"]:
+        return '<p class="yes">whole: yes</p>'
+    return '<div class="no">whole: no<ul>%s</ul></div>' % "".join(
+        "<li>%s</li>" % _escaped(one["text"]) for one in answer["reasons"])
+
+
+def _fold(name, ones):
+    """A list of the answer in full, behind its name and how many rows it has."""
+    title = "%s: %d" % (LISTS.get(name, name), len(ones))
+    if not ones:
+        return "<p>%s</p>" % _escaped(title)
+    columns = _COLUMNS.get(name) or list(ones[0])
+    head = "".join("<th>%s</th>" % _escaped(column) for column in columns)
+    rows = "\n".join("<tr>%s</tr>" % "".join("<td>%s</td>" % _cell(cell) for cell in _cells(one)) for one in ones)
+    return ('<details id="%s"><summary>%s</summary><div class="wide"><table><thead><tr>%s</tr></thead>\n<tbody>%s'
+            "</tbody></table></div></details>" % (name, _escaped(title), head, rows))
+
+
+def _cells(one):
+    if isinstance(one, dict):
+        return one.values()
+    return one if isinstance(one, list) else [one]
+
+
+def _cell(value):
+    """A value in a cell: nothing for null, a number beside its field, the items of a list."""
+    if value is None:
+        return ""
+    if isinstance(value, dict):
+        return _escaped("%(number)s in field %(field)d" % value)
+    if isinstance(value, bool):
+        return "yes" if value else "no"
+    return _escaped(", ".join(map(str, value)) if isinstance(value, list) else value)
+
+
+def _plots(side, plot):
+    """The first bad lines, drawn, each behind a fold that says its cause and its word, if that was recovered."""
+    bad = side.answer["badLines"]
+    if plot is None or not bad:
+        return []
+    more = len(bad) - MOST_PLOTS
+    shown = "the first %d of %d, drawn" % (MOST_PLOTS, len(bad)) if more > 0 else "drawn"
+    folds = ["<details><summary>field %(field)d, line %(line)d: %(cause)s" % one
+             + _recovered(side.readings[one["field"] - 1][one["line"] - LINES[0]])
+             + "</summary>\n" + plot(one) + "</details>" for one in bad[:MOST_PLOTS]]
+    return ["<h2>Bad lines, %s</h2>" % shown] + folds
+
+
+def _recovered(reading):
+    """What a fold says of a line's recovered word, in the colour that the drawing has for it."""
+    return ', <span class="recovered">recovered: %06X</span>' % reading.word if reading.word else ""

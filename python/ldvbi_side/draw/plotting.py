@@ -1,0 +1,38 @@
+"""Bad lines of a TBC file as drawings: contrib/plot_line.py, called in this process."""
+
+import os
+import runpy
+from types import SimpleNamespace
+from typing import Callable, Optional
+
+from ..judge.readings import Answer
+from ..near import nearest_in
+from ..side import Side
+from .plot import script
+
+
+def plotter(side: Side, path: str) -> Optional[Callable[[Answer], str]]:
+    """What draws one of the answer's bad lines, read from this TBC file, as an SVG, where words are recovered with the
+    row of its nearest word; None where plot_line.py isn't there."""
+    place = script()
+    if not os.path.exists(place):
+        return None
+    picture = runpy.run_path(place)["picture"]
+
+    def plot(bad):
+        with open(path, "rb") as file:
+            file.seek(bad["offset"])
+            line = file.read(bad["bytes"])
+        samples = [low + 256 * high for low, high in zip(line[::2], line[1::2])]
+        title = "%s, field %d, line %d" % (os.path.basename(path), bad["field"], bad["line"])
+        return picture(samples, bad["cause"], SimpleNamespace(
+            system=side.system.name, black=side.levels.black, white=side.levels.white, first=0, last=len(samples) - 1,
+            title=title), _nearest_row(side, bad))
+    return plot
+
+
+def _nearest_row(side, bad):
+    """The nearest word of a bad line, and the column from which on its row is drawn; None where there is none, or where
+    the side's samples aren't at hand."""
+    near = side.samples and nearest_in(side.samples, bad["field"], bad["line"], bad["line"])
+    return (near.word, near.start) if near and near.word else None

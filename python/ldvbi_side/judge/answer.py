@@ -1,0 +1,98 @@
+"""What the words of a side mean: its numbers, what is missing, lost, repeated or doubtful, and where. Plain data in,
+plain data out; docs/SIDES.md has the rules and the form of the answer. All else that speaks of a side prints this.
+
+Where the rules of docs/SIDES.md are: 1, 2, 4 and 7 in paces.py, 3 and 11 in readings.py, 5, 6 and 8 in chain.py, 9 in
+times.py, 10 in parts.py, 12 in places.py and missing.py, 13 in clock.py, 14 and 15 in order.py, 16 in confirmed.py."""
+
+from typing import List
+
+from ldvbi import Kind
+from ldvbi.collector import paused
+from .confirmed import with_confirmed
+from .doubts import Doubts, read_in
+from .lines import bad_lines_of, levels_of, rates_of
+from .missing import lost_fields, missing_of, repeated_of
+from .numbers import numbers_of
+from .order import pairs_of
+from .parts import chapters_of, ends_of, status_of, stops_of, users_of
+from .places import Places, places_of
+from .readings import Answer, Codes, Fields, codes_of
+from .whole import reasons_of
+
+VERSION = 1  # of the answer's form
+
+
+@paused()
+def analyse(fields: Fields) -> Answer:
+    """The answer for these fields of a side."""
+    codes = codes_of(fields)
+    numbers, doubts = numbers_of(codes)
+    places = with_confirmed(places_of(numbers, fields.system), fields.nearest_word)
+    begin = 2 if fields.first and not fields.first[0] else 1
+    answer: Answer = {
+        "version": VERSION, "system": fields.system, "format": codes.format, "unit": numbers.unit.name,
+        "fields": len(fields.words), "cutField": fields.cut, "frameBegin": begin,
+        "pace": numbers.pace.kind if numbers.pace else None}
+    answer.update(_of_numbers(places, doubts))
+    answer.update(_of_losses(places, fields))
+    answer.update(_of_parts(codes, places, doubts, begin))
+    bad, rates = bad_lines_of(fields), rates_of(fields)
+    answer.update({"badLines": bad, "lines": rates, "levels": levels_of(rates, bad, len(fields.words)),
+                   "metadataFields": fields.expected})
+    reasons = reasons_of(answer, fields.is_strict)
+    answer.update({"whole": not reasons, "reasons": reasons})
+    return answer
+
+
+def frame_of(field: int, begin: int) -> int:
+    """The frame of a field, from 1: a pair of fields, counted from `begin`, the first field that begins one; 0 for a
+    field before."""
+    return max((field - begin) // 2 + 1, 0)
+
+
+def _of_numbers(places: Places, doubts: Doubts) -> Answer:
+    """The numbers, and where they stand."""
+    text_of = places.numbers.unit.text_of
+    read = read_in(doubts.doubtful, {field for _, field in places.due})
+    numbers = {number for number, _, _ in places.showings}
+    return {
+        "numbers": {"count": len(numbers), "least": text_of(min(numbers)) if numbers else None,
+                    "greatest": text_of(max(numbers)) if numbers else None},
+        "showings": [[text_of(number), first, last] for number, first, last in places.showings],
+        "completed": sorted(places.numbers.completed), "confirmed": places.confirmed,
+        "damaged": [{"number": text_of(number), "field": field, "read": read.get(field)}
+                    for number, field in places.due],
+        "breaks": [dict(one, **{"from": text_of(one["from"]), "to": text_of(one["to"])}) for one in places.breaks],
+        "stills": [dict(one, number=text_of(one["number"])) for one in places.stills],
+        "repeated": repeated_of(places)}
+
+
+def _of_losses(places: Places, fields: Fields) -> Answer:
+    """What isn't there, or isn't in the disc's order."""
+    numbers = places.numbers
+    missing, left_out = missing_of(places, len(fields.words))
+    return {
+        "missing": missing, "leftOut": left_out,
+        "lost": lost_fields(places, (fields.first or ())[:len(fields.words)]),
+        "speeds": [{"first": one.first, "last": one.last, "numbers": one.line.name()} for one in numbers.speeds],
+        "swapped": [{"field": begin, "number": places.number_at(field)}
+                    for begin, field in pairs_of(numbers.swapped).items()]}
+
+
+def _of_parts(codes: Codes, places: Places, doubts: Doubts, begin: int) -> Answer:
+    """The chapters and the disc's other parts, and all that is set aside."""
+    chapters, doubtful, conflicts = chapters_of(codes, places)
+    lead_in, stray_in = ends_of(codes, Kind.lead_in, places.numbers)
+    lead_out, stray_out = ends_of(codes, Kind.lead_out, places.numbers)
+    return {
+        "doubtful": _by_place(doubts.doubtful + doubtful), "conflicts": _by_place(doubts.conflicts),
+        "chapterConflicts": _by_place(conflicts), "secondRows": doubts.second_rows,
+        "chapters": [dict(one, frame=frame_of(one["field"], begin)) for one in chapters],
+        "stops": [{"field": one["field"], "frame": frame_of(one["field"], begin), **one}
+                  for one in stops_of(codes, places)],
+        "leadIn": lead_in, "leadOut": lead_out, "stray": _by_place(codes.stray + stray_in + stray_out),
+        "unknown": codes.unknown, "programmeStatus": status_of(codes), "users": users_of(codes)}
+
+
+def _by_place(ones: List[Answer]) -> List[Answer]:
+    return sorted(ones, key=lambda one: (one["field"], one.get("line", 0)))

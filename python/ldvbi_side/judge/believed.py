@@ -1,0 +1,174 @@
+"""The numbers of a side that are believed, as data: the readings by field, and how two of them stand to each other, at
+the disc's own speed or where it was played at another one."""
+
+import bisect
+import math
+from typing import FrozenSet, List, Mapping, NamedTuple, Optional, Set, Tuple, Union
+
+from .paces import RATES, MinutePace, Pace, Unit
+from .readings import Reading
+
+APART = 100  # fields from one reading of a stretch to the next, at most
+SLOW = 6  # fields of a number that is shown for three pictures
+Around = Tuple[Optional[Reading], Optional[Reading]]
+
+
+class Line(NamedTuple):
+    """Numbers that go on by `step` every so many fields, from a field with a number on."""
+    step: int
+    fields: int
+    field: int
+    number: int
+
+    def number_at(self, field: int) -> int:
+        return self.number + self.step * ((field - self.field) // self.fields)
+
+    def has(self, reading: Reading) -> bool:
+        """Whether a reading is on the line."""
+        is_begin = (reading.field - reading.variant - self.field) % 2 == 0
+        return is_begin and self.number_at(reading.field) == reading.number
+
+    def is_normal(self) -> bool:
+        """Whether these are the disc's own numbers, one after the other."""
+        return (self.step, self.fields) == (1, 2)
+
+    def name(self) -> str:
+        """How many numbers a picture has."""
+        return str(self.step) if self.fields == 2 else "1/3"
+
+
+class Stretch(NamedTuple):
+    """The fields from the first to the last number of a line."""
+    first: int
+    last: int
+    line: Line
+
+
+class Numbers(NamedTuple):
+    """The believed readings of a side by field, what they count, and the pace at which they go on; `fields` are the
+    fields of these readings. `completed` are the fields whose minute is another field's; `others` those in which no
+    number is due, since their lines show a code that stands there instead of one; `swapped` are the fields with a
+    number that a capture has written one field off, each with the field in which that is due, and `speeds` the
+    stretches at another speed."""
+    unit: Unit
+    pace: Union[Pace, MinutePace, None]
+    believed: List[Reading]
+    fields: List[int]
+    others: Set[int]
+    completed: FrozenSet[int] = frozenset()
+    swapped: Mapping[int, int] = {}
+    speeds: Tuple[Stretch, ...] = ()
+
+    def believing(self, readings: List[Reading]) -> "Numbers":
+        """The same with these readings in the place of those that were believed."""
+        return self._replace(believed=readings, fields=[reading.field for reading in readings])
+
+    def believed_in(self, first: int, last: int) -> List[Reading]:
+        """The believed readings of these fields."""
+        return self.believed[bisect.bisect_left(self.fields, first):bisect.bisect(self.fields, last)]
+
+    def around(self, field: int) -> Around:
+        """The believed readings before and behind a field, or None."""
+        before, after = bisect.bisect_left(self.fields, field), bisect.bisect(self.fields, field)
+        return (self.believed[before - 1] if before else None,
+                self.believed[after] if after < len(self.fields) else None)
+
+    def off(self, before: Reading, after: Reading) -> Optional[int]:
+        """The fields that are too many (or, negative, too few) between two readings; None where the number stays."""
+        if self.speeds:
+            off = off_at_speed(self, before, after)
+            if off is not None:
+                return off
+        assert self.pace is not None
+        apart = after.field - before.field
+        if self.swapped:
+            apart = self.place_of(after) - self.place_of(before)
+        return self.pace.off(apart, before.number, after.number - before.number, before.variant, after.variant)
+
+    def place_of(self, reading: Reading) -> int:
+        """The field in which a reading is due."""
+        return self.swapped.get(reading.field, reading.field)
+
+    def fit(self, around: Around) -> bool:
+        """Whether there is a reading before and behind, and these two fit each other."""
+        before, after = around
+        return before is not None and after is not None and self.off(before, after) == 0
+
+    def why(self, around: Around) -> str:
+        """Why a number between these two is set aside."""
+        return "neighbours" if self.fit(around) else "alone"
+
+
+def numbers_of_readings(unit: Unit, pace: Union[Pace, MinutePace, None], believed: List[Reading],
+                        others: Set[int]) -> Numbers:
+    """The numbers of these believed readings, each in its own place and at the disc's own speed."""
+    return Numbers(unit, pace, believed, [reading.field for reading in believed], others)
+
+
+def no_numbers(system: str) -> Numbers:
+    return numbers_of_readings(Unit(None, RATES[system]), None, [], set())
+
+
+# ---- At another speed
+
+def stretch_at(speeds: Tuple[Stretch, ...], field: int) -> Optional[Stretch]:
+    """The stretch in which a field is, or None."""
+    place = bisect.bisect(speeds, (field, math.inf)) - 1
+    return speeds[place] if place >= 0 and field <= speeds[place].last else None
+
+
+def line_from(numbers: Numbers, reading: Reading, is_before: bool) -> Line:
+    """The line on which the numbers go on from a reading, or on which they come to it."""
+    place = bisect.bisect_left(numbers.speeds, (reading.field + is_before,)) - 1
+    if place >= 0 and reading.field + is_before <= numbers.speeds[place].last:
+        return numbers.speeds[place].line
+    return Line(1, 2, reading.field - reading.variant, reading.number)
+
+
+def _lines_between(numbers, before, after):
+    """The line on which the numbers go on from a reading, and the one on which they come to another."""
+    one, other = stretch_at(numbers.speeds, before.field), stretch_at(numbers.speeds, after.field)
+    if one and other and one.line[:2] == other.line[:2]:  # fields may be lost in between
+        return one.line, other.line
+    return line_from(numbers, before, True), line_from(numbers, after, False)
+
+
+def off_at_speed(numbers: Numbers, before: Reading, after: Reading) -> Optional[int]:
+    """The fields that are too many (or, negative, too few) between two readings at one other speed, or 0 where the
+    speed changes between them in a picture in which both lines have the same number; None of all others."""
+    line, other = _lines_between(numbers, before, after)
+    if line.is_normal() and other.is_normal() or not line.has(before) or not other.has(after):
+        return None
+    if line.step != other.step or line.fields != other.fields:
+        return None if meeting(line, other, before, after) is None else 0
+    if line.has(after):
+        return 0
+    over = after.number - line.number_at(after.field)
+    if abs(over) == 1 and numbers.unit.name == "time" and numbers.unit.rate == 30:
+        return 0  # which the clock may have left out
+    pictures, rest = divmod(after.number - before.number, line.step)
+    if rest or line.fields == SLOW:
+        return None
+    return after.field - before.field - after.variant + before.variant - 2 * pictures
+
+
+def passed_between(numbers: Numbers, before: Reading, after: Reading) -> Optional[List[Tuple[int, int]]]:
+    """The numbers that are due between two readings that fit at another speed, each with its field; None where they
+    don't."""
+    if off_at_speed(numbers, before, after) != 0:
+        return None
+    line, other = _lines_between(numbers, before, after)
+    turn = meeting(line, other, before, after)
+    if turn is None:
+        return []
+    fields = range(before.field - before.variant + 2, after.field - after.variant, 2)
+    return [((line if field <= turn else other).number_at(field), field) for field in fields]
+
+
+def meeting(line: Line, other: Line, before: Reading, after: Reading) -> Optional[int]:
+    """The first field of the picture in which two lines have the same number, between two readings that aren't far from
+    each other."""
+    if after.field - before.field > APART or (line.field - other.field) % 2:
+        return None
+    return next((field for field in range(before.field - before.variant, after.field + 1, 2)
+                 if line.number_at(field) == other.number_at(field)), None)

@@ -1,0 +1,40 @@
+"""Due numbers that their lines bear nevertheless: a worn line shows no word, or another one, but the word that is
+nearest to it is that of the number. No margin is asked for, as the numbers around leave no other number."""
+
+from typing import Any, Dict, Optional, Tuple
+
+from ldvbi import Kind, classify
+from ldvbi.codes import value_of
+from .paces import Unit
+from .places import Places
+from .readings import NearestWord
+
+# Of a unit the lines that are tried together, each time the first and the last of them
+_PILES: Dict[Optional[str], Tuple[Tuple[int, int], ...]] = {
+    "picture": ((17, 17), (18, 18), (17, 18)), "time": ((16, 16),)}
+
+
+def with_confirmed(places: Places, nearest_word: Optional[NearestWord]) -> Places:
+    """The places, of whose due numbers those that are the nearest words of their lines count as shown."""
+    unit = places.numbers.unit
+    if nearest_word is None or unit.name not in _PILES:
+        return places
+    confirmed = [(number, field) for number, field in places.due if _is_nearest(number, field, unit, nearest_word)]
+    if not confirmed:
+        return places
+    showings = places.showings + [[number, field, field] for number, field in confirmed]
+    return places._replace(
+        showings=sorted(showings, key=lambda showing: showing[1]), confirmed=sorted(field for _, field in confirmed),
+        due=[one for one in places.due if one not in set(confirmed)])
+
+
+def _is_nearest(number: int, field: int, unit: Unit, nearest_word: NearestWord) -> bool:
+    """Whether the nearest word of a line, or of lines 17 and 18 together, says this number: of a time the second and
+    the picture, as line 16 has them."""
+    wanted: Tuple[Kind, Any] = Kind.picture, number
+    if unit.name == "time":
+        seconds, part = divmod(number, unit.rate)
+        wanted = Kind.clv_picture, (seconds % 60, part)
+    words = (nearest_word(field, first, last) for first, last in _PILES[unit.name])
+    codes = (classify(word) for word in words if word)
+    return any((code.kind, value_of(code)) == wanted for code in codes)

@@ -1,0 +1,114 @@
+"""What is set aside, by name: doubtful numbers, lines that differ, and rows of numbers that weren't taken. All of it is
+in the form of the answer."""
+
+import bisect
+from typing import Any, Collection, Dict, List, Mapping, NamedTuple, Optional, Tuple
+
+from .believed import Around, Numbers
+from .chain import chain
+from .paces import Unit, price
+from .readings import Answer, Codes, Lines, Reading
+
+WIDEST = price(1 << 18)  # more than the widest break of a side costs
+SHARE = 10  # believed readings to one of a second row, at most
+
+
+class Doubts(NamedTuple):
+    """The numbers of a side that are set aside, the fields whose lines differ, and second rows of numbers."""
+    doubtful: List[Answer]
+    conflicts: List[Answer]
+    second_rows: List[Answer]
+
+
+def doubts_of(codes: Codes, field: int, lines: Lines, text: Any, why: str, around: Around = (None, None),
+              unit: Optional[Unit] = None) -> List[Answer]:
+    """The words of these lines, whose number is this text, by name. `around` are the believed readings before and
+    behind the field, `unit` is that of their numbers."""
+    found = []
+    for line in lines:
+        entry = codes.entry(field, line, why)
+        entry["number"] = text
+        for name, one in zip(("before", "after"), around):
+            entry[name] = one and unit and {"field": one.field, "number": unit.text_of(one.number)}
+        found.append(entry)
+    return found
+
+
+def conflict_of(field: int, said: Mapping[Any, Lines], taken: Any) -> Answer:
+    """A field whose lines 17 and 18 have these numbers, each with its lines, of which one was taken, or none."""
+    lines = {line: text for text, ones in said.items() for line in ones}
+    return {"field": field, "line17": lines.get(17), "line18": lines.get(18), "taken": taken}
+
+
+def read_in(doubtful: List[Answer], fields: Collection[int]) -> Dict[int, Any]:
+    """What was read in these fields instead of a number that is due there, as text or number: of each field the first
+    word that is set aside, by its number or, where no clock shows that, by its digits."""
+    found: Dict[int, Any] = {}
+    for one in doubtful:
+        if one["field"] in fields:
+            found.setdefault(one["field"], one["word"] if one["number"] is None else one["number"])
+    return found
+
+
+def chapters_aside(codes: Codes, readings: List[Reading],
+                   taken: Mapping[int, int]) -> Tuple[List[Answer], List[Answer]]:
+    """The chapters that aren't believed, by name, and the fields whose lines differ. `taken` are the believed ones by
+    field."""
+    doubtful: List[Answer] = []
+    said: Dict[int, Dict[Any, Lines]] = {}
+    aside = {reading.field for reading in readings if taken.get(reading.field) != reading.number % 100}
+    for reading in readings:
+        if reading.field not in aside:
+            continue
+        chapter = reading.number % 100
+        said.setdefault(reading.field, {})[chapter] = reading.lines
+        if taken.get(reading.field) != chapter:
+            doubtful += doubts_of(codes, reading.field, reading.lines, chapter, "chapter")
+    return doubtful, [conflict_of(field, ones, taken.get(field)) for field, ones in said.items() if len(ones) > 1]
+
+
+def numbers_aside(codes: Codes, numbers: Numbers, readings: List[Reading]) -> Doubts:
+    """The readings that aren't believed, by name, and the fields whose lines differ."""
+    text_of = numbers.unit.text_of
+    taken = {reading.field: reading.number for reading in numbers.believed}
+    doubtful: List[Answer] = []
+    conflicts: List[Answer] = []
+    said: Dict[int, List[Reading]] = {}
+    aside = {reading.field for reading in readings if taken.get(reading.field) != reading.number}
+    for reading in readings:
+        if reading.field in aside:
+            said.setdefault(reading.field, []).append(reading)
+    for field, ones in said.items():
+        around = numbers.around(field)
+        why = "lines" if len(ones) > 1 else numbers.why(around)
+        right = taken.get(field)
+        for one in ones:
+            if right != one.number:
+                doubtful += doubts_of(codes, field, one.lines, text_of(one.number), why, around, numbers.unit)
+        if len(ones) > 1:
+            conflicts.append(conflict_of(field, {text_of(one.number): one.lines for one in ones},
+                                         None if right is None else text_of(right)))
+    return Doubts(doubtful, conflicts, [])
+
+
+def second_rows(numbers: Numbers, readings: List[Reading]) -> List[Answer]:
+    """Readings that aren't believed, but fit each other for long: as of a line on which one digit is always read wrong,
+    or of a second disc. Which of two rows is the right one isn't known where their weights are near. A few of many
+    wrong numbers always fit, so a row has at least a tenth of the readings that are believed beside it."""
+    taken = {(reading.field, reading.number) for reading in numbers.believed}
+    rest = [one for one in readings if (one.field, one.number) not in taken]
+    if numbers.pace is None or not rest:
+        return []
+    row = chain(rest, numbers.pace)
+    weight = sum(one.weight for one in row)
+    if weight - sum(price(numbers.off(*pair)) for pair in zip(row, row[1:])) <= WIDEST:
+        return []
+    beside = bisect.bisect(numbers.fields, row[-1].field) - bisect.bisect_left(numbers.fields, row[0].field)
+    if SHARE * len(row) < beside:
+        return []
+    fields = {reading.field for reading in row}
+    text_of = numbers.unit.text_of
+    return [{
+        "first": text_of(row[0].number), "last": text_of(row[-1].number), "field": row[0].field,
+        "lastField": row[-1].field, "count": len(row), "weight": weight,
+        "against": sum(one.weight for one in numbers.believed if one.field in fields)}]

@@ -1,0 +1,69 @@
+"""What the lines of a side show where they show no word, and what that says of the levels they were read with."""
+
+import operator
+from collections import Counter
+from typing import Counter as Counted, Dict, List, Optional
+
+from ldvbi.codes import LINES
+from .readings import Answer, Fields
+
+SIZES = {"NTSC": (1820, 263), "PAL": (2270, 313)}  # bytes of a line, lines of a field
+BAD = ("change", "hold", "unfinished")
+_GOOD = frozenset(["word", "blank"])
+FEW = 20  # lines to a word: of the lines 17 and 18 of a disc half have one, or a fifth at least
+
+
+def bad_lines_of(fields: Fields) -> List[Answer]:
+    """The lines that show no word of their own and aren't blank, each with its place in the TBC file, in bytes."""
+    size, height = SIZES[fields.system]
+    bad = []
+    for field, causes in enumerate(fields.causes, 1):
+        if _GOOD.issuperset(causes):
+            continue
+        for line, cause in zip(LINES, causes):
+            if cause not in _GOOD:
+                _, _, column = cause.partition(" ")
+                bad.append({"field": field, "line": line, "cause": cause, "column": int(column) if column else None,
+                            "offset": ((field - 1) * height + line - 1) * size, "bytes": size})
+    return bad
+
+
+def rates_of(fields: Fields) -> Dict[str, Dict[str, int]]:
+    """Of each line how many fields show what."""
+    rates = {}
+    for place, line in enumerate(LINES):
+        passes = Counter(map(operator.itemgetter(place), fields.passes))
+        counts = {"pass1": passes[1], "pass2": passes[2], "near": passes[3],
+                  "blank": 0, "unfinished": 0, "change": 0, "hold": 0}
+        causes = Counter(map(operator.itemgetter(place), fields.causes))
+        if passes[3]:  # a recovered word has a cause, too
+            causes.subtract(each[place] for each, own in zip(fields.causes, fields.passes) if own[place] == 3)
+        for cause, count in causes.items():
+            if cause != "word":
+                counts[cause.partition(" ")[0]] += count
+        rates[str(line)] = counts
+    return rates
+
+
+def words_of(rates: Dict[str, int]) -> int:
+    """How many words a line has, by what its fields show."""
+    return rates["pass1"] + rates["pass2"] + rates["near"]
+
+
+def levels_of(rates: Dict[str, Dict[str, int]], bad: List[Answer], count: int) -> Optional[Answer]:
+    """Whether the side was read with wrong levels: None where lines 17 and 18 show words of their own enough, else what
+    they show instead, and a line to look at."""
+    shown: Counted[str] = Counter()
+    for line in ("17", "18"):
+        shown.update(rates[line])
+    words = shown["pass1"] + shown["pass2"]
+    if not count or FEW * words >= 2 * count:
+        return None
+    without = sum(shown[cause] for cause in ("near", *BAD))
+    lines = [one for one in bad if one["line"] != 16]
+    if without <= shown["blank"] or not lines:
+        return {"shows": "blank", "words": words, "bad": without, "blank": shown["blank"], "field": count // 2 + 1,
+                "line": 17}
+    one = lines[len(lines) // 2]
+    return {"shows": "bad", "words": words, "bad": without, "blank": shown["blank"], "field": one["field"],
+            "line": one["line"]}

@@ -1,0 +1,50 @@
+"""The numbers of a side that are believed: pictures of a CAV disc, times of a CLV disc, or its minutes alone.
+
+Pictures are found here, and times in times.py, as a time is joined of two words. The steps are the same:
+
+1. The codes become readings: a number of a field, with its weight.
+2. These say at which pace the numbers go on (`pace_of`).
+3. `chain` chooses the readings that are believed at this pace, each in its own field.
+4. `with_speeds` and `with_swaps` find what the chain takes for breaks: stretches that were played at another speed, and
+   fields that were written in each other's place. Speeds come first: a swap is found between two numbers that fit, and
+   those of another speed fit only once it is known.
+5. What isn't believed then is set aside by name (`Doubts`).
+
+Each step returns new `Numbers`, and leaves those that it was given as they were. All later modules ask `Numbers.off` or
+`Numbers.fit` (believed.py) how two numbers stand to each other; these know the pace, the speeds and the swaps. So
+another order of fields is one more step here, and `off` has to know it, or its ends are breaks to all the others. A new
+pace belongs to paces.py, and places.py says in which fields its numbers are due. docs/SIDES.md has all this as rules 6,
+7, 9, 12, 14 and 15."""
+
+from typing import Tuple
+
+from ldvbi import Kind
+from .believed import Numbers, no_numbers, numbers_of_readings
+from .chain import chain
+from .doubts import Doubts, numbers_aside, second_rows
+from .order import with_speeds, with_swaps
+from .paces import RATES, Unit, pace_of
+from .readings import Codes
+from .times import times_of
+
+
+def numbers_of(codes: Codes) -> Tuple[Numbers, Doubts]:
+    """The believed numbers of these codes, and those that are set aside."""
+    if codes.format == "neither":
+        return no_numbers(codes.fields.system), Doubts([], [], [])
+    return pictures_of(codes) if codes.format == "cav" else times_of(codes)
+
+
+def pictures_of(codes: Codes) -> Tuple[Numbers, Doubts]:
+    """The picture numbers of a CAV side."""
+    system = codes.fields.system
+    readings = codes.readings(Kind.picture)
+    if not readings:
+        return no_numbers(system), Doubts([], [], [])
+    pace = pace_of(readings, system == "NTSC")
+    # a field with a chapter is the second one of its picture, unless both have the number
+    others = set() if pace.kind == "both" else codes.sure_fields(Kind.chapter)
+    numbers = numbers_of_readings(Unit("picture", RATES[system]), pace, chain(readings, pace), others)
+    numbers = with_speeds(numbers, readings)
+    numbers = with_swaps(numbers, readings, {reading.field for reading in readings})
+    return numbers, numbers_aside(codes, numbers, readings)._replace(second_rows=second_rows(numbers, readings))

@@ -1,0 +1,218 @@
+"""Numbers in another order than the disc's: fields that a capture has written in each other's place, so that a number
+stands one field before or behind its own; and stretches that were played at another speed, whose numbers go by in
+other steps, backwards, or three times each."""
+
+import bisect
+import math
+from typing import Callable, Collection, Dict, List, Mapping
+
+from .believed import APART, SLOW, Line, Numbers, Stretch, line_from, meeting
+from .paces import Pace, price
+from .readings import WEIGHTS, Reading
+
+LEAST = 8  # readings of a stretch
+FEWEST = 3  # different numbers of it
+STEPS = (2, 3, -1, -2, -3)  # numbers from one picture to the next
+
+
+# ---- Other speeds
+
+def with_speeds(numbers: Numbers, readings: List[Reading],
+                complete: Callable[[Line, List[int]], List[Reading]] = lambda line, fields: []) -> Numbers:
+    """These numbers, with the stretches at another speed that weigh more than what was believed in their fields.
+    `readings` ascend by field. `complete` finds more readings of a line in fields that have none."""
+    kind = numbers.pace.kind if numbers.pace else None
+    if kind not in ("video", "both"):
+        return numbers
+    loose, stays = _loose(numbers, readings)
+    lines = _lines(loose, kind == "both") + _slow_lines(stays)
+    fields = [one.field for one in readings] if lines else []
+    for line, ones in sorted(lines, key=lambda found: -sum(one.weight for one in found[1])):
+        first, last = _extent(numbers, line, ones)
+        if _is_free(numbers.speeds, first, last):
+            near = readings[bisect.bisect_left(fields, first):bisect.bisect(fields, last)]
+            ones = _on_line(line, near, kind == "both")
+            known = {one.field for one in near}
+            ones += complete(line, [field for field in range(first, last + 1, 2) if field not in known])
+            numbers = _with_stretch(numbers, Stretch(first, last, line), sorted(ones, key=lambda one: one.field))
+    return numbers
+
+
+def _is_free(speeds, first, last):
+    """Whether no stretch is in more of these fields than the first one or the last."""
+    place = bisect.bisect(speeds, (first, math.inf))
+    return (place == 0 or speeds[place - 1].last <= first) and (place == len(speeds) or speeds[place].first >= last)
+
+
+def _with_stretch(numbers, stretch, ones):
+    """These numbers, with those readings of a stretch, if they weigh more than what was believed in its fields and two
+    changes of the speed cost."""
+    inside = numbers.believed_in(stretch.first, stretch.last)
+    before, after = numbers.around(stretch.first)[0], numbers.around(stretch.last)[1]
+    place = bisect.bisect(numbers.speeds, stretch)
+    changed = numbers._replace(speeds=numbers.speeds[:place] + (stretch,) + numbers.speeds[place:])
+    if _worth(changed, before, ones, after) - 2 * price(1) <= _worth(numbers, before, inside, after):
+        return numbers
+    begin, end = bisect.bisect_left(numbers.fields, stretch.first), bisect.bisect(numbers.fields, stretch.last)
+    return changed.believing(numbers.believed[:begin] + ones + numbers.believed[end:])
+
+
+def _worth(numbers, before, ones, after):
+    """What these readings weigh less the price of the breaks between them and those around."""
+    row = [one for one in [before] + ones + [after] if one]
+    total = sum(one.weight for one in ones)
+    for one, other in zip(row, row[1:]):
+        off = numbers.off(one, other)
+        total -= price(other.field - one.field if off is None else off)
+    return total
+
+
+def _loose(numbers, readings):
+    """The readings that fit neither the one before nor the one behind at the disc's own speed, and the believed ones
+    whose number stays."""
+    believed = numbers.believed
+    goes_on = [one.number != other.number and other.field - one.field - other.variant + one.variant ==
+               2 * (other.number - one.number) for one, other in zip(believed, believed[1:])]
+    fits = {one.field for one, before, after in zip(believed, [False] + goes_on, goes_on + [False]) if before or after}
+    stays = set()
+    for place in [place for place, is_fit in enumerate(goes_on) if not is_fit]:
+        one, other = believed[place:place + 2]
+        if one.number == other.number and other.variant <= one.variant:
+            stays |= {place, place + 1}
+    return [one for one in readings if one.field not in fits], [believed[place] for place in sorted(stays)]
+
+
+def _lines(loose, is_both):
+    """The lines on which enough of these readings are, each with its readings."""
+    found = []
+    for step in STEPS if len(loose) >= LEAST else ():
+        for phase in (0, 1):
+            # where both fields of a picture have its number, it begins with an odd one or with an even one
+            near = loose if is_both else [one for one in loose if one.field % 2 == phase]
+            for ones in _groups(near, step, phase):
+                begin = ones[0].field - (ones[0].field - phase) % 2
+                found.append((Line(step, 2, begin, ones[0].number), ones))
+    return found
+
+
+def _groups(readings, step, phase):
+    """The readings that are on a line with this step, in groups that are large enough."""
+    last, groups = {}, []
+    for one in readings:
+        key = one.number - step * ((one.field - phase) // 2)
+        ones = last.get(key)
+        if ones is None or one.field - ones[-1].field > APART:
+            last[key] = ones = []
+            groups.append(ones)
+        ones.append(one)
+    return [ones for ones in groups if _is_enough(ones)]
+
+
+def _is_enough(ones):
+    return len(ones) >= LEAST and len({one.number for one in ones}) >= FEWEST
+
+
+def _slow_lines(stays):
+    """The lines of numbers that are shown for three pictures each, among the readings that stay."""
+    found, low, high = [], 0, 0
+    for one in stays:
+        begin = one.field - one.variant - SLOW * one.number
+        if found and one.field - found[-1][-1].field <= APART and max(high, begin) - min(low, begin) < SLOW:
+            low, high = min(low, begin), max(high, begin)
+            found[-1].append(one)
+        else:
+            low = high = begin
+            found.append([one])
+    lines = []
+    for ones in found:
+        if _is_enough(ones):
+            begin = min(one.field - one.variant - SLOW * one.number for one in ones)
+            lines.append((Line(1, SLOW, begin + SLOW * ones[0].number, ones[0].number), ones))
+    return lines
+
+
+def _extent(numbers, line, ones):
+    """The fields of a stretch with these readings, up to the pictures in which the speed changes."""
+    first, last = ones[0].field, ones[-1].field
+    before, after = numbers.around(first)[0], numbers.around(last)[1]
+    if line.fields == SLOW:
+        return first, last
+    if before:
+        turn = meeting(line_from(numbers, before, True), line, before, ones[0])
+        first = first if turn is None else turn
+    if after:
+        end = ones[-1]._replace(variant=(last - line.field) % 2)
+        turn = meeting(line, line_from(numbers, after, False), end, after)
+        last = last if turn is None else turn
+    return first, last
+
+
+def _on_line(line, readings, is_both):
+    """The readings that are on the line."""
+    ones = []
+    for one in readings:
+        variant = (one.field - line.field) % 2 if is_both else 0
+        if line.has(one._replace(variant=variant)):
+            ones.append(one._replace(variant=variant))
+    return ones
+
+
+# ---- Swapped fields
+
+def with_swaps(numbers: Numbers, readings: List[Reading], shown: Collection[int]) -> Numbers:
+    """These numbers, with each that was read in pass 1 or on two lines and stands one field off between two that fit,
+    where no number was read in the field in which it is due. `shown` are the fields in which a number was read."""
+    kind = numbers.pace.kind if numbers.pace else None
+    taken = set(numbers.fields)
+    aside = [one for one in readings if one.field not in taken and one.weight >= WEIGHTS[1]]
+    if kind in ("video", "film"):
+        found = {one.field: (one, due) for one, due in _off_by_one(numbers, aside) if due not in shown}
+    else:
+        found = _of_both(numbers, readings) if kind == "both" else {}
+    if not found:
+        return numbers
+    kept = [one for one in numbers.believed if one.field not in found] + [one for one, _ in found.values()]
+    swapped = {field: due for field, (_, due) in found.items() if field != due}
+    return numbers.believing(sorted(kept, key=lambda one: one.field))._replace(swapped=swapped)
+
+
+def _off_by_one(numbers, aside):
+    """The numbers that stand one field off between two that fit each other, each with the field in which it is due."""
+    believed = numbers.believed
+    threes = [(before, one, after) for before, one, after in zip(believed, believed[1:], believed[2:])
+              if one.field - before.field != 2 * (one.number - before.number)]
+    threes += [(before, one, after) for one in aside for before, after in [numbers.around(one.field)]]
+    for before, one, after in threes:
+        if before and after and before.number < one.number < after.number and before.variant == after.variant and (
+                numbers.fit((before, after))):
+            due = before.field + numbers.pace.between(before.number, one.number - before.number, 0, after.variant)
+            if abs(due - one.field) == 1:
+                yield one._replace(variant=after.variant), due
+
+
+def _of_both(numbers, readings):
+    """Where each field of a picture has its number: the second field of one and the first of the next, each of which
+    shows the other's, and the other field of either picture, with the field in which each is due."""
+    found = {}
+    for one, other in zip(readings, readings[1:]):
+        if other.number != one.number - 1 or other.field != one.field + 1 or (
+                min(one.weight, other.weight) < WEIGHTS[1]):
+            continue
+        before, after = numbers.around(one.field - 1)[0], numbers.around(other.field + 1)[1]
+        if not numbers.fit((before, after)):
+            continue
+        begin = before.field - before.variant
+        places = {one.field: one.field + 1, other.field: one.field}
+        ones = [near for near in numbers.believed_in(one.field - 1, other.field + 1) if near.field not in places]
+        ones = [(near, places.get(near.field, near.field)) for near in ones + [one, other]]
+        if all(near.number == before.number + (due - begin) // 2 for near, due in ones) and (one.field - begin) % 2:
+            found.update((near.field, (near._replace(variant=(due - begin) % 2), due)) for near, due in ones)
+    return found
+
+
+def pairs_of(swaps: Mapping[int, int]) -> Dict[int, int]:
+    """The first fields of the pairs in their order, each with the field that shows a number, or with the first one."""
+    pairs: Dict[int, int] = {}
+    for field, due in sorted(swaps.items()):
+        pairs.setdefault(min(field, due), field)
+    return pairs

@@ -1,0 +1,128 @@
+"""What numbers count, how far apart on the disc two of them stand, in fields, and what it costs where a capture has
+more or fewer. Numbers that are alike modulo a pace's `period` stand in the same way."""
+
+from collections import Counter
+from typing import Any, List, NamedTuple, Optional, Union
+
+from .readings import Reading
+
+RATES = {"NTSC": 30, "PAL": 25}  # numbers of a second
+FILM = 10  # pictures to one of 3 fields, at most
+
+
+class Unit(NamedTuple):
+    """What numbers count: `picture`, `time` (pictures from the disc's start) or `minute`; None where there are none."""
+    name: Optional[str]
+    rate: int
+
+    def text_of(self, number: int) -> Any:
+        """A number as the answer has it: a picture as it is, a time as text."""
+        if self.name == "time":
+            seconds, picture = divmod(number, self.rate)
+            return "%d:%02d:%02d.%02d" % (seconds // 3600, seconds // 60 % 60, seconds % 60, picture)
+        return minute_text(number) if self.name == "minute" else number
+
+
+def minute_text(minutes: int) -> str:
+    """Minutes from the disc's start as hours and minutes."""
+    return "%d:%02d" % divmod(minutes, 60)
+
+
+def price(off: Optional[int]) -> int:
+    """What a break costs: 1 and the binary digits of the fields that are too many or too few. None costs nothing."""
+    return 1 + abs(off).bit_length() if off else 0
+
+
+class Pace:
+    """The pace of pictures and times. What isn't known of a reading is its variant, from 0 on. There is one on a video
+    disc, where a picture has two fields. Where both fields of a picture have its number ("both"), the variant is the
+    field that was read. On film, whose pictures have 2 and 3 fields in turn, it is which pictures have 3: those with an
+    odd number (0), those with an even one (1), or none (2), as in a stretch of video. That changes at a cut of the film
+    only, which is a break of one field."""
+
+    def __init__(self, kind: str) -> None:
+        self.kind = kind
+        self.variants = {"video": 1, "both": 2, "film": 3}[kind]
+        self.period = 2 if kind == "film" else 1
+        self.change = price(1) if kind == "film" else 0
+        self.least = 2 if kind == "both" else 1  # fields with which a number can be lost
+
+    def between(self, number: int, step: int, variant: int, other: int) -> int:
+        """The fields on the disc from a reading of this number and variant to the one `step` numbers on."""
+        if self.kind == "film" and other < 2:
+            return (5 * (number + step) + other) // 2 - (5 * number + other) // 2
+        return 2 * step + (other - variant if self.kind == "both" else 0)
+
+    def off(self, fields: int, number: int, step: int, variant: int = 0, other: int = 0) -> Optional[int]:
+        """The fields that are too many (or, negative, too few); 0 where they fit; None where the number stays."""
+        if step == 0:
+            return 0 if self.kind == "both" and fields == other - variant else None
+        return fields - self.between(number, step, variant, other)
+
+    def least_off(self, fields: int, number: int, step: int) -> int:
+        """The fields that are too many or too few at least, whatever the variants are, where the number doesn't stay.
+        """
+        off = abs(fields - 2 * step)
+        if self.kind == "film":
+            return min(off, abs(2 * fields - 5 * step) // 2)
+        return max(off - 1, 0) if self.kind == "both" else off
+
+    def numbers_in(self, fields: int) -> int:
+        """How many numbers as many fields have at least, one after the other."""
+        return (2 * fields + 1) // 5 if self.kind == "film" else fields // 2
+
+
+class MinutePace:
+    """The pace of minutes, each of which stands on all its fields, of which it has so many."""
+    kind, variants, change, period, least = "minute", 1, 0, 1, 1
+
+    def __init__(self, fields: int) -> None:
+        self.fields = fields
+
+    def least_off(self, fields: int, number: int, step: int) -> int:
+        """As `Pace` has it."""
+        return self.off(fields, number, step)
+
+    def off(self, fields: int, number: int, step: int, variant: int = 0, other: int = 0) -> int:
+        apart = fields - step * self.fields
+        return 0 if step >= 0 and abs(apart) < self.fields else apart
+
+    def numbers_in(self, fields: int) -> int:
+        """How many minutes as many fields have at least, one after the other."""
+        return fields // self.fields
+
+
+class ChapterPace:
+    """The pace of chapters, which have any length. The next chapter is no break. Each one passed over counts as a
+    picture would, and going back as all 80 would, since without a break of the pictures' numbers that can't be. One
+    chapter that is passed over in many fields may have been there, and not have been read. The numbers here are 100
+    times the breaks of those up to the field, and the chapter: at such a break any chapter may follow, for the least
+    price."""
+    kind, variants, change, period = "chapter", 1, 0, 100
+    ALL = 80  # chapters, 0 to 79
+    MANY = 18  # fields
+
+    def least_off(self, fields: int, number: int, step: int) -> int:
+        """As `Pace` has it."""
+        return self.off(fields, number, step)
+
+    def off(self, fields: int, number: int, step: int, variant: int = 0, other: int = 0) -> int:
+        chapters = (number + step) % 100 - number % 100
+        if chapters in (0, 1) or chapters == 2 and fields >= self.MANY:
+            return 0
+        if number // 100 != (number + step) // 100:
+            return 1
+        return 2 * (chapters - 1) if chapters > 0 else 2 * self.ALL
+
+
+AnyPace = Union[Pace, MinutePace, ChapterPace]
+
+
+def pace_of(readings: List[Reading], may_be_film: bool) -> Pace:
+    """The numbers stand on both fields where a tenth of the steps from reading to reading is to the same number in the
+    next field: of a worn disc few pictures are read in both. A disc that may be film is one where at least one picture
+    in ten has 3 fields."""
+    steps = Counter((other.field - one.field, other.number - one.number) for one, other in zip(readings, readings[1:]))
+    if 10 * steps[1, 0] > len(readings):
+        return Pace("both")
+    return Pace("film" if may_be_film and FILM * steps[3, 1] >= max(steps[2, 1] + steps[3, 1], 1) else "video")

@@ -1,0 +1,106 @@
+"""The parts of a disc beside its numbers: chapters, picture stops, lead-in and lead-out, programme status, users'
+codes."""
+
+import bisect
+from typing import Dict, List, Tuple
+
+from ldvbi import Kind
+from .believed import Numbers
+from .chain import chain
+from .doubts import chapters_aside
+from .paces import ChapterPace
+from .places import Places
+from .readings import Answer, Codes, Reading
+
+LEAST_SHARE = 200  # fields to a chapter code at most: of a disc with chapters each picture has one
+APART = 100  # fields without the code between two stretches of lead-in or lead-out: a scratch on a disc is shorter
+FEW = 2  # fields with a number or a chapter that may be read wrongly inside a stretch
+_OTHERS = (Kind.picture, Kind.clv_picture, Kind.time, Kind.chapter)
+
+
+# ---- Chapters
+
+def chapters_of(codes: Codes, places: Places) -> Tuple[List[Answer], List[Answer], List[Answer]]:
+    """The stretches of chapters, in the form of the answer but for the frame; the chapters that aren't believed, and
+    the fields whose lines differ."""
+    # a field between the two numbers of a break may belong to either side
+    breaks = [field for one in places.breaks for field in (one["after"] + 1, one["before"])]
+    # backwards there is one at each end: of a chapter there one picture may be shown
+    breaks += [field for one in places.numbers.speeds if one.line.step < 0
+               for field in (one.first + 1, one.first + 2, one.last, one.last + 2)]
+    breaks.sort()
+    # at each break any chapter may follow, so the breaks up to its field are part of a reading's number
+    readings = [Reading(field, 100 * bisect.bisect(breaks, field) + chapter, weight, lines)
+                for field, chapter, weight, lines, _ in codes.readings(Kind.chapter)]
+    believed = chain(readings, ChapterPace())
+    if LEAST_SHARE * len(believed) < len(codes.fields.words):
+        believed = []
+    aside = chapters_aside(codes, readings, {reading.field: reading.number % 100 for reading in believed})
+    return (_chapters(believed, places), *aside)
+
+
+def _chapters(believed, places):
+    chapters = []
+    for reading in believed:
+        number = reading.number % 100
+        if chapters and chapters[-1]["chapter"] == number:
+            chapters[-1]["last"] = reading.field
+        else:
+            chapters.append({"chapter": number, "field": reading.field, "last": reading.field})
+    for place, chapter in enumerate(chapters):
+        chapter["after"] = chapters[place - 1]["last"] if place else None
+        chapter["number"] = places.number_at(chapter["field"])
+    return chapters
+
+
+# ---- Lead-in and lead-out
+
+def ends_of(codes: Codes, kind: Kind, numbers: Numbers) -> Tuple[List[Answer], List[Answer]]:
+    """The stretches of fields with a code of lead-in or lead-out, and the lines on which that is stray. A stretch ends
+    before a believed number, before more than two fields with a number or a chapter, or before a hundred fields without
+    its code. Such a code in a field with a number, or between two numbers that fit each other, is stray. Two minutes
+    that fit leave room for a lead-in: between them a single field with the code is stray."""
+    others = sorted(set().union(*(codes.kinds[one] for one in _OTHERS)))
+
+    def is_one_with(last: int, field: int, place: int) -> bool:
+        between = bisect.bisect_left(others, field) - bisect.bisect(others, last)
+        return field - last <= APART and between <= FEW and bisect.bisect(numbers.fields, last) == place
+
+    found: List[Answer] = []
+    stray: List[Answer] = []
+    is_minute = numbers.unit.name == "minute"
+    for field, values in sorted(codes.kinds[kind].items()):
+        place = bisect.bisect(numbers.fields, field)
+        has_number = place > 0 and numbers.fields[place - 1] == field
+        if has_number or numbers.fit(numbers.around(field)) and not is_minute:
+            stray += codes.strays({field: values}, "place")
+        elif found and is_one_with(found[-1]["last"], field, place):
+            found[-1]["last"] = field
+            found[-1]["count"] += 1
+        else:
+            found.append({"first": field, "last": field, "count": 1})
+    single = [one for one in found if one["count"] == 1 and numbers.fit(numbers.around(one["first"]))]
+    for one in single:
+        stray += codes.strays({one["first"]: codes.kinds[kind][one["first"]]}, "place")
+    return [one for one in found if one not in single], stray
+
+
+# ---- Stops and other codes
+
+def stops_of(codes: Codes, places: Places) -> List[Answer]:
+    """The fields with a picture stop, in the form of the answer but for the frame, each with its picture."""
+    return [{"field": field, "number": places.number_at(field),
+             "lines": [line for lines in values.values() for line in lines]}
+            for field, values in sorted(codes.kinds[Kind.picture_stop].items())]
+
+
+def status_of(codes: Codes) -> List[Answer]:
+    """The programme status codes that differ: whether CX is on, and the three digits behind that as they are."""
+    return [{"cx": word >> 12 == 0x8DC, "digits": "%03X" % (word & 0xFFF), **fields}
+            for word, fields in codes.words_of((Kind.cx_on, Kind.cx_off))]
+
+
+def users_of(codes: Codes) -> List[Answer]:
+    """The users' codes that differ."""
+    return [{"digit": word >> 16 & 7, "digits": "%03X" % (word & 0xFFF), **fields}
+            for word, fields in codes.words_of((Kind.users,))]

@@ -1,0 +1,182 @@
+"""What the lines of a side say, by kind of code: the plain data that the judge takes in, and the codes found in it."""
+
+from typing import Any, Callable, Dict, Iterable, List, NamedTuple, Optional, Set, Tuple
+
+from ldvbi import Kind, classify
+from ldvbi.codes import CAV_KINDS, CLV_KINDS, LINES, STANDARD_LINES, code_of, name_of, value_of
+
+WEIGHTS = (0, 2, 1, 1)  # of a line without a word, with one of pass 1, of pass 2, with a recovered one (pass 3)
+Answer = Dict[str, Any]  # the plain data that the judge answers with; docs/SIDES.md has its members
+Lines = Tuple[int, ...]
+Values = Dict[Any, Lines]  # what a field says by codes of one kind, each value with its lines
+ByField = Dict[int, Values]
+# Of a field, and the first and the last of some of its lines, the word that is nearer to them than any other, or None
+NearestWord = Callable[[int, int, int], Optional[int]]
+
+
+class Fields(NamedTuple):
+    """The whole fields of a side as plain data: of each field the words, passes and causes of lines 16, 17 and 18, as
+    the document of `ldvbi extract` has them. A recovered word has pass 3, and the cause for which its line shows none
+    of its own. `cut` is the document's `cutField`. `first` says of each field whether it
+    is the first one of its frame (`isFirstField` of ld-decode's metadata), or is None where that isn't known.
+    `expected` is the number of fields that the metadata has, or None; `is_strict` says that a side without lead-in or
+    lead-out isn't whole. `nearest_word` finds the nearest words of lines where their samples are at hand."""
+    system: str
+    words: List[Tuple[int, int, int]]
+    passes: List[Tuple[int, int, int]]
+    causes: List[Tuple[str, str, str]]
+    cut: Optional[Dict[str, int]] = None
+    first: Optional[List[bool]] = None
+    expected: Optional[int] = None
+    is_strict: bool = False
+    nearest_word: Optional[NearestWord] = None
+
+
+class Reading(NamedTuple):
+    """A number that a field's lines say, the lines that say it, and what that weighs. `variant` is what a pace leaves
+    open of a number."""
+    field: int
+    number: int
+    weight: int
+    lines: Lines
+    variant: int = 0
+
+
+class Codes(NamedTuple):
+    """The codes of a side. `kinds` has for each kind its fields, and for each of these the values with their lines;
+    `format` is `cav`, `clv` or `neither`; `stray` are the codes that stand where no disc has them, `unknown` the words
+    that are no code."""
+    fields: Fields
+    kinds: Dict[Kind, ByField]
+    format: str
+    stray: List[Answer]
+    unknown: List[Answer]
+
+    def entry(self, field: int, line: int, why: str) -> Answer:
+        """A word that is named in the answer: where it stands, what it is, and why it is named."""
+        return _entry(self.fields, field, line, why)
+
+    def strays(self, found: ByField, why: str) -> List[Answer]:
+        """Each line of these fields of a kind as a stray one."""
+        return _strays(self.fields, found, why)
+
+    def weight(self, field: int, lines: Iterable[int]) -> int:
+        """What the words of these lines of a field weigh together: a word of the line itself more than one of its
+        smoothed levels or a recovered one, more of which are wrong."""
+        passes = self.fields.passes[field - 1]
+        weight = 0
+        for line in lines:
+            weight += WEIGHTS[passes[line - 16]]
+        return weight
+
+    def sure_fields(self, kind: Kind) -> Set[int]:
+        """The fields that have a code of this kind on a line of pass 1, or on two lines."""
+        return {field for field, values in self.kinds[kind].items()
+                if self.weight(field, [line for lines in values.values() for line in lines]) >= WEIGHTS[1]}
+
+    def readings(self, kind: Kind) -> List[Reading]:
+        """The values of a kind as readings, by field."""
+        return [Reading(field, value, self.weight(field, lines), lines)
+                for field, values in self.kinds[kind].items() for value, lines in values.items()]
+
+    def words_of(self, kinds: Iterable[Kind]) -> List[Tuple[int, Dict[str, int]]]:
+        """The different words of kinds that have a line to themselves: of each the word, its fields' count, the first
+        and the last of them, by the first field."""
+        found: Dict[int, Dict[str, int]] = {}
+        for kind in kinds:
+            place = STANDARD_LINES[kind][0] - LINES[0]
+            for field in self.kinds[kind]:
+                one = found.setdefault(self.fields.words[field - 1][place], {"count": 0, "first": field})
+                one.update(count=one["count"] + 1, last=field)
+        return sorted(found.items(), key=lambda pair: pair[1]["first"])
+
+    def minutes(self) -> ByField:
+        """The minutes of CLV times: for each field the values with their lines. Those that no clock shows are left
+        out."""
+        found = {}
+        for field, values in self.kinds[Kind.time].items():
+            if None in values:
+                values = {value: lines for value, lines in values.items() if value is not None}
+            if values:
+                found[field] = values
+        return found
+
+
+def codes_of(fields: Fields) -> Codes:
+    """The codes of these fields. Where the side has codes of CAV and of CLV, it is of the format of which more fields
+    have some, and the codes of the other one are stray."""
+    kinds, aside = _collected(fields.words)
+    stray = [_entry(fields, field, line, "line") for field, line, is_code in aside if is_code]
+    named = [_entry(fields, field, line, "code") for field, line, is_code in aside if not is_code]
+    unknown = [{name: one[name] for name in ("field", "line", "word", "pass")} for one in named]
+    name, others = _format_of(kinds)
+    for kind in others:
+        stray += _strays(fields, kinds[kind], "format")
+        kinds[kind] = {}
+    return Codes(fields, kinds, name, stray, unknown)
+
+
+class _Known(Dict[int, Any]):
+    """Of each word on these lines the fields of its kind, what such a field says by it, and the lines: many fields say
+    the same. Where a disc has no such word, nothing is said."""
+
+    def __init__(self, kinds: Dict[Kind, ByField], lines: Lines) -> None:
+        super().__init__()
+        self.kinds, self.lines = kinds, lines
+
+    def __missing__(self, word: int) -> Any:
+        code = classify(word)
+        is_there = self.lines[0] in STANDARD_LINES.get(code.kind, ())
+        said = {value_of(code): self.lines} if is_there else None
+        self[word] = known = self.kinds.get(code.kind), said, self.lines
+        return known
+
+
+def _collected(words):
+    """Of each kind its fields with what they say; and the lines whose word stands where no disc has it, each with
+    whether it is a code at all."""
+    kinds, aside = {kind: {} for kind in STANDARD_LINES}, []
+    first, second, third, both = [_Known(kinds, lines) for lines in ((16,), (17,), (18,), (17, 18))]
+
+    def take(field, known):
+        """Takes in a word of a field."""
+        fields, said, lines = known
+        if said is None:
+            aside.extend((field, line, fields is not None) for line in lines)
+        elif field not in fields:
+            fields[field] = said
+        else:
+            fields[field] = merged = dict(fields[field])
+            for value in said:
+                merged[value] = merged.get(value, ()) + lines
+
+    for field, (one, two, three) in enumerate(words, 1):
+        if one:
+            take(field, first[one])
+        if two and two == three:
+            take(field, both[two])
+        else:
+            if two:
+                take(field, second[two])
+            if three:
+                take(field, third[three])
+    return kinds, aside
+
+
+def _format_of(kinds):
+    """The format of which more fields have codes, and the kinds of the other one."""
+    cav, clv = (set().union(*(kinds[kind] for kind in names)) for names in (CAV_KINDS, CLV_KINDS))
+    if not cav and not clv:
+        return "neither", ()
+    return ("cav", CLV_KINDS) if len(cav) >= len(clv) else ("clv", CAV_KINDS)
+
+
+def _entry(fields, field, line, why):
+    word = fields.words[field - 1][line - LINES[0]]
+    return {"field": field, "line": line, "word": "%06X" % word, "kind": name_of(code_of(word).kind),
+            "pass": fields.passes[field - 1][line - LINES[0]], "why": why}
+
+
+def _strays(fields, found, why):
+    return [_entry(fields, field, line, why)
+            for field, values in found.items() for lines in values.values() for line in lines]

@@ -1,0 +1,246 @@
+"""The times of a CLV disc. A time is joined of the minutes on lines 17 and 18 and of the second and picture on line
+16. Stretches of line 16 in which the seconds and pictures go on without a break are runs, whatever their minute is: the
+minutes that are read in a run say together which one it is."""
+
+import bisect
+from collections import Counter
+from typing import Any, Callable, Dict, Iterator, List, NamedTuple, Optional, Set, Tuple
+
+from ldvbi import Kind
+from .believed import Around, Line, Numbers, no_numbers, numbers_of_readings
+from .chain import chain
+from .doubts import Doubts, conflict_of, doubts_of, numbers_aside, second_rows
+from .order import with_speeds, with_swaps
+from .paces import RATES, MinutePace, Unit, minute_text, pace_of
+from .readings import WEIGHTS, Answer, ByField, Codes, Lines, Reading
+
+# Fields of a minute. NTSC has 59.94 fields in a second, of which a minute has 3,596 or 3,597.
+MINUTE_FIELDS = {"NTSC": 3596, "PAL": 3000}
+CARRIED = 1  # seconds that are lost at most where a minute is carried over although others were read
+
+
+def times_of(codes: Codes) -> Tuple[Numbers, Doubts]:
+    """The times of a CLV side, or its minutes where no field has a second and picture that can be joined to them."""
+    times, doubtful = _times_in(codes)
+    readings = times.joined()
+    numbers, doubts = _believed(times, readings) if readings else _minutes_alone(times)
+    return numbers, doubts._replace(doubtful=doubtful + doubts.doubtful)
+
+
+class _Times(NamedTuple):
+    """The two parts of a side's times: `minutes` has of each field the values with their lines, `parts` the pictures
+    from the start of the minute, of which that has `whole`."""
+    codes: Codes
+    rate: int
+    whole: int
+    minutes: ByField
+    parts: Dict[int, int]
+
+    def joined(self) -> List[Reading]:
+        """Each second and picture with the minutes of its field, or else of the one behind or before it."""
+        readings, passes = [], self.codes.fields.passes
+        known: Dict[Lines, Lines] = {}
+        for field, part in sorted(self.parts.items()):
+            near = field
+            if field not in self.minutes:
+                near = field + 1 if field + 1 in self.minutes else field - 1
+            for value, lines in self.minutes.get(near, {}).items():
+                # a number that is joined of two is as sure as the less sure one
+                weight = min(self.codes.weight(near, lines), WEIGHTS[passes[field - 1][0]])
+                joined = known.setdefault(lines, (16,) + lines) if near == field else (16,)
+                readings.append(Reading(field, value * self.whole + part, weight, joined))
+        return readings
+
+    def nearest(self, near: Reading, field: int) -> int:
+        """The time with this field's second and picture that is nearest to the one due by that reading."""
+        due = near.number + (field - near.field) // 2
+        half = self.whole // 2
+        return due + (self.parts[field] - due + half) % self.whole - half
+
+    def of_line(self, line: Line, fields: List[int]) -> List[Reading]:
+        """The times of these fields of a line, where the second and the picture alone were read."""
+        return [Reading(field, line.number_at(field), self.codes.weight(field, (16,)), (16,)) for field in fields
+                if field not in self.minutes and self.parts.get(field) == line.number_at(field) % self.whole]
+
+    def completed_weight(self, field: int, number: int) -> int:
+        """The weight of line 16, less that of another minute which the field itself says."""
+        against = [self.codes.weight(field, lines) for minute, lines in self.minutes.get(field, {}).items()
+                   if minute != number // self.whole]
+        return max(self.codes.weight(field, (16,)) - max(against, default=0), 0)
+
+
+def _times_in(codes):
+    """The parts of the times of these codes, and what no clock shows of them, by name."""
+    doubtful = []
+    for field, values in codes.kinds[Kind.time].items():
+        if None in values:
+            doubtful += doubts_of(codes, field, values[None], None, "clock")
+    rate = RATES[codes.fields.system]
+    parts = {}
+    for field, values in codes.kinds[Kind.clv_picture].items():
+        (second, picture), = values
+        if picture < rate:
+            parts[field] = second * rate + picture
+        else:
+            doubtful += doubts_of(codes, field, (16,), None, "clock")
+    return _Times(codes, rate, 60 * rate, codes.minutes(), parts), doubtful
+
+
+def _minutes_alone(times):
+    """The minutes of a side without a second that can be joined to one."""
+    codes = times.codes
+    system = codes.fields.system
+    readings = [Reading(field, value, codes.weight(field, lines), lines)
+                for field, values in times.minutes.items() for value, lines in values.items()]
+    doubtful = [one for field in times.parts for one in doubts_of(codes, field, (16,), None, "minute")]
+    if not readings:
+        return no_numbers(system), Doubts(doubtful, [], [])
+    pace = MinutePace(MINUTE_FIELDS[system])
+    numbers = numbers_of_readings(Unit("minute", RATES[system]), pace, chain(readings, pace), set())
+    doubts = numbers_aside(codes, numbers, readings)
+    return numbers, doubts._replace(doubtful=doubtful + doubts.doubtful)
+
+
+def _believed(times, readings):
+    """The numbers of these times. Fields without a minute that is believed get the one that brings them nearest to the
+    believed times around them, and the chain is drawn again."""
+    codes, pace = times.codes, pace_of(readings, False)
+    others = set().union(*map(codes.sure_fields, (Kind.chapter, Kind.cx_on, Kind.cx_off)))
+    numbers = numbers_of_readings(Unit("time", times.rate), pace, chain(readings, pace), others)
+    more = _completions(times, numbers, readings)
+    if more:
+        numbers = numbers.believing(chain(sorted(readings + more, key=lambda one: one.field), pace))
+    numbers = with_speeds(numbers, readings, times.of_line)
+    numbers = with_swaps(numbers, readings, times.parts)
+    numbers = numbers._replace(
+        completed=frozenset(reading.field for reading in numbers.believed if reading.lines == (16,)))
+    doubtful, conflicts = _times_aside(times, numbers)
+    return numbers, Doubts(doubtful, conflicts, second_rows(numbers, readings))
+
+
+# ---- Fields without a minute
+
+def _completions(times, numbers, readings):
+    """The times of fields that have none: each second and picture with the minute that was read in its run of line 16,
+    and with the one that brings it nearest to a believed time beside it. Behind a longer loss the minute there says
+    nothing, so it isn't carried over to a run in which one was read."""
+    taken = set(numbers.fields)
+    wanted = sorted(times.parts.keys() - taken)
+    if not wanted:
+        return []
+    said = {(reading.field, reading.number) for reading in readings if reading.field not in taken}
+    runs = Runs(times.parts, times.minutes, times.whole, times.codes.weight)
+    more = []
+    for field in wanted:
+        run = runs.of_field[field]
+        found = {number for number, lost in _carried_over(times, numbers.around(field), field)
+                 if not run.votes or lost <= CARRIED * times.rate} | run.said_at(field)
+        more += [Reading(field, number, times.completed_weight(field, number), (16,)) for number in sorted(found)
+                 if number >= 0 and (field, number) not in said]
+    return more
+
+
+def _carried_over(times, around, field):
+    """The times nearest to those due by these readings, and how many pictures each is off."""
+    for near in around:
+        if near:
+            number = times.nearest(near, field)
+            yield number, abs(number - near.number - (field - near.field) // 2)
+
+
+class Run:
+    """A run, from its first field and the picture of the minute there. Its pictures are counted from the start of the
+    minute in which it begins; `votes` are the weights of the minutes in which it may begin."""
+
+    def __init__(self, field: int, picture: int, whole: int) -> None:
+        self.field, self.last, self.picture, self.whole = field, field, picture, whole
+        self.votes: Dict[int, int] = Counter()
+
+    def count_at(self, field: int) -> int:
+        """The pictures from the start of the run's first minute to a field."""
+        return self.picture + (field - self.field) // 2
+
+    def fits(self, field: int, picture: int) -> bool:
+        """Whether a field with this picture of a minute belongs to the run."""
+        return (field - self.field) % 2 == 0 and self.count_at(field) % self.whole == picture
+
+    def vote(self, field: int, minute: int, weight: int) -> None:
+        """Takes in a minute that a field of the run says."""
+        self.votes[minute - self.count_at(field) // self.whole] += weight
+
+    def said_at(self, field: int) -> Set[int]:
+        """The numbers that a field of the run has by most of the minutes read in it: none where none was read, and more
+        than one where as many say another."""
+        most = max(self.votes.values(), default=0)
+        return {minute * self.whole + self.count_at(field) for minute, weight in self.votes.items() if weight == most}
+
+
+class Runs:
+    """The runs of a side. `parts` has of each field the picture of the minute, of which there are `whole`; `minutes`
+    has of each field the minutes read, each with its lines, and `weight_of` says what these weigh. A misread word of
+    line 16 is a run of its own, between two parts of another."""
+
+    def __init__(self, parts: Dict[int, int], minutes: ByField, whole: int,
+                 weight_of: Callable[[int, Lines], int]) -> None:
+        self.of_field: Dict[int, Run] = {}
+        run: Optional[Run] = None
+        other: Optional[Run] = None  # the two that were seen last
+        for field in sorted(parts):
+            if run is None or not run.fits(field, parts[field]):
+                run, other = other, run
+            if run is None or not run.fits(field, parts[field]):
+                run = Run(field, parts[field], whole)
+            run.last = field
+            self.of_field[field] = run
+        fields = sorted(self.of_field)
+        for field, said in minutes.items():
+            for run in self._runs_at(field, fields):
+                for minute, lines in said.items():
+                    run.vote(field, minute, weight_of(field, lines))
+
+    def _runs_at(self, field: int, fields: List[int]) -> List[Run]:
+        """The run of a field: its own, or that of the fields on both sides, or of the one beside it."""
+        if field in self.of_field:
+            return [self.of_field[field]]
+        place = bisect.bisect(fields, field)
+        around = [self.of_field[near] for near in fields[max(place - 1, 0):place + 1]]
+        if len(around) == 2 and around[0] is around[1]:
+            return around[:1]
+        return [run for run in around if run.last == field - 1 or run.field == field + 1][:1]
+
+
+# ---- What is set aside
+
+def _times_aside(times, numbers):
+    """The minutes and the seconds that aren't believed, each for itself by name, and the fields whose lines differ."""
+    taken = {reading.field: reading.number for reading in numbers.believed}
+    doubtful, conflicts = [], []
+    for field in sorted(times.parts.keys() | times.minutes.keys()):
+        said, number = times.minutes.get(field, {}), taken.get(field)
+        if number is not None and (not said or len(said) == 1 and number // times.whole in said):
+            continue
+        doubtful += _field_aside(times, numbers, field, said, number)
+        if len(said) > 1:
+            right = None if number is None else number // times.whole
+            conflicts.append(conflict_of(field, {minute_text(value): lines for value, lines in said.items()},
+                                         minute_text(right) if right in said else None))
+    return doubtful, conflicts
+
+
+def _field_aside(times, numbers, field, said, number):
+    """What a field says beside its number, or, where it has none, beside those that may be due there."""
+    around, unit = numbers.around(field), numbers.unit
+    doubtful = []
+    if number is None:
+        # a field between two pictures may belong to either
+        due = [near.number + (field - near.field) // 2 for near in around if near]
+        fits = {(one + near) // times.whole for one in due for near in (-1, 0, 1)}
+        if field in times.parts:
+            text = "%02d.%02d" % divmod(times.parts[field], times.rate)
+            doubtful += doubts_of(times.codes, field, (16,), text, numbers.why(around), around, unit)
+    else:
+        fits = {number // times.whole}
+    why = "lines" if len(said) > 1 else numbers.why(around)
+    for value in said.keys() - fits:
+        doubtful += doubts_of(times.codes, field, said[value], minute_text(value), why, around, unit)
+    return doubtful

@@ -1,0 +1,147 @@
+"""Whether a capture is whole, and if not, why: the reasons in order of weight, by the answer's other members alone."""
+
+import bisect
+from collections import Counter
+from typing import List
+
+from .lines import words_of
+from .readings import Answer
+
+UNITS = {"picture": "pictures", "time": "times", "minute": "minutes"}
+# The numbers with which a disc may begin
+_FIRST = {"picture": (0, 1), "time": ("0:00:00.00", "0:00:00.01"), "minute": ("0:00",)}
+_OTHER = {"cav": "CLV", "clv": "CAV"}
+NEAR = 2  # fields from one code of the other format to the next, where they aren't wrong words by chance
+SHARE = 10  # numbers to one that is set aside, at most, where a side isn't whole
+
+
+def reasons_of(answer: Answer, is_strict: bool = False) -> List[Answer]:
+    """Why a side with this answer isn't whole, in order of weight: `why` is a word for programs, `text` says it. There
+    is none where it is whole. Without lead-in or lead-out a side is whole nevertheless, unless `is_strict`."""
+    found = [_no_numbers(answer), _lost(answer), _jumps(answer), _speed(answer), _missing(answer), _swapped(answer),
+             _begin(answer)]
+    found += _ends(answer) if is_strict else []
+    found += [_joined(answer), _other_format(answer), _lines(answer), _doubtful(answer), _fewer(answer), _cut(answer)]
+    return [{"why": one[0], "text": one[1]} for one in found if one]
+
+
+def other_file(answer: Answer) -> bool:
+    """Whether the bytes that were read aren't those that the metadata speaks of: of another count of fields, or no
+    whole number of them. Then the levels needn't be wrong."""
+    return answer["cutField"] is not None or answer["metadataFields"] not in (None, answer["fields"])
+
+
+def counted(count: int, name: str) -> str:
+    """A count with its name, in the plural where it isn't 1."""
+    return "%d %s%s" % (count, name, "" if count == 1 else "s")
+
+
+def _no_numbers(answer):
+    return None if answer["numbers"]["count"] else ("numbers", "no picture number and no time")
+
+
+def _lost(answer):
+    if not answer["lost"]:
+        return None
+    more = " or more" if any(one["fields"] is None for one in answer["lost"]) else ""
+    count = sum(one["fields"] or 1 for one in answer["lost"])
+    return "lost", "%s%s lost" % (counted(count, "field"), more)
+
+
+def _jumps(answer):
+    kinds = Counter(one["kind"] for one in answer["breaks"] if one["kind"] != "lost")
+    if not kinds:
+        return None
+    back = kinds["back"]
+    ahead = sum(kinds.values()) - back
+    if back and ahead:
+        how = "%d back, %d with fields too many" % (back, ahead)
+    else:
+        how = "back" if back else "with fields too many"
+    return "jumps", "%s (%s)" % (counted(back + ahead, "jump"), how)
+
+
+def _missing(answer):
+    count = sum(one["count"] for one in answer["missing"])
+    return ("missing", "%s missing" % counted(count, answer["unit"])) if count else None
+
+
+def _speed(answer):
+    speeds = answer["speeds"]
+    if not speeds:
+        return None
+    where = "fields %(first)d to %(last)d" % speeds[0] if len(speeds) == 1 else "%d stretches" % len(speeds)
+    return "speed", "played at another speed in " + where
+
+
+def _swapped(answer):
+    count = len(answer["swapped"])
+    return ("swapped", "%s of fields swapped" % counted(count, "pair")) if count else None
+
+
+def _begin(answer):
+    numbers = answer["numbers"]
+    if not numbers["count"] or numbers["least"] in _FIRST[answer["unit"]]:
+        return None
+    return "begins", "begins at %(least)s, ends at %(greatest)s" % numbers
+
+
+def _ends(answer):
+    return [(name, "no " + name) for name, member in (("lead-in", "leadIn"), ("lead-out", "leadOut"))
+            if not answer[member]]
+
+
+def _joined(answer):
+    """Lead-in behind a number, or lead-out before one: two sides in one capture, or two runs of one."""
+    fields = [field for _, *span in answer["showings"] for field in span]
+    if not fields:
+        return None
+    again = [one["first"] for one in answer["leadIn"] if one["first"] > fields[0]]
+    if again:
+        return "joined", "lead-in again in field %d (two sides joined)" % again[0]
+    early = [one["first"] for one in answer["leadOut"] if one["last"] < fields[-1]]
+    return ("joined", "lead-out in field %d, and numbers behind it (two sides joined)" % early[0]) if early else None
+
+
+def _other_format(answer):
+    """A wrong word may look like a code of the other format, but it stands alone."""
+    fields = sorted({one["field"] for one in answer["stray"] if one["why"] == "format"})
+    near = set()
+    for one, other in zip(fields, fields[1:]):
+        if other - one <= NEAR:
+            near |= {one, other}
+    return ("format", "codes of %s in %s, from field %d on" % (
+        _OTHER[answer["format"]], counted(len(near), "field"), min(near))) if near else None
+
+
+def _lines(answer):
+    """A line without any code, beside one that shows some."""
+    unknown = Counter(str(one["line"]) for one in answer["unknown"])
+    silent = [line for line in ("17", "18")
+              if words_of(answer["lines"][line]) == unknown[line]]
+    return ("line", "line %s shows no code" % silent[0]) if len(silent) == 1 else None
+
+
+def _doubtful(answer):
+    """A tenth or more of the fields that show a number have one that was set aside."""
+    doubtful = {one["field"] for one in answer["doubtful"] if one["kind"] != "chapter"}
+    shown = sum(last - first + 1 for _, first, last in answer["showings"])
+    begins = [first for _, first, _ in answer["showings"]]
+    for field in doubtful:
+        place = bisect.bisect(begins, field)
+        shown += place == 0 or answer["showings"][place - 1][2] < field
+    if not doubtful or SHARE * len(doubtful) < shown:
+        return None
+    return "doubtful", "numbers set aside in %d of %s" % (len(doubtful), counted(shown, "field"))
+
+
+def _fewer(answer):
+    expected = answer["metadataFields"]
+    if expected is None or expected <= answer["fields"]:
+        return None
+    return "metadata", "%s of %d that the metadata has" % (counted(answer["fields"], "field"), expected)
+
+
+def _cut(answer):
+    cut = answer["cutField"]
+    return ("cut", "field %d is cut" % cut["seqNo"]) if cut else None

@@ -1,0 +1,38 @@
+"""The nearest words of a side's lines, where its samples are at hand."""
+
+from typing import NamedTuple, Optional
+
+from ldvbi import Near, Stream, line_bytes, nearest
+from ldvbi.codes import LINES
+
+
+BEYOND = 4  # columns of a line by which a longer word may be nearer, as for recovered words
+
+
+class Measured(NamedTuple):
+    """The nearest word of a line, or None, its distance and that of its rival, in hundredths of a column, rounded
+    down: a column with the other level is 100."""
+    word: Optional[int]
+    distance: int
+    rival: int
+
+
+def nearest_in(stream: Stream, field: int, first: int, last: int) -> Near:
+    """The nearest word of a field's lines from the first to the last, such as 17 and 18, which have one word or none.
+    Fields are counted from 1."""
+    size = line_bytes(stream.system)
+    rows = stream.rows(field - 1)[(first - LINES[0]) * size:(last + 1 - LINES[0]) * size]
+    return nearest(rows, stream.system, stream.black, stream.white)
+
+
+def nearest_word_in(stream: Stream, field: int, first: int, last: int) -> Optional[int]:
+    """The nearest word of these lines, where each other one is farther and the signal doesn't go on beyond it."""
+    near, column = nearest_in(stream, field, first, last), stream.white - stream.black
+    goes_on = near.distance - near.longer > BEYOND * (last + 1 - first) * column
+    return None if goes_on or near.rival == near.distance else near.word
+
+
+def measured(stream: Stream, field: int, line: int) -> Measured:
+    """The nearest word of one line of a field, and how near it is."""
+    near, column = nearest_in(stream, field, line, line), stream.white - stream.black
+    return Measured(near.word, near.distance * 100 // column, near.rival * 100 // column)

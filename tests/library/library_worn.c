@@ -1,0 +1,258 @@
+/* Recovers the words of worn lines by the library for C, and holds them against the recorded ones: words with damage of
+   each kind, of which so many have to be recovered, and no wrong one; and signals that are no words, of which none may
+   be said to be one. The tables below name what is left. The lines are made here, the same in each run.
+   usage: library_worn [FIELDS]     so many fields of each kind, of three lines each, and their counts are printed */
+#include "library.h"
+#include "worn.h"
+#include "signals.h"
+
+/* Of each kind, where none are asked for: 20,000 lines in all. */
+enum { FIELDS = 75 };
+
+/* Of 1000 words so many have to be the nearest ones of their lines, and so many to be recovered; of 100,000 lines so
+   many may say a wrong word. Dropouts and bursts that turn a half cell over make another word the nearest one. */
+typedef struct {
+    Wear wear;
+    int near, recovered, wrong;
+} WornKind;
+
+static const WornKind worn_kinds[] = {
+    {{.name = "as drawn"}, 1000, 1000, 0},
+    {{.name = "noise 20 %", .noise = 0.2}, 1000, 1000, 0},
+    {{.name = "noise 30 %", .noise = 0.3}, 1000, 1000, 0},
+    {{.name = "noise 50 %", .noise = 0.5}, 1000, 850, 0},
+    {{.name = "noise 60 %", .noise = 0.6}, 990, 650, 0},
+    {{.name = "noise 70 %", .noise = 0.7}, 970, 400, 0},
+    {{.name = "noise 50 %, smeared", .noise = 0.5, .smeared = 5}, 990, 950, 0},
+    {{.name = "edges off by 2", .moved = 2}, 1000, 999, 0},
+    {{.name = "edges off by 3", .moved = 3}, 1000, 980, 0},
+    {{.name = "edges off by 4", .moved = 4}, 990, 880, 0},
+    {{.name = "a dropout of noise", .dropouts = 1, .shortest = 10, .longest = 24}, 990, 880, 0},
+    {{.name = "a black dropout", .dropouts = 1, .shortest = 10, .longest = 24, .filling = OF_BLACK}, 900, 680, 40},
+    {{.name = "3 short dropouts", .dropouts = 3, .shortest = 5, .longest = 10, .filling = OF_ANY}, 970, 900, 40},
+    {{.name = "3 dropouts", .dropouts = 3, .shortest = 10, .longest = 30, .filling = OF_ANY}, 700, 330, 1200},
+    {{.name = "noise 30 %, a dropout", .noise = 0.3, .dropouts = 1, .shortest = 10, .longest = 20}, 990, 780, 0},
+    {{.name = "a burst of noise", .burst = 60}, 880, 470, 120},
+    {{.name = "played", .noise = 0.2, .is_played = 1}, 1000, 999, 0},
+    {{.name = "played, noise 40 %", .noise = 0.4, .is_played = 1}, 980, 750, 0},
+    {{.name = "played, a dropout", .noise = 0.2, .dropouts = 1, .shortest = 8, .longest = 24, .filling = OF_ANY,
+      .is_played = 1}, 880, 700, 40},
+    {{.name = "played, a long dropout", .noise = 0.2, .dropouts = 1, .shortest = 8, .longest = 50, .filling = OF_ANY,
+      .is_played = 1}, 680, 400, 150},
+};
+
+/* Of 100,000 lines so many may say a word. */
+typedef struct {
+    SignalKind kind;
+    int said;
+} OtherKind;
+
+static const OtherKind other_kinds[] = {
+    {{"blank, noise 20 %", put_nothing, 0.2}, 0},
+    {{"blank, noise 50 %", put_nothing, 0.5}, 0},
+    {{"blank, noise 90 %", put_nothing, 0.9}, 0},
+    {{"blank, noise 200 %", put_nothing, 2}, 0},
+    {{"white", put_white, 0.05}, 0},
+    {{"a ramp", put_ramp, 0.05}, 0},
+    {{"even noise", put_even_noise, 0}, 0},
+    {{"fine video", put_fine_video, 0.05}, 0},
+    {{"video of 11 columns", put_video_of_11, 0.05}, 10},
+    {{"video of 31 columns", put_video_of_31, 0.05}, 10},
+    {{"video of 11 columns, noise", put_video_of_11, 0.5}, 0},
+    {{"steps", put_steps, 0.05}, 0},
+    {{"teletext", put_teletext, 0.05}, 0},
+    {{"teletext, noise", put_teletext, 0.5}, 0},
+    {{"captions", put_captions, 0.05}, 0},
+    {{"captions, noise", put_captions, 0.5}, 0},
+    {{"time code", put_time_code, 0.05}, 0},
+    {{"time code, noise", put_time_code, 0.5}, 5},
+    {{"bits of 1 MHz", put_bits_of_1_mhz, 0.05}, 20},
+    {{"40 biphase bits of 2 MHz", put_40_bits, 0.05}, 0},
+    {{"20 biphase bits", put_20_bits, 0.05}, 0},
+    {{"26 biphase bits", put_26_bits, 0.05}, 0},
+    {{"26 biphase bits, noise", put_26_bits, 0.5}, 1500},
+    {{"a sine of 0.5 MHz", put_sine_of_a_cell, 0.05}, 0},
+    {{"a sine of 0.1 to 1.6 MHz", put_any_sine, 0.05}, 1500},
+};
+
+enum { WORN_KINDS = sizeof worn_kinds / sizeof *worn_kinds, OTHER_KINDS = sizeof other_kinds / sizeof *other_kinds };
+
+/* ---- Worn words */
+
+/* Lines with a word, those that are rightly and wrongly read, whose nearest word is right, that are recovered. */
+typedef struct {
+    int lines, words, read, read_wrong, near, recovered, recovered_wrong;
+} Counts;
+
+static uint32_t digits(uint32_t count)
+{
+    uint32_t number = 0;
+
+    for (uint32_t i = 0; i < count; i++)
+        number = 16 * number + below(10);
+    return number;
+}
+
+/* A code that may stand on the line, or any word. */
+static uint32_t word_on(size_t row)
+{
+    if (below(2) == 0)
+        return 0x800000 | below(0x800000);
+    return row == 0 ? 0x80D000 | below(8) << 16 | below(4096) : 0xF00000 | below(8) << 16 | digits(4);
+}
+
+/* Lines 17 and 18 have one word in half of the fields, as most discs have, else two, or line 18 has none. */
+static void choose_words(uint32_t *words)
+{
+    uint32_t kind = below(4);
+
+    for (size_t row = 0; row < 3; row++)
+        words[row] = word_on(row);
+    if (kind == 0)
+        words[2] = 0;
+    else if (kind >= 2)
+        words[2] = words[1];
+}
+
+static void count_line(const Television *tv, const uint8_t *line, uint32_t word, const LdvbiReading *read,
+                       const LdvbiReading *recovered, Counts *counts)
+{
+    LdvbiNear near = {0, 0, 0, 0, 0};
+
+    CHECK(ldvbi_nearest(tv->system, tv->black, tv->white, line, 2 * tv->samples, &near) == LDVBI_DONE);
+    counts->lines++;
+    counts->words += word != 0;
+    counts->near += word != 0 && near.word == word;
+    counts->read += word != 0 && read->word == word;
+    counts->read_wrong += read->word != 0 && read->word != word;
+    counts->recovered += word != 0 && recovered->word == word;
+    counts->recovered_wrong += recovered->word != 0 && recovered->word != word;
+}
+
+static Counts count_worn(const Television *tv, const Wear *wear, int fields)
+{
+    size_t line = 2 * tv->samples;
+    uint8_t *rows = guarded(3 * line);
+    Counts counts = {0, 0, 0, 0, 0, 0, 0};
+
+    for (int i = 0; i < fields; i++) {
+        LdvbiFieldReadings read, recovered;
+        uint32_t words[3];
+
+        choose_words(words);
+        for (size_t row = 0; row < 3; row++)
+            draw_worn(tv, wear, words[row], rows + row * line);
+        CHECK(ldvbi_read_rows(tv->system, tv->black, tv->white, rows, 3 * line, &read) == LDVBI_DONE);
+        CHECK(ldvbi_recover_rows(tv->system, tv->black, tv->white, rows, 3 * line, &recovered) == LDVBI_DONE);
+        for (size_t row = 0; row < 3; row++)
+            count_line(tv, rows + row * line, words[row], &read.lines[row], &recovered.lines[row], &counts);
+    }
+    return counts;
+}
+
+/* ---- Signals that are no words */
+
+/* A field whose lines have the signal, each its own; in half of the fields line 18 has that of line 17. */
+static void draw_signal(const Television *tv, const SignalKind *kind, uint8_t *rows)
+{
+    double line[WIDEST], shown[WIDEST];
+    uint32_t is_twice = below(2);
+
+    for (size_t row = 0; row < 3; row++) {
+        if (row < 2 || !is_twice) {
+            Signal signal = signal_in(tv, line);
+
+            kind->draw(&signal);
+        }
+        memcpy(shown, line, sizeof shown);
+        if (kind->noise > 0)
+            add_noise(tv, kind->noise, 0, shown);
+        put_line(tv, shown, rows + 2 * tv->samples * row);
+    }
+}
+
+/* How many lines of so many fields say a word: as they are read, and as they are recovered. */
+static void count_signal(const Television *tv, const SignalKind *kind, int fields, int *read, int *recovered)
+{
+    size_t length = 3 * 2 * tv->samples;
+    uint8_t *rows = guarded(length);
+
+    for (int i = 0; i < fields; i++) {
+        LdvbiFieldReadings own, near;
+
+        draw_signal(tv, kind, rows);
+        CHECK(ldvbi_read_rows(tv->system, tv->black, tv->white, rows, length, &own) == LDVBI_DONE);
+        CHECK(ldvbi_recover_rows(tv->system, tv->black, tv->white, rows, length, &near) == LDVBI_DONE);
+        for (size_t row = 0; row < 3; row++) {
+            *read += own.lines[row].word != 0;
+            *recovered += near.lines[row].word != 0;
+        }
+    }
+}
+
+/* ---- All of them */
+
+static const char *name_of(const Television *tv)
+{
+    return tv->system == LDVBI_PAL ? "PAL" : "NTSC";
+}
+
+/* How many of these lines may be wrong where so many of 100,000 may: one more, as few lines have one by chance. */
+static int64_t allowed(int lines, int of_100000)
+{
+    return of_100000 == 0 ? 0 : 1 + (int64_t)lines * of_100000 / 100000;
+}
+
+static int is_as_wanted(const WornKind *kind, const Counts *counts)
+{
+    int64_t words = counts->words;
+
+    return words > 0 && 1000 * (int64_t)counts->near >= words * kind->near
+        && 1000 * (int64_t)counts->recovered >= words * kind->recovered
+        && counts->recovered_wrong <= allowed(counts->lines, kind->wrong);
+}
+
+static void test_worn(const Television *tv, size_t i, int fields, int is_shown)
+{
+    const WornKind *kind = &worn_kinds[i];
+
+    begin_numbers(1000 * tv->system + i);
+    Counts counts = count_worn(tv, &kind->wear, fields);
+    int is_wrong = !is_as_wanted(kind, &counts);
+
+    wrong += is_wrong;
+    if (is_shown || is_wrong)
+        fprintf(is_shown ? stdout : stderr,
+                "%-26s %-4s %6d words: read %6d, wrong %3d; nearest %6d; recovered %6d, wrong %3d%s\n", kind->wear.name,
+                name_of(tv), counts.words, counts.read, counts.read_wrong, counts.near, counts.recovered,
+                counts.recovered_wrong, is_wrong ? " !" : "");
+}
+
+static void test_signal(const Television *tv, size_t i, int fields, int is_shown)
+{
+    const OtherKind *kind = &other_kinds[i];
+    int read = 0, recovered = 0;
+
+    begin_numbers(1000 * tv->system + 100 + i);
+    count_signal(tv, &kind->kind, fields, &read, &recovered);
+    int is_wrong = recovered > allowed(3 * fields, kind->said);
+
+    wrong += is_wrong;
+    if (is_shown || is_wrong)
+        fprintf(is_shown ? stdout : stderr, "%-26s %-4s %6d lines: words read %5d, recovered %5d%s\n", kind->kind.name,
+                name_of(tv), 3 * fields, read, recovered, is_wrong ? " !" : "");
+}
+
+int main(int count, char **arguments)
+{
+    int fields = count > 1 ? atoi(arguments[1]) : FIELDS;
+
+    for (size_t i = 0; i < WORN_KINDS; i++)
+        for (size_t system = 0; system < 2; system++)
+            test_worn(&televisions[system], i, fields, count > 1);
+    for (size_t i = 0; i < OTHER_KINDS; i++)
+        for (size_t system = 0; system < 2; system++)
+            test_signal(&televisions[system], i, fields, count > 1);
+    printf("%d wrong\n", wrong);
+    return wrong != 0;
+}

@@ -1,0 +1,212 @@
+/* Worn lines with their truth: words that are drawn and then damaged sample by sample, and words as a player plays
+   them. A sample is a number here, 0 for black and 1 for white, until the whole line is made. */
+#include <math.h>
+
+enum { WIDEST = 1135, HALVES = 48, TAPS = 20 };
+
+static const double turn_of_circle = 6.283185307179586;
+
+/* ---- Random numbers, the same on every machine */
+
+static uint64_t number_state;
+
+static void begin_numbers(uint64_t seed)
+{
+    number_state = seed * 0x9E3779B97F4A7C15;
+}
+
+static uint64_t next_number(void)
+{
+    uint64_t mixed = number_state += 0x9E3779B97F4A7C15;
+
+    mixed = (mixed ^ mixed >> 30) * 0xBF58476D1CE4E5B9;
+    mixed = (mixed ^ mixed >> 27) * 0x94D049BB133111EB;
+    return mixed ^ mixed >> 31;
+}
+
+/* From 0 to below the limit. */
+static uint32_t below(uint32_t limit)
+{
+    return (uint32_t)((next_number() >> 32) * limit >> 32);
+}
+
+static int between(int least, int most)
+{
+    return least + (int)below((uint32_t)(most - least + 1));
+}
+
+/* From 0 to below 1. */
+static double evenly(void)
+{
+    return (double)(next_number() >> 11) / 9007199254740992.0;
+}
+
+/* With a mean of 0 and a standard deviation of 1: the sum of twelve even ones, which is nearly normal. */
+static double normally(void)
+{
+    int64_t sum = -6 * 65535;
+
+    for (int i = 0; i < 3; i++)
+        for (uint64_t number = next_number(), part = 0; part < 4; part++, number >>= 16)
+            sum += (int64_t)(number & 0xFFFF);
+    return (double)sum / 65536;
+}
+
+/* ---- Damage */
+
+enum Filling { OF_NOISE, OF_BLACK, OF_WHITE, OF_ANY };
+
+/* What is done to a line. What is 0 isn't done. */
+typedef struct {
+    const char *name;
+    double noise;      /* of each sample, its standard deviation */
+    int smeared;       /* columns of whose samples, the noise among them, each is the mean */
+    int moved;         /* columns by which each edge may come early or late, each for itself */
+    int dropouts;      /* how many there are within the word */
+    int shortest, longest; /* columns of each */
+    enum Filling filling;
+    int burst;         /* columns, anywhere within the word, with noise of 1.5 more */
+    int is_played;     /* sync and colour burst before it, edges of 3.5 MHz that ring, and noise that is coloured */
+} Wear;
+
+static double samples_of_microsecond(const Television *tv)
+{
+    return (double)tv->numerator / (double)tv->denominator;
+}
+
+static size_t word_columns(const Television *tv)
+{
+    return HALVES * tv->numerator / tv->denominator;
+}
+
+/* The word's levels from this column on, with edges that are moved by up to so many columns. */
+static void draw_word(const Television *tv, uint32_t word, size_t start, int moved, double *line)
+{
+    size_t begin = 0;
+    unsigned level = 0;
+
+    for (unsigned half = 0; half <= HALVES; half++) {
+        unsigned next = half < HALVES && (word >> (23 - half / 2) & 1) == half % 2;
+        size_t end = start + half * tv->numerator / tv->denominator;
+
+        if (next == level)
+            continue;
+        end += (size_t)between(-moved, moved);
+        for (size_t column = begin; column < end; column++)
+            line[column] = level;
+        begin = end;
+        level = next;
+    }
+    for (size_t column = begin; column < tv->samples; column++)
+        line[column] = 0;
+}
+
+static void smear(const Television *tv, int columns, double *line)
+{
+    double sharp[WIDEST];
+    int last = (int)tv->samples - 1, reach = columns / 2;
+
+    memcpy(sharp, line, sizeof *line * tv->samples);
+    for (int column = 0; column <= last; column++) {
+        double sum = 0;
+
+        for (int near = column - reach; near <= column + reach; near++)
+            sum += sharp[near < 0 ? 0 : near > last ? last : near];
+        line[column] = sum / (2 * reach + 1);
+    }
+}
+
+/* Lets through what is below 3.5 MHz, so that edges are slow, and ring by some 9 % before and behind. */
+static void limit_band(const Television *tv, double *line)
+{
+    double sharp[WIDEST + 2 * TAPS] = {0}, taps[2 * TAPS + 1], sum = 0;
+    double cycles = 3.5 / samples_of_microsecond(tv);
+
+    for (int i = -TAPS; i <= TAPS; i++) {
+        taps[i + TAPS] = i == 0 ? 2 * cycles : sin(turn_of_circle * cycles * i) / (turn_of_circle / 2 * i);
+        sum += taps[i + TAPS];
+    }
+    memcpy(sharp + TAPS, line, sizeof *line * tv->samples);
+    for (size_t column = 0; column < tv->samples; column++) {
+        double filtered = 0;
+
+        for (size_t i = 0; i <= 2 * TAPS; i++)
+            filtered += taps[i] * sharp[column + i];
+        line[column] = filtered / sum;
+    }
+}
+
+/* A line's sync and its colour burst, which has four samples a cycle. */
+static void put_sync(const Television *tv, double *line)
+{
+    static const double cycle[4] = {0.2, 0, -0.2, 0};
+    double microsecond = samples_of_microsecond(tv);
+    size_t begin = (size_t)(5.3 * microsecond), end = (size_t)(7.8 * microsecond);
+
+    for (size_t column = 0; column < (size_t)(4.7 * microsecond); column++)
+        line[column] = -0.4;
+    for (size_t column = begin; column < end; column++)
+        line[column] = cycle[column % 4];
+}
+
+static void add_noise(const Television *tv, double noise, int is_coloured, double *line)
+{
+    double kept = is_coloured ? 0.6 : 0, latest = normally(), own = sqrt(1 - kept * kept);
+
+    for (size_t column = 0; column < tv->samples; column++) {
+        latest = kept * latest + own * normally();
+        line[column] += noise * latest;
+    }
+}
+
+static void put_dropout(const Television *tv, const Wear *wear, size_t start, double *line)
+{
+    int columns = between(wear->shortest, wear->longest);
+    size_t begin = start + below((uint32_t)(word_columns(tv) - (size_t)columns));
+    enum Filling filling = wear->filling == OF_ANY ? (enum Filling)below(3) : wear->filling;
+
+    for (size_t column = begin; column < begin + (size_t)columns; column++)
+        line[column] = filling == OF_NOISE ? evenly() : filling == OF_WHITE;
+}
+
+static void add_burst(const Television *tv, int columns, size_t start, double *line)
+{
+    size_t begin = start + below((uint32_t)(word_columns(tv) - (size_t)columns));
+
+    for (size_t column = begin; column < begin + (size_t)columns; column++)
+        line[column] += 1.5 * normally();
+}
+
+/* ---- Whole lines */
+
+static void put_line(const Television *tv, const double *line, uint8_t *bytes)
+{
+    for (size_t column = 0; column < tv->samples; column++) {
+        double sample = (double)tv->black + line[column] * (double)(tv->white - tv->black);
+
+        put_sample(bytes, column, sample < 0 ? 0 : sample > 65535 ? 65535 : (uint32_t)sample);
+    }
+}
+
+/* A line of the word, or of none for 0, which begins up to three columns early or late. */
+static void draw_worn(const Television *tv, const Wear *wear, uint32_t word, uint8_t *bytes)
+{
+    double line[WIDEST] = {0};
+    size_t start = tv->start + (size_t)between(-3, 3);
+
+    if (word != 0)
+        draw_word(tv, word, start, wear->moved, line);
+    if (wear->is_played) {
+        put_sync(tv, line);
+        limit_band(tv, line);
+    }
+    if (wear->noise > 0)
+        add_noise(tv, wear->noise, wear->is_played, line);
+    if (wear->smeared > 1)
+        smear(tv, wear->smeared, line);
+    for (int i = 0; i < wear->dropouts; i++)
+        put_dropout(tv, wear, start, line);
+    if (wear->burst > 0)
+        add_burst(tv, wear->burst, start, line);
+    put_line(tv, line, bytes);
+}

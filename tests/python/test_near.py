@@ -1,0 +1,167 @@
+"""The nearest word and recovered words of drawn lines, some samples of which were changed by hand: what they are off by
+is counted on paper."""
+
+import os
+import struct
+import tempfile
+import unittest
+
+import ldvbi
+from streams import NTSC, PAL, line_with, worn_line, write_stream
+
+# Of each setup the columns in which words that differ in one bit differ, the columns of the first half cell, those of a
+# word that are high at least, and the column from which on words are drawn.
+SIZES = ((NTSC, 28, 14, 24 * 14, 150), (PAL, 35, 17, 12 * 17 + 12 * 18, 190))
+
+
+def changed(line, changes):
+    """The line, to some of whose samples something was added."""
+    samples = list(struct.unpack("<%dH" % (len(line) // 2), line))
+    for column, added in changes:
+        samples[column] += added
+    return struct.pack("<%dH" % len(samples), *samples)
+
+
+class Nearest(unittest.TestCase):
+    def test_drawn_lines(self):
+        """A row of another word differs in a cell of each line, one with a cell more in a half cell of each."""
+        for setup, cell, half, _, start in SIZES:
+            column = setup[2] - setup[1]
+            for count in (1, 2, 28):
+                with self.subTest((setup, count)):
+                    near = ldvbi.nearest(count * line_with(0xF12345, setup), *setup)
+                    self.assertIsInstance(near, ldvbi.Near)
+                    self.assertEqual(near, (0xF12345, start, 0, count * cell * column, count * half * column))
+
+    def test_noise(self):
+        """Beside the word the samples of two lines are off by 612, 88 and 1: so is each row from them."""
+        for setup, cell, half, _, start in SIZES:
+            column = setup[2] - setup[1]
+            line = line_with(0x82CFFF, setup)
+            lines = changed(line, [(0, 612), (900, -88)]) + changed(line, [(7, 1)])
+            with self.subTest(setup):
+                self.assertEqual(ldvbi.nearest(lines, *setup), (0x82CFFF, start, 701, 2 * cell * column + 701,
+                                                                2 * half * column + 701))
+
+    def test_a_worn_line(self):
+        """The second cell is a zero: high, then low from this column on. Five of its low columns are high, as in the
+        row that has a one there."""
+        for setup, cell, low in ((NTSC, 29, 192), (PAL, 35, 243)):
+            column = setup[2] - setup[1]
+            line = line_with(0x88FFFF, setup, [(low + 4, low + 8, True)])
+            with self.subTest(setup):
+                self.assertEqual(ldvbi.read_line(line, *setup).word, 0)
+                near = ldvbi.nearest(line, *setup)
+                self.assertEqual((near.word, near.distance, near.rival), (0x88FFFF, 5 * column, (cell - 5) * column))
+
+    def test_blank_lines(self):
+        """The row of none is nearest, and then one of the words that are high least."""
+        for setup, _, _, fewest, _ in SIZES:
+            column = setup[2] - setup[1]
+            with self.subTest(setup):
+                self.assertEqual(ldvbi.nearest(2 * line_with(0, setup), *setup), (None, 0, 0, 2 * fewest * column, 0))
+
+    def test_refusals(self):
+        line = line_with(0xF12345, NTSC)
+        rows = [
+            ((b"", 3, 2, 2), "system is neither NTSC nor PAL"),
+            ((b"", "NTSC", 2, 2), "black is not below white"),
+            ((b"", "NTSC", 1, 65536), "white is not from 0 to 65535"),
+            ((b"", "NTSC", 1, 2), "1 to 28 lines have 1820 bytes each, and these are 0"),
+            ((line[1:], "NTSC", 1, 2), "1 to 28 lines have 1820 bytes each, and these are 1819"),
+            ((line, "PAL", 1, 2), "1 to 28 lines have 2270 bytes each, and these are 1820"),
+            ((29 * line, "NTSC", 1, 2), "1 to 28 lines have 1820 bytes each, and these are 52780"),
+            (([1, 2], "NTSC", 1, 2), "samples are not bytes, but of the type list"),
+        ]
+        for words, text in rows:
+            with self.subTest(text), self.assertRaises(ValueError) as caught:
+                ldvbi.nearest(*words)
+            self.assertEqual(str(caught.exception), text)
+
+
+SHOWN = ldvbi.Cause.word
+BLANK = (ldvbi.Cause.blank, 0, 0, 0)
+
+
+class Recovered(unittest.TestCase):
+    def setUp(self):
+        folder = tempfile.TemporaryDirectory()
+        self.addCleanup(folder.cleanup)
+        self.path = os.path.join(folder.name, "side.tbc")
+        # With 11 columns turned over a word is ahead by 6 or 7, as a code of its line has to be, with 12 by 4 or 5.
+        # With 13 it is ahead by 2 or 3, but lines 17 and 18 together by 30 and more: each has the other's worn cell.
+        self.fields = {setup: [
+            [self.worn(0x8DC0A1, setup, 5, 11), 0xF12345, 0],
+            [0, self.worn(0xF12345, setup, 9, 13), self.worn(0xF12345, setup, 13, 13)],
+            [self.worn(0x8DC0A1, setup, 5, 12), 0, self.worn(0xF54321, setup, 13, 11)]] for setup in (NTSC, PAL)}
+        self.wanted = [
+            ((SHOWN, 3, 0, 0x8DC0A1), (SHOWN, 1, 0, 0xF12345), BLANK),
+            (BLANK, (SHOWN, 3, 0, 0xF12345), (SHOWN, 3, 0, 0xF12345)),
+            (None, BLANK, (SHOWN, 3, 0, 0xF54321))]
+
+    @staticmethod
+    def worn(word, setup, cell, columns):
+        return worn_line(word, setup, cell, columns + (3 if setup == PAL else 0))
+
+    def check(self, found, setup, is_recovered):
+        """Fields that were read, recovered or not."""
+        self.assertEqual(len(found), 3)
+        for field, shown, rows in zip(found, self.wanted, self.fields[setup]):
+            for line, wanted, row in zip(field, shown, rows):
+                if wanted is None or not is_recovered and isinstance(row, bytes):
+                    self.assertIn(line.cause, (ldvbi.Cause.change, ldvbi.Cause.hold))
+                    self.assertEqual((line.pass_, line.word), (0, 0))
+                else:
+                    self.assertEqual(line, wanted)
+
+    def test_streams(self):
+        for setup, fields in self.fields.items():
+            write_stream(self.path, setup, fields, 1000)
+            for is_recovered in (False, True):
+                with self.subTest((setup, is_recovered)), ldvbi.Stream(self.path, *setup, is_recovered) as side:
+                    self.check(list(side), setup, is_recovered)
+                    self.check([side[0], side[1], side[-1]], setup, is_recovered)
+                    self.check(list(ldvbi.fields(self.path, *setup, recover=is_recovered)), setup, is_recovered)
+                    self.assertEqual(side.cut_bytes, 1000)
+            with ldvbi.Stream(self.path, *setup) as side:
+                self.check(list(side), setup, False)
+
+    def test_rows_and_fields(self):
+        for setup, fields in self.fields.items():
+            write_stream(self.path, setup, fields)
+            size, line = ldvbi.field_bytes(setup[0]), ldvbi.line_bytes(setup[0])
+            with open(self.path, "rb") as file:
+                data = [file.read(size) for _ in fields]
+            rows = [one[15 * line:18 * line] for one in data]
+            for is_recovered in (False, True):
+                with self.subTest((setup, is_recovered)):
+                    self.check([ldvbi.read_field(one, *setup, is_recovered) for one in data], setup, is_recovered)
+                    self.check([ldvbi.read_rows(one, *setup, is_recovered) for one in rows], setup, is_recovered)
+            self.check([ldvbi.read_field(one, *setup) for one in data], setup, False)
+            self.check([ldvbi.read_rows(one, *setup) for one in rows], setup, False)
+
+    def test_the_samples_of_rows(self):
+        write_stream(self.path, PAL, self.fields[PAL])
+        drawn = [b"".join(row if isinstance(row, bytes) else line_with(row, PAL) for row in field)
+                 for field in self.fields[PAL]]
+        with ldvbi.Stream(self.path, *PAL) as side:
+            self.assertEqual([side.rows(index) for index in (0, 1, 2, -1)], [*drawn, drawn[2]])
+            for index in (3, -4):
+                with self.assertRaises(IndexError):
+                    side.rows(index)
+        with self.assertRaisesRegex(ValueError, "^the stream is closed$"):
+            side.rows(0)
+
+    def test_refusals(self):
+        for call, words, text in (
+                (ldvbi.read_rows, (b"", 3, 2, 2), "system is neither NTSC nor PAL"),
+                (ldvbi.read_rows, (b"", "NTSC", 1, 2), "three lines have 5460 bytes, not 0"),
+                (ldvbi.read_field, (b"", "PAL", 1, 2), "a field has 710510 bytes, not 0"),
+                (ldvbi.Stream, (b"", "NTSC", 2, 2), "black is not below white")):
+            with self.subTest(text), self.assertRaises(ValueError) as caught:
+                call(*words, recover=True)
+            self.assertEqual(str(caught.exception), text)
+
+
+if __name__ == "__main__":
+    unittest.main()
