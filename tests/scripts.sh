@@ -1,7 +1,7 @@
 #!/bin/sh
 # Runs the scripts of scripts.txt on the built program, as many at a time as there are processors, and then prints what
 # they said, in the order of that table. A script has failed where its status isn't 0, where its last line isn't that as
-# many checks as the table has came out as wanted, or where it took SCRIPT_SECONDS (900 where the environment doesn't
+# many checks as the table has came out as wanted, or where it took SCRIPT_SECONDS (3600 where the environment doesn't
 # say). Nothing is run where the library isn't built, where this folder or one below it has a script that the table
 # doesn't name, or where a script that is to be run isn't there or has the name of another.
 #
@@ -55,7 +55,7 @@ side_by_side() {
         name=$(basename "$4" .sh)
         status=0
         timeout -k 30 "$1" sh "$2/$4" "$3" > "$name.said" 2>&1 < /dev/null || status=$?
-        echo $status > "$name.status"' sh "${SCRIPT_SECONDS:-900}" "$here" "$program" < paths)
+        echo $status > "$name.status"' sh "${SCRIPT_SECONDS:-3600}" "$here" "$program" < paths)
 }
 
 # is_as_wanted NAME: whether a script ended with status 0, and its last line is that all its checks were as wanted; some
