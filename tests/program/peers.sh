@@ -57,61 +57,6 @@ cat > /dev/null
 [ "$3" = 1 ] || RECOVERED_READS=${BOTH_READS:-}
 tr ' ' '\n' < "$DRAWN" | sed "s/\$/ 1/; 1s/.*/${RECOVERED_READS:-&}/"
 END
-# What peers/compare.py does with lines as they were drawn, or with the disc alone. No video is written for the stubs.
-cat > compare.py << 'END'
-import sys
-sys.path.insert(0, sys.argv.pop(1))
-import compare
-compare.readers.avi.write = lambda *words: None
-tables = [(what, rows[:2], rounds, is_of_thousand) for what, rows, rounds, is_of_thousand in compare.TABLES[:2]]
-if sys.argv.pop(1) == "lines":
-    compare.verify_disc = lambda program: True
-else:
-    tables = []
-compare.TABLES = tables
-compare.main()
-END
-
-# compares FAULT PART: runs that with this in the environment
-compares() {
-    status=0
-    bounded env PYTHONDONTWRITEBYTECODE=1 ${1:+"$1"} python3 compare.py "$top/peers" "$2" bin/ldvbi bin 1 \
-        < empty > out 2> err || status=$?
-}
-alike='the words of lines as they were drawn are not read alike'
-disc="ldverify finds an error on a drawn disc, or ldvbi doesn't read its words"
-while IFS='|' read -r part fault said; do
-    compares "$fault" "$part"
-    if [ "$said" ]; then
-        check "$part with $fault" [ "$status $(tail -n 1 err)" = "1 $said" ]
-    else
-        check "$part: nothing is wrong" [ "$status$(cat err)" = 0 ]
-    fi
-done << END
-lines||
-lines|MAME_READS=F12345|$alike
-lines|ZVBI_READS=none|$alike
-lines|ZVBI_READS=F12345|$alike
-lines|EDGES_READS=F12345|$alike
-lines|RECOVERED_READS=F12345 3|$alike
-lines|BOTH_READS=none|$alike
-lines|MISREAD="vbiData":[0|$alike
-disc||
-disc|MISREAD="vbiData":[0|$disc
-disc|LAST=99|$disc
-disc|VERIFIED=(ERROR)|$disc
-END
-
-# The counts: of three words of a row one is read wrong, and one isn't read
-compares 'RECOVERED_READS=F12345 3' lines
-grep '^| as drawn ' out > rows
-check 'a thousand words of a row, and all words of each pass' [ "$(cat rows)" = \
-    '| as drawn | 1000/0/0 | 667/333/0 | 1000/0/0 | 1000/0/0 | 1000/0/0 | 1000/0/0 |
-| as drawn | 3/0 | 0/0 | 0/0 | 0/1 | 0/0 | 0/0 |' ]
-compares EDGES_READS=none lines
-check 'words that are not read' grep -qF '| 1000/0/0 | 667/0/333 | 1000/0/0 |' out
-check 'all words of lines with dropouts, in five rounds' grep -qF '| 10/0/5 | 15/0/0 |' out
-
 # The script around it, with stubs for the compiler and for python3: FAILS is what the words of the one have that fails
 for tool in cc python3 chdman ldverify; do
     printf '#!/bin/sh\necho "%s $*"\ncase "%s $*" in *"${FAILS:-nothing fails}"*) exit 1 ;; esac\n' $tool $tool |
@@ -172,4 +117,59 @@ if [ -e "$built/libldvbi.so" ]; then
 else
     leave_out 2
 fi
+
+# What peers/compare.py does with lines as they were drawn, or with the disc alone. No video is written for the stubs.
+cat > compare.py << 'END'
+import sys
+sys.path.insert(0, sys.argv.pop(1))
+import compare
+compare.readers.avi.write = lambda *words: None
+tables = [(what, rows[:2], rounds, is_of_thousand) for what, rows, rounds, is_of_thousand in compare.TABLES[:2]]
+if sys.argv.pop(1) == "lines":
+    compare.verify_disc = lambda program: True
+else:
+    tables = []
+compare.TABLES = tables
+compare.main()
+END
+
+# compares FAULT PART: runs that with this in the environment
+compares() {
+    status=0
+    bounded env PYTHONDONTWRITEBYTECODE=1 ${1:+"$1"} python3 compare.py "$top/peers" "$2" bin/ldvbi bin 1 \
+        < empty > out 2> err || status=$?
+}
+alike='the words of lines as they were drawn are not read alike'
+disc="ldverify finds an error on a drawn disc, or ldvbi doesn't read its words"
+while IFS='|' read -r part fault said; do
+    compares "$fault" "$part"
+    if [ "$said" ]; then
+        check "$part with $fault" [ "$status $(tail -n 1 err)" = "1 $said" ]
+    else
+        check "$part: nothing is wrong" [ "$status$(cat err)" = 0 ]
+    fi
+done << END
+lines||
+lines|MAME_READS=F12345|$alike
+lines|ZVBI_READS=none|$alike
+lines|ZVBI_READS=F12345|$alike
+lines|EDGES_READS=F12345|$alike
+lines|RECOVERED_READS=F12345 3|$alike
+lines|BOTH_READS=none|$alike
+lines|MISREAD="vbiData":[0|$alike
+disc||
+disc|MISREAD="vbiData":[0|$disc
+disc|LAST=99|$disc
+disc|VERIFIED=(ERROR)|$disc
+END
+
+# The counts: of three words of a row one is read wrong, and one isn't read
+compares 'RECOVERED_READS=F12345 3' lines
+grep '^| as drawn ' out > rows
+check 'a thousand words of a row, and all words of each pass' [ "$(cat rows)" = \
+    '| as drawn | 1000/0/0 | 667/333/0 | 1000/0/0 | 1000/0/0 | 1000/0/0 | 1000/0/0 |
+| as drawn | 3/0 | 0/0 | 0/0 | 0/1 | 0/0 | 0/0 |' ]
+compares EDGES_READS=none lines
+check 'words that are not read' grep -qF '| 1000/0/0 | 667/0/333 | 1000/0/0 |' out
+check 'all words of lines with dropouts, in five rounds' grep -qF '| 10/0/5 | 15/0/0 |' out
 finish
