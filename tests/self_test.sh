@@ -91,6 +91,10 @@ docs|docs/PROMISES.md|s/`StopsAtLimit`/`StopsAtLimits`/
 docs|docs/PROMISES.md|s/the drawing came (`came`)/the drawing came (`ended`)/
 docs|docs/DEFINITIONS.md|s/no level is high/no level is low/
 docs|docs/DEFINITIONS.md|s/`decimal`, //
+docs|docs/DEFINITIONS.md|s/half_min Pal = 14/half_min Pal = 15/
+docs|docs/DEFINITIONS.md|s/from specs: counts/from specs: count/
+docs|docs/PROMISES.md|s/25 in 64 lines/25 in 65 lines/
+docs|crates/vbi_side/src/answers.rt|s/ensures answers { AreAnswers/ensures answers { AreMarks/
 docs|docs/DECISIONS.md|s/`Progress::add_row`/`Progress::added_row`/
 docs|CONTRIBUTING.md|s/Geometry.antt/Geometries.antt/
 docs|CONTRIBUTING.md|s/, `summary.rt`//
