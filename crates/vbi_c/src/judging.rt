@@ -107,12 +107,12 @@ fn see_all(judging: &Judging, readings: &[LdvbiFieldReadings], seen: &mut [Sight
 }
 
 /// The pace that is asked for.
-fn pace_for(asked: Asked, seen: &[Sightings]) -> Pace
-    ensures { IsAskedPace asked seen.now result }
+fn pace_for(judging: &Judging, seen: &[Sightings]) -> Pace
+    ensures { IsAskedPace judging.now seen.now result }
 {
-    match asked {
+    match judging.asked {
         Asked::Given(pace) => pace,
-        Asked::Found => found_pace(seen),
+        Asked::Found => found_pace(judging.system, judging.counted, seen),
     }
 }
 
@@ -132,7 +132,7 @@ pub extern "C" fn ldvbi_judge(
     ensures sees { IfOk (judging_of system counted pace (length readings.now) (length seen.old) (length numbers.old))
         (λ judging. seen.new ≡ map (seen_in judging) readings.now) }
     ensures judges { IfOk (judging_of system counted pace (length readings.now) (length seen.old) (length numbers.old))
-        (λ judging. (pace : paces.Pace) × AreJudged judging.asked seen.new numbers.new pace) }
+        (λ judging. (pace : paces.Pace) × AreJudged judging readings.now seen.new numbers.new pace) }
     ensures unwritten { result ≢ 0 → (seen.new ≡ seen.old) × (numbers.new ≡ numbers.old) }
 {
     match judging_of(
@@ -145,7 +145,7 @@ pub extern "C" fn ldvbi_judge(
     ) {
         Ok(judging) => {
             see_all(&judging, readings, seen);
-            judge(seen, pace_for(judging.asked, seen), numbers);
+            judge(seen, pace_for(&judging, seen), numbers);
             DONE
         }
         Err(refusal) => refusal.status(),
