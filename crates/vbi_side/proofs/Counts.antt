@@ -9,7 +9,7 @@ use Rattle.vbi_side.specs.declared.sighting.Sightings.{Sightings}
 use Rattle.vbi_side.specs.declared.pace.Pace.{Pace}
 use Rattle.vbi_side.specs.declared.pace.Pace.TheVariants.{Video, Film}
 use Rattle.vbi_side.specs.Beliefs.{Believed}
-use Rattle.vbi_side.specs.Found.{IsCount, IsMore, IsFound}
+use Rattle.vbi_side.specs.Found.{IsCount, pace_by, IsMore, IsFound}
 
 -- one more
 pub one_more : (pace : Pace) (fields : List Sightings) (i count : ℕ) (found : Option ℕ)
@@ -47,9 +47,8 @@ one_count pace fields (suc n) a b (inr (none, counted)) (inr (nones, counts)) =
 one_more_believed : (fields : List Sightings) (one other : Pace) → IsMore fields one → IsMore fields other → one ≡ other
 one_more_believed fields one other (video, film, videos, films, is) (v, f, vs, fs, are) =
     is
-    ∙ ap (λ n. if nat_lt (11 * n) (10 * film) then Film else Video)
-    (one_count Video fields (length fields) video v videos vs)
-    ∙ ap (λ n. if nat_lt (11 * v) (10 * n) then Film else Video) (one_count Film fields (length fields) film f films fs)
+    ∙ ap (λ n. pace_by n film) (one_count Video fields (length fields) video v videos vs)
+    ∙ ap (pace_by v) (one_count Film fields (length fields) film f films fs)
     ∙ sym are
 
 pub one_found : (system : System) (counted : Counted) (fields : List Sightings) (one other : Pace)

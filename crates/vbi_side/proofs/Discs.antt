@@ -3,10 +3,12 @@ use Rattle.std.proofs.Common.{◌≡◌, ◌≢◌, ℕ, ◌+◌, ◌*◌, ◌/�
 use Rattle.std.proofs.Common.{false, refl, arith, ap, sym, ◌∙◌, inl, inr}
 use Rattle.std.specs.Prelude.{Option, Some, None, ◌⊎◌, ◌==◌, ◌&&◌, nat_le, unwrap_or}
 use Rattle.std.proofs.Math.Dec.{eqb}
-use Rattle.std.proofs.lemmas.Bool.{le-leb}
+use Rattle.std.proofs.lemmas.Bool.{eqb-true, le-leb}
 use Rattle.std.proofs.lemmas.Bool.Decides.{eqb_tells}
 use Rattle.vbi_side.specs.declared.pace.Pace.TheVariants.{Video, Film}
+use Rattle.vbi_side.specs.Paces.{fits}
 use Rattle.vbi_side.specs.Truth.{RunsOn, IsRegular, video_disc, film_disc}
+use Rattle.vbi_side.specs.Whole.{TakesTurns}
 
 some_is : (a b : ℕ) → Some a ≡ Some b → a ≡ b
 some_is a b e = ap (λ (o : Option ℕ). unwrap_or o 0) e
@@ -116,3 +118,29 @@ film_regular i j m k l n less more near far here there on back = film_at i n (el
   | inl (zero, e) ↦ inl (omega (arith, less, zero, e, on), omega (arith, e, on))
   | inr (two, e) ↦ inr (omega (arith, less, two, e, on), omega (arith, e, on))
 ])
+
+-- of the two numbers of five fields each is the only one that lies two fields a picture from the other
+other_of : (i m j l : ℕ) → ((i % 5 ≡ 0) × (2 * i ≡ 5 * m)) ⊎ ((i % 5 ≡ 2) × (2 * i + 1 ≡ 5 * m))
+    → film_disc j ≡ Some l → j ≢ i → fits Video i m j l ≡ true → ((i % 5 ≡ 0) × (j ≡ i + 2)) ⊎ ((i % 5 ≡ 2) × (j + 2 ≡ i))
+other_of i m j l here there apart e = go here (film_has j l there)
+  where
+    go : ((i % 5 ≡ 0) × (2 * i ≡ 5 * m)) ⊎ ((i % 5 ≡ 2) × (2 * i + 1 ≡ 5 * m))
+        → ((j % 5 ≡ 0) × (2 * j ≡ 5 * l)) ⊎ ((j % 5 ≡ 2) × (2 * j + 1 ≡ 5 * l))
+        → ((i % 5 ≡ 0) × (j ≡ i + 2)) ⊎ ((i % 5 ≡ 2) × (j + 2 ≡ i))
+    go (inl (zero, a)) (inl (nil, b)) = absurd (apart (omega (arith, a, b, eqb-true (j + 2 * m) (i + 2 * l) e)))
+    go (inl (zero, a)) (inr (two, b)) = inl (zero, omega (arith, a, b, eqb-true (j + 2 * m) (i + 2 * l) e))
+    go (inr (two, a)) (inl (zero, b)) = inr (two, omega (arith, a, b, eqb-true (j + 2 * m) (i + 2 * l) e))
+    go (inr (two, a)) (inr (both, b)) = absurd (apart (omega (arith, a, b, eqb-true (j + 2 * m) (i + 2 * l) e)))
+
+pub film_turns : TakesTurns film_disc
+film_turns i m j k l n near others first second here one two e f = go (other_of i m j l at one first e) (other_of i m k n at two second f)
+  where
+    at : ((i % 5 ≡ 0) × (2 * i ≡ 5 * m)) ⊎ ((i % 5 ≡ 2) × (2 * i + 1 ≡ 5 * m))
+    at = film_has i m here
+
+    go : ((i % 5 ≡ 0) × (j ≡ i + 2)) ⊎ ((i % 5 ≡ 2) × (j + 2 ≡ i))
+        → ((i % 5 ≡ 0) × (k ≡ i + 2)) ⊎ ((i % 5 ≡ 2) × (k + 2 ≡ i)) → j ≡ k
+    go (inl (zero, a)) (inl (nil, b)) = omega (arith, a, b)
+    go (inl (zero, a)) (inr (two, b)) = absurd (omega (arith, zero, two))
+    go (inr (two, a)) (inl (zero, b)) = absurd (omega (arith, zero, two))
+    go (inr (two, a)) (inr (both, b)) = omega (arith, a, b)

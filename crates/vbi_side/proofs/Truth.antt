@@ -67,11 +67,11 @@ one_field Film j k n e even = let p = film_fits j n k n e in omega (arith, p.0, 
 
 -- ---- a number is wrong, or that on the disc
 
-recorded_is : (o : Option ℕ) (n : ℕ) → is_recorded o n ≡ true → o ≡ Some n
+pub recorded_is : (o : Option ℕ) (n : ℕ) → is_recorded o n ≡ true → o ≡ Some n
 recorded_is None n e = absurd (let clash : false ≡ true → ⊥ = λ h. cc in clash e)
 recorded_is (Some m) n e = ap Some (sym (eqb-true n m e))
 
-wrong_or_right : (recorded : ℕ → Option ℕ) (j m : ℕ)
+pub wrong_or_right : (recorded : ℕ → Option ℕ) (j m : ℕ)
     → (not (is_recorded (recorded j) m) ≡ true) ⊎ (is_recorded (recorded j) m ≡ true)
 wrong_or_right recorded j m = go (is_recorded (recorded j) m)
   where
@@ -95,7 +95,7 @@ wrong_fits pace recorded i a n runs has wrong j m near e = go (wrong_or_right re
         (recorded_is (recorded j) m is))))
 
 -- of the right ones, one field's at most is of one still with a wrong number
-wrong_still : (pace : Pace) (recorded : ℕ → Option ℕ) (fields : List Sightings) (i n : ℕ) → RunsOn pace recorded i
+pub wrong_still : (pace : Pace) (recorded : ℕ → Option ℕ) (fields : List Sightings) (i n : ℕ) → RunsOn pace recorded i
     → window_weight (stays i n) fields i ≤ wrong_weight recorded fields i + field_most
 wrong_still pace recorded fields i n runs =
     omega (

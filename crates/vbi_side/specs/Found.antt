@@ -17,10 +17,15 @@ IsCount pace fields (suc n) count =
     ((m fewer : ℕ) × Believed pace fields n m × IsCount pace fields n fewer × (count ≡ suc fewer))
     ⊎ (((m : ℕ) → Believed pace fields n m → ⊥) × IsCount pace fields n count)
 
--- the pace is that of film where over a tenth more numbers are believed by it, else that of video
+-- the pace by which so many numbers are believed, at that of video and at that of film: film where over a tenth more
+-- are believed by it, else video
+abbrev pub pace_by : ℕ → ℕ → Pace
+pace_by video film = if nat_lt (11 * video) (10 * film) then Film else Video
+
+-- the pace is the one by which more numbers are believed
 abbrev pub IsMore : List Sightings → Pace → Type 0
 IsMore fields pace = (video film : ℕ) × IsCount Video fields (length fields) video
-    × IsCount Film fields (length fields) film × (pace ≡ (if nat_lt (11 * video) (10 * film) then Film else Video))
+    × IsCount Film fields (length fields) film × (pace ≡ pace_by video film)
 
 -- the pace that is found: only the pictures of NTSC may be film
 abbrev pub IsFound : System → Counted → List Sightings → Pace → Type 0

@@ -9,4 +9,5 @@ pub mod Numbers
 pub mod Found
 pub mod Truth
 pub mod Misread
+pub mod Whole
 pub mod Worked

@@ -1,6 +1,6 @@
 -- Worked fields, by the words of their lines. Worked sides: one of video with wrong readings of weight 9 around field 4,
 -- and one with wrong readings of weight 10.
-use Rattle.std.specs.Prelude.{ℕ, ◌==◌, if◌then◌else◌, List, [], ◌∷◌, Some, None}
+use Rattle.std.specs.Prelude.{ℕ, zero, suc, ◌-◌, ◌==◌, if◌then◌else◌, List, [], ◌∷◌, ◌++◌, replicate, Some, None}
 use Rattle.vbi_words.specs.declared.system.System.{System}
 use Rattle.vbi_side.specs.declared.lines.Counted.{Counted}
 use Rattle.vbi_side.specs.declared.lines.Shown.{Shown}
@@ -31,6 +31,15 @@ abbrev pub wrong_by_10 : List Sightings
 wrong_by_10 =
     field_of 0 2 100 2 ∷ blank ∷ field_of 1 2 101 2 ∷ blank ∷ field_of 0 0 102 2 ∷ blank ∷ field_of 3 2 103 2 ∷ blank
     ∷ field_of 4 2 104 2 ∷ blank ∷ field_of 5 2 0 0 ∷ []
+
+-- a number in field 0, and in the field that is so many fields behind it the one that is 10 greater
+abbrev pub apart_by : ℕ → List Sightings
+apart_by distance = field_of 0 2 0 0 ∷ replicate (distance - 1) blank ++ field_of 10 2 0 0 ∷ []
+
+-- number 5 in so many even fields, as of a player that stands still
+abbrev pub still_of : ℕ → List Sightings
+still_of zero = []
+still_of (suc pictures) = field_of 5 2 0 0 ∷ blank ∷ still_of pictures
 
 -- the same beside a code that stands there in place of a number
 abbrev pub instead_of : ℕ → ℕ → ℕ → ℕ → Sightings

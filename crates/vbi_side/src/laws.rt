@@ -1,7 +1,7 @@
 //! Laws of the definitions in `specs/`. A function here does nothing: its contract is a law, which holds of every
 //! capture.
 
-ghost use Rattle.std.specs.Prelude.{◌≡◌, ◌≢◌, ◌↔◌, ◌⊎◌, ℕ, ◌+◌, ◌<◌, ◌≤◌, true, List, [], ◌∷◌, map};
+ghost use Rattle.std.specs.Prelude.{◌≡◌, ◌≢◌, ◌↔◌, ◌⊎◌, ℕ, ◌+◌, ◌<◌, ◌≤◌, true, false, List, [], ◌∷◌, map};
 ghost use Rattle.std.specs.Prelude.{Option, Some, slice_get};
 ghost use Rattle.vbi_words.specs.declared.system.System.TheVariants.{Ntsc, Pal};
 ghost use Rattle.vbi_side.specs.declared.lines.Counted.TheVariants.{Pictures, Times};
@@ -14,15 +14,17 @@ ghost use Rattle.vbi_side.specs.declared.pace.Pace.{Pace};
 ghost use Rattle.vbi_side.specs.declared.pace.Pace.TheVariants.{Video, Film};
 ghost use Rattle.vbi_side.specs.Sightings.{Shows};
 ghost use Rattle.vbi_side.specs.Lines.{number_from, code_in, sightings_of};
-ghost use Rattle.vbi_side.specs.Paces.{fits, stays};
+ghost use Rattle.vbi_side.specs.Paces.{fits, stays, nearly};
 ghost use Rattle.vbi_side.specs.Beliefs.{enough, support_of, Believed};
-ghost use Rattle.vbi_side.specs.Due.{Due};
-ghost use Rattle.vbi_side.specs.Found.{IsFound};
+ghost use Rattle.vbi_side.specs.Due.{slack_of, Due};
+ghost use Rattle.vbi_side.specs.Found.{pace_by, IsFound};
 ghost use Rattle.vbi_side.specs.Numbers.{IsAnswer, IsKnown};
 ghost use Rattle.vbi_side.specs.Truth.{IsNear, AreEven, RunsOn, IsRegular, IsSound, IsSoundStill, wrong_weight};
 ghost use Rattle.vbi_side.specs.Truth.{video_disc, film_disc};
 ghost use Rattle.vbi_side.specs.Misread.{Lines, Words, numbers_in, misread_weight, AreTold, IsRead};
-ghost use Rattle.vbi_side.specs.Worked.{wrong_by_9, wrong_by_10, field_of, instead_of, shown_in, told_by};
+ghost use Rattle.vbi_side.specs.Whole.{IsWhole, TakesTurns};
+ghost use Rattle.vbi_side.specs.Worked.{wrong_by_9, wrong_by_10, apart_by, still_of};
+ghost use Rattle.vbi_side.specs.Worked.{field_of, instead_of, shown_in, told_by};
 
 /// Where the disc ran on around a field that has a number and what was misread there weighs less than enough, a
 /// believed number is that number.
@@ -76,6 +78,7 @@ pub fn discs_run()
     ensures video_regular { (i : ℕ) → IsRegular Video video_disc i }
     ensures film { (i : ℕ) → RunsOn Film film_disc i }
     ensures film_regular { (i : ℕ) → IsRegular Film film_disc i }
+    ensures film_turns { TakesTurns film_disc }
 {}
 
 /// The premise of `sound` can be met, and it is sharp. With wrong readings of weight 9 around a field its number is
@@ -110,6 +113,24 @@ pub fn one_answer()
 pub fn known_numbers()
     ensures { (pace : Pace) (fields : List Sightings) (i n : ℕ) (answer : Number) → IsAnswer pace fields i answer
         → IsKnown answer n ↔ (Believed pace fields i n ⊎ Due pace fields i n) }
+{}
+
+/// The pace of a disc that runs on and is read whole is found, where enough supports each number at that pace; of film,
+/// where its pictures take turns and one number is shown. In a few fields too little supports a number: six fields of
+/// video with a number on each are taken for film.
+pub fn whole_found()
+    ensures video { (system : System) (counted : Counted) (recorded : ℕ → Option ℕ) (fields : List Sightings)
+        (pace : Pace) → IsWhole Video recorded fields → IsFound system counted fields pace → pace ≡ Video }
+    ensures film { (recorded : ℕ → Option ℕ) (fields : List Sightings) (i n : ℕ) (pace : Pace)
+        → IsWhole Film recorded fields → TakesTurns recorded → Shows (slice_get fields i) n
+        → IsFound Ntsc Pictures fields pace → pace ≡ Film }
+{}
+
+/// Where film is found, by the numbers that are believed at either pace.
+pub fn worked_paces()
+    ensures equal { map (pace_by 10) (0 ∷ 10 ∷ 11 ∷ 12 ∷ []) ≡ Video ∷ Video ∷ Video ∷ Film ∷ [] }
+    ensures many { map (pace_by 1000) (1000 ∷ 1100 ∷ 1101 ∷ 2000 ∷ []) ≡ Video ∷ Video ∷ Film ∷ Film ∷ [] }
+    ensures none { map (pace_by 0) (0 ∷ 1 ∷ []) ≡ Video ∷ Film ∷ [] }
 {}
 
 /// Of a capture one pace is found.
@@ -155,15 +176,19 @@ pub fn misread_words()
 {}
 
 /// The numbers that fields show by the words of their lines 16, 17 and 18, written down by hand; 0 stands for no word.
-pub fn worked_sightings()
+pub fn worked_numbers()
     ensures cav { told_by Ntsc Pictures 0 0xF12345 0xF12345 ∷ told_by Pal Pictures 0 0xF00001 0
         ∷ told_by Pal Pictures 0x8AE712 0 0xFF9999 ∷ told_by Ntsc Pictures 0xF12345 0x82CFFF 0
         ∷ told_by Pal Pictures 0 0xF12345 0x835DDD ∷ told_by Ntsc Pictures 0 0x88FFFF 0x88FFFF
-        ∷ told_by Pal Pictures 0 0 0x80EEEE ∷ told_by Ntsc Pictures 0x8AE712 0xF0DD59 0 ∷ []
+        ∷ told_by Pal Pictures 0 0 0x80EEEE ∷ told_by Ntsc Pictures 0x8AE712 0xF0DD59 0
+        ∷ told_by Ntsc Pictures 0 0xF12345 0x800DDD ∷ told_by Pal Pictures 0 0xF00000 0x801DDD
+        ∷ told_by Ntsc Pictures 0 0x8AE712 0xF12345 ∷ told_by Pal Pictures 0x8AE712 0x8AE712 0xF12345 ∷ []
         ≡ field_of 12345 2 12345 2 ∷ field_of 1 2 0 0
         ∷ field_of 0 0 79999 2 ∷ field_of 0 0 0 0
         ∷ instead_of 12345 2 0 0 ∷ instead_of 0 0 0 0
-        ∷ instead_of 0 0 0 0 ∷ instead_of 0 0 0 0 ∷ [] }
+        ∷ instead_of 0 0 0 0 ∷ instead_of 0 0 0 0
+        ∷ instead_of 12345 2 0 0 ∷ instead_of 0 2 0 0
+        ∷ field_of 0 0 12345 2 ∷ field_of 0 0 12345 2 ∷ [] }
     ensures clv_ntsc { map (told_by Ntsc Times 0x8AE712 0xF0DD59) (0xF0DD59 ∷ 0 ∷ 0x835DDD ∷ 0xF12345 ∷ [])
         ≡ field_of 106422 2 106422 2 ∷ field_of 106422 2 0 0 ∷ instead_of 106422 2 0 0 ∷ instead_of 106422 2 0 0 ∷ [] }
     ensures ntsc_counts { map (λ line_16. told_by Ntsc Times line_16 0xF1DD23 0)
@@ -180,6 +205,30 @@ pub fn worked_sightings()
         ∷ field_of 0 0 0 0 ∷ [] }
     ensures passes { sightings_of Ntsc Pictures (shown_in 2 0) (shown_in 2 0xF12345) (shown_in 1 0xF12345)
         ∷ sightings_of Ntsc Times (shown_in 1 0x8AE712) (shown_in 2 0xF0DD59) (shown_in 1 0xF0DD59)
-        ∷ sightings_of Ntsc Times (shown_in 2 0x8AE712) (shown_in 1 0xF0DD59) (shown_in 1 0xF0DD59) ∷ []
-        ≡ field_of 12345 1 12345 2 ∷ field_of 106422 1 106422 2 ∷ field_of 106422 1 106422 1 ∷ [] }
+        ∷ sightings_of Ntsc Times (shown_in 2 0x8AE712) (shown_in 1 0xF0DD59) (shown_in 1 0xF0DD59)
+        ∷ sightings_of Pal Pictures (shown_in 1 0) (shown_in 3 0xF12345) (shown_in 4 0xF12345)
+        ∷ sightings_of Pal Times (shown_in 3 0x8AE712) (shown_in 3 0xF0DD59) (shown_in 2 0xF0DD59) ∷ []
+        ≡ field_of 12345 1 12345 2 ∷ field_of 106422 1 106422 2 ∷ field_of 106422 1 106422 1
+        ∷ field_of 12345 1 12345 2 ∷ field_of 88687 1 88687 1 ∷ [] }
+{}
+
+/// When two numbers fit, or are of one still, at each edge: number 100 in field 10, and the fields in which another one
+/// fits it. Numbers support each other over 24 fields, on either side, and a still loses the weight of one field.
+pub fn worked_fits()
+    ensures video { map (λ j. fits Video 10 100 j 101) (11 ∷ 12 ∷ 13 ∷ []) ≡ false ∷ true ∷ false ∷ [] }
+    ensures video_back { map (λ j. fits Video 10 100 j 96) (1 ∷ 2 ∷ 3 ∷ []) ≡ false ∷ true ∷ false ∷ [] }
+    ensures film { map (λ j. fits Film 10 100 j 101) (11 ∷ 12 ∷ 13 ∷ 14 ∷ []) ≡ false ∷ true ∷ true ∷ false ∷ [] }
+    ensures film_two { map (λ j. fits Film 10 100 j 102) (13 ∷ 14 ∷ 15 ∷ 16 ∷ 17 ∷ [])
+        ≡ false ∷ true ∷ true ∷ true ∷ false ∷ [] }
+    ensures film_back { map (λ j. fits Film 10 100 j 97) (1 ∷ 2 ∷ 3 ∷ 4 ∷ []) ≡ false ∷ true ∷ true ∷ false ∷ [] }
+    ensures still { map (λ j. stays 10 100 j 100) (8 ∷ 9 ∷ 10 ∷ 11 ∷ 34 ∷ [])
+        ≡ true ∷ false ∷ true ∷ false ∷ true ∷ [] }
+    ensures still_of_one { map (stays 10 100 12) (99 ∷ 100 ∷ 101 ∷ []) ≡ false ∷ true ∷ false ∷ [] }
+    ensures reach { (support_of Film (apart_by 24) 0 0 ≡ 4) × (support_of Film (apart_by 24) 24 10 ≡ 4)
+        × (support_of Film (apart_by 25) 0 0 ≡ 2) × (support_of Film (apart_by 25) 25 10 ≡ 2) }
+    ensures stood { map (λ pictures. support_of Video (still_of pictures) 0 5) (2 ∷ 3 ∷ 6 ∷ 7 ∷ [])
+        ≡ 2 ∷ 2 ∷ 8 ∷ 10 ∷ [] }
+    ensures close { map (slack_of 0) (2 ∷ 8 ∷ 9 ∷ 48 ∷ []) ≡ 1 ∷ 1 ∷ 0 ∷ 0 ∷ [] }
+    ensures nearly { map (λ j. nearly Video 1 10 100 j 101) (10 ∷ 11 ∷ 12 ∷ 13 ∷ 14 ∷ [])
+        ≡ false ∷ true ∷ true ∷ true ∷ false ∷ [] }
 {}

@@ -1,6 +1,6 @@
 use Rattle.std.proofs.Common.{refl}
 use Rattle.vbi_words.specs.CodeTable.{code_of}
-use Rattle.vbi_side.proofs.laws.worked_sightings.Goals as goal
+use Rattle.vbi_side.proofs.laws.worked_numbers.Goals as goal
 
 pub returns : goal.returns
 unfolding code_of
