@@ -86,6 +86,11 @@ IsPaceOf system counted Found seen pace = IsFound system counted seen pace
 abbrev pub IsAskedPace : Judging → List Sightings → paces.Pace → Type 0
 IsAskedPace judging = IsPaceOf judging.system judging.counted judging.asked
 
+-- a pace as C sees it
+abbrev pub pace_for_c : paces.Pace → ℕ
+pace_for_c Video = 1
+pace_for_c Film = 2
+
 -- what a field's three lines show
 abbrev pub lines_of : List LdvbiReading → Lines
 lines_of (line_16 ∷ line_17 ∷ line_18 ∷ []) =

@@ -28,7 +28,7 @@ pub use code::{LdvbiCode, ldvbi_classify};
 pub use drawing::ldvbi_draw_line;
 pub use fields::{LdvbiFieldReadings, ldvbi_read_field, ldvbi_read_fields, ldvbi_read_rows};
 pub use format::ldvbi_format;
-pub use judging::{ldvbi_first_of, ldvbi_judge};
+pub use judging::{ldvbi_find_pace, ldvbi_first_of, ldvbi_judge};
 pub use line::ldvbi_read_line;
 pub use nearest::{LdvbiNear, ldvbi_nearest};
 pub use reading::LdvbiReading;
