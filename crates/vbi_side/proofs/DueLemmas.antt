@@ -1,7 +1,7 @@
 -- What is due, once, and rightly.
-use Rattle.std.proofs.Common.{◌≡◌, ◌≢◌, ℕ, ◌+◌, ◌*◌, ◌-◌, ◌%◌, ◌<◌, ◌≤◌, true, false, List, arith, subst}
+use Rattle.std.proofs.Common.{◌≡◌, ◌≢◌, ℕ, ◌+◌, ◌*◌, ◌-◌, ◌%◌, ◌<◌, ◌≤◌, true, false, List, arith, sym, ◌∙◌, subst}
 use Rattle.std.proofs.Common.{inl, inr}
-use Rattle.std.specs.Prelude.{Option, Some, ◌⊎◌, ◌↔◌, nat_le, ◌==◌}
+use Rattle.std.specs.Prelude.{Option, Some, slice_get, ◌⊎◌, ◌↔◌, nat_le, ◌==◌}
 use Rattle.std.proofs.lemmas.Bool.{leb-true, le-leb}
 use Rattle.std.proofs.lemmas.Bool.Decides.{eqb_tells, leb_tells}
 use Rattle.std.proofs.Math.Dec.{eqb}
@@ -10,11 +10,11 @@ use Rattle.vbi_side.specs.declared.pace.Pace.{Pace}
 use Rattle.vbi_side.specs.declared.pace.Pace.TheVariants.{Video, Film}
 use Rattle.vbi_side.specs.Paces.{Count, nearly}
 use Rattle.vbi_side.specs.Beliefs.{Believed}
-use Rattle.vbi_side.specs.Due.{slack_of, Leaves, Due}
+use Rattle.vbi_side.specs.Due.{slack_of, Leaves, IsLeft, Due}
 use Rattle.vbi_side.specs.Nearest.{are_whole}
 use Rattle.vbi_side.specs.Truth.{IsNear, IsRegular}
 use Rattle.vbi_side.proofs.Ahead.{one_believed}
-use Rattle.vbi_side.proofs.Truth.{both, and_so, film_fits}
+use Rattle.vbi_side.proofs.Truth.{both, and_so, film_fits, only_near}
 
 -- ---- how far a number may be off
 
@@ -167,3 +167,53 @@ due_sound pace recorded fields i n regular right due =
     let far : IsNear i k = (omega (arith, leaves.behind), leaves.far) in
     regular j m k l n leaves.before leaves.behind near far (right j m near leaves.first)
     (right k l far leaves.last) leaves.on leaves.back
+
+-- ---- the same capture around a field
+
+same_field : (fields others : List Sightings) (i : ℕ) (field : Sightings) → slice_get fields i ≡ slice_get others i
+    → slice_get others i ≡ Some field → slice_get fields i ≡ Some field
+same_field fields others i field same at = same ∙ at
+
+-- the same is due where the captures agree on the fields within twice the reach
+pub due_near : (pace : Pace) (fields others : List Sightings) (i n : ℕ)
+    → ((j : ℕ) → i ≤ j + 48 → j ≤ i + 48 → slice_get fields j ≡ slice_get others j)
+    → Due pace fields i n → Due pace others i n
+due_near pace fields others i n agree due = go due.left
+  where
+    here : slice_get fields i ≡ slice_get others i
+    here = agree i (omega arith) (omega arith)
+
+    -- what is believed within reach
+    on : (j m : ℕ) → IsNear i j → Believed pace fields j m → Believed pace others j m
+    on j m near b = only_near pace fields others j m
+        (λ k by. agree k (omega (arith, near.0, by.0)) (omega (arith, near.1, by.1))) b
+
+    back : (j m : ℕ) → IsNear i j → Believed pace others j m → Believed pace fields j m
+    back j m near b = only_near pace others fields j m
+        (λ k by. sym (agree k (omega (arith, near.0, by.0)) (omega (arith, near.1, by.1)))) b
+
+    go : IsLeft (Believed pace fields) pace i n → Due pace others i n
+    go (j, m, k, l, leaves) = record {
+      unbelieved = λ x b. due.unbelieved x (back i x (omega arith, omega arith) b);
+      vacant = λ shows. due.vacant (shows.0, same_field fields others i shows.0 here shows.1, shows.2);
+      unread = λ shows. due.unread
+          (shows.0, same_field fields others i shows.0 here shows.1, shows.2, shows.3, shows.4);
+      left = (
+        j,
+        m,
+        k,
+        l,
+        record {
+          before = leaves.before;
+          near = leaves.near;
+          behind = leaves.behind;
+          far = leaves.far;
+          first = on j m (leaves.near, omega (arith, leaves.before)) leaves.first;
+          last = on k l (omega (arith, leaves.behind), leaves.far) leaves.last;
+          on = leaves.on;
+          back = leaves.back;
+          between = λ h x more less b. leaves.between h x more less
+              (back h x (omega (arith, more, leaves.near), omega (arith, less, leaves.far)) b);
+        },
+      );
+    }

@@ -147,11 +147,15 @@ pub fn never_alone()
         × ((fits pace i n j m ≡ true) ⊎ (stays i n j m ≡ true)) }
 {}
 
-/// Two captures that agree on the fields within reach of one believe the same of it.
+/// Two captures that agree on the fields within reach of one believe the same of it. Where they agree on those within
+/// twice that, the same is due in it. So a capture that goes on changes no more than its last 24 fields, and 48.
 pub fn only_near()
-    ensures { (pace : Pace) (fields others : List Sightings) (i n : ℕ)
+    ensures believed { (pace : Pace) (fields others : List Sightings) (i n : ℕ)
         → ((j : ℕ) → IsNear i j → slice_get fields j ≡ slice_get others j)
         → Believed pace fields i n → Believed pace others i n }
+    ensures due { (pace : Pace) (fields others : List Sightings) (i n : ℕ)
+        → ((j : ℕ) → i ≤ j + 48 → j ≤ i + 48 → slice_get fields j ≡ slice_get others j)
+        → Due pace fields i n → Due pace others i n }
 {}
 
 /// The number that a line shows is that of the words on it and on line 16: where it is another than what was recorded,
