@@ -4,7 +4,6 @@ ghost use Rattle.std.specs.Prelude.{◌≡◌, ◌≢◌, ◌<◌, ◌≤◌, le
 ghost use Rattle.vbi_side.specs.declared.pace.Pace as paces;
 ghost use Rattle.vbi_side.specs.Numbers.{IsFirst};
 ghost use Rattle.vbi_c.specs.Judging.{counted_of, asked_of, judging_of, shown_by, seen_in, IsAskedPace, AreJudged};
-ghost use Rattle.vbi_c.specs.Judging.{pace_for_c};
 ghost use Rattle.vbi_c.specs.Statuses.{status_of};
 
 use crate::fields::LdvbiFieldReadings;
@@ -25,7 +24,7 @@ enum Asked {
 
 /// What is to be judged, and how.
 #[derive(Clone, Copy)]
-struct Judging {
+pub(crate) struct Judging {
     system: System,
     counted: Counted,
     asked: Asked,
@@ -55,7 +54,7 @@ fn asked_of(number: u32) -> Option<Asked>
 }
 
 /// What these numbers ask for, or why they are refused: both arrays have to be as long as that of the readings.
-fn judging_of(
+pub(crate) fn judging_of(
     system: u32,
     counted: u32,
     pace: u32,
@@ -98,7 +97,7 @@ fn seen_in(judging: &Judging, readings: &LdvbiFieldReadings) -> Sightings
 }
 
 /// Puts what each field shows of its number into its place.
-fn see_all(judging: &Judging, readings: &[LdvbiFieldReadings], seen: &mut [Sightings])
+pub(crate) fn see_all(judging: &Judging, readings: &[LdvbiFieldReadings], seen: &mut [Sightings])
     requires { length seen.old ≡ length readings.now }
     ensures { seen.new ≡ map (seen_in judging.now) readings.now }
 {
@@ -108,57 +107,12 @@ fn see_all(judging: &Judging, readings: &[LdvbiFieldReadings], seen: &mut [Sight
 }
 
 /// The pace that is asked for.
-fn pace_for(judging: &Judging, seen: &[Sightings]) -> Pace
+pub(crate) fn pace_for(judging: &Judging, seen: &[Sightings]) -> Pace
     ensures { IsAskedPace judging.now seen.now result }
 {
     match judging.asked {
         Asked::Given(pace) => pace,
         Asked::Found => found_pace(judging.system, judging.counted, seen),
-    }
-}
-
-/// A pace as C sees it.
-fn pace_for_c(pace: Pace) -> u32
-    ensures { result ≡ pace_for_c pace }
-{
-    match pace {
-        Pace::Video => 1,
-        Pace::Film => 2,
-    }
-}
-
-/// The pace that `ldvbi_judge` takes where it is to find one, 1 or 2. What is read of each field goes to `seen`, which
-/// is as long as `readings`.
-#[unsafe(no_mangle)]
-pub extern "C" fn ldvbi_find_pace(
-    system: u32,
-    counted: u32,
-    readings: &[LdvbiFieldReadings],
-    seen: &mut [Sightings],
-    pace: &mut u32,
-) -> u32
-    ensures status { result ≡ status_of (judging_of system counted 3
-        (length readings.now) (length seen.old) (length readings.now)) }
-    ensures sees { IfOk (judging_of system counted 3 (length readings.now) (length seen.old) (length readings.now))
-        (λ judging. seen.new ≡ map (seen_in judging) readings.now) }
-    ensures finds { IfOk (judging_of system counted 3 (length readings.now) (length seen.old) (length readings.now))
-        (λ judging. (found : paces.Pace) × IsAskedPace judging seen.new found × (pace.new ≡ pace_for_c found)) }
-    ensures unwritten { result ≢ 0 → (seen.new ≡ seen.old) × (pace.new ≡ pace.old) }
-{
-    match judging_of(
-        system,
-        counted,
-        3,
-        readings.len(),
-        seen.len(),
-        readings.len(),
-    ) {
-        Ok(judging) => {
-            see_all(&judging, readings, seen);
-            *pace = pace_for_c(pace_for(&judging, seen));
-            DONE
-        }
-        Err(refusal) => refusal.status(),
     }
 }
 
