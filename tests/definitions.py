@@ -28,8 +28,9 @@ COUNTING = [
     ("crates/vbi_line/src/tries.rt", ("read_once", "write_once")),
     ("crates/vbi_line/src/line.rt", ("clear", "start_pass", "next_sample", "next_block")),
 ]
-BELIEF = [("crates/vbi_side/src/laws.rt", ("sound", "sound_still"))]
-FROM_WORDS = [("crates/vbi_side/src/lines.rt", ("sightings",))]
+# The judge's theorem, in numbers and in words
+BELIEF = [("crates/vbi_side/src/laws.rt", ("sound", "on_the_disc", "sound_still"))]
+FROM_WORDS = [("crates/vbi_side/src/lines.rt", ("sightings",)), ("crates/vbi_side/src/laws.rt", ("misread_words",))]
 # The sections of the page by their marks: what each is called, and the contracts that it is for
 SECTIONS = {
     "line": ("One line", [("crates/vbi_line/src/reading.rt", ("read_bytes_twice",))]),
@@ -41,6 +42,7 @@ SECTIONS = {
     "judge": ("What is answered of each field", [
         ("crates/vbi_side/src/answers.rt", ("judge",)),
         ("crates/vbi_side/src/found.rt", ("found_pace",)),
+        ("crates/vbi_side/src/laws.rt", ("whole_found",)),
         ("crates/vbi_side/src/seek.rt", ("first_of",)),
     ]),
     "words": ("From words to numbers", FROM_WORDS),
@@ -143,7 +145,7 @@ def counts_of(definitions):
         return f"{len(order)} in {definitions.lines(order)}"
 
     contract = [count(EXTRACT, False) + " lines", count(EXTRACT), count(EXTRACT + COUNTING)]
-    return contract, [count(BELIEF) + " lines", count(BELIEF + FROM_WORDS)]
+    return contract, [count(BELIEF) + " lines", count(FROM_WORDS)]
 
 
 def fault_of(document, page, contract, judge):
@@ -165,7 +167,7 @@ def main():
     page = Page(definitions)
     contract, judge = counts_of(definitions)
     print(f"definitions: {contract[0]} for the contract alone, {contract[1]} with the meaning of a reading, "
-          f"{contract[2]} with the meaning of the counts; {judge[0]} for a believed number, {judge[1]} from words; "
+          f"{contract[2]} with the meaning of the counts; {judge[0]} for a believed number, {judge[1]} in words; "
           f"{len(page.above)} in all")
     if "--write" in sys.argv[1:]:
         written = page.written(read(PAGE))
