@@ -314,15 +314,16 @@ uint32_t ldvbi_format(uint32_t first, uint32_t second, uint32_t third, uint32_t 
  *
  * This is proved: if the disc ran on at the pace that is judged by, from LDVBI_REACH fields before a field to as many
  * behind it, and the misread words of lines 17 and 18 there weigh less than 10, a believed number is the one that was
- * recorded. Of times line 16 counts too, and twice, since both lines' numbers stand on it. Where the field has no number
- * on the disc, a believed one fits one that was recorded and read near it. If the player stood still at a picture of
- * video, the same holds as long as the misread numbers weigh less than 6.
+ * recorded. Of times line 16 counts too, and twice, since both lines' numbers stand on it. Where the field has no
+ * number on the disc, a believed one fits one that was recorded and read near it. If the player stood still at a
+ * picture of video, the same holds as long as the misread numbers weigh less than 6.
  *
- * A number is due in a field of which none is believed where those of two believed fields, one before it and one behind,
- * count to it: both lie whole pictures away, and at most LDVBI_REACH fields. No believed number between the two may be
- * off from it. None is due where the field shows a code that stands in place of a number, or one number on both lines in
- * pass 1. This is proved too: if the believed numbers within LDVBI_REACH fields are right, and the disc has numbers in
- * all fields to which its numbers before and behind count there, the field has the number that is due.
+ * A number is due in a field of which none is believed where those of two believed fields, one before it and one
+ * behind, count to it: both lie whole pictures away, and at most LDVBI_REACH fields. No believed number between the two
+ * may be off from it. None is due where the field shows a code that stands in place of a number, or one number on both
+ * lines in pass 1. This is proved too: if the believed numbers within LDVBI_REACH fields are right, and the disc is
+ * regular there, the field has the number that is due. Regular means: where numbers of the disc before and behind the
+ * field, both within LDVBI_REACH fields, count to one number in it, it has that one.
  *
  * Nothing is promised where the player jumped, the capture lost a field, or the clock of an NTSC CLV disc leaves out a
  * number, within LDVBI_REACH fields, nor where film stands still, nor at a pace that is not the disc's, though errors
@@ -380,8 +381,8 @@ LDVBI_RESULT
 uint32_t ldvbi_judge(uint32_t system, uint32_t counted, uint32_t pace, const LdvbiFieldReadings *readings, size_t count,
                      LdvbiSightings *seen, size_t seen_count, LdvbiNumber *numbers, size_t number_count);
 
-/* The pace that ldvbi_judge takes for these readings with LDVBI_FIND_PACE: LDVBI_VIDEO or LDVBI_FILM. `seen` is room for
- * the call, and gets the same as there. To judge a capture that goes on by one pace, find it where enough is read.
+/* The pace that ldvbi_judge takes for these readings with LDVBI_FIND_PACE: LDVBI_VIDEO or LDVBI_FILM. `seen` is room
+ * for the call, and gets the same as there. To judge a capture that goes on by one pace, find it where enough is read.
  * LDVBI_BAD_SYSTEM, LDVBI_BAD_LENGTH, LDVBI_BAD_COUNTED. */
 LDVBI_RESULT LDVBI_POINTER(7)
 uint32_t ldvbi_find_pace(uint32_t system, uint32_t counted, const LdvbiFieldReadings *readings, size_t count,

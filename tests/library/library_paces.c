@@ -112,8 +112,8 @@ static void test_found(const char *name, uint32_t system, uint32_t counted, cons
 
 #define FIND(rows, system, counted) test_found(#rows, system, counted, rows, sizeof rows / sizeof *rows)
 
-/* What a capture that goes on may change: here field 10 of 58, the 48th before the end. The one field that is added makes
-   117 believed, 24 fields back, and to that the number counts that is due another 24 fields back. */
+/* What a capture that goes on may change: here field 10 of 58, the 48th before the end. The one field that is added
+   makes 117 believed, 24 fields back, and to that the number counts that is due another 24 fields back. */
 static const Row goes_on[] = {
     {"100..104 .23 116 . 117= .23", "100..104 .23 116? . 117? .23"},
     {"100..104 .23 116 . 117= .23 129=", "100..104 . (105..116) . 117 .23 129?"},
@@ -139,7 +139,9 @@ static void test_refusals(void)
         CHECK(((const uint8_t *)seen)[i] == 0xAA);
     CHECK(pace == 7);
     CHECK(ldvbi_find_pace(LDVBI_PAL, LDVBI_TIMES, NULL, 0, NULL, 0, &pace) == LDVBI_DONE && pace == LDVBI_VIDEO);
-    CHECK(ldvbi_find_pace(LDVBI_NTSC, LDVBI_PICTURES, readings, 2, seen, 2, &pace) == LDVBI_DONE && pace == LDVBI_VIDEO);
+    pace = 7;
+    CHECK(ldvbi_find_pace(LDVBI_NTSC, LDVBI_PICTURES, readings, 2, seen, 2, &pace) == LDVBI_DONE);
+    CHECK(pace == LDVBI_VIDEO);
     CHECK(seen[1].instead == 0 && seen[1].line_18.weight == 0 && seen[2].instead == 0xAAAAAAAA);
 }
 

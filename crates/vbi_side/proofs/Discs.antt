@@ -121,7 +121,8 @@ film_regular i j m k l n less more near far here there on back = film_at i n (el
 
 -- of the two numbers of five fields each is the only one that lies two fields a picture from the other
 other_of : (i m j l : ℕ) → ((i % 5 ≡ 0) × (2 * i ≡ 5 * m)) ⊎ ((i % 5 ≡ 2) × (2 * i + 1 ≡ 5 * m))
-    → film_disc j ≡ Some l → j ≢ i → fits Video i m j l ≡ true → ((i % 5 ≡ 0) × (j ≡ i + 2)) ⊎ ((i % 5 ≡ 2) × (j + 2 ≡ i))
+    → film_disc j ≡ Some l → j ≢ i → fits Video i m j l ≡ true
+    → ((i % 5 ≡ 0) × (j ≡ i + 2)) ⊎ ((i % 5 ≡ 2) × (j + 2 ≡ i))
 other_of i m j l here there apart e = go here (film_has j l there)
   where
     go : ((i % 5 ≡ 0) × (2 * i ≡ 5 * m)) ⊎ ((i % 5 ≡ 2) × (2 * i + 1 ≡ 5 * m))
@@ -133,7 +134,8 @@ other_of i m j l here there apart e = go here (film_has j l there)
     go (inr (two, a)) (inr (both, b)) = absurd (apart (omega (arith, a, b, eqb-true (j + 2 * m) (i + 2 * l) e)))
 
 pub film_turns : TakesTurns film_disc
-film_turns i m j k l n near others first second here one two e f = go (other_of i m j l at one first e) (other_of i m k n at two second f)
+film_turns i m j k l n near others first second here one two e f =
+    go (other_of i m j l at one first e) (other_of i m k n at two second f)
   where
     at : ((i % 5 ≡ 0) × (2 * i ≡ 5 * m)) ⊎ ((i % 5 ≡ 2) × (2 * i + 1 ≡ 5 * m))
     at = film_has i m here

@@ -124,7 +124,8 @@ counted_none pace j m i k l p q n first last on back apart (one, other) = apart 
     here = one_count pace j m i (m + p) n (subst (λ f. Count pace j m f (m + p)) (omega (arith, first)) (on j m)) one
 
     there : n + q ≡ l
-    there = one_count pace i n k (n + q) l (subst (λ f. Count pace i n f (n + q)) (omega (arith, last)) (back i n)) other
+    there =
+        one_count pace i n k (n + q) l (subst (λ f. Count pace i n f (n + q)) (omega (arith, last)) (back i n)) other
 
 -- ---- one number is due
 

@@ -1,5 +1,6 @@
 -- What was misread weighs in numbers no more than in words.
-use Rattle.std.proofs.Common.{◌≡◌, ◌≢◌, ℕ, zero, suc, ◌+◌, ◌*◌, ◌-◌, ◌≤◌, Bool, true, false, List, refl, arith, ap, sym, ◌∙◌}
+use Rattle.std.proofs.Common.{◌≡◌, ◌≢◌, ℕ, zero, suc, ◌+◌, ◌*◌, ◌-◌, ◌≤◌, Bool, true, false, List}
+use Rattle.std.proofs.Common.{refl, arith, ap, sym, ◌∙◌}
 use Rattle.std.proofs.Common.{subst, inl, inr, map, min}
 use Rattle.std.specs.Prelude.{Option, Some, None, option_map, slice_get, ◌⊎◌, not, nat_le, if◌then◌else◌}
 use Rattle.std.proofs.Math.Dec.{eqb}
@@ -114,7 +115,8 @@ weighs_none : (wrong : ℕ → Bool) (n weight : ℕ) → wrong n ≡ false
     → sighting_weight wrong (record { number = n; weight = weight }) ≡ 0
 weighs_none wrong n weight e = rw e refl
 
-weighs_less : (wrong : ℕ → Bool) (n weight : ℕ) → sighting_weight wrong (record { number = n; weight = weight }) ≤ weight
+weighs_less : (wrong : ℕ → Bool) (n weight : ℕ)
+    → sighting_weight wrong (record { number = n; weight = weight }) ≤ weight
 weighs_less wrong n weight = go (wrong n)
   where
     go : (b : Bool) → (if b then min weight 2 else 0) ≤ weight
@@ -127,7 +129,8 @@ not_wrong recorded n e = rw (recorded_self recorded n e) refl
 -- of pictures, a number that isn't on the disc is a misread word
 picture_misread : (system : System) (line_16 line : Shown) (first word : Option ℕ) (recorded : Option ℕ)
     → ((n : ℕ) → number_of system Pictures first word ≡ Some n → recorded ≡ Some n)
-    → sighting_weight (λ n. not (is_recorded recorded n)) (sighting_of system Pictures line_16 line) ≤ line_weight line word
+    → sighting_weight (λ n. not (is_recorded recorded n)) (sighting_of system Pictures line_16 line)
+    ≤ line_weight line word
 picture_misread system line_16 line first word recorded told =
     go (number_from system Pictures (code_in line_16) (code_in line)) refl (is_misread line.word word) refl
   where
@@ -213,9 +216,11 @@ at_misread system counted lines disc recorded i k told = go (nat_le reach (i + k
 
     field : field_weight wrong (slice_get (map (numbers_in system counted) lines) (i + k - reach))
         ≤ misread_in counted (slice_get lines (i + k - reach)) (disc (i + k - reach))
-    field = subst (λ f. field_weight wrong f ≤ misread_in counted (slice_get lines (i + k - reach)) (disc (i + k - reach)))
+    field = subst
+        (λ f. field_weight wrong f ≤ misread_in counted (slice_get lines (i + k - reach)) (disc (i + k - reach)))
         (sym (slice_get-map (numbers_in system counted) lines (i + k - reach)))
-        (field_misread system counted (slice_get lines (i + k - reach)) (disc (i + k - reach)) (recorded (i + k - reach))
+        (field_misread system counted (slice_get lines (i + k - reach)) (disc (i + k - reach))
+        (recorded (i + k - reach))
         (told (i + k - reach)))
 
     go : (b : Bool)

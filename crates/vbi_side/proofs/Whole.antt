@@ -80,8 +80,8 @@ none_misread recorded fields i right = go (spread wrong fields i (2 * reach + 1)
         absurd (is_right (recorded (i + k - reach)) p.1.0 (right (i + k - reach) p.1.0 p.1.1) p.1.2)
 
 -- so each number that is shown is believed
-all_believed : (pace : Pace) (recorded : ℕ → Option ℕ) (fields : List Sightings) (i n : ℕ) → IsWhole pace recorded fields
-    → Shows (slice_get fields i) n → Believed pace fields i n
+all_believed : (pace : Pace) (recorded : ℕ → Option ℕ) (fields : List Sightings) (i n : ℕ)
+    → IsWhole pace recorded fields → Shows (slice_get fields i) n → Believed pace fields i n
 all_believed pace recorded fields i n whole shown =
     let much = whole.much i n shown in
     complete pace recorded fields i n (whole.runs i) (whole.right i n shown) shown much
@@ -96,8 +96,8 @@ video_most video film less = go (nat_lt (11 * video) (10 * film)) refl
     go true e = absurd (omega (arith, ltb-true (11 * video) (10 * film) e, less))
     go false e = rw e refl
 
-pub finds_video : (system : System) (counted : Counted) (recorded : ℕ → Option ℕ) (fields : List Sightings) (pace : Pace)
-    → IsWhole Video recorded fields → IsFound system counted fields pace → pace ≡ Video
+pub finds_video : (system : System) (counted : Counted) (recorded : ℕ → Option ℕ) (fields : List Sightings)
+    (pace : Pace) → IsWhole Video recorded fields → IsFound system counted fields pace → pace ≡ Video
 finds_video Ntsc Pictures recorded fields pace whole (video, film, videos, films, is) =
     is ∙ video_most video film (some_most Film Video fields (length fields) film video
     (λ i m b. all_believed Video recorded fields i m whole b.shown) films videos)
@@ -107,8 +107,8 @@ finds_video Pal counted recorded fields pace whole found = found
 -- ---- film
 
 film_most : (film : ℕ) → 1 ≤ film → pace_by 0 film ≡ Film
-film_most film some = let more : nat_lt (11 * 0) (10 * film) ≡ true = lt-ltb (11 * 0) (10 * film) (omega (arith, some)) in
-    rw more refl
+film_most film some =
+    let more : nat_lt (11 * 0) (10 * film) ≡ true = lt-ltb (11 * 0) (10 * film) (omega (arith, some)) in rw more refl
 
 -- at the pace of video two fields support a number of film
 turns_weight : (recorded : ℕ → Option ℕ) (fields : List Sightings) (i m : ℕ) → TakesTurns recorded → recorded i ≡ Some m

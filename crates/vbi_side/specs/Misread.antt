@@ -66,7 +66,8 @@ misread_weight counted lines disc i = misread_below counted lines disc i (2 * re
 
 -- the number that a word of line 17 or 18 tells, beside that of line 16
 abbrev pub number_of : System → Counted → Option ℕ → Option ℕ → Option ℕ
-number_of system counted word_16 word = number_from system counted (option_map code_of word_16) (option_map code_of word)
+number_of system counted word_16 word =
+    number_from system counted (option_map code_of word_16) (option_map code_of word)
 
 -- each field has the number that its words tell on the disc
 abbrev pub AreTold : System → Counted → (ℕ → Words) → (ℕ → Option ℕ) → Type 0

@@ -1,5 +1,5 @@
--- Worked fields, by the words of their lines. Worked sides: one of video with wrong readings of weight 9 around field 4,
--- and one with wrong readings of weight 10.
+-- Worked fields, by the words of their lines. Worked sides: of video with wrong readings of weight 9 and 10 around field
+-- 4, of two numbers that lie far apart, and of a still.
 use Rattle.std.specs.Prelude.{ℕ, zero, suc, ◌-◌, ◌==◌, if◌then◌else◌, List, [], ◌∷◌, ◌++◌, replicate, Some, None}
 use Rattle.vbi_words.specs.declared.system.System.{System}
 use Rattle.vbi_side.specs.declared.lines.Counted.{Counted}

@@ -2,8 +2,10 @@
 //! capture.
 
 ghost use Rattle.std.specs.Prelude.{◌≡◌, ◌≢◌, ◌↔◌, ◌⊎◌, ℕ, ◌+◌, ◌<◌, ◌≤◌, true, false, List, [], ◌∷◌, map};
-ghost use Rattle.std.specs.Prelude.{Option, Some, slice_get};
+ghost use Rattle.std.specs.Prelude.{Option, Some, None, slice_get};
 ghost use Rattle.vbi_words.specs.declared.system.System.TheVariants.{Ntsc, Pal};
+ghost use Rattle.vbi_words.specs.declared.code.Code.TheVariants.{Picture, Time, ClvPicture, Chapter};
+ghost use Rattle.vbi_words.specs.declared.code.Code.TheVariants.{LeadIn, LeadOut, ClvMark};
 ghost use Rattle.vbi_side.specs.declared.lines.Counted.TheVariants.{Pictures, Times};
 ghost use Rattle.vbi_words.specs.declared.system.System.{System};
 ghost use Rattle.vbi_side.specs.declared.lines.Counted.{Counted};
@@ -13,9 +15,10 @@ ghost use Rattle.vbi_side.specs.declared.sighting.Sightings.{Sightings};
 ghost use Rattle.vbi_side.specs.declared.pace.Pace.{Pace};
 ghost use Rattle.vbi_side.specs.declared.pace.Pace.TheVariants.{Video, Film};
 ghost use Rattle.vbi_side.specs.Sightings.{Shows};
-ghost use Rattle.vbi_side.specs.Lines.{number_from, code_in, sightings_of};
+ghost use Rattle.vbi_side.specs.Lines.{number_from, code_in, sightings_of, pass_weight, number_weight};
+ghost use Rattle.vbi_side.specs.Lines.{is_instead};
 ghost use Rattle.vbi_side.specs.Paces.{fits, stays, nearly};
-ghost use Rattle.vbi_side.specs.Beliefs.{enough, support_of, Believed};
+ghost use Rattle.vbi_side.specs.Beliefs.{reach, enough, field_most, support_of, Believed};
 ghost use Rattle.vbi_side.specs.Due.{slack_of, Due};
 ghost use Rattle.vbi_side.specs.Found.{pace_by, IsFound};
 ghost use Rattle.vbi_side.specs.Numbers.{IsAnswer, IsKnown};
@@ -216,8 +219,33 @@ pub fn worked_numbers()
         ∷ field_of 12345 1 12345 2 ∷ field_of 88687 1 88687 1 ∷ [] }
 {}
 
+/// The numbers that codes tell, what they weigh by the passes of their lines, and the codes that stand in place of one.
+pub fn worked_lines()
+    ensures ntsc { map (λ line_16. number_from Ntsc Times line_16 (Some (Time 1 23)))
+        (Some (ClvPicture 0 0) ∷ Some (ClvPicture 0 29) ∷ Some (ClvPicture 0 30) ∷ Some (ClvPicture 59 29) ∷ None ∷ [])
+        ≡ Some 149400 ∷ Some 149429 ∷ None ∷ Some 151199 ∷ None ∷ [] }
+    ensures pal { map (λ line_16. number_from Pal Times line_16 (Some (Time 1 23)))
+        (Some (ClvPicture 0 0) ∷ Some (ClvPicture 0 24) ∷ Some (ClvPicture 0 25) ∷ Some (ClvPicture 59 24) ∷ None ∷ [])
+        ≡ Some 124500 ∷ Some 124524 ∷ None ∷ Some 125999 ∷ None ∷ [] }
+    ensures minutes { map (number_from Pal Times (Some (ClvPicture 59 24)))
+        (Some (Time 0 59) ∷ Some (Time 0 60) ∷ Some (Time 9 59) ∷ None ∷ [])
+        ≡ Some 89999 ∷ None ∷ Some 899999 ∷ None ∷ [] }
+    ensures weights { map pass_weight (0 ∷ 1 ∷ 2 ∷ 3 ∷ 4 ∷ []) ≡ 2 ∷ 2 ∷ 1 ∷ 1 ∷ 2 ∷ [] }
+    ensures lighter { map (λ pass. number_weight Times (shown_in pass 0) (shown_in 1 0)) (1 ∷ 2 ∷ []) ≡ 2 ∷ 1 ∷ [] }
+    ensures lighter_line { map (λ pass. number_weight Times (shown_in 1 0) (shown_in pass 0)) (1 ∷ 2 ∷ [])
+        ≡ 2 ∷ 1 ∷ [] }
+    ensures own { map (λ pass. number_weight Pictures (shown_in 2 0) (shown_in pass 0)) (1 ∷ 2 ∷ []) ≡ 2 ∷ 1 ∷ [] }
+    ensures instead { map (is_instead Pictures)
+        (Some (Chapter 0) ∷ Some LeadIn ∷ Some LeadOut ∷ Some (Time 0 0) ∷ Some (Picture 0) ∷ Some ClvMark ∷ None ∷ [])
+        ≡ true ∷ true ∷ true ∷ true ∷ false ∷ false ∷ false ∷ [] }
+    ensures instead_of_times { map (is_instead Times)
+        (Some (Chapter 0) ∷ Some LeadIn ∷ Some LeadOut ∷ Some (Time 0 0) ∷ Some (Picture 0) ∷ Some ClvMark ∷ None ∷ [])
+        ≡ true ∷ true ∷ true ∷ false ∷ true ∷ false ∷ false ∷ [] }
+{}
+
 /// When two numbers fit, or are of one still, at each edge: number 100 in field 10, and the fields in which another one
-/// fits it. Numbers support each other over 24 fields, on either side, and a still loses the weight of one field.
+/// fits it. Others count within 24 fields, a weight of 10 is enough, and a still loses 4 of it. Between numbers at most 8
+/// fields apart others may be a field off.
 pub fn worked_fits()
     ensures video { map (λ j. fits Video 10 100 j 101) (11 ∷ 12 ∷ 13 ∷ []) ≡ false ∷ true ∷ false ∷ [] }
     ensures video_back { map (λ j. fits Video 10 100 j 96) (1 ∷ 2 ∷ 3 ∷ []) ≡ false ∷ true ∷ false ∷ [] }
@@ -228,11 +256,17 @@ pub fn worked_fits()
     ensures still { map (λ j. stays 10 100 j 100) (8 ∷ 9 ∷ 10 ∷ 11 ∷ 34 ∷ [])
         ≡ true ∷ false ∷ true ∷ false ∷ true ∷ [] }
     ensures still_of_one { map (stays 10 100 12) (99 ∷ 100 ∷ 101 ∷ []) ≡ false ∷ true ∷ false ∷ [] }
+    ensures numbers { (reach ≡ 24) × (enough ≡ 10) × (field_most ≡ 4) }
+    ensures close { map (slack_of 0) (2 ∷ 8 ∷ 9 ∷ 48 ∷ []) ≡ 1 ∷ 1 ∷ 0 ∷ 0 ∷ [] }
+    ensures nearly { map (λ j. nearly Video 1 10 100 j 101) (10 ∷ 11 ∷ 12 ∷ 13 ∷ 14 ∷ [])
+        ≡ false ∷ true ∷ true ∷ true ∷ false ∷ [] }
+{}
+
+/// What supports a number: others within 24 fields, on either side, and not further; of a still all but the weight of
+/// one field.
+pub fn worked_support()
     ensures reach { (support_of Film (apart_by 24) 0 0 ≡ 4) × (support_of Film (apart_by 24) 24 10 ≡ 4)
         × (support_of Film (apart_by 25) 0 0 ≡ 2) × (support_of Film (apart_by 25) 25 10 ≡ 2) }
     ensures stood { map (λ pictures. support_of Video (still_of pictures) 0 5) (2 ∷ 3 ∷ 6 ∷ 7 ∷ [])
         ≡ 2 ∷ 2 ∷ 8 ∷ 10 ∷ [] }
-    ensures close { map (slack_of 0) (2 ∷ 8 ∷ 9 ∷ 48 ∷ []) ≡ 1 ∷ 1 ∷ 0 ∷ 0 ∷ [] }
-    ensures nearly { map (λ j. nearly Video 1 10 100 j 101) (10 ∷ 11 ∷ 12 ∷ 13 ∷ 14 ∷ [])
-        ≡ false ∷ true ∷ true ∷ true ∷ false ∷ [] }
 {}
