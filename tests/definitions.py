@@ -7,9 +7,10 @@ A section has the definitions that no section before it has, file by file. What 
 that the definitions use, but for operators, and the types of the code that they name. In place of a function of
 RELATIONS (definition_sources.py) stands a relation, of which a law says that it is the same.
 
-Each DOCUMENT is compared with what would be written into it. It has to say three counts, as `N in M lines` and `N in M`:
-of the definitions on which the contract of `extract` rests, the headline; of these with the meaning of a reading; and
-with that of the counts too. One that speaks of the judge's theorem has to say two of these as well.
+Each DOCUMENT is compared with what would be written into it. It has to say three counts, as `N in M lines` and `N in
+M`: of the definitions on which the contract of `extract` rests, the headline; of these with the meaning of a reading;
+and with that of the counts too. One that names the law `sound_still` has to say two counts of the judge's theorem as
+well, in numbers and in words.
 
 usage: python3 tests/definitions.py [--write] [DOCUMENT..]     (at the top of the repository)
 """
