@@ -1,5 +1,5 @@
 /* The judge of picture numbers as one writes it without the library: for each number of a field both sums over the
-   fields around it, and for each field without a believed number the nearest ones that have one. */
+   fields around it, and for each field without a believed number the nearest ones whole pictures away that have one. */
 
 enum { REACH = 24, ENOUGH = 10 };
 
@@ -10,7 +10,7 @@ static LdvbiSighting plain_sighting(const LdvbiReading *line)
 
     if (line->word != 0 && code.kind == LDVBI_PICTURE) {
         sighting.number = code.first;
-        sighting.weight = line->pass == 2 ? 1 : 2;
+        sighting.weight = line->pass == 2 || line->pass == 3 ? 1 : 2;
     }
     return sighting;
 }
@@ -69,11 +69,11 @@ static LdvbiNumber plain_belief(uint32_t pace, const LdvbiSightings *seen, size_
     return answer;
 }
 
-/* The nearest field that has a believed number, in steps of 1 or -1; `count` where there is none within reach. */
+/* The nearest field with a believed number, in steps of whole pictures; `count` where there is none within reach. */
 static size_t plain_neighbour(const LdvbiNumber *numbers, size_t count, size_t field, int step)
 {
-    for (int distance = 1; distance <= REACH; distance++) {
-        size_t other = field + (size_t)(step * distance); /* wraps round below the first one */
+    for (int distance = step; abs(distance) <= REACH; distance += step) {
+        size_t other = field + (size_t)distance; /* wraps round below the first one */
 
         if (other >= count)
             return count;
@@ -83,25 +83,41 @@ static size_t plain_neighbour(const LdvbiNumber *numbers, size_t count, size_t f
     return count;
 }
 
+/* Whether the believed numbers between two fields are near enough to this one. */
+static int are_near(uint32_t pace, const LdvbiNumber *numbers, size_t before, size_t behind, size_t field, long number)
+{
+    long slack = behind - before <= 8;
+
+    for (size_t other = before + 1; other < behind; other++) {
+        long fields = (long)other - (long)field, pictures = (long)numbers[other].number - number;
+
+        if (numbers[other].state == LDVBI_BELIEVED && !(pace == LDVBI_VIDEO ? labs(fields - 2 * pictures) <= slack
+                                                                            : fits_plainly(pace, fields, pictures)))
+            return 0;
+    }
+    return 1;
+}
+
 static void plain_due(uint32_t pace, LdvbiNumber *numbers, size_t count, size_t field)
 {
-    size_t before = plain_neighbour(numbers, count, field, -1), behind = plain_neighbour(numbers, count, field, 1);
-    long fields = pace == LDVBI_VIDEO ? 2 : 5, pictures = pace == LDVBI_VIDEO ? 1 : 2, number = -1;
+    int fields = pace == LDVBI_VIDEO ? 2 : 5, pictures = pace == LDVBI_VIDEO ? 1 : 2;
+    size_t before = plain_neighbour(numbers, count, field, -fields);
+    size_t behind = plain_neighbour(numbers, count, field, fields);
 
     if (before == count || behind == count)
         return;
-    long first = (long)numbers[before].number, last = (long)numbers[behind].number;
-    long to_first = (long)(field - before), to_last = (long)(behind - field);
-    if (!fits_plainly(pace, to_first + to_last, last - first))
+    long number = (long)numbers[before].number + (long)(field - before) / fields * pictures;
+    if (number + (long)(behind - field) / fields * pictures != (long)numbers[behind].number)
         return;
-    if (to_first % fields == 0)
-        number = first + to_first / fields * pictures;
-    else if (to_last % fields == 0)
-        number = last - to_last / fields * pictures;
-    if (first < number && number < last) {
+    if (are_near(pace, numbers, before, behind, field, number)) {
         numbers[field].number = (uint32_t)number;
         numbers[field].state = LDVBI_DUE;
     }
+}
+
+static int is_shown_twice(const LdvbiSightings *seen)
+{
+    return seen->line_17.weight == 2 && seen->line_18.weight == 2 && seen->line_17.number == seen->line_18.number;
 }
 
 static size_t plain_count(uint32_t pace, const LdvbiSightings *seen, size_t count)
@@ -124,10 +140,11 @@ static void plain_judge(uint32_t pace, const LdvbiFieldReadings *readings, size_
         seen[field].instead = is_plainly_instead(&lines[1]) || is_plainly_instead(&lines[2]);
     }
     if (pace == LDVBI_FIND_PACE)
-        pace = plain_count(LDVBI_FILM, seen, count) > plain_count(LDVBI_VIDEO, seen, count) ? LDVBI_FILM : LDVBI_VIDEO;
+        pace = 10 * plain_count(LDVBI_FILM, seen, count) > 11 * plain_count(LDVBI_VIDEO, seen, count) ? LDVBI_FILM
+                                                                                                      : LDVBI_VIDEO;
     for (size_t field = 0; field < count; field++)
         numbers[field] = plain_belief(pace, seen, count, field);
     for (size_t field = 0; field < count; field++)
-        if (numbers[field].state != LDVBI_BELIEVED && seen[field].instead == 0)
+        if (numbers[field].state != LDVBI_BELIEVED && seen[field].instead == 0 && !is_shown_twice(&seen[field]))
             plain_due(pace, numbers, count, field);
 }

@@ -312,13 +312,23 @@ uint32_t ldvbi_format(uint32_t first, uint32_t second, uint32_t third, uint32_t 
  * the field itself and in the LDVBI_REACH fields before and behind it, weigh 10 or more, and more than those that
  * support any other number of the field.
  *
- * This is proved: if the disc ran on within LDVBI_REACH fields around a field, and the misread words there weigh less
- * than 10, a believed number is the one that was recorded. If the player stood still, the same holds as long as the
- * misread words weigh less than 6.
+ * This is proved: if the disc ran on at the pace that is judged by, from LDVBI_REACH fields before a field to as many
+ * behind it, and the misread words of lines 17 and 18 there weigh less than 10, a believed number is the one that was
+ * recorded. Of times line 16 counts too, and twice, since both lines' numbers stand on it. Where the field has no
+ * number on the disc, a believed one fits one that was recorded and read near it. If the player stood still at a
+ * picture of video, the same holds as long as the misread numbers weigh less than 6.
  *
- * Nothing is promised where the player jumped within LDVBI_REACH fields, or where film stands still, though errors are
- * rare there too. A number that is due is as sure as the believed numbers beside it. Minutes without their seconds,
- * chapters and lost fields are not judged here: `ldvbi-side` judges them all. */
+ * A number is due in a field of which none is believed where those of two believed fields, one before it and one
+ * behind, count to it: both lie whole pictures away, and at most LDVBI_REACH fields. No believed number between the two
+ * may be off from it. None is due where the field shows a code that stands in place of a number, or one number on both
+ * lines in pass 1. This is proved too: if the believed numbers within LDVBI_REACH fields are right, and the disc is
+ * regular there, the field has the number that is due. Regular means: where numbers of the disc before and behind the
+ * field, both within LDVBI_REACH fields, count to one number in it, it has that one.
+ *
+ * Nothing is promised where the player jumped, the capture lost a field, or the clock of an NTSC CLV disc leaves out a
+ * number, within LDVBI_REACH fields, nor where film stands still, nor at a pace that is not the disc's, though errors
+ * are rare there too. Minutes without their seconds, chapters and lost fields are not judged here: `ldvbi-side` judges
+ * them all. */
 
 /* How many fields before a field, and how many behind it, are looked at. */
 enum { LDVBI_REACH = 24 };
@@ -331,7 +341,8 @@ enum LdvbiCounted {
 enum LdvbiPace {
     LDVBI_VIDEO = 1,    /* a picture lasts two fields */
     LDVBI_FILM = 2,     /* a picture lasts two and three fields by turns, as film does on NTSC */
-    LDVBI_FIND_PACE = 3 /* that of film if more numbers are believed with it, else that of video */
+    LDVBI_FIND_PACE = 3 /* that of film if pictures of NTSC are counted, and over a tenth more of their numbers are
+                           believed with it; else that of video */
 };
 
 /* A number that a line shows. */
@@ -348,9 +359,11 @@ typedef struct LdvbiSightings {
 
 enum LdvbiState {
     LDVBI_NOTHING = 0,  /* the field shows no number, and none is due; the number is 0 */
-    LDVBI_BELIEVED = 1, /* the field shows the number, and enough around it supports it */
-    LDVBI_DOUBTFUL = 2, /* the field shows the number (of two, that of line 17), and too little supports it */
-    LDVBI_DUE = 3       /* the field doesn't show it, but the believed numbers before and behind it leave no other */
+    LDVBI_BELIEVED = 1, /* the field shows the number, and it is believed */
+    LDVBI_DOUBTFUL = 2, /* the field shows the number (of two, that of line 17), none of the field is believed, and none
+                           is due */
+    LDVBI_DUE = 3       /* none of the field is believed, and the believed numbers before and behind it count to this
+                           one, whether the field shows it or not */
 };
 
 typedef struct LdvbiNumber {
@@ -360,13 +373,20 @@ typedef struct LdvbiNumber {
 
 /* Judges the numbers of `count` fields that follow each other. Two arrays of `count` values are the caller's, and may
  * hold anything before. `numbers` gets the answers. `seen` is room for the call: it gets what each field shows, since
- * each field is looked at from 48 others. If a capture goes on, judge it again with its new fields. These may change
- * the answers of the last LDVBI_REACH fields; before those, the same numbers stay believed. A number is due only within
- * LDVBI_REACH fields of believed ones.
+ * each field is looked at from 48 others. If a capture goes on, judge it again with its new fields. At one pace these
+ * may change what is believed of the last LDVBI_REACH fields, and what is due in the last 2 * LDVBI_REACH; before those
+ * all answers stay. With LDVBI_FIND_PACE the pace may turn, and with it any answer: ldvbi_find_pace says which it is.
  * LDVBI_BAD_SYSTEM, LDVBI_BAD_LENGTH, LDVBI_BAD_COUNTED, LDVBI_BAD_PACE. */
 LDVBI_RESULT
 uint32_t ldvbi_judge(uint32_t system, uint32_t counted, uint32_t pace, const LdvbiFieldReadings *readings, size_t count,
                      LdvbiSightings *seen, size_t seen_count, LdvbiNumber *numbers, size_t number_count);
+
+/* The pace that ldvbi_judge takes for these readings with LDVBI_FIND_PACE: LDVBI_VIDEO or LDVBI_FILM. `seen` is room
+ * for the call, and gets the same as there. To judge a capture that goes on by one pace, find it where enough is read.
+ * LDVBI_BAD_SYSTEM, LDVBI_BAD_LENGTH, LDVBI_BAD_COUNTED. */
+LDVBI_RESULT LDVBI_POINTER(7)
+uint32_t ldvbi_find_pace(uint32_t system, uint32_t counted, const LdvbiFieldReadings *readings, size_t count,
+                         LdvbiSightings *seen, size_t seen_count, uint32_t *pace);
 
 /* The first field, counted from 0, whose number is believed or due and is this one; `count` where there is none. */
 size_t ldvbi_first_of(const LdvbiNumber *numbers, size_t count, uint32_t number);

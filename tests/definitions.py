@@ -1,238 +1,180 @@
 #!/usr/bin/env python3
-"""Lists what one has to believe: each definition of specs/ on which the contract of `extract` rests, the headline, and
-what the contracts of FURTHER rest on beside that.
+"""Prints into docs/DEFINITIONS.md what one has to believe: each definition of specs/ on which the contracts of SECTIONS
+rest, as it stands in its source, behind those on which it rests itself.
 
-Read in this order, each rests only on those above it. Three lists: of the contract alone, in which the function that
-gives a line's reading (`reading_of`) is taken by its name; with its meaning, in which a relation stands for each
-function of RELATIONS, of which a law says that it is the same; and with what the counts mean, which the contracts of
-COUNTING say. The words of the standard library that all of these use are listed as well, but for operators.
+A section has the definitions that no section before it has, file by file. What it has between `<!-- from specs: MARK
+-->` and `<!-- to here -->` is what --write writes; so are the table of the sections, the words of the standard library
+that the definitions use, but for operators, and the types of the code that they name. In place of a function of
+RELATIONS (definition_sources.py) stands a relation, of which a law says that it is the same.
 
-Each DOCUMENT has to say the three counts, as `N in M lines` and `N in M`. A table that stands in one behind the line
-`<!-- definitions -->`, `<!-- counts -->` or that of another mark is compared with the source: each definition once, in
-this order, with its file and its comment; so are the words of the standard library behind `<!-- words -->` and
-`<!-- further words -->`.
+Each DOCUMENT is compared with what would be written into it. It has to say three counts, as `N in M lines` and `N in
+M`: of the definitions on which the contract of `extract` rests, the headline; of these with the meaning of a reading;
+and with that of the counts too. One that names the law `sound_still` has to say two counts of the judge's theorem as
+well, in numbers and in words.
 
-usage: python3 tests/definitions.py [--table] [DOCUMENT..]     (at the top of the repository)
+usage: python3 tests/definitions.py [--write] [DOCUMENT..]     (at the top of the repository)
 """
-import glob
-import itertools
-import os
 import re
 import sys
+import textwrap
 
-# Where the contract stands; and by function, the relation that stands for it and the law by which they are one
-CONTRACT = ("crates/vbi_field/src/run.rt", "extract")
-# The contracts that say what is counted: failed calls of a device, and samples looked at
+from definition_sources import Definitions, read
+
+PAGE = "docs/DEFINITIONS.md"
+WIDTH = 120
+# Where the contracts stand that the counts are about
+EXTRACT = [("crates/vbi_field/src/run.rt", ("extract",))]
+# Those that say what is counted: failed calls of a device, and samples looked at
 COUNTING = [
     ("crates/vbi_line/src/tries.rt", ("read_once", "write_once")),
     ("crates/vbi_line/src/line.rt", ("clear", "start_pass", "next_sample", "next_block")),
 ]
-# By the mark of their table, further contracts; a table has what none before it has
-FURTHER = {
-    "nearest": ("crates/vbi_near/src/lines.rt", ("nearest_of_lines",)),
-    "recovered": ("crates/vbi_near/src/recovery.rt", ("recover_rows",)),
+# The judge's theorem, in numbers and in words
+BELIEF = [("crates/vbi_side/src/laws.rt", ("sound", "on_the_disc", "sound_still"))]
+FROM_WORDS = [("crates/vbi_side/src/lines.rt", ("sightings",)), ("crates/vbi_side/src/laws.rt", ("misread_words",))]
+# The sections of the page by their marks: what each is called, and the contracts that it is for
+SECTIONS = {
+    "line": ("One line", [("crates/vbi_line/src/reading.rt", ("read_bytes_twice",))]),
+    "fields": ("The words of fields", EXTRACT),
+    "counts": ("What is counted", COUNTING),
+    "nearest": ("The nearest word", [("crates/vbi_near/src/lines.rt", ("nearest_of_lines",))]),
+    "recovered": ("The words of worn lines", [("crates/vbi_near/src/recovery.rt", ("recover_rows",))]),
+    "belief": ("The number that is believed", BELIEF),
+    "judge": ("What is answered of each field", [
+        ("crates/vbi_side/src/answers.rt", ("judge",)),
+        ("crates/vbi_side/src/found.rt", ("found_pace",)),
+        ("crates/vbi_side/src/laws.rt", ("whole_found",)),
+        ("crates/vbi_side/src/seek.rt", ("first_of",)),
+    ]),
+    "words": ("From words to numbers", FROM_WORDS),
 }
-RELATIONS = {
-    ("vbi_line", "OneOutcome", "outcome_of"): (("vbi_words", "Outcomes", "IsOutcome"), "one_outcome"),
-    ("vbi_line", "OneReading", "reading_of"): (("vbi_words", "Readings", "IsReading"), "one_reading"),
-    ("vbi_words", "Smooth", "smooth_of"): (("vbi_words", "Smooth", "IsSmooth"), "one_smooth"),
-}
-HEAD = re.compile(r"(abbrev pub|unfoldable pub|pub record|pub data|record|data|abbrev|unfoldable|pub) (\S+)(?= )")
+# By the last section that each is for, the marks of the lists of words of the standard library
+WORDS = {"counts": "words of std", "words": "further words of std"}
 
 
-def read(path):
-    with open(path, encoding="utf-8") as file:
-        return file.read()
+def marked(mark):
+    """Returns a pattern of what stands in the page behind a mark, with the lines around it."""
+    return re.compile(rf"^(<!-- from specs: {mark} -->\n)(.*?)(^<!-- to here -->)$", re.M | re.S)
 
 
-class Module:
-    """A file of specs/: what it imports, and its definitions by name, each a text and the comment above it."""
-
-    def __init__(self, crate, name):
-        self.crate, self.name = crate, name
-        self.path = f"crates/{crate}/specs/{name}.antt"
-        self.names, self.modules, self.definitions = {}, {}, {}
-        comment, item = [], None
-        for line in read(self.path).split("\n"):
-            text = line.strip()
-            if text.startswith("use "):
-                self.take_import(text)
-            elif text.startswith("--"):
-                comment, item = comment * (item is None) + [text[2:].strip()], None
-            elif not text or text.startswith("module "):
-                item = None
-                comment = comment if text else []
-            elif item is None:
-                head = HEAD.match(text)
-                item = [text]
-                if head:
-                    self.definitions[head[2]] = (item, " ".join(comment))
-                comment = []
-            else:
-                item.append(text)
-
-    def take_import(self, text):
-        several = re.match(r"use (\S+)\.\{(.*)\}", text)
-        if several:
-            for one in several[2].split(","):
-                name, _, other = one.strip().partition(" as ")
-                self.names[other or name] = (several[1], name)
-            return
-        whole = re.match(r"use (\S+?)\.?([^.\s]+)(?: as (\S+))?$", text)
-        if whole:
-            self.modules[whole[3] or whole[2]] = f"{whole[1]}.{whole[2]}"
+def filled(text):
+    return textwrap.fill(text, WIDTH, break_long_words=False, break_on_hyphens=False)
 
 
-def specs_of(place):
-    """Returns crate and file of a module of this repository's specs/, or None."""
-    own = re.match(r"Rattle\.(vbi_\w+)\.specs\.(\w+)$", place)
-    return (own[1], own[2]) if own and own[2] != "declared" else None
+def printed(module, keys, is_new):
+    """Returns the lines of these definitions of a file, behind the comment at the file's head where it is new."""
+    lines, around = ([*module.head, ""] if is_new else []), []
+    for key in keys:
+        definition = module.definitions[key[2]]
+        lines += definition.around if definition.around != around else []
+        lines += [*definition.comment, *definition.lines, ""]
+        around = definition.around
+    return lines[:-1]
 
 
-class Definitions:
-    def __init__(self):
-        self.modules = {}
+class Page:
+    """What stands in the page, by its marks."""
 
-    def module(self, crate, name):
-        if (crate, name) not in self.modules:
-            self.modules[crate, name] = Module(crate, name)
-        return self.modules[crate, name]
+    def __init__(self, definitions):
+        self.definitions = definitions
+        self.texts, self.above, listed = {}, [], 0
+        rows = ["| Section | The contracts of | Rest on | Printed there |", "|---|---|---|---|"]
+        for mark, (title, contracts) in SECTIONS.items():
+            rests_on = definitions.order(contracts)
+            own = [key for key in rests_on if key not in self.above]
+            self.texts[mark] = self.section(own)
+            rows.append(self.row(title, contracts, rests_on, own))
+            if mark in WORDS:
+                self.texts[WORDS[mark]] = filled(self.words_of_std(self.above[listed:]))
+                listed = len(self.above)
+        self.texts["types"] = filled(self.types())
+        self.texts["sections"] = "\n".join(rows)
 
-    def cited(self, module, text):
-        """Returns the definitions of specs/ that a text of this module names, in their order."""
-        found = []
-        for word in re.findall(r"[^\s(){},;]+", re.sub(r"\"(?:[^\"\\]|\\.)*\"", "", text)):
-            parts = word.split(".")
-            place = module.modules.get(parts[0])
-            if place and len(parts) > 1:
-                own, name = specs_of(place), parts[1]
-            elif parts[0] in module.names:
-                place, name = module.names[parts[0]]
-                own = specs_of(place)
-            else:
-                own, name = (module.crate, module.name), parts[0]
-            if own and os.path.exists(f"crates/{own[0]}/specs/{own[1]}.antt"):
-                if name in self.module(*own).definitions and (*own, name) not in found:
-                    found.append((*own, name))
-        return found
+    def section(self, keys):
+        blocks = []
+        for file, own in self.definitions.by_file(keys).items():
+            module = self.definitions.module(*file)
+            is_new = not any(key[:2] == file for key in self.above)
+            for key in own:
+                above = [other for other in self.definitions.rests_on(key, True) if other not in self.above]
+                if above:
+                    raise SystemExit(f"definitions: {key[2]} stands above {above[0][2]}, on which it rests")
+                self.above.append(key)
+            lines = "\n".join(printed(module, own, is_new))
+            blocks.append(f"### {file[0]}/specs/{file[1]}.antt\n\n```agda\n{lines}\n```")
+        return "\n\n".join(blocks)
 
-    def relation(self, function):
-        """Returns what stands for a function. The comments of both name the law, which has to be there."""
-        relation, law = RELATIONS[function]
-        for crate, name, word in (function, relation):
-            if f"laws::{law}`" not in self.module(crate, name).definitions[word][1]:
-                raise SystemExit(f"definitions: the comment of {word} does not name the law {law}")
-        if not any(f"pub fn {law}(" in read(path) for path in glob.glob("crates/*/src/laws.rt")):
-            raise SystemExit(f"definitions: there is no law {law}")
-        return relation
+    def row(self, title, contracts, rests_on, own):
+        link = re.sub(r"[^\w-]", "", title.lower().replace(" ", "-"))
+        names = "; ".join(", ".join(f"`{one}`" for one in functions) + f" (`{path.partition('/')[2]}`)"
+                          for path, functions in contracts)
+        count = f"{len(rests_on)} in {self.definitions.lines(rests_on)} lines"
+        return f"| [{title}](#{link}) | {names} | {count} | {len(own) if own != rests_on else 'all'} |"
 
-    def below(self, key, with_meaning, order, seen):
-        """Adds a definition to the order, behind all on which it rests."""
-        if with_meaning and key in RELATIONS:
-            key = self.relation(key)
-        if key in seen:
-            return
-        seen.add(key)
-        module = self.module(*key[:2])
-        lines, _ = module.definitions[key[2]]
-        if key not in RELATIONS:
-            own = "\n".join(lines)
-            for other in self.cited(module, own):
-                if other != key:
-                    self.below(other, with_meaning, order, seen)
-        order.append(key)
-
-    def contract(self, path, function):
-        """Returns what the names in a source file stand for, and the text of a function's contract."""
-        source = read(path)
-        clauses = re.search(rf"pub fn {function}\b.*?\n *\{{\n", source, re.S)[0]
-        head = Module.__new__(Module)
-        head.names, head.modules, head.definitions = {}, {}, {}
-        head.crate, head.name = path.split("/")[1], ""
-        for line in re.findall(r"ghost (use .*);", source):
-            head.take_import(line)
-        return head, clauses
-
-    def order(self, with_meaning, further=()):
-        """Returns the definitions on which the contract of `extract` rests, then those of these further ones."""
-        order, seen = [], set()
-        for path, function in [CONTRACT] + [(path, one) for path, functions in further for one in functions]:
-            for key in self.cited(*self.contract(path, function)):
-                self.below(key, with_meaning, order, seen)
-        return order
-
-    def words_of_std(self, order):
+    def words_of_std(self, keys):
         """Returns the words of the standard library that these definitions use, by their module, but for operators."""
         found = {}
-        for key in order:
-            module = self.module(*key[:2])
-            for word in re.findall(r"[^\s(){},;.]+", "\n".join(module.definitions[key[2]][0])):
-                place, name = module.names.get(word, ("", ""))
-                if place.startswith("Rattle.std.specs.") and name.isidentifier() and name not in "ℕ⊤⊥":
-                    found.setdefault(place.removeprefix("Rattle.std.specs."), set()).add(name)
-        return ["of `" + place + "` " + ", ".join(f"`{name}`" for name in sorted(names, key=str.lower))
-                for place, names in sorted(found.items())]
+        for place, name in self.definitions.places(keys):
+            if place.startswith("Rattle.std.specs.") and name.isidentifier() and name not in "ℕ⊤⊥":
+                found.setdefault(place.replace("Rattle.std.specs.", "", 1), set()).add(name)
+        return "; ".join("of `" + place + "` " + ", ".join(f"`{name}`" for name in sorted(names, key=str.lower))
+                         for place, names in sorted(found.items())) + "."
 
-    def lines(self, order):
-        return sum(len(self.module(*key[:2]).definitions[key[2]][0]) for key in order)
+    def types(self):
+        """Returns the types of the code that the definitions name, by the file in which each is declared."""
+        found = {}
+        for place, _ in self.definitions.places(self.above):
+            own = re.match(r"Rattle\.(vbi_\w+)\.specs\.declared\.(\w+)\.(\w+)", place)
+            if own:
+                found.setdefault(f"{own[1]}/src/{own[2]}.rt", set()).add(own[3])
+        return "; ".join(", ".join(f"`{name}`" for name in sorted(names)) + f" (`{path}`)"
+                         for path, names in sorted(found.items())) + "."
+
+    def written(self, text):
+        """Returns the page's text with what stands behind its marks made anew."""
+        for mark, new in self.texts.items():
+            text, times = marked(mark).subn(lambda found, new=new: f"{found[1]}\n{new}\n\n{found[3]}", text)
+            if times != 1:
+                raise SystemExit(f"definitions: {PAGE} has {times} places with the mark {mark}")
+        return text
 
 
-def rows(definitions, order):
-    for crate, name, word in order:
-        module = definitions.module(crate, name)
-        comment = re.sub(r"\s+", " ", module.definitions[word][1])
-        yield f"| `{word}` | `{crate}/specs/{name}.antt` | {comment} |"
+def counts_of(definitions):
+    """Returns the counts that documents say: of the contract of `extract`, and of the judge's theorem."""
+    def count(contracts, with_meaning=True):
+        order = definitions.order(contracts, with_meaning)
+        return f"{len(order)} in {definitions.lines(order)}"
+
+    contract = [count(EXTRACT, False) + " lines", count(EXTRACT), count(EXTRACT + COUNTING)]
+    return contract, [count(BELIEF) + " lines", count(FROM_WORDS)]
 
 
-def behind(text, mark):
-    """Returns what stands behind a mark, up to an empty line; or None where the mark isn't there."""
-    _, found, rest = text.partition(f"<!-- {mark} -->\n")
-    return rest.split("\n\n")[0].rstrip("\n").split("\n") if found else None
-
-
-def fault_of(document, counts, tables, words):
+def fault_of(document, page, contract, judge):
     """Says what this document has otherwise than the source, or nothing."""
     text = read(document)
-    for count in counts:
+    for count in contract + judge * ("`sound_still`" in text):
         if not re.search(rf"\b{count}\b", text.replace("\n", " ")):
             return f"doesn't say {count}"
-    for mark, wanted in tables.items():
-        found = behind(text, mark)
-        for one, other in itertools.zip_longest(found[2:] if found else [], wanted, fillvalue="no more"):
-            if found and one != other:
-                return f"has\n{one}\nand the source\n{other}"
-    for mark, wanted in words.items():
-        found = behind(text, mark)
-        if found and " ".join(found) != wanted:
-            return f"has the {mark} of the standard library\n{' '.join(found)}\nand the source\n{wanted}"
-    return None
-
-
-def tables_of(definitions, whole, counting):
-    """Returns the rows of each table by its mark, and the words of the standard library that they use, likewise."""
-    orders = {"definitions": whole, "counts": counting}
-    for place, mark in enumerate(FURTHER, 1):
-        orders[mark] = definitions.order(True, list(FURTHER.values())[:place])
-    tables, known = {}, []
-    for mark, order in orders.items():
-        tables[mark] = list(rows(definitions, [key for key in order if key not in known]))
-        known += order
-    words = {"words": counting, "further words": [key for key in known if key not in counting]}
-    return tables, {mark: "; ".join(definitions.words_of_std(order)) + "." for mark, order in words.items()}
+    wanted = page.written(text) if document == PAGE else text
+    for number, (one, other) in enumerate(zip(text.split("\n"), wanted.split("\n")), 1):
+        if one != other:
+            return f"has in line {number}\n{one}\nand the source\n{other}"
+    return None if len(text) == len(wanted) else "doesn't end as the source does"
 
 
 def main():
-    names = [word for word in sys.argv[1:] if word != "--table"]
+    names = [word for word in sys.argv[1:] if word != "--write"]
     definitions = Definitions()
-    alone, whole, counting = definitions.order(False), definitions.order(True), definitions.order(True, COUNTING)
-    counts = (f"{len(alone)} in {definitions.lines(alone)} lines", f"{len(whole)} in {definitions.lines(whole)}",
-              f"{len(counting)} in {definitions.lines(counting)}")
-    tables, words = tables_of(definitions, whole, counting)
-    print(f"definitions: {counts[0]} for the contract alone, {counts[1]} with the meaning of a reading, "
-          f"{counts[2]} with the meaning of the counts")
-    if "--table" in sys.argv[1:]:
-        print("\n\n".join(["\n".join(table) for table in tables.values()] + list(words.values())))
-    faults = [f"definitions: {name} {fault}" for name in names if (fault := fault_of(name, counts, tables, words))]
+    page = Page(definitions)
+    contract, judge = counts_of(definitions)
+    print(f"definitions: {contract[0]} for the contract alone, {contract[1]} with the meaning of a reading, "
+          f"{contract[2]} with the meaning of the counts; {judge[0]} for a believed number, {judge[1]} in words; "
+          f"{len(page.above)} in all")
+    if "--write" in sys.argv[1:]:
+        written = page.written(read(PAGE))
+        with open(PAGE, "w", encoding="utf-8") as file:
+            file.write(written)
+    faults = [f"definitions: {name} {fault}" for name in names if (fault := fault_of(name, page, contract, judge))]
     print("\n".join(faults), file=sys.stderr, end="\n" * bool(faults))
     return 1 if faults else 0
 

@@ -21,6 +21,8 @@ FAULTS = "Fault texts"
 # In how many places a class is changed at most
 MOST_PLACES = 8
 LONGEST_CELL = 300
+# What tests/definitions.py writes from the definitions
+PRINTED = re.compile(r"^<!-- from specs: .*?^<!-- to here -->$", re.M | re.S)
 
 
 def files():
@@ -52,8 +54,8 @@ def is_named(path, names):
 
 
 def by_hand(text):
-    """Returns a text without what codes/write.py writes from the table of classes."""
-    return KINDS_OF_SCHEMA.sub("", PART.sub("", text))
+    """Returns a text without what scripts write from the table of classes, and from the definitions."""
+    return PRINTED.sub("", KINDS_OF_SCHEMA.sub("", PART.sub("", text)))
 
 
 def row_of(table, begin):

@@ -16,6 +16,7 @@ large|out|field 8981|field 8980
 library|out|"vbiPass"|"vbiPaSS"
 library|include/ldvbi.h|s/LDVBI_HOLD = 4/LDVBI_HOLD = 5/
 library|tests/library/library_numbers.c|s/(105) . 106..110/(106) . 106..110/
+library|tests/library/library_paces.c|s/100..119 . 121? . 121/100..119 . 120? . 121/
 library|tests/library/library_sightings.c|s/SEEN(1079999, 2, 1079999, 2, 0)/SEEN(1079999, 2, 1079999, 1, 0)/
 library|tests/library/library_worn.c|s/.noise = 0.3}, 1000, 1000/.noise = 0.5}, 1000, 1000/
 examples|tests/library/examples.sh|s/^SECAM 16384 51200$/NTSC 16384 51200/
@@ -91,6 +92,10 @@ docs|docs/PROMISES.md|s/`StopsAtLimit`/`StopsAtLimits`/
 docs|docs/PROMISES.md|s/the drawing came (`came`)/the drawing came (`ended`)/
 docs|docs/DEFINITIONS.md|s/no level is high/no level is low/
 docs|docs/DEFINITIONS.md|s/`decimal`, //
+docs|docs/DEFINITIONS.md|s/half_min Pal = 14/half_min Pal = 15/
+docs|docs/DEFINITIONS.md|s/from specs: counts/from specs: count/
+docs|docs/PROMISES.md|s/25 in 64 lines/25 in 65 lines/
+docs|crates/vbi_side/src/answers.rt|s/ensures answers { AreAnswers/ensures answers { AreMarks/
 docs|docs/DECISIONS.md|s/`Progress::add_row`/`Progress::added_row`/
 docs|CONTRIBUTING.md|s/Geometry.antt/Geometries.antt/
 docs|CONTRIBUTING.md|s/, `summary.rt`//

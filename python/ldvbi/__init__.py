@@ -30,7 +30,7 @@ business of the package `ldvbi_side`, which stands on this one: nothing here imp
 
 
 from .classes import Code, Format, Kind, classify, format_of
-from .judging import Number, State, first_of, judge
+from .judging import Number, State, find_pace, first_of, judge
 from .library import Counted, Pace, System
 from .near import Near, nearest
 from .readings import (PACKED_FIELD, Cause, FieldReadings, Reading, draw_line, field_bytes, line_bytes, read_field,
@@ -39,6 +39,6 @@ from .stream import BLOCK, Stream, fields
 
 __all__ = ["System", "Cause", "Kind", "Format", "Counted", "Pace", "State", "Reading", "FieldReadings", "Code",
            "Number", "Near", "Stream", "line_bytes", "field_bytes", "read_line", "read_rows", "read_field", "fields",
-           "classify", "format_of", "judge", "first_of", "nearest", "draw_line"]
+           "classify", "format_of", "judge", "find_pace", "first_of", "nearest", "draw_line"]
 
 __version__ = "0.1.0"

@@ -3,7 +3,7 @@
 import ctypes
 import enum
 import struct
-from typing import Any, Iterable, List, NamedTuple, Optional, Union
+from typing import Any, Iterable, List, NamedTuple, Optional, Tuple, Union
 
 from .library import Counted, Pace, check, counted_number, later_call, pace_number, system_number
 from .readings import PACKED_FIELD, AnySystem, FieldReadings
@@ -12,8 +12,9 @@ from .stream import Stream
 
 class State(enum.IntEnum):
     """How sure the number of a field is. `nothing`: the field shows no number, and none is due. `believed`: it shows
-    the number, and enough around it supports that. `doubtful`: it shows the number, and too little supports that.
-    `due`: it doesn't show the number, but the believed numbers before and behind it leave no other."""
+    the number, and enough around it supports that. `due`: none of the field is believed, and the believed numbers
+    before and behind it count to this one, whether the field shows it or not. `doubtful`: it shows the number, none of
+    the field is believed, and none is due."""
     nothing = 0
     believed = 1
     doubtful = 2
@@ -40,17 +41,14 @@ def judge(readings: Any, system: AnySystem, counted: Union[Counted, str] = Count
     or bytes or an array as the library writes them (`Stream.packed`). `counted` and `pace` are a `Counted` and a
     `Pace`, or their names.
 
-    If the disc ran on around a field, and the misread words there weigh less than 10 (a word of pass 1 weighs 2, one of
-    pass 2 or 3 weighs 1), a believed number is the one that was recorded. Minutes without their seconds, chapters and
-    lost fields are not judged here: `ldvbi-side` judges them all."""
+    If the disc ran on around a field at the pace that is judged by, and the misread words there weigh less than 10 (one
+    read in pass 1 weighs 2, in pass 2 or 3 it weighs 1, and line 16 of a time counts twice), a believed number is the
+    one that was recorded, if the field has one. Minutes without their seconds, chapters and lost fields are not judged
+    here: `ldvbi-side` judges them all."""
     call = later_call("ldvbi_judge")
     asked = system_number(system), counted_number(counted), pace_number(pace)
     check(call(*asked, None, 0, None, 0, None, 0))  # of no field the library tests these alone
-    packed = _packed(readings)
-    count, rest = divmod(len(packed), PACKED_FIELD.size)
-    if rest:
-        raise ValueError("packed readings have %d bytes to a field, and these are %d"
-                         % (PACKED_FIELD.size, len(packed)))
+    packed, count = _packed(readings)
     seen = ctypes.create_string_buffer(_SIGHTINGS_BYTES * count)
     numbers = ctypes.create_string_buffer(_PACKED_NUMBER.size * count)
     check(call(*asked, packed, count, seen, count, numbers, count))
@@ -58,8 +56,29 @@ def judge(readings: Any, system: AnySystem, counted: Union[Counted, str] = Count
             for number, state in _PACKED_NUMBER.iter_unpack(numbers)]
 
 
-def _packed(readings: Any) -> bytes:
-    """Readings as the library takes them: what is packed, and a stream, in one piece, others field by field."""
+def find_pace(readings: Any, system: AnySystem, counted: Union[Counted, str] = Counted.pictures) -> Pace:
+    """The `Pace` that `judge` takes for these readings where none is given: `Pace.film` where pictures of NTSC are
+    counted, and over a tenth more of their numbers are believed by it than by that of video, else `Pace.video`."""
+    call = later_call("ldvbi_find_pace")
+    asked, pace = (system_number(system), counted_number(counted)), ctypes.c_uint32()
+    check(call(*asked, None, 0, None, 0, ctypes.byref(pace)))  # as above
+    packed, count = _packed(readings)
+    check(call(*asked, packed, count, ctypes.create_string_buffer(_SIGHTINGS_BYTES * count), count, ctypes.byref(pace)))
+    return Pace(pace.value)
+
+
+def _packed(readings: Any) -> Tuple[bytes, int]:
+    """Readings as the library takes them, and how many fields they are of."""
+    packed = _in_one_piece(readings)
+    count, rest = divmod(len(packed), PACKED_FIELD.size)
+    if rest:
+        raise ValueError("packed readings have %d bytes to a field, and these are %d"
+                         % (PACKED_FIELD.size, len(packed)))
+    return packed, count
+
+
+def _in_one_piece(readings: Any) -> bytes:
+    """What is packed, and a stream, as it is, others field by field."""
     if isinstance(readings, Stream):
         return b"".join(readings.packed(0, len(readings)))
     try:

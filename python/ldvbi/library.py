@@ -33,7 +33,8 @@ class Counted(enum.IntEnum):
 
 class Pace(enum.IntEnum):
     """How long the pictures of a disc last: two fields (video), or two and three fields by turns (film on NTSC).
-    `find` is that of film where more numbers are believed by it, else that of video."""
+    `find` is that of film where pictures of NTSC are counted, and over a tenth more of their numbers are believed by
+    it; else that of video."""
     video = 1
     film = 2
     find = 3
@@ -67,6 +68,7 @@ _ARGUMENTS = {
 # Those of the calls that an older library may lack, and what it can't do then
 _LATER = {
     "ldvbi_judge": ("judge numbers", [_NUMBER] * 3 + [_MEMORY, _SIZE] * 3),
+    "ldvbi_find_pace": ("find paces", [_NUMBER] * 2 + [_MEMORY, _SIZE] * 2 + [_MEMORY]),
     "ldvbi_nearest": ("find nearest words", _SETUP + [_MEMORY, _SIZE, _MEMORY]),
     "ldvbi_recover_rows": ("recover words", _SETUP + [_MEMORY, _SIZE, _MEMORY]),
     "ldvbi_recover_fields": ("recover words", _SETUP + [_MEMORY, _SIZE, _MEMORY, _SIZE]),

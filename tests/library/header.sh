@@ -82,6 +82,8 @@ ldvbi_format(0, 0xF12345, 0, format)
 ldvbi_draw_line(1, 1, 2, 0xF12345, drawn, 1820)
 ldvbi_judge(1, 1, 1, read, 9, seen, 9, numbers, 9)
 ldvbi_judge(1, 1, 1, NULL, 0, NULL, 0, NULL, 0)
+ldvbi_find_pace(1, 1, read, 9, seen, 9, format)
+ldvbi_find_pace(1, 1, NULL, 0, NULL, 0, format)
 END
 while read -r call; do
     called_as "return $call"
@@ -94,5 +96,6 @@ ldvbi_nearest(1, 1, 2, samples, 3640, NULL)
 ldvbi_recover_rows(1, 1, 2, samples, 5460, NULL)
 ldvbi_classify(0xF12345, NULL)
 ldvbi_format(0, 0xF12345, 0, NULL)
+ldvbi_find_pace(1, 1, read, 9, seen, 9, NULL)
 END
 finish

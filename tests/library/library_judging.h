@@ -14,7 +14,7 @@
 #include "library.h"
 #include <ctype.h>
 
-enum { MOST = 200 };
+enum { MOST = 2000 };
 
 /* What is judged: readings, or answers. */
 typedef struct {

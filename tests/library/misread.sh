@@ -20,18 +20,19 @@ check 'seek is built' does $cc -std=c99 $strict -o seek "$top/examples/seek.c" $
 check 'stops is built' does $cxx -std=c++17 $strict -o stops "$top/examples/stops.cpp" $linked
 check 'player is built' does $cxx -std=c++17 $strict -o player "$top/examples/player.cpp" $linked
 
-# Pictures 94 to 157, of which 100 reads 79999 and 151 reads 5, on both lines, and 110 reads 7 on one, with a stop at
-# 100, 120 and 151; and a stop with a chapter where picture 130 would have its number.
+# Pictures 94 to 157, of which 100 reads 79999 and 151 reads 5, on line 17 alone, 110 reads 7 on line 18, where line 17
+# is right, and 140 reads 9 on both, in place of which no other number is due; with a stop at 100, 120 and 151; and a
+# stop with a chapter where picture 130 would have its number.
 awk 'BEGIN {
     for (picture = 94; picture <= 157; picture++) {
-        shown = picture == 100 ? 79999 : picture == 151 ? 5 : picture
+        shown = picture == 100 ? 79999 : picture == 151 ? 5 : picture == 140 ? 9 : picture
         number = picture == 130 ? "803DDD" : sprintf("F%05d", shown)
         stop = picture == 100 || picture == 120 || picture == 130 || picture == 151 ? "82CFFF" : "-"
-        print stop, number, picture == 110 ? "F00007" : number
+        print stop, number, picture == 110 ? "F00007" : picture == 100 || picture == 151 ? "-" : number
         print "- 803DDD 803DDD"
     }
 }' | draws video
-# Film, whose pictures last two and three fields by turns: 5 and 6 read 79999
+# Film, whose pictures last two and three fields by turns: 5 and 6 read 79999, on line 17 alone
 draws film << 'WORDS'
 - F00001 F00001
 - - -
@@ -43,9 +44,9 @@ draws film << 'WORDS'
 - F00004 F00004
 - - -
 - - -
-- F79999 F79999
+- F79999 -
 - - -
-82CFFF F79999 F79999
+82CFFF F79999 -
 - - -
 - - -
 - F00007 F00007
@@ -85,6 +86,8 @@ video 99 0 field 11
 video 110 0 field 33
 video 7 1 not found
 video 130 1 not found
+video 140 1 not found
+video 9 1 not found
 video 157 0 field 127
 video 158 1 not found
 film 5 0 field 11

@@ -131,4 +131,29 @@ L17 H28|hold 89
 FFFFFF/14/47 H22|FFFFFF
 FFFFFF/14/47 H23|hold 680
 END
+
+# How near lines are that are read as different words, as docs/SIGNAL.md has it. The last two cells of 800000 are as
+# wide as they may be, and with the change between them later they are those of 800001: four columns (NTSC) or six (PAL)
+# where both words are of pass 1, one or two where the second is of pass 2, and one where both are. So many columns
+# turned over behind the change leave no four equal ones before 517 (NTSC), or 658 (PAL).
+while IFS='|' read -r system description answer; do
+    options=$ntsc
+    samples=ntsc_samples
+    [ "$system" = NTSC ] || { options=$pal; samples=pal_samples; }
+    echo "$description|-|-" | signal "$system" 1 | $samples > near.tbc
+    run extract $options near.tbc
+    jq -r '.fields[0] | "\(.vbi.vbiData[0]) \(.vbiPass[0])"' out > reading
+    read -r word pass < reading
+    check "$system, how near: $description" [ "$(printf '%06X pass %s' "$word" "$pass")" = "$answer" ]
+done << 'END'
+NTSC|800000/11/44 H11 L18 H18|800000 pass 1
+NTSC|800000/11/44 H11 L18 H18 @513-516L|800001 pass 1
+NTSC|800000/11/44 H11 L18 H18 @516-516L|800001 pass 2
+NTSC|800000/11/44 H11 L18 H18 @600-600H|800000 pass 2
+NTSC|800000/11/44 H11 L18 H18 @516-516L @600-600H|800001 pass 2
+PAL|800000/14/44 H14 L22 H22|800000 pass 1
+PAL|800000/14/44 H14 L22 H22 @652-657L|800001 pass 1
+PAL|800000/14/44 H14 L22 H22 @657-657L|800000 pass 2
+PAL|800000/14/44 H14 L22 H22 @655-655L @657-657L|800001 pass 2
+END
 finish

@@ -259,6 +259,8 @@ def compare_judge(call, choose):
     system, counted, pace = (choose.choice([*fit, *fit, *fit, *fit, 0, 4, 257]) for fit in ((1, 2), (1, 2), (1, 2, 3)))
     yield call("ldvbi_judge", number(system), number(counted), number(pace), readings, size(count), ..., size(count),
                At(20 * count), size(count + off), room=28 * count + 16)
+    yield call("ldvbi_find_pace", number(system), number(counted), readings, size(count), At(4), size(count + off), ...,
+               room=20 * count + 64)
     numbers = b"".join(struct.pack("<II", choose.randrange(4), choose.randrange(6)) for _ in range(count))
     yield call("ldvbi_first_of", numbers, size(count), number(choose.randrange(4)))
 

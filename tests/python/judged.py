@@ -122,12 +122,11 @@ class Judged:
             self.counts["due by the package, " + ("right" if right else "wrong")] += 1
 
     def _is_due_promised(self, field):
-        """Whether a number that is due in this field has to be right: the field has one, and both believed ones next to
-        it have to be right."""
-        around = [next(near for near in places if self.numbers[near].state == State.believed)
-                  for places in (range(field - 1, -1, -1), range(field + 1, len(self.numbers)))]
-        has_number = self.truth.recorded[field] is not None
-        return has_number and self.truth.has_run_on(field) and all(map(self.truth.is_promised, around))
+        """Whether a number that is due in this field has to be right: the disc is regular there, and the numbers that
+        are believed near it are right."""
+        near = self.truth.near(field)
+        return self.truth.is_regular(field) and all(
+            self._believed(one) in (None, self.truth.recorded[one]) for one in near)
 
     def _count_seeks(self):
         """What a search answers for each number that the side has, and for each other one that was misread."""

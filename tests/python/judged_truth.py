@@ -25,7 +25,7 @@ def sightings_of(counted, rate, words, passes):
     for line in (1, 2):
         number = number_in(counted, rate, words[0], words[line])
         if number is not None:
-            weights = [2 - (of_pass == 2) for of_pass in passes]
+            weights = [1 if of_pass in (2, 3) else 2 for of_pass in passes]
             found.append((number, weights[line] if counted == Counted.pictures else min(weights[0], weights[line])))
     return found
 
@@ -52,12 +52,13 @@ class JudgedTruth:
     def shows(self, field, number):
         return any(one == number for one, _ in self.shown[field])
 
-    def _near(self, field):
+    def near(self, field):
+        """IsNear: the field and those within reach of it."""
         return range(max(field - REACH, 0), min(field + REACH + 1, len(self.recorded)))
 
     def has_run_on(self, field):
         """RunsOn: any two numbers near the field fit, of video those an even number of fields apart."""
-        known = [(near, self.recorded[near]) for near in self._near(field) if self.recorded[near] is not None]
+        known = [(near, self.recorded[near]) for near in self.near(field) if self.recorded[near] is not None]
         if self.pace == Pace.film:
             places = [2 * near - 5 * number for near, number in known]
             return not places or max(places) - min(places) <= 2
@@ -65,12 +66,20 @@ class JudgedTruth:
 
     def has_stood_still(self, field):
         """StandsStill: the fields near this one, an even number of fields away, have one number, or none."""
-        numbers = {self.recorded[near] for near in self._near(field) if (near - field) % 2 == 0}
+        numbers = {self.recorded[near] for near in self.near(field) if (near - field) % 2 == 0}
         return len(numbers - {None}) <= 1
+
+    def is_regular(self, field):
+        """IsRegular: the field has the number to which numbers of the disc before and behind it, both near, count."""
+        fields, pictures = (5, 2) if self.pace == Pace.film else (2, 1)
+        told = [{self.recorded[near] + (field - near) // fields * pictures for near in side
+                 if self.recorded[near] is not None and (field - near) % fields == 0}
+                for side in (range(max(field - REACH, 0), field), self.near(field)[min(field, REACH) + 1:])]
+        return told[0] & told[1] <= {self.recorded[field]}
 
     def wrong_weight(self, field):
         """The weight of what was misread near the field."""
-        return sum(self.wrong[near] for near in self._near(field))
+        return sum(self.wrong[near] for near in self.near(field))
 
     def is_promised(self, field):
         """Whether a number that is believed in this field has to be right: IsSound, or of video IsSoundStill."""

@@ -38,11 +38,13 @@ def one(number, of_pass=1):
 
 class States(unittest.TestCase):
     def test_each_state(self):
-        rows = both(1) + both(2) + [BLANK, BLANK] + both(4) + both(79999) + both(6) + both(7)
+        rows = both(1) + both(2) + [BLANK, BLANK] + both(4) + one(79999) + both(6) + both(7)
         believed, due = State.believed, State.due
         wanted = [(1, believed), (2, believed), (3, due), (4, believed), (5, due), (6, believed), (7, believed)]
         self.assertEqual(judged(rows), [one for pair in wanted for one in (pair, NOTHING)])
         self.assertEqual(judged(both(5)), [(5, State.doubtful), NOTHING])
+        rows[8:10] = both(79999)  # where both lines say one number, none is due
+        self.assertEqual(judged(rows)[8], (79999, State.doubtful))
 
     def test_weights_9_and_10(self):
         self.assertEqual(states(both(1) + both(2) + one(3, of_pass=2)), "ddd")
@@ -127,10 +129,9 @@ class Paces(unittest.TestCase):
         rows = film(range(1, 6))  # fields 0, 3, 5, 8 and 10
         self.assertEqual(states(rows, "pictures", "film"), "bbbbb")
         self.assertEqual(states(rows, "pictures", "video"), "ddddd")
-        rows[5] = rows[8] = BLANK  # each is five fields from a believed one next to it
+        rows[5] = rows[8] = BLANK  # 3 is five fields from both, 4 from 2 alone, behind which no believed one is as far
         self.assertEqual([one for one in judged(rows, "pictures", Pace.film) if one != NOTHING],
-                         [(1, State.believed), (2, State.believed), (3, State.due), (4, State.due),
-                          (5, State.believed)])
+                         [(1, State.believed), (2, State.believed), (3, State.due), (5, State.believed)])
 
     def test_video(self):
         rows = [row for number in range(1, 6) for row in one(number)]
@@ -138,9 +139,29 @@ class Paces(unittest.TestCase):
         self.assertEqual(states(rows, "pictures", "film"), "ddbdd")  # of film two pictures are five fields
 
     def test_found(self):
-        for rows in (film(range(1, 6)), [row for number in range(1, 6) for row in one(number)]):
+        """Film of NTSC alone, as a disc of film is; by ldvbi.find_pace as by ldvbi.judge."""
+        video = [row for number in range(1, 6) for row in one(number)]
+        for rows, system, pace in ((film(range(1, 6)), "NTSC", Pace.film), (video, "NTSC", Pace.video),
+                                   (video, "PAL", Pace.video)):
             for words in ((), ("pictures",), ("pictures", "find"), (Counted.pictures, Pace.find), (1, 3)):
-                self.assertEqual(states(rows, *words), "bbbbb")
+                self.assertEqual(states(rows, *words, system=system), "bbbbb")
+                self.assertIs(ldvbi.find_pace(side(rows, system).readings, system, *words[:1]), pace)
+        self.assertEqual(states(film(range(1, 6))), "ddddd")
+        self.assertIs(ldvbi.find_pace(side(film(range(1, 6)), "PAL").readings, "PAL"), Pace.video)
+        self.assertIs(ldvbi.find_pace(side(film(range(1, 6)), "NTSC").readings, "NTSC", "times"), Pace.video)
+
+    def test_two_clean_discs(self):
+        """One picture of 1,000 is misread by one, on one line or both, in pass 1 or 2: no wrong number is believed."""
+        numbers = range(1, 1001)
+        for system in ("NTSC", "PAL"):
+            for words in ("- {0} {0}", "- {0} -", "- {1} {0}", "- {0}* {0}*"):
+                rows = [row for number in numbers for row in both(number)]
+                rows[1000] = words.format(picture(502), picture(501))  # which has 501
+                known = judged(rows, system=system)
+                believed = {field: one.number for field, one in enumerate(known) if one.state is State.believed}
+                self.assertGreaterEqual(len(believed), 999)
+                self.assertEqual(believed, {field: 1 + field // 2 for field in believed})
+                self.assertIs(ldvbi.find_pace(side(rows, system).readings, system), Pace.video)
 
 
 class Forms(unittest.TestCase):
@@ -180,6 +201,7 @@ class Forms(unittest.TestCase):
     def test_none(self):
         for one in ([], (), b"", iter([]), ldvbi.Stream(b"", *NTSC)):
             self.assertEqual(ldvbi.judge(one, "NTSC"), [])
+            self.assertIs(ldvbi.find_pace(one, "NTSC"), Pace.video)
 
     def test_a_number_is_a_tuple(self):
         known, *_ = ldvbi.judge(ldvbi.Stream(self.path, *NTSC), "NTSC")
@@ -202,6 +224,8 @@ class Refusals(unittest.TestCase):
             with self.subTest(words):
                 for readings in ([], [5]):  # what is asked for is looked at first
                     self.assertEqual(reason(ldvbi.judge, readings, *words), text)
+                    if text != pace:
+                        self.assertEqual(reason(ldvbi.find_pace, readings, *words[:2]), text)
 
     def test_readings(self):
         line = (0, 0, 0, 0)
@@ -214,6 +238,7 @@ class Refusals(unittest.TestCase):
                                ("ab", "readings[0] is not three readings")):
             with self.subTest(text):
                 self.assertEqual(reason(ldvbi.judge, readings, "PAL"), text)
+                self.assertEqual(reason(ldvbi.find_pace, readings, "PAL"), text)
 
 
 class First(unittest.TestCase):
@@ -227,7 +252,7 @@ class First(unittest.TestCase):
     def test_beside_the_library(self):
         call = ctypes.CDLL(os.environ["LDVBI_LIBRARY"]).ldvbi_first_of
         call.restype, call.argtypes = ctypes.c_size_t, [ctypes.c_void_p, ctypes.c_size_t, ctypes.c_uint32]
-        rows = pictures([1, 2, 3, 79999, 5, 6, 7]) + pictures([30]) + pictures([3, 4, 5, 6])
+        rows = pictures([1, 2, 3]) + one(79999) + pictures([5, 6, 7, 30, 3, 4, 5, 6])
         numbers = judged(rows)
         packed = b"".join(number.to_bytes(4, "little") + state.to_bytes(4, "little")
                           for number, state in ((one.number or 0, int(one.state)) for one in numbers))

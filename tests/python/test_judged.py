@@ -102,6 +102,25 @@ class Premises(unittest.TestCase):
         numbers[28], numbers[29] = None, numbers[28]  # 12, the second of a pair, a field late
         self.assertFalse(truth_of(rows, numbers, Pace.film).has_run_on(25))
 
+    def test_a_regular_disc(self):
+        """A number that the disc hasn't where those before and behind count to it; beyond a jump they count to none."""
+        numbers = fields_of_pictures(range(40))
+        truth = truth_of(pictures(range(40)), numbers)
+        self.assertTrue(all(map(truth.is_regular, range(80))))
+        numbers[20] = None
+        truth = truth_of(pictures(range(40)), numbers)
+        self.assertEqual([field for field in range(80) if not truth.is_regular(field)], [20])
+        jump = [*range(20), *range(30, 50)]
+        truth = truth_of(pictures(jump), fields_of_pictures(jump))
+        self.assertTrue(all(map(truth.is_regular, range(80))))
+        of_film = [number if field % 5 in (0, 2) else None
+                   for field, number in enumerate(2 * (field // 5) + (field % 5 == 2) for field in range(50))]
+        truth = truth_of(film(range(1, 21)), of_film, Pace.film)
+        self.assertTrue(all(map(truth.is_regular, range(50))))
+        of_film[22] = None
+        truth = truth_of(film(range(1, 21)), of_film, Pace.film)
+        self.assertEqual([field for field in range(50) if not truth.is_regular(field)], [22])
+
     def test_a_still(self):
         rows = pictures([7] * 30)
         truth = truth_of(rows, fields_of_pictures([7] * 29 + [8]))
@@ -170,19 +189,23 @@ class Planted(unittest.TestCase):
                          "said to have 16 (it runs on)")
 
     def test_due(self):
-        """In field 20, where a number is due; in field 21, which has none; and behind much that was misread."""
-        def put(field):
+        """In field 20, where a number is due; in field 21, which has none; behind much that was misread, of which
+        nothing is believed; and beside a number that is wrongly believed, within reach and further away."""
+        def put(field, *others):
             def change(numbers):
                 numbers[field] = Number(11, State.due)
+                for other in others:
+                    numbers[other] = Number(500, State.believed)
             return change
         misread = pictures(range(40))
         for field in (12, 14, 16):
             misread[field] = "- %s %s" % (picture(500), picture(500))
-        for field, rows, promised in ((20, None, 1), (21, None, 0), (20, misread, 0)):
-            counts, _ = self.counts(put(field), rows)
+        for change, rows, promised, believed in ((put(20), None, 1, 0), (put(21), None, 1, 0), (put(20), misread, 1, 0),
+                                                 (put(20, 44), None, 0, 1), (put(20, 46), None, 1, 1)):
+            counts, _ = self.counts(change, rows)
             self.assertEqual([counts.get(name, 0) for name in (
                 "due by the judge, wrong", "due by the judge, wrong where promised", "wrong by the judge")],
-                [1, promised, 0])
+                [1, promised, believed])
 
     def test_where_nothing_is_promised(self):
         rows = pictures(range(40))

@@ -1,6 +1,6 @@
 -- The judging of numbers, as C asks for it: first the system is looked at, then the lengths of the arrays, then what is
 -- counted, then the pace.
-use Rattle.std.specs.Prelude.{◌≡◌, ℕ, ◌==◌, ◌^◌, ◌&&◌, nat_le, nat_lt, if◌then◌else◌, List, [], ◌∷◌, slice_get}
+use Rattle.std.specs.Prelude.{◌≡◌, ℕ, ◌==◌, ◌^◌, ◌&&◌, nat_le, nat_lt, if◌then◌else◌, List, [], ◌∷◌, map, slice_get}
 use Rattle.std.specs.Prelude.{Option, Some, None, Result, Ok, Err}
 use Rattle.vbi_words.specs.declared.system.System as words
 use Rattle.vbi_side.specs.declared.lines.Counted as side
@@ -12,8 +12,9 @@ use Rattle.vbi_side.specs.declared.pace.Pace.TheVariants.{Video, Film}
 use Rattle.vbi_side.specs.declared.sighting.Sightings.{Sightings}
 use Rattle.vbi_side.specs.Found.{IsFound}
 use Rattle.vbi_side.specs.Lines.{sightings_of}
-use Rattle.vbi_side.specs.Numbers.{believed, AreAnswers}
-use Rattle.vbi_side.specs.Truth.{IsSound, IsSoundStill}
+use Rattle.vbi_side.specs.Numbers.{believed, due, AreAnswers, AreRight}
+use Rattle.vbi_side.specs.Truth.{IsRegular, IsSound, IsSoundStill}
+use Rattle.vbi_side.specs.Misread.{Lines, Words, IsRead}
 use Rattle.vbi_c.specs.declared.fields.LdvbiFieldReadings.{LdvbiFieldReadings}
 use Rattle.vbi_c.specs.declared.judging.Judging.{Judging}
 use Rattle.vbi_c.specs.declared.judging.Asked.{Asked}
@@ -77,16 +78,45 @@ abbrev pub seen_in : Judging → LdvbiFieldReadings → Sightings
 seen_in judging readings = seen_of judging readings.lines
 
 -- the pace is the one that is asked for: the one that was given, or the one that is found
-abbrev pub IsAskedPace : Asked → List Sightings → paces.Pace → Type 0
-IsAskedPace (Given given) seen pace = pace ≡ given
-IsAskedPace Found seen pace = IsFound seen pace
+abbrev pub IsPaceOf : words.System → side.Counted → Asked → List Sightings → paces.Pace → Type 0
+IsPaceOf system counted (Given given) seen pace = pace ≡ given
+IsPaceOf system counted Found seen pace = IsFound system counted seen pace
 
--- the numbers are the answers of these fields at the pace that is asked for, and a believed one is the number on the
--- disc, where the disc ran on around its field, or stood still, and little was misread there
-pub record AreJudged (asked : Asked) (seen : List Sightings) (numbers : List Number) (pace : paces.Pace) : Type 0 where
-  pub pace_is : IsAskedPace asked seen pace
+-- the same of what is to be judged
+abbrev pub IsAskedPace : Judging → List Sightings → paces.Pace → Type 0
+IsAskedPace judging = IsPaceOf judging.system judging.counted judging.asked
+
+-- a pace as C sees it
+abbrev pub pace_for_c : paces.Pace → ℕ
+pace_for_c Video = 1
+pace_for_c Film = 2
+
+-- what a field's three lines show
+abbrev pub lines_of : List LdvbiReading → Lines
+lines_of (line_16 ∷ line_17 ∷ line_18 ∷ []) =
+    record { line_16 = shown_by line_16; line_17 = shown_by line_17; line_18 = shown_by line_18 }
+lines_of other = record {
+  line_16 = record { word = None; pass = 0 };
+  line_17 = record { word = None; pass = 0 };
+  line_18 = record { word = None; pass = 0 };
+}
+
+-- what a field's readings show
+abbrev pub lines_in : LdvbiFieldReadings → Lines
+lines_in readings = lines_of readings.lines
+
+-- the numbers are the answers of these fields at the pace that is asked for; a believed one is the number on the disc,
+-- where the disc ran on around its field, and the words misread there weigh less than enough, or where it stood still,
+-- and little was misread; and a due one is, where the disc is regular there and the believed numbers are right
+pub record AreJudged (judging : Judging) (readings : List LdvbiFieldReadings) (seen : List Sightings)
+    (numbers : List Number) (pace : paces.Pace) : Type 0 where
+  pub pace_is : IsAskedPace judging seen pace
   pub answers : AreAnswers pace seen numbers
+  pub read : (disc : ℕ → Words) (recorded : ℕ → Option ℕ) (i m n : ℕ) → slice_get numbers i ≡ Some (believed n)
+      → IsRead judging.system judging.counted pace (map lines_in readings) disc recorded i m → n ≡ m
   pub sound : (recorded : ℕ → Option ℕ) (i m n : ℕ) → slice_get numbers i ≡ Some (believed n)
       → IsSound pace recorded seen i m → n ≡ m
   pub sound_still : (recorded : ℕ → Option ℕ) (i m n : ℕ) → slice_get numbers i ≡ Some (believed n) → pace ≡ Video
       → IsSoundStill recorded seen i m → n ≡ m
+  pub due_sound : (recorded : ℕ → Option ℕ) (i n : ℕ) → slice_get numbers i ≡ Some (due n)
+      → IsRegular pace recorded i → AreRight numbers recorded i → recorded i ≡ Some n

@@ -18,13 +18,13 @@ use vbi_words::{System, Word24};
 enum Asked {
     /// This one.
     Given(Pace),
-    /// The one by which more numbers are believed.
+    /// The one that is found by the numbers that are believed at either.
     Found,
 }
 
 /// What is to be judged, and how.
 #[derive(Clone, Copy)]
-struct Judging {
+pub(crate) struct Judging {
     system: System,
     counted: Counted,
     asked: Asked,
@@ -54,7 +54,7 @@ fn asked_of(number: u32) -> Option<Asked>
 }
 
 /// What these numbers ask for, or why they are refused: both arrays have to be as long as that of the readings.
-fn judging_of(
+pub(crate) fn judging_of(
     system: u32,
     counted: u32,
     pace: u32,
@@ -97,7 +97,7 @@ fn seen_in(judging: &Judging, readings: &LdvbiFieldReadings) -> Sightings
 }
 
 /// Puts what each field shows of its number into its place.
-fn see_all(judging: &Judging, readings: &[LdvbiFieldReadings], seen: &mut [Sightings])
+pub(crate) fn see_all(judging: &Judging, readings: &[LdvbiFieldReadings], seen: &mut [Sightings])
     requires { length seen.old ≡ length readings.now }
     ensures { seen.new ≡ map (seen_in judging.now) readings.now }
 {
@@ -107,12 +107,12 @@ fn see_all(judging: &Judging, readings: &[LdvbiFieldReadings], seen: &mut [Sight
 }
 
 /// The pace that is asked for.
-fn pace_for(asked: Asked, seen: &[Sightings]) -> Pace
-    ensures { IsAskedPace asked seen.now result }
+pub(crate) fn pace_for(judging: &Judging, seen: &[Sightings]) -> Pace
+    ensures { IsAskedPace judging.now seen.now result }
 {
-    match asked {
+    match judging.asked {
         Asked::Given(pace) => pace,
-        Asked::Found => found_pace(seen),
+        Asked::Found => found_pace(judging.system, judging.counted, seen),
     }
 }
 
@@ -132,7 +132,7 @@ pub extern "C" fn ldvbi_judge(
     ensures sees { IfOk (judging_of system counted pace (length readings.now) (length seen.old) (length numbers.old))
         (λ judging. seen.new ≡ map (seen_in judging) readings.now) }
     ensures judges { IfOk (judging_of system counted pace (length readings.now) (length seen.old) (length numbers.old))
-        (λ judging. (pace : paces.Pace) × AreJudged judging.asked seen.new numbers.new pace) }
+        (λ judging. (pace : paces.Pace) × AreJudged judging readings.now seen.new numbers.new pace) }
     ensures unwritten { result ≢ 0 → (seen.new ≡ seen.old) × (numbers.new ≡ numbers.old) }
 {
     match judging_of(
@@ -145,7 +145,7 @@ pub extern "C" fn ldvbi_judge(
     ) {
         Ok(judging) => {
             see_all(&judging, readings, seen);
-            judge(seen, pace_for(judging.asked, seen), numbers);
+            judge(seen, pace_for(&judging, seen), numbers);
             DONE
         }
         Err(refusal) => refusal.status(),

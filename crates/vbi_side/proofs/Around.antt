@@ -1,92 +1,159 @@
 -- The nearest numbers around a field, and what they leave for it.
-use Rattle.std.proofs.Common.{◌≡◌, ℕ, ◌<◌, ◌≤◌, Bool, true, false, List, ap, sym, ◌∙◌, subst, get_or, length}
-use Rattle.std.specs.Prelude.{Option, Some, None, ◌↔◌, unwrap_or}
+use Rattle.std.proofs.Common.{◌≡◌, ℕ, ◌+◌, ◌<◌, ◌≤◌, Bool, true, false, List, arith, ap, sym, ◌∙◌, subst, get_or}
+use Rattle.std.proofs.Common.{length, inl, inr}
+use Rattle.std.specs.Prelude.{Option, Some, None, ◌↔◌, ◌⊎◌, unwrap_or, nat_le}
+use Rattle.std.proofs.lemmas.Bool.Decides.{leb_tells}
 use Rattle.std.proofs.lemmas.Option.{slice_get-get_or, get_or_from_slice_get}
 use Rattle.vbi_side.specs.declared.number.Number.{Number}
-use Rattle.vbi_side.specs.declared.due.Place.{Place}
 use Rattle.vbi_side.specs.declared.sighting.Sightings.{Sightings}
 use Rattle.vbi_side.specs.declared.pace.Pace.{Pace}
+use Rattle.vbi_side.specs.Paces.{Count, nearly}
 use Rattle.vbi_side.specs.Beliefs.{Believed}
-use Rattle.vbi_side.specs.Due.{IsBefore, IsBehind, Leaves, IsLeft, ShowsInstead, Due}
+use Rattle.vbi_side.specs.Due.{slack_of, Leaves, IsLeft, ShowsInstead, ShowsTwice, Due}
+use Rattle.vbi_side.specs.Nearest.{IsBefore, IsBehind, NoneBefore, NoneBehind, AllNearly}
 use Rattle.vbi_side.specs.Numbers.{believed, IsMarked}
+use Rattle.vbi_side.proofs.DueLemmas.{slack_most, slack_grows, nearly_more, whole_on, nearly_on, nearly_back}
+
+-- a test holds or doesn't
+pub not_both : {b : Bool} → b ≡ false → b ≡ true → ⊥
+not_both e f = cc
 
 -- ---- numbers that two ways of asking find alike
 
-before_along : (P Q : ℕ → ℕ → Type 0) (i j m : ℕ) → ((k n : ℕ) → P k n ↔ Q k n) → IsBefore P i j m → IsBefore Q i j m
-before_along P Q i j m same b = record {
-  before = b.before;
-  near = b.near;
-  has = (same j m).0 b.has;
-  nearest = λ k n less more has. b.nearest k n less more ((same k n).1 has);
-}
-
-behind_along : (P Q : ℕ → ℕ → Type 0) (i j m : ℕ) → ((k n : ℕ) → P k n ↔ Q k n) → IsBehind P i j m → IsBehind Q i j m
-behind_along P Q i j m same b = record {
-  behind = b.behind;
-  near = b.near;
-  has = (same j m).0 b.has;
-  nearest = λ k n less more has. b.nearest k n less more ((same k n).1 has);
-}
-
 pub left_along : (P Q : ℕ → ℕ → Type 0) (pace : Pace) (i n : ℕ) → ((k l : ℕ) → P k l ↔ Q k l)
     → IsLeft P pace i n → IsLeft Q pace i n
-left_along P Q pace i n same (j, m, k, l, before, behind, leaves) =
-    (j, m, k, l, before_along P Q i j m same before, behind_along P Q i k l same behind, leaves)
+left_along P Q pace i n same (j, m, k, l, leaves) = (
+  j,
+  m,
+  k,
+  l,
+  record {
+    before = leaves.before;
+    near = leaves.near;
+    behind = leaves.behind;
+    far = leaves.far;
+    first = (same j m).0 leaves.first;
+    last = (same k l).0 leaves.last;
+    on = leaves.on;
+    back = leaves.back;
+    between = λ h x more less has. leaves.between h x more less ((same h x).1 has);
+  },
+)
 
 -- ---- what the two places that are found leave
 
-none_some : {A : Type 0} (found : Option A) (a : A) → found ≡ None → found ≡ Some a → ⊥
+pub none_some : {A : Type 0} (found : Option A) (a : A) → found ≡ None → found ≡ Some a → ⊥
 none_some found a none some = cc
 
-same_place : (found : Option Place) (place : Place) (j m : ℕ) → found ≡ Some place
-    → found ≡ Some (record { field = j; number = m }) → place ≡ record { field = j; number = m }
-same_place found place j m is other = ap (λ (o : Option Place). unwrap_or o place) (sym is ∙ other)
+-- a field is marked with one number
+one_marked : (numbers : List Number) (j m n : ℕ) → IsMarked numbers j m → IsMarked numbers j n → m ≡ n
+one_marked numbers j m n one other = ap (λ (o : Option Number). (unwrap_or o (believed m)).number) (sym one ∙ other)
 
-pub no_before : (numbers : List Number) (pace : Pace) (i n : ℕ) (found : Option Place)
-    → ((place : Place) → (found ≡ Some place) ↔ IsBefore (IsMarked numbers) i place.field place.number)
-    → found ≡ None → IsLeft (IsMarked numbers) pace i n → ⊥
-no_before numbers pace i n found tells none (j, m, k, l, before, behind, leaves) =
-    none_some found (record { field = j; number = m }) none ((tells (record { field = j; number = m })).1 before)
+pub no_before : (numbers : List Number) (pace : Pace) (i n : ℕ) → NoneBefore (IsMarked numbers) pace i
+    → IsLeft (IsMarked numbers) pace i n → ⊥
+no_before numbers pace i n none (j, m, k, l, leaves) =
+    none j m leaves.near leaves.before (whole_on pace j m i n leaves.before leaves.on) leaves.first
 
-pub no_behind : (numbers : List Number) (pace : Pace) (i n : ℕ) (found : Option Place)
-    → ((place : Place) → (found ≡ Some place) ↔ IsBehind (IsMarked numbers) i place.field place.number)
-    → found ≡ None → IsLeft (IsMarked numbers) pace i n → ⊥
-no_behind numbers pace i n found tells none (j, m, k, l, before, behind, leaves) =
-    none_some found (record { field = k; number = l }) none ((tells (record { field = k; number = l })).1 behind)
+pub no_behind : (numbers : List Number) (pace : Pace) (i n : ℕ) → NoneBehind (IsMarked numbers) pace i
+    → IsLeft (IsMarked numbers) pace i n → ⊥
+no_behind numbers pace i n none (j, m, k, l, leaves) =
+    none k l leaves.behind leaves.far (whole_on pace i n k l leaves.behind leaves.back) leaves.last
 
-pub both_there : (numbers : List Number) (pace : Pace) (i : ℕ) (found others : Option Place) (b k : Place)
-    (answer : Option ℕ)
-    → ((place : Place) → (found ≡ Some place) ↔ IsBefore (IsMarked numbers) i place.field place.number)
-    → ((place : Place) → (others ≡ Some place) ↔ IsBehind (IsMarked numbers) i place.field place.number)
-    → found ≡ Some b → others ≡ Some k
-    → ((n : ℕ) → (answer ≡ Some n) ↔ Leaves pace b.field b.number k.field k.number i n)
-    → (n : ℕ) → (answer ≡ Some n) ↔ IsLeft (IsMarked numbers) pace i n
-both_there numbers pace i found others b k answer tells tell_others is are leave n = (
-  λ e. (b.field, b.number, k.field, k.number, (tells b).0 is, (tell_others k).0 are, (leave n).0 e),
-  back,
-)
+-- the nearest field before leads on to what is left
+nearest_on : (numbers : List Number) (pace : Pace) (i j m k l b x n : ℕ)
+    → Leaves (IsMarked numbers) pace j m k l i n → IsBefore (IsMarked numbers) pace i b x
+    → (j ≤ b) × Count pace b x i n
+nearest_on numbers pace i j m k l b x n leaves is = go (leb_tells j b) (leb_tells b j)
   where
-    back : IsLeft (IsMarked numbers) pace i n → answer ≡ Some n
-    back (j, m, f, l, before, behind, leaves) =
-        let p : b ≡ record { field = j; number = m }
-        = same_place found b j m is ((tells (record { field = j; number = m })).1 before) in
-        let q : k ≡ record { field = f; number = l }
-        = same_place others k f l are ((tell_others (record { field = f; number = l })).1 behind) in
-        (leave n).1 (subst (λ (place : Place). Leaves pace b.field b.number place.field place.number i n) (sym q)
-        (subst (λ (place : Place). Leaves pace place.field place.number f l i n) (sym p) leaves))
+    go : ((nat_le j b ≡ true) × (j ≤ b)) ⊎ ((nat_le j b ≡ false) × (b < j))
+        → ((nat_le b j ≡ true) × (b ≤ j)) ⊎ ((nat_le b j ≡ false) × (j < b)) → (j ≤ b) × Count pace b x i n
+    go (inr (f, less)) rest =
+        absurd (is.nearest j m less leaves.before (whole_on pace j m i n leaves.before leaves.on) leaves.first)
+    go (inl (t, le)) (inr (f, less)) = (
+      le,
+      nearly_on pace (slack_of j k) i n b x (slack_most j k) is.before is.whole
+          (leaves.between b x less (omega (arith, is.before, leaves.behind)) is.has),
+    )
+    go (inl (t, le)) (inl (s, ge)) =
+        let here : j ≡ b = omega (arith, le, ge) in
+        let same : m ≡ x = one_marked numbers b m x (subst (λ f. IsMarked numbers f m) here leaves.first) is.has in
+        (le, subst (λ f. Count pace f x i n) here (subst (λ p. Count pace j p i n) same leaves.on))
+
+-- and so does the nearest one behind
+nearest_back : (numbers : List Number) (pace : Pace) (i j m k l c y n : ℕ)
+    → Leaves (IsMarked numbers) pace j m k l i n → IsBehind (IsMarked numbers) pace i c y
+    → (c ≤ k) × Count pace i n c y
+nearest_back numbers pace i j m k l c y n leaves is = go (leb_tells c k) (leb_tells k c)
+  where
+    go : ((nat_le c k ≡ true) × (c ≤ k)) ⊎ ((nat_le c k ≡ false) × (k < c))
+        → ((nat_le k c ≡ true) × (k ≤ c)) ⊎ ((nat_le k c ≡ false) × (c < k)) → (c ≤ k) × Count pace i n c y
+    go (inr (f, less)) rest =
+        absurd (is.nearest k l leaves.behind less (whole_on pace i n k l leaves.behind leaves.back) leaves.last)
+    go (inl (t, le)) (inr (f, less)) = (
+      le,
+      nearly_back pace (slack_of j k) i n c y (slack_most j k) is.behind is.whole
+          (leaves.between c y (omega (arith, is.behind, leaves.before)) less is.has),
+    )
+    go (inl (t, le)) (inl (s, ge)) =
+        let here : k ≡ c = omega (arith, le, ge) in
+        let same : l ≡ y = one_marked numbers c l y (subst (λ f. IsMarked numbers f l) here leaves.last) is.has in
+        (le, subst (λ f. Count pace i n f y) here (subst (λ p. Count pace i n k p) same leaves.back))
+
+-- what is left is what the nearest ones count to
+pub left_counts : (numbers : List Number) (pace : Pace) (i b x c y n : ℕ)
+    → IsBefore (IsMarked numbers) pace i b x → IsBehind (IsMarked numbers) pace i c y
+    → IsLeft (IsMarked numbers) pace i n → Count pace b x i n × Count pace i n c y
+left_counts numbers pace i b x c y n before behind (j, m, k, l, leaves) = (
+  (nearest_on numbers pace i j m k l b x n leaves before).1,
+  (nearest_back numbers pace i j m k l c y n leaves behind).1,
+)
+
+-- and from it nothing between these is off
+pub left_nearly : (numbers : List Number) (pace : Pace) (i b x c y n : ℕ)
+    → IsBefore (IsMarked numbers) pace i b x → IsBehind (IsMarked numbers) pace i c y
+    → IsLeft (IsMarked numbers) pace i n → AllNearly (IsMarked numbers) pace (slack_of b c) b c i n
+left_nearly numbers pace i b x c y n before behind (j, m, k, l, leaves) h z more less has =
+    let first = (nearest_on numbers pace i j m k l b x n leaves before).0 in
+    let last = (nearest_back numbers pace i j m k l c y n leaves behind).0 in
+    nearly_more pace (slack_of j k) (slack_of b c) i n h z (slack_grows j k b c first last)
+    (leaves.between h z (omega (arith, first, more)) (omega (arith, last, less)) has)
+
+-- what the nearest ones count to is left, if from it nothing between them is off
+pub nearest_leave : (numbers : List Number) (pace : Pace) (i b x c y n : ℕ)
+    → IsBefore (IsMarked numbers) pace i b x → IsBehind (IsMarked numbers) pace i c y
+    → Count pace b x i n → Count pace i n c y → AllNearly (IsMarked numbers) pace (slack_of b c) b c i n
+    → IsLeft (IsMarked numbers) pace i n
+nearest_leave numbers pace i b x c y n before behind on back between = (
+  b,
+  x,
+  c,
+  y,
+  record {
+    before = before.before;
+    near = before.near;
+    behind = behind.behind;
+    far = behind.near;
+    first = before.has;
+    last = behind.has;
+    on = on;
+    back = back;
+    between = between;
+  },
+)
 
 -- ---- what is due
 
 -- where nothing is believed of a field and no other code stands there, what is left is due
 pub left_due : (pace : Pace) (fields : List Sightings) (numbers : List Number) (i : ℕ) (answer : Option ℕ)
     → ((j n : ℕ) → IsMarked numbers j n ↔ Believed pace fields j n)
-    → ((m : ℕ) → Believed pace fields i m → ⊥) → (ShowsInstead fields i → ⊥)
+    → ((m : ℕ) → Believed pace fields i m → ⊥) → (ShowsInstead fields i → ⊥) → (ShowsTwice fields i → ⊥)
     → ((n : ℕ) → (answer ≡ Some n) ↔ IsLeft (IsMarked numbers) pace i n)
     → (n : ℕ) → (answer ≡ Some n) ↔ Due pace fields i n
-left_due pace fields numbers i answer marked none vacant left n = (
+left_due pace fields numbers i answer marked none vacant unread left n = (
   λ e. record {
     unbelieved = none;
     vacant = vacant;
+    unread = unread;
     left = left_along (IsMarked numbers) (Believed pace fields) pace i n marked ((left n).0 e);
   },
   λ due. (left n).1 (left_along (Believed pace fields) (IsMarked numbers) pace i n
@@ -120,6 +187,42 @@ pub code_at : (fields : List Sightings) (i : ℕ) (d : Sightings) → ShowsInste
 code_at fields i d (field, at, shows) =
     subst (λ (f : Sightings). 1 ≤ f.instead) (sym (get_or_from_slice_get fields i field d at)) shows
 
--- a test holds or doesn't
-pub not_both : {b : Bool} → b ≡ false → b ≡ true → ⊥
-not_both e f = cc
+-- a number that is off is found
+pub off_one : (numbers : List Number) (pace : Pace) (slack j k i n f : ℕ) (d : Number) → f < length numbers
+    → j < f → f < k → (get_or numbers f d).state ≡ 1
+    → nearly pace slack i n f (get_or numbers f d).number ≡ false
+    → AllNearly (IsMarked numbers) pace slack j k i n → ⊥
+unfolding marked_at
+off_one numbers pace slack j k i n f d within more less is off all =
+    let marked = marked_at numbers f d within is in not_both off (all f marked.0 more less marked.1)
+
+-- with one field more that isn't off
+pub nearly_one_more : (numbers : List Number) (pace : Pace) (slack j i n f : ℕ)
+    → AllNearly (IsMarked numbers) pace slack j f i n
+    → ((x : ℕ) → IsMarked numbers f x → nearly pace slack i n f x ≡ true)
+    → AllNearly (IsMarked numbers) pace slack j (f + 1) i n
+nearly_one_more numbers pace slack j i n f all one h x more less has = go (leb_tells f h)
+  where
+    go : ((nat_le f h ≡ true) × (f ≤ h)) ⊎ ((nat_le f h ≡ false) × (h < f)) → nearly pace slack i n h x ≡ true
+    go (inl (t, le)) =
+        let here : f ≡ h = omega (arith, le, less) in
+        subst (λ g. nearly pace slack i n g x ≡ true) here (one x (subst (λ g. IsMarked numbers g x) (sym here) has))
+    go (inr (s, lt)) = all h x more lt has
+
+pub number_at : (numbers : List Number) (i n : ℕ) (d : Number) → IsMarked numbers i n → (get_or numbers i d).number ≡ n
+number_at numbers i n d marked =
+    ap (λ (a : Number). a.number) (get_or_from_slice_get numbers i (believed n) d marked)
+
+-- both lines show one number just where they say so
+pub twice_at : (fields : List Sightings) (i : ℕ) (d : Sightings) → i < length fields
+    → (2 ≤ (get_or fields i d).line_17.weight) × (2 ≤ (get_or fields i d).line_18.weight)
+    × ((get_or fields i d).line_17.number ≡ (get_or fields i d).line_18.number) → ShowsTwice fields i
+twice_at fields i d within shows =
+    (get_or fields i d, slice_get-get_or fields i d within, shows.0, shows.1, shows.2)
+
+pub lines_at : (fields : List Sightings) (i : ℕ) (d : Sightings) → ShowsTwice fields i
+    → (2 ≤ (get_or fields i d).line_17.weight) × (2 ≤ (get_or fields i d).line_18.weight)
+    × ((get_or fields i d).line_17.number ≡ (get_or fields i d).line_18.number)
+lines_at fields i d (field, at, one, other, same) =
+    subst (λ (f : Sightings). (2 ≤ f.line_17.weight) × (2 ≤ f.line_18.weight)
+    × (f.line_17.number ≡ f.line_18.number)) (sym (get_or_from_slice_get fields i field d at)) (one, other, same)

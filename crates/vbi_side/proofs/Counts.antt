@@ -1,11 +1,15 @@
 -- Counting the fields of which a number is believed.
-use Rattle.std.proofs.Common.{◌≡◌, ℕ, zero, suc, ◌+◌, List, length, refl, ap, sym, ◌∙◌, subst, add-one, inl, inr}
+use Rattle.std.proofs.Common.{◌≡◌, ℕ, zero, suc, ◌+◌, ◌*◌, List, length, refl, ap, sym, ◌∙◌, subst, add-one, inl, inr}
 use Rattle.std.specs.Prelude.{Option, Some, None, ◌↔◌, is_some, true, false, nat_lt, if◌then◌else◌}
+use Rattle.vbi_words.specs.declared.system.System.{System}
+use Rattle.vbi_words.specs.declared.system.System.TheVariants.{Ntsc, Pal}
+use Rattle.vbi_side.specs.declared.lines.Counted.{Counted}
+use Rattle.vbi_side.specs.declared.lines.Counted.TheVariants.{Pictures, Times}
 use Rattle.vbi_side.specs.declared.sighting.Sightings.{Sightings}
 use Rattle.vbi_side.specs.declared.pace.Pace.{Pace}
 use Rattle.vbi_side.specs.declared.pace.Pace.TheVariants.{Video, Film}
 use Rattle.vbi_side.specs.Beliefs.{Believed}
-use Rattle.vbi_side.specs.Found.{IsCount, IsFound}
+use Rattle.vbi_side.specs.Found.{IsCount, pace_by, IsMore, IsFound}
 
 -- one more
 pub one_more : (pace : Pace) (fields : List Sightings) (i count : ℕ) (found : Option ℕ)
@@ -40,7 +44,15 @@ one_count pace fields (suc n) a b (inr (none, counted)) (inl (k, less, others, c
 one_count pace fields (suc n) a b (inr (none, counted)) (inr (nones, counts)) =
     one_count pace fields n a b counted counts
 
-pub one_found : (fields : List Sightings) (one other : Pace) → IsFound fields one → IsFound fields other → one ≡ other
-one_found fields one other (video, film, videos, films, is) (v, f, vs, fs, are) =
-    is ∙ ap (λ n. if nat_lt n film then Film else Video) (one_count Video fields (length fields) video v videos vs)
-    ∙ ap (λ n. if nat_lt v n then Film else Video) (one_count Film fields (length fields) film f films fs) ∙ sym are
+one_more_believed : (fields : List Sightings) (one other : Pace) → IsMore fields one → IsMore fields other → one ≡ other
+one_more_believed fields one other (video, film, videos, films, is) (v, f, vs, fs, are) =
+    is
+    ∙ ap (λ n. pace_by n film) (one_count Video fields (length fields) video v videos vs)
+    ∙ ap (pace_by v) (one_count Film fields (length fields) film f films fs)
+    ∙ sym are
+
+pub one_found : (system : System) (counted : Counted) (fields : List Sightings) (one other : Pace)
+    → IsFound system counted fields one → IsFound system counted fields other → one ≡ other
+one_found Ntsc Pictures fields one other is are = one_more_believed fields one other is are
+one_found Ntsc Times fields one other is are = is ∙ sym are
+one_found Pal counted fields one other is are = is ∙ sym are

@@ -1,117 +1,220 @@
 -- What is due, once, and rightly.
-use Rattle.std.proofs.Common.{◌≡◌, ◌≢◌, ℕ, ◌-◌, ◌<◌, true, false, List, arith, subst, inl, inr}
-use Rattle.std.specs.Prelude.{Option, Some, ◌⊎◌}
-use Rattle.std.proofs.lemmas.Bool.Decides.{eqb_tells}
+use Rattle.std.proofs.Common.{◌≡◌, ◌≢◌, ℕ, ◌+◌, ◌*◌, ◌-◌, ◌%◌, ◌<◌, ◌≤◌, true, false, List, arith, sym, ◌∙◌, subst}
+use Rattle.std.proofs.Common.{inl, inr}
+use Rattle.std.specs.Prelude.{Option, Some, slice_get, ◌⊎◌, ◌↔◌, nat_le, ◌==◌}
+use Rattle.std.proofs.lemmas.Bool.{leb-true, le-leb}
+use Rattle.std.proofs.lemmas.Bool.Decides.{eqb_tells, leb_tells}
 use Rattle.std.proofs.Math.Dec.{eqb}
 use Rattle.vbi_side.specs.declared.sighting.Sightings.{Sightings}
 use Rattle.vbi_side.specs.declared.pace.Pace.{Pace}
 use Rattle.vbi_side.specs.declared.pace.Pace.TheVariants.{Video, Film}
-use Rattle.vbi_side.specs.Paces.{Last}
+use Rattle.vbi_side.specs.Paces.{Count, nearly}
 use Rattle.vbi_side.specs.Beliefs.{Believed}
-use Rattle.vbi_side.specs.Due.{IsBefore, IsBehind, Leaves, Due}
-use Rattle.vbi_side.specs.Truth.{IsNear, RunsOn}
+use Rattle.vbi_side.specs.Due.{slack_of, Leaves, IsLeft, Due}
+use Rattle.vbi_side.specs.Nearest.{are_whole}
+use Rattle.vbi_side.specs.Truth.{IsNear, IsRegular}
 use Rattle.vbi_side.proofs.Ahead.{one_believed}
-use Rattle.vbi_side.proofs.Left.{one_last, add_up}
-use Rattle.vbi_side.proofs.Truth.{video_fits, film_fits}
+use Rattle.vbi_side.proofs.Truth.{both, and_so, film_fits, only_near}
+
+-- ---- how far a number may be off
+
+-- a field at most
+pub slack_most : (j k : ℕ) → slack_of j k ≤ 1
+slack_most j k = go (leb_tells k (j + 8))
+  where
+    go : ((nat_le k (j + 8) ≡ true) × (k ≤ j + 8)) ⊎ ((nat_le k (j + 8) ≡ false) × (j + 8 < k)) → slack_of j k ≤ 1
+    go (inl (t, close)) = rw t (omega arith)
+    go (inr (f, far)) = rw f (omega arith)
+
+-- between closer fields not less
+pub slack_grows : (j k b c : ℕ) → j ≤ b → c ≤ k → slack_of j k ≤ slack_of b c
+slack_grows j k b c first last = go (leb_tells k (j + 8))
+  where
+    go : ((nat_le k (j + 8) ≡ true) × (k ≤ j + 8)) ⊎ ((nat_le k (j + 8) ≡ false) × (j + 8 < k))
+        → slack_of j k ≤ slack_of b c
+    go (inl (t, close)) = rw t (rw (le-leb c (b + 8) (omega (arith, close, first, last))) (omega arith))
+    go (inr (f, far)) = rw f (omega arith)
+
+-- ---- what nearly fits, in numbers
+
+video_nearly : (slack i m j n : ℕ) → nearly Video slack i m j n ≡ true
+    → (j + 2 * m ≤ i + 2 * n + slack) × (i + 2 * n ≤ j + 2 * m + slack)
+video_nearly slack i m j n e =
+    let p = both (nat_le (j + 2 * m) (i + 2 * n + slack)) (nat_le (i + 2 * n) (j + 2 * m + slack)) e in
+    (leb-true (j + 2 * m) (i + 2 * n + slack) p.0, leb-true (i + 2 * n) (j + 2 * m + slack) p.1)
+
+pub nearly_more : (pace : Pace) (slack more i m j n : ℕ) → slack ≤ more → nearly pace slack i m j n ≡ true
+    → nearly pace more i m j n ≡ true
+nearly_more Video slack more i m j n less e =
+    let p = video_nearly slack i m j n e in
+    and_so (nat_le (j + 2 * m) (i + 2 * n + more)) (nat_le (i + 2 * n) (j + 2 * m + more))
+    (le-leb (j + 2 * m) (i + 2 * n + more) (omega (arith, less, p.0)))
+    (le-leb (i + 2 * n) (j + 2 * m + more) (omega (arith, less, p.1)))
+nearly_more Film slack more i m j n less e = e
+
+-- ---- whole pictures
+
+equal_true : (m n : ℕ) → m ≡ n → (m == n) ≡ true
+equal_true m n e = go (eqb_tells m n)
+  where
+    go : ((eqb m n ≡ true) × (m ≡ n)) ⊎ ((eqb m n ≡ false) × (m ≢ n)) → (m == n) ≡ true
+    go (inl (t, is)) = t
+    go (inr (f, apart)) = absurd (apart e)
+
+is_true : (m n : ℕ) → (m == n) ≡ true → m ≡ n
+is_true m n e = go (eqb_tells m n)
+  where
+    go : ((eqb m n ≡ true) × (m ≡ n)) ⊎ ((eqb m n ≡ false) × (m ≢ n)) → m ≡ n
+    go (inl (t, is)) = is
+    go (inr (f, apart)) = absurd (let clash : false ≡ true → ⊥ = λ h. cc in clash (subst (λ b. b ≡ true) f e))
+
+-- numbers that lie whole pictures apart are of fields that do
+pub whole_on : (pace : Pace) (j m i n : ℕ) → j < i → Count pace j m i n → are_whole pace (i - j) ≡ true
+whole_on Video j m i n less e = equal_true ((i - j) % 2) 0 (omega (arith, less, e))
+whole_on Film j m i n less e = equal_true ((i - j) % 5) 0 (omega (arith, less, e))
+
+-- numbers of such fields that nearly fit lie whole pictures apart
+pub nearly_on : (pace : Pace) (slack i n j m : ℕ) → slack ≤ 1 → j < i → are_whole pace (i - j) ≡ true
+    → nearly pace slack i n j m ≡ true → Count pace j m i n
+nearly_on Video slack i n j m few less whole e =
+    let p = video_nearly slack i n j m e in omega (arith, few, less, is_true ((i - j) % 2) 0 whole, p.0, p.1)
+nearly_on Film slack i n j m few less whole e =
+    let p = film_fits i n j m e in omega (arith, less, is_true ((i - j) % 5) 0 whole, p.0, p.1)
+
+pub nearly_back : (pace : Pace) (slack i n k l : ℕ) → slack ≤ 1 → i < k → are_whole pace (k - i) ≡ true
+    → nearly pace slack i n k l ≡ true → Count pace i n k l
+nearly_back Video slack i n k l few less whole e =
+    let p = video_nearly slack i n k l e in omega (arith, few, less, is_true ((k - i) % 2) 0 whole, p.0, p.1)
+nearly_back Film slack i n k l few less whole e =
+    let p = film_fits i n k l e in omega (arith, less, is_true ((k - i) % 5) 0 whole, p.0, p.1)
+
+-- a number counts to one number in another field
+pub one_count : (pace : Pace) (j m i a b : ℕ) → Count pace j m i a → Count pace j m i b → a ≡ b
+one_count Video j m i a b one other = omega (arith, one, other)
+one_count Film j m i a b one other = omega (arith, one, other)
+
+-- where the pictures of the fields on both sides lead from one number to the other, the one between them is the first
+-- with its pictures
+pub counted_some : (pace : Pace) (j m i k l p q number n : ℕ) → j < i → i < k
+    → ((f a : ℕ) → Count pace f a (f + (i - j)) (a + p)) → ((f a : ℕ) → Count pace f a (f + (k - i)) (a + q))
+    → number ≡ m + p → number + q ≡ l → (number ≡ n) ↔ (Count pace j m i n × Count pace i n k l)
+counted_some pace j m i k l p q number n first last on back is ends = (there, here)
+  where
+    leads : Count pace j m i number
+    leads = subst (λ f. Count pace j m f number) (omega (arith, first))
+        (subst (Count pace j m (j + (i - j))) (omega (arith, is)) (on j m))
+
+    ends_there : Count pace i number k l
+    ends_there = subst (λ f. Count pace i number f l) (omega (arith, last))
+        (subst (Count pace i number (i + (k - i))) ends (back i number))
+
+    there : number ≡ n → Count pace j m i n × Count pace i n k l
+    there e = subst (λ a. Count pace j m i a × Count pace i a k l) e (leads, ends_there)
+
+    here : Count pace j m i n × Count pace i n k l → number ≡ n
+    here (one, other) = one_count pace j m i number n leads one
+
+-- where they don't, there is none
+pub counted_none : (pace : Pace) (j m i k l p q n : ℕ) → j < i → i < k
+    → ((f a : ℕ) → Count pace f a (f + (i - j)) (a + p)) → ((f a : ℕ) → Count pace f a (f + (k - i)) (a + q))
+    → m + p + q ≢ l → Count pace j m i n × Count pace i n k l → ⊥
+counted_none pace j m i k l p q n first last on back apart (one, other) = apart (omega (arith, here, there))
+  where
+    here : m + p ≡ n
+    here = one_count pace j m i (m + p) n (subst (λ f. Count pace j m f (m + p)) (omega (arith, first)) (on j m)) one
+
+    there : n + q ≡ l
+    there =
+        one_count pace i n k (n + q) l (subst (λ f. Count pace i n f (n + q)) (omega (arith, last)) (back i n)) other
 
 -- ---- one number is due
 
-one_before : (P : ℕ → ℕ → Type 0) (i j m k n : ℕ) → IsBefore P i j m → IsBefore P i k n → j ≡ k
-one_before P i j m k n b c = go (eqb_tells j k)
+-- what another pair of fields leaves is the same
+one_left : (HasNumber : ℕ → ℕ → Type 0) (pace : Pace) (j m k l g x h y i a b : ℕ)
+    → ((f p q : ℕ) → HasNumber f p → HasNumber f q → p ≡ q)
+    → Leaves HasNumber pace j m k l i a → Leaves HasNumber pace g x h y i b → a ≡ b
+one_left HasNumber pace j m k l g x h y i a b unique one other = go (leb_tells j g) (leb_tells g j)
   where
-    go : ((eqb j k ≡ true) × (j ≡ k)) ⊎ ((eqb j k ≡ false) × (j ≢ k)) → j ≡ k
-    go (inl (t, e)) = e
-    go (inr (f, other)) = absurd (omega (
-      arith,
-      other,
-      λ (less : j < k). b.nearest k n less c.before c.has,
-      λ (less : k < j). c.nearest j m less b.before b.has,
-    ))
-
-one_behind : (P : ℕ → ℕ → Type 0) (i j m k n : ℕ) → IsBehind P i j m → IsBehind P i k n → j ≡ k
-one_behind P i j m k n b c = go (eqb_tells j k)
-  where
-    go : ((eqb j k ≡ true) × (j ≡ k)) ⊎ ((eqb j k ≡ false) × (j ≢ k)) → j ≡ k
-    go (inl (t, e)) = e
-    go (inr (f, other)) = absurd (omega (
-      arith,
-      other,
-      λ (less : k < j). b.nearest k n c.behind less c.has,
-      λ (less : j < k). c.nearest j m b.behind less b.has,
-    ))
-
--- two numbers that fit leave one for a field between them
-one_left : (pace : Pace) (j m k l i a b : ℕ) → j < i → i < k → Leaves pace j m k l i a → Leaves pace j m k l i b → a ≡ b
-one_left pace j m k l i a b first last one other = go one.lies other.lies
-  where
-    go : Last pace (i - j) (a - m) ⊎ Last pace (k - i) (l - a) → Last pace (i - j) (b - m) ⊎ Last pace (k - i) (l - b)
-        → a ≡ b
-    go (inl e) (inl f) = omega (arith, one.above, other.above, one_last pace (i - j) (a - m) (b - m) e f)
-    go (inr e) (inr f) = omega (arith, one.below, other.below, one_last pace (k - i) (l - a) (l - b) e f)
-    go (inl e) (inr f) =
-        omega (arith, one.above, other.below, add_up pace j m k l i (a - m) (l - b) first last one.fit e f)
-    go (inr e) (inl f) =
-        omega (arith, other.above, one.below, add_up pace j m k l i (b - m) (l - a) first last one.fit f e)
+    go : ((nat_le j g ≡ true) × (j ≤ g)) ⊎ ((nat_le j g ≡ false) × (g < j))
+        → ((nat_le g j ≡ true) × (g ≤ j)) ⊎ ((nat_le g j ≡ false) × (j < g)) → a ≡ b
+    go (inr (f, less)) rest =
+        one_count pace j m i a b one.on (nearly_on pace (slack_of g h) i b j m (slack_most g h) one.before
+        (whole_on pace j m i a one.before one.on)
+        (other.between j m less (omega (arith, one.before, other.behind)) one.first))
+    go (inl (t, le)) (inr (f, less)) =
+        one_count pace g x i a b (nearly_on pace (slack_of j k) i a g x (slack_most j k) other.before
+        (whole_on pace g x i b other.before other.on)
+        (one.between g x less (omega (arith, other.before, one.behind)) other.first)) other.on
+    go (inl (t, le)) (inl (s, ge)) =
+        let here : g ≡ j = omega (arith, le, ge) in
+        let same : x ≡ m = unique j x m (subst (λ f. HasNumber f x) here other.first) one.first in
+        one_count pace j m i a b one.on
+        (subst (λ f. Count pace f m i b) here (subst (λ p. Count pace g p i b) same other.on))
 
 pub one_due : (pace : Pace) (fields : List Sightings) (i m n : ℕ) → Due pace fields i m → Due pace fields i n → m ≡ n
 one_due pace fields i m n one other =
-    let (j, a, k, l, before, behind, leaves) = one.left in
-    let (f, b, g, c, befores, behinds, others) = other.left in
-    let first : f ≡ j = one_before (Believed pace fields) i f b j a befores before in
-    let last : g ≡ k = one_behind (Believed pace fields) i g c k l behinds behind in
-    let low : b ≡ a
-    = one_believed pace fields j b a (subst (λ x. Believed pace fields x b) first befores.has) before.has in
-    let high : c ≡ l
-    = one_believed pace fields k c l (subst (λ x. Believed pace fields x c) last behinds.has) behind.has in
-    one_left pace j a k l i m n before.before behind.behind leaves
-    (subst (λ x. Leaves pace x a k l i n) first
-    (subst (λ x. Leaves pace f x k l i n) low
-    (subst (λ x. Leaves pace f b x l i n) last
-    (subst (λ x. Leaves pace f b g x i n) high others))))
+    let (j, a, k, l, leaves) = one.left in
+    let (g, b, h, c, others) = other.left in
+    one_left (Believed pace fields) pace j a k l g b h c i m n (one_believed pace fields) leaves others
 
 -- ---- it is the recorded one
 
--- from a number that is recorded, as many pictures as the fields last lead to the recorded one
-lead_on : (pace : Pace) (recorded : ℕ → Option ℕ) (i j k a m n : ℕ) → RunsOn pace recorded i → IsNear i j → IsNear i k
-    → j < k → recorded j ≡ Some a → recorded k ≡ Some m → a < n → Last pace (k - j) (n - a) → n ≡ m
-lead_on Video recorded i j k a m n runs near others less here there more lasts =
-    omega (
-      arith,
-      less,
-      more,
-      lasts,
-      video_fits j a k m (runs j k a m near others (omega (arith, less, lasts)) here there),
-    )
-lead_on Film recorded i j k a m n runs near others less here there more lasts =
-    let f = film_fits j a k m (runs j k a m near others (tt {0}) here there) in
-    omega (arith, less, more, lasts, f.0, f.1)
+pub due_sound : (pace : Pace) (recorded : ℕ → Option ℕ) (fields : List Sightings) (i n : ℕ)
+    → IsRegular pace recorded i → ((j k : ℕ) → IsNear i j → Believed pace fields j k → recorded j ≡ Some k)
+    → Due pace fields i n → recorded i ≡ Some n
+due_sound pace recorded fields i n regular right due =
+    let (j, m, k, l, leaves) = due.left in
+    let near : IsNear i j = (leaves.near, omega (arith, leaves.before)) in
+    let far : IsNear i k = (omega (arith, leaves.behind), leaves.far) in
+    regular j m k l n leaves.before leaves.behind near far (right j m near leaves.first)
+    (right k l far leaves.last) leaves.on leaves.back
 
--- and back
-lead_back : (pace : Pace) (recorded : ℕ → Option ℕ) (i j k l m n : ℕ) → RunsOn pace recorded i → IsNear i j → IsNear i k
-    → j < k → recorded j ≡ Some m → recorded k ≡ Some l → n < l → Last pace (k - j) (l - n) → n ≡ m
-lead_back Video recorded i j k l m n runs near others less here there more lasts =
-    omega (
-      arith,
-      less,
-      more,
-      lasts,
-      video_fits j m k l (runs j k m l near others (omega (arith, less, lasts)) here there),
-    )
-lead_back Film recorded i j k l m n runs near others less here there more lasts =
-    let f = film_fits j m k l (runs j k m l near others (tt {0}) here there) in
-    omega (arith, less, more, lasts, f.0, f.1)
+-- ---- the same capture around a field
 
-pub due_sound : (pace : Pace) (recorded : ℕ → Option ℕ) (fields : List Sightings) (i m n : ℕ)
-    → RunsOn pace recorded i → recorded i ≡ Some m
-    → ((j k : ℕ) → IsNear i j → Believed pace fields j k → recorded j ≡ Some k)
-    → Due pace fields i n → n ≡ m
-due_sound pace recorded fields i m n runs has right due =
-    let (j, a, k, l, before, behind, leaves) = due.left in
-    let near : IsNear i j = (before.near, omega (arith, before.before)) in
-    let other : IsNear i k = (omega (arith, behind.behind), behind.near) in
-    elim leaves.lies [
-      | inl e ↦ lead_on pace recorded i j i a m n runs near (omega arith, omega arith) before.before
-          (right j a near before.has) has leaves.above e
-      | inr e ↦ lead_back pace recorded i i k l m n runs (omega arith, omega arith) other behind.behind has
-          (right k l other behind.has) leaves.below e
-    ]
+same_field : (fields others : List Sightings) (i : ℕ) (field : Sightings) → slice_get fields i ≡ slice_get others i
+    → slice_get others i ≡ Some field → slice_get fields i ≡ Some field
+same_field fields others i field same at = same ∙ at
+
+-- the same is due where the captures agree on the fields within twice the reach
+pub due_near : (pace : Pace) (fields others : List Sightings) (i n : ℕ)
+    → ((j : ℕ) → i ≤ j + 48 → j ≤ i + 48 → slice_get fields j ≡ slice_get others j)
+    → Due pace fields i n → Due pace others i n
+due_near pace fields others i n agree due = go due.left
+  where
+    here : slice_get fields i ≡ slice_get others i
+    here = agree i (omega arith) (omega arith)
+
+    -- what is believed within reach
+    on : (j m : ℕ) → IsNear i j → Believed pace fields j m → Believed pace others j m
+    on j m near b = only_near pace fields others j m
+        (λ k by. agree k (omega (arith, near.0, by.0)) (omega (arith, near.1, by.1))) b
+
+    back : (j m : ℕ) → IsNear i j → Believed pace others j m → Believed pace fields j m
+    back j m near b = only_near pace others fields j m
+        (λ k by. sym (agree k (omega (arith, near.0, by.0)) (omega (arith, near.1, by.1)))) b
+
+    go : IsLeft (Believed pace fields) pace i n → Due pace others i n
+    go (j, m, k, l, leaves) = record {
+      unbelieved = λ x b. due.unbelieved x (back i x (omega arith, omega arith) b);
+      vacant = λ shows. due.vacant (shows.0, same_field fields others i shows.0 here shows.1, shows.2);
+      unread = λ shows. due.unread
+          (shows.0, same_field fields others i shows.0 here shows.1, shows.2, shows.3, shows.4);
+      left = (
+        j,
+        m,
+        k,
+        l,
+        record {
+          before = leaves.before;
+          near = leaves.near;
+          behind = leaves.behind;
+          far = leaves.far;
+          first = on j m (leaves.near, omega (arith, leaves.before)) leaves.first;
+          last = on k l (omega (arith, leaves.behind), leaves.far) leaves.last;
+          on = leaves.on;
+          back = leaves.back;
+          between = λ h x more less b. leaves.between h x more less
+              (back h x (omega (arith, more, leaves.near), omega (arith, less, leaves.far)) b);
+        },
+      );
+    }

@@ -16,11 +16,11 @@ use Rattle.vbi_side.specs.Sightings.{Shows}
 use Rattle.vbi_side.specs.Beliefs.{Believed}
 use Rattle.vbi_side.specs.Due.{Due}
 use Rattle.vbi_side.specs.Numbers.{nothing, believed, due, doubtful, doubtful_of, IsMarked, IsMark, AreMarks}
-use Rattle.vbi_side.specs.Numbers.{IsAnswer, AreAnswers, IsKnown}
-use Rattle.vbi_side.specs.Truth.{IsSound, IsSoundStill}
+use Rattle.vbi_side.specs.Numbers.{IsAnswer, AreAnswers, AreRight, IsKnown}
+use Rattle.vbi_side.specs.Truth.{IsRegular, IsSound, IsSoundStill}
 use Rattle.vbi_side.proofs.Ahead.{one_believed}
 use Rattle.vbi_side.proofs.Truth.{sound, sound_still}
-use Rattle.vbi_side.proofs.DueLemmas.{one_due}
+use Rattle.vbi_side.proofs.DueLemmas.{one_due, due_sound}
 
 -- ---- answers that differ
 
@@ -272,3 +272,30 @@ pub answers_sound_still : (pace : Pace) (fields : List Sightings) (answers : Lis
 answers_sound_still pace fields answers are recorded i m n at video is =
     sound_still recorded fields i m n is (subst (λ p. Believed p fields i n) video
     (answer_believed pace fields i n (believed n) (are.each i (believed n) at) refl))
+
+-- what is believed is answered so
+answers_tell : (pace : Pace) (fields : List Sightings) (answers : List Number) → AreAnswers pace fields answers
+    → (i n : ℕ) → Believed pace fields i n → slice_get answers i ≡ Some (believed n)
+answers_tell pace fields answers are i n b = at ∙ ap Some (go ((known_numbers pace fields i n answer is).1 (inl b)))
+  where
+    answer : Number
+    answer = get_or answers i nothing
+
+    at : slice_get answers i ≡ Some answer
+    at = slice_get-get_or answers i nothing (omega (arith, are.count, shown_within fields i n b.shown))
+
+    is : IsAnswer pace fields i answer
+    is = are.each i answer at
+
+    go : IsKnown answer n → answer ≡ believed n
+    go (inl e) = e
+    go (inr e) = absurd ((answer_due pace fields i n answer is e).unbelieved n b)
+
+-- a number that is answered as due is the recorded one, where the believed ones around it are right
+pub answers_due_sound : (pace : Pace) (fields : List Sightings) (answers : List Number) → AreAnswers pace fields answers
+    → (recorded : ℕ → Option ℕ) (i n : ℕ) → slice_get answers i ≡ Some (due n) → IsRegular pace recorded i
+    → AreRight answers recorded i → recorded i ≡ Some n
+answers_due_sound pace fields answers are recorded i n at regular right =
+    due_sound pace recorded fields i n regular
+    (λ j k near b. right j k near (answers_tell pace fields answers are j k b))
+    (answer_due pace fields i n (due n) (are.each i (due n) at) refl)

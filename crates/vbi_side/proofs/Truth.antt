@@ -17,12 +17,12 @@ use Rattle.vbi_side.proofs.Weights.{weight_below-narrower, weight_below-agree, w
 use Rattle.vbi_side.proofs.Weights.{spread, weight_at-passes}
 
 -- both of two tests
-both : (a b : Bool) → (a && b) ≡ true → (a ≡ true) × (b ≡ true)
+pub both : (a b : Bool) → (a && b) ≡ true → (a ≡ true) × (b ≡ true)
 both true true e = (refl, refl)
 both true false e = absurd (let clash : false ≡ true → ⊥ = λ h. cc in clash e)
 both false b e = absurd (let clash : false ≡ true → ⊥ = λ h. cc in clash e)
 
-and_so : (a b : Bool) → a ≡ true → b ≡ true → (a && b) ≡ true
+pub and_so : (a b : Bool) → a ≡ true → b ≡ true → (a && b) ≡ true
 and_so true true e f = refl
 and_so true false e f = f
 and_so false b e f = e
@@ -67,11 +67,11 @@ one_field Film j k n e even = let p = film_fits j n k n e in omega (arith, p.0, 
 
 -- ---- a number is wrong, or that on the disc
 
-recorded_is : (o : Option ℕ) (n : ℕ) → is_recorded o n ≡ true → o ≡ Some n
+pub recorded_is : (o : Option ℕ) (n : ℕ) → is_recorded o n ≡ true → o ≡ Some n
 recorded_is None n e = absurd (let clash : false ≡ true → ⊥ = λ h. cc in clash e)
 recorded_is (Some m) n e = ap Some (sym (eqb-true n m e))
 
-wrong_or_right : (recorded : ℕ → Option ℕ) (j m : ℕ)
+pub wrong_or_right : (recorded : ℕ → Option ℕ) (j m : ℕ)
     → (not (is_recorded (recorded j) m) ≡ true) ⊎ (is_recorded (recorded j) m ≡ true)
 wrong_or_right recorded j m = go (is_recorded (recorded j) m)
   where
@@ -95,7 +95,7 @@ wrong_fits pace recorded i a n runs has wrong j m near e = go (wrong_or_right re
         (recorded_is (recorded j) m is))))
 
 -- of the right ones, one field's at most is of one still with a wrong number
-wrong_still : (pace : Pace) (recorded : ℕ → Option ℕ) (fields : List Sightings) (i n : ℕ) → RunsOn pace recorded i
+pub wrong_still : (pace : Pace) (recorded : ℕ → Option ℕ) (fields : List Sightings) (i n : ℕ) → RunsOn pace recorded i
     → window_weight (stays i n) fields i ≤ wrong_weight recorded fields i + field_most
 wrong_still pace recorded fields i n runs =
     omega (
@@ -159,6 +159,62 @@ complete pace recorded fields i m runs has shown much more = record {
   enough = much;
   ahead = λ k other apart. omega (arith, more, wrong_support pace recorded fields i m k runs has apart);
 }
+
+-- ---- whether the field has a number or not
+
+-- a believed number fits one that a field within reach has on the disc and shows
+pub on_the_disc : (pace : Pace) (recorded : ℕ → Option ℕ) (fields : List Sightings) (i n : ℕ)
+    → RunsOn pace recorded i → wrong_weight recorded fields i < enough → Believed pace fields i n
+    → (j m : ℕ) × IsNear i j × (recorded j ≡ Some m) × Shows (slice_get fields j) m × (fits pace i n j m ≡ true)
+on_the_disc pace recorded fields i n runs few b = elim (spread right fields i (2 * reach + 1) (2 * reach + 1)) [
+  | inl (most, none) ↦ absurd (omega (
+    arith,
+    few,
+    b.enough,
+    none (omega arith),
+    weight_below-split (fits pace i n) wrong right fields i (2 * reach + 1) (omega arith) split,
+    wrong_still pace recorded fields i n runs,
+  ))
+  | inr (k, less, apart, weighs) ↦ let p = weight_at-passes right fields i k weighs in
+      let q = both (fits pace i n (i + k - reach) p.1.0) (is_recorded (recorded (i + k - reach)) p.1.0) p.1.2 in (
+        i + k - reach,
+        p.1.0,
+        (omega (arith, p.0), omega (arith, less)),
+        recorded_is (recorded (i + k - reach)) p.1.0 q.1,
+        p.1.1,
+        q.0,
+      )
+]
+  where
+    wrong : ℕ → ℕ → Bool
+    wrong = λ j m. not (is_recorded (recorded j) m)
+
+    right : ℕ → ℕ → Bool
+    right = λ j m. fits pace i n j m && is_recorded (recorded j) m
+
+    split : (j m : ℕ) → IsNear i j → fits pace i n j m ≡ true → (wrong j m ≡ true) ⊎ (right j m ≡ true)
+    split j m near e = elim (wrong_or_right recorded j m) [
+      | inl is ↦ inl is
+      | inr is ↦ inr (and_so (fits pace i n j m) (is_recorded (recorded j) m) e is)
+    ]
+
+is_video : (i m j n : ℕ) → j + 2 * m ≡ i + 2 * n → fits Video i m j n ≡ true
+is_video i m j n e = go (eqb_tells (j + 2 * m) (i + 2 * n))
+  where
+    go : ((eqb (j + 2 * m) (i + 2 * n) ≡ true) × (j + 2 * m ≡ i + 2 * n))
+        ⊎ ((eqb (j + 2 * m) (i + 2 * n) ≡ false) × (j + 2 * m ≢ i + 2 * n)) → fits Video i m j n ≡ true
+    go (inl (t, same)) = t
+    go (inr (f, apart)) = absurd (apart e)
+
+-- of video it fits each of them
+pub on_the_video : (recorded : ℕ → Option ℕ) (fields : List Sightings) (i n : ℕ) → RunsOn Video recorded i
+    → wrong_weight recorded fields i < enough → Believed Video fields i n → (j m : ℕ) → IsNear i j → AreEven i j
+    → recorded j ≡ Some m → fits Video i n j m ≡ true
+on_the_video recorded fields i n runs few b j m near even has =
+    let p = on_the_disc Video recorded fields i n runs few b in
+    let step : InStep Video p.0 j = omega (arith, fits_in_step Video i n p.0 p.1 p.5, even) in
+    let fit : fits Video p.0 p.1 j m ≡ true = runs p.0 j p.1 m p.2 near step p.3 has in
+    is_video i n j m (omega (arith, video_fits i n p.0 p.1 p.5, video_fits p.0 p.1 j m fit))
 
 -- ---- where it stood still
 

@@ -4,7 +4,10 @@ pub mod Paces
 pub mod Beliefs
 pub mod Ahead
 pub mod Due
+pub mod Nearest
 pub mod Numbers
 pub mod Found
 pub mod Truth
+pub mod Misread
+pub mod Whole
 pub mod Worked

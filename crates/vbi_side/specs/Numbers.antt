@@ -6,6 +6,7 @@ use Rattle.vbi_side.specs.declared.number.Number.{Number}
 use Rattle.vbi_side.specs.declared.pace.Pace.{Pace}
 use Rattle.vbi_side.specs.Beliefs.{Believed}
 use Rattle.vbi_side.specs.Due.{Due}
+use Rattle.vbi_side.specs.Truth.{IsNear}
 
 -- no number
 abbrev pub nothing : Number
@@ -70,3 +71,7 @@ IsFirst answers n None = (i : ℕ) (answer : Number) → slice_get answers i ≡
 IsFirst answers n (Some field) =
     ((answer : Number) × (slice_get answers field ≡ Some answer) × IsKnown answer n)
     × ((i : ℕ) (answer : Number) → i < field → slice_get answers i ≡ Some answer → IsKnown answer n → ⊥)
+
+-- the numbers that are answered as believed of field i and of those within reach of it are those on the disc
+abbrev pub AreRight : List Number → (ℕ → Option ℕ) → ℕ → Type 0
+AreRight answers recorded i = (j n : ℕ) → IsNear i j → slice_get answers j ≡ Some (believed n) → recorded j ≡ Some n

@@ -13,7 +13,12 @@ fits Film i m j n = nat_le (2 * j + 5 * m) (2 * i + 5 * n + 2) && nat_le (2 * i 
 abbrev pub stays : ℕ → ℕ → ℕ → ℕ → Bool
 stays i m j n = (n == m) && ((i + j) % 2 == 0)
 
--- so many fields last exactly so many pictures
-abbrev pub Last : Pace → ℕ → ℕ → Type 0
-Last Video fields pictures = fields ≡ 2 * pictures
-Last Film fields pictures = 2 * fields ≡ 5 * pictures
+-- number m in field i and number n in field j lie whole pictures apart: exactly 2 fields a picture, of film 2 1/2
+abbrev pub Count : Pace → ℕ → ℕ → ℕ → ℕ → Type 0
+Count Video i m j n = j + 2 * m ≡ i + 2 * n
+Count Film i m j n = 2 * j + 5 * m ≡ 2 * i + 5 * n
+
+-- number m in field i and number n in field j nearly fit: of video to within so many fields
+abbrev pub nearly : Pace → ℕ → ℕ → ℕ → ℕ → ℕ → Bool
+nearly Video slack i m j n = nat_le (j + 2 * m) (i + 2 * n + slack) && nat_le (i + 2 * n) (j + 2 * m + slack)
+nearly Film slack i m j n = fits Film i m j n

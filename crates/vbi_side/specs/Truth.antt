@@ -4,7 +4,7 @@ use Rattle.std.specs.Prelude.{List, Option, Some, None}
 use Rattle.vbi_side.specs.declared.sighting.Sightings.{Sightings}
 use Rattle.vbi_side.specs.declared.pace.Pace.{Pace}
 use Rattle.vbi_side.specs.declared.pace.Pace.TheVariants.{Video, Film}
-use Rattle.vbi_side.specs.Paces.{fits}
+use Rattle.vbi_side.specs.Paces.{fits, Count}
 use Rattle.vbi_side.specs.Beliefs.{reach, enough, field_most, window_weight}
 
 -- field j is field i or within reach of it
@@ -24,6 +24,12 @@ InStep Film i j = Unit {0}
 abbrev pub RunsOn : Pace → (ℕ → Option ℕ) → ℕ → Type 0
 RunsOn pace recorded i = (j k m n : ℕ) → IsNear i j → IsNear i k → InStep pace j k
     → recorded j ≡ Some m → recorded k ≡ Some n → fits pace j m k n ≡ true
+
+-- the disc is regular around field i: where numbers of the disc before and behind it, both near it, count to one number
+-- in it, it has that number
+abbrev pub IsRegular : Pace → (ℕ → Option ℕ) → ℕ → Type 0
+IsRegular pace recorded i = (j m k l n : ℕ) → j < i → i < k → IsNear i j → IsNear i k → recorded j ≡ Some m
+    → recorded k ≡ Some l → Count pace j m i n → Count pace i n k l → recorded i ≡ Some n
 
 -- the disc stood still at a number around field i: the fields near it, an even number of fields away, have it, or none
 abbrev pub StandsStill : (ℕ → Option ℕ) → ℕ → ℕ → Type 0

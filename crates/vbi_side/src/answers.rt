@@ -2,8 +2,8 @@
 
 ghost use Rattle.std.specs.Prelude.{◌≡◌, ◌↔◌, ℕ, ◌<◌, length, Some, slice_get, Option};
 ghost use Rattle.vbi_side.specs.declared.pace.Pace.TheVariants.{Video};
-ghost use Rattle.vbi_side.specs.Numbers.{AreAnswers, AreMarks, IsMark, believed};
-ghost use Rattle.vbi_side.specs.Truth.{IsSound, IsSoundStill};
+ghost use Rattle.vbi_side.specs.Numbers.{AreAnswers, AreMarks, IsMark, AreRight, believed, due};
+ghost use Rattle.vbi_side.specs.Truth.{IsRegular, IsSound, IsSoundStill};
 
 use crate::belief::judge_field;
 use crate::due::number_due;
@@ -55,6 +55,10 @@ pub fn judge(fields: &[Sightings], pace: Pace, numbers: &mut [Number])
         → IsSound pace recorded fields.now i m → n ≡ m }
     ensures sound_still { (recorded : ℕ → Option ℕ) (i m n : ℕ) → slice_get numbers.new i ≡ Some (believed n)
         → pace ≡ Video → IsSoundStill recorded fields.now i m → n ≡ m }
+
+    // Where the disc is regular around a field and the believed numbers there are right, it has the number that is due.
+    ensures due_sound { (recorded : ℕ → Option ℕ) (i n : ℕ) → slice_get numbers.new i ≡ Some (due n)
+        → IsRegular pace recorded i → AreRight numbers.new recorded i → recorded i ≡ Some n }
 {
     mark(fields, pace, numbers);
     fill(fields, pace, numbers);

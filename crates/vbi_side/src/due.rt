@@ -1,21 +1,25 @@
 //! The number that is due in a field, by the believed ones around it.
 //!
-//! Only what leaves no choice is due. The nearest believed numbers before and behind have to fit each other, so nothing
-//! was lost between them. From one of them to the field it has to be whole pictures: on video the second field of a
-//! picture has no number of its own on most discs, and on film one cannot say which field of five begins a picture.
-//! The number has to lie between the two, since else it would be one of them, shown again. Where a field shows a
-//! chapter or the lead-in, the disc has no number there, and none is due.
+//! Only what leaves no choice is due. The nearest believed numbers before and behind that lie whole pictures away have
+//! to count to one number: on video the second field of a picture has no number of its own on most discs, and on film
+//! one cannot say which field of five begins a picture. No believed number between the two may be off from it, so that
+//! nothing was lost there. Where a field shows a chapter or the lead-in, the disc has no number, and none is due. Nor is
+//! one due where both lines show the same number, since both were hardly misread alike.
 
-ghost use Rattle.std.specs.Prelude.{◌≡◌, ◌↔◌, ℕ, ◌<◌, ◌≤◌, ◌+◌, ◌*◌, length, Some};
+ghost use Rattle.std.specs.Prelude.{◌≡◌, ◌↔◌, ℕ, ◌<◌, ◌≤◌, ◌+◌, ◌*◌, ◌-◌, true, length, Some, None, IfSome};
 ghost use Rattle.vbi_side.specs.Beliefs.{reach, Believed};
-ghost use Rattle.vbi_side.specs.Due.{IsBefore, IsBehind, IsBetween, Leaves, IsLeft, Due};
+ghost use Rattle.vbi_side.specs.Due.{slack_of, IsLeft, Due};
+ghost use Rattle.vbi_side.specs.Nearest.{are_whole, IsBefore, IsBehind, NoneBefore, NoneBehind, AllNearly};
 ghost use Rattle.vbi_side.specs.Numbers.{IsMarked};
-ghost use Rattle.vbi_side.specs.Paces.{fits, Last};
+ghost use Rattle.vbi_side.specs.Paces.{Count, nearly};
 
 use crate::belief::REACH;
 use crate::number::Number;
 use crate::pace::Pace;
 use crate::sighting::Sightings;
+
+/// The fields to which two numbers may be apart that allow one between them to be off by a field.
+const CLOSE: usize = 8;
 
 /// A field with the number that it has.
 #[derive(Clone, Copy)]
@@ -24,18 +28,28 @@ struct Place {
     number: u32,
 }
 
-/// The nearest field before this one, within reach, of which a number is believed.
-fn before(numbers: &[Number], field: usize) -> Option<Place>
+/// Whether so many fields last whole pictures.
+fn are_whole(pace: Pace, fields: usize) -> bool
+    ensures { result ≡ are_whole pace fields }
+{
+    match pace {
+        Pace::Video => fields % 2 == 0,
+        Pace::Film => fields % 5 == 0,
+    }
+}
+
+/// The nearest field before this one, within reach and whole pictures away, of which a number is believed.
+fn before(numbers: &[Number], pace: Pace, field: usize) -> Option<Place>
     requires { field < length numbers.now }
-    ensures { (place : Place) → (result ≡ Some place)
-        ↔ IsBefore (IsMarked numbers.now) field place.field place.number }
+    ensures some { IfSome result (λ place. IsBefore (IsMarked numbers.now) pace field place.field place.number) }
+    ensures none { result ≡ None → NoneBefore (IsMarked numbers.now) pace field }
 {
     for distance in 1..REACH + 1 {
         if distance > field {
             return None;
         }
         let place = field - distance;
-        if numbers[place].is_believed() {
+        if are_whole(pace, distance) && numbers[place].is_believed() {
             return Some(Place {
                 field: place,
                 number: numbers[place].number,
@@ -45,94 +59,124 @@ fn before(numbers: &[Number], field: usize) -> Option<Place>
     None
 }
 
-/// The nearest field behind this one, within reach, of which a number is believed.
-fn behind(numbers: &[Number], field: usize) -> Option<Place>
+/// The nearest field behind this one, within reach and whole pictures away, of which a number is believed.
+fn behind(numbers: &[Number], pace: Pace, field: usize) -> Option<Place>
     requires { field < length numbers.now }
-    ensures { (place : Place) → (result ≡ Some place)
-        ↔ IsBehind (IsMarked numbers.now) field place.field place.number }
+    ensures some { IfSome result (λ place. (place.field < length numbers.now)
+        × IsBehind (IsMarked numbers.now) pace field place.field place.number) }
+    ensures none { result ≡ None → NoneBehind (IsMarked numbers.now) pace field }
 {
     for distance in 1..REACH + 1 {
         let place = field + distance;
-        let number = numbers.get(place)?;
-        if number.is_believed() {
+        if place >= numbers.len() {
+            return None;
+        }
+        if are_whole(pace, distance) && numbers[place].is_believed() {
             return Some(Place {
                 field: place,
-                number: number.number,
+                number: numbers[place].number,
             });
         }
     }
     None
 }
 
-/// Whether two numbers, of which one is in an earlier field, fit at the disc's pace.
-fn fit(pace: Pace, before: Place, behind: Place) -> bool
-    requires order { before.field ≤ behind.field }
-    requires near { behind.field ≤ before.field + 2 * reach }
-    ensures { result ≡ fits pace before.field before.number behind.field behind.number }
+/// The pictures that so many fields last, which are whole ones.
+fn pictures(pace: Pace, fields: usize) -> u64
+    requires whole { are_whole pace fields ≡ true }
+    requires few { fields ≤ reach }
+    ensures counted { (i m : ℕ) → Count pace i m (i + fields) (m + result) }
+    ensures range { result ≤ reach }
 {
-    let (first, last) = (u64::from(before.number), u64::from(behind.number));
-    let fields = (behind.field - before.field) as u64;
+    let fields = fields as u64;
     match pace {
-        Pace::Video => fields + 2 * first == 2 * last,
-        Pace::Film => 2 * fields + 5 * first <= 5 * last + 2
-            && 5 * last <= 2 * fields + 5 * first + 2,
+        Pace::Video => fields / 2,
+        Pace::Film => 2 * (fields / 5),
     }
 }
 
-/// The pictures that so many fields last, if these are whole ones.
-fn pictures(pace: Pace, fields: usize) -> Option<u32>
-    requires { fields ≤ reach }
-    ensures { (n : ℕ) → (result ≡ Some n) ↔ Last pace fields n }
+/// The number to which both of two others count in a field between them.
+fn counted(pace: Pace, before: Place, behind: Place, field: usize) -> Option<u32>
+    requires first { before.field < field }
+    requires last { field < behind.field }
+    requires near { field ≤ before.field + reach }
+    requires far { behind.field ≤ field + reach }
+    requires whole { are_whole pace (field - before.field) ≡ true }
+    requires wholes { are_whole pace (behind.field - field) ≡ true }
+    ensures { (n : ℕ) → (result ≡ Some n)
+        ↔ (Count pace before.field before.number field n × Count pace field n behind.field behind.number) }
 {
-    let fields = fields as u32;
-    match pace {
-        Pace::Video if fields % 2 == 0 => Some(fields / 2),
-        Pace::Film if fields % 5 == 0 => Some(2 * (fields / 5)),
-        _ => None,
-    }
-}
-
-/// This number, if it lies between those of two fields.
-fn between(before: Place, behind: Place, number: u64) -> Option<u32>
-    ensures { (n : ℕ) → (result ≡ Some n) ↔ IsBetween before.number behind.number number n }
-{
-    if u64::from(before.number) < number && number < u64::from(behind.number) {
+    let number = u64::from(before.number) + pictures(pace, field - before.field);
+    if number + pictures(pace, behind.field - field) == u64::from(behind.number) {
         Some(number as u32)
     } else {
         None
     }
 }
 
-/// The number that two others leave for a field between them.
-fn left(pace: Pace, before: Place, behind: Place, field: usize) -> Option<u32>
-    requires first { before.field < field }
-    requires last { field < behind.field }
-    requires near { field ≤ before.field + reach }
-    requires far { behind.field ≤ field + reach }
-    ensures { (n : ℕ) → (result ≡ Some n)
-        ↔ Leaves pace before.field before.number behind.field behind.number field n }
+/// By how many fields a number between two fields may be off.
+fn slack_of(before: usize, behind: usize) -> u64
+    requires { before ≤ behind }
+    ensures value { result ≡ slack_of before behind }
+    ensures range { result ≤ 1 }
 {
-    if !fit(pace, before, behind) {
-        return None;
-    }
-    if let Some(count) = pictures(pace, field - before.field) {
-        return between(before, behind, u64::from(before.number) + u64::from(count));
-    }
-    let count = pictures(pace, behind.field - field)?;
-    if count > behind.number {
-        return None;
-    }
-    between(before, behind, u64::from(behind.number - count))
+    if behind - before <= CLOSE { 1 } else { 0 }
 }
 
-/// The number that the nearest believed ones leave for a field.
+/// Whether two numbers nearly fit, of fields that are so far behind one: of video to within `slack` fields.
+fn nearly(pace: Pace, slack: u64, here: u64, number: u32, there: u64, other: u32) -> bool
+    requires slack { slack ≤ 1 }
+    requires here { here ≤ 2 * reach }
+    requires there { there ≤ 2 * reach }
+    ensures { (first i k : ℕ) → i ≡ first + here → k ≡ first + there → result ≡ nearly pace slack i number k other }
+{
+    let (number, other) = (u64::from(number), u64::from(other));
+    match pace {
+        Pace::Video => {
+            there + 2 * number <= here + 2 * other + slack
+                && here + 2 * other <= there + 2 * number + slack
+        }
+        Pace::Film => {
+            2 * there + 5 * number <= 2 * here + 5 * other + 2
+                && 2 * here + 5 * other <= 2 * there + 5 * number + 2
+        }
+    }
+}
+
+/// Whether no believed number between two places is off from that of one between them.
+fn all_nearly(numbers: &[Number], pace: Pace, before: Place, behind: Place, here: Place) -> bool
+    requires first { before.field < here.field }
+    requires last { here.field < behind.field }
+    requires near { behind.field ≤ before.field + 2 * reach }
+    requires within { behind.field < length numbers.now }
+    ensures { (result ≡ true) ↔ AllNearly (IsMarked numbers.now) pace (slack_of before.field behind.field)
+        before.field behind.field here.field here.number }
+{
+    let slack = slack_of(before.field, behind.field);
+    let middle = (here.field - before.field) as u64;
+    for field in before.field + 1..behind.field {
+        let other = numbers[field];
+        let there = (field - before.field) as u64;
+        if other.is_believed() && !nearly(pace, slack, middle, here.number, there, other.number) {
+            return false;
+        }
+    }
+    true
+}
+
+/// The number that the believed ones around a field leave for it.
 fn left_around(numbers: &[Number], pace: Pace, field: usize) -> Option<u32>
     requires { field < length numbers.now }
     ensures { (n : ℕ) → (result ≡ Some n) ↔ IsLeft (IsMarked numbers.now) pace field n }
 {
-    let before = before(numbers, field)?;
-    let behind = behind(numbers, field)?;
-    left(pace, before, behind, field)
+    let before = before(numbers, pace, field)?;
+    let behind = behind(numbers, pace, field)?;
+    let number = counted(pace, before, behind, field)?;
+    if all_nearly(numbers, pace, before, behind, Place { field, number }) {
+        Some(number)
+    } else {
+        None
+    }
 }
 
 /// The number that is due in a field, if one is. `numbers` has at each field what is believed of it.
@@ -147,7 +191,8 @@ pub(crate) fn number_due(
     requires marked { (i n : ℕ) → IsMarked numbers.now i n ↔ Believed pace fields.now i n }
     ensures { (n : ℕ) → (result ≡ Some n) ↔ Due pace fields.now field n }
 {
-    if numbers[field].is_believed() || fields[field].shows_instead() {
+    let seen = &fields[field];
+    if numbers[field].is_believed() || seen.shows_instead() || seen.shows_twice() {
         return None;
     }
     left_around(numbers, pace, field)

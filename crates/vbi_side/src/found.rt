@@ -1,11 +1,13 @@
 //! The pace of a disc, found by what is believed.
 
 ghost use Rattle.std.specs.Prelude.{◌≡◌, ℕ, ◌≤◌, length};
-ghost use Rattle.vbi_side.specs.Found.{IsCount, IsFound};
+ghost use Rattle.vbi_side.specs.Found.{IsCount, IsMore, IsFound};
 
 use crate::belief::judge_field;
+use crate::lines::Counted;
 use crate::pace::Pace;
 use crate::sighting::Sightings;
+use vbi_words::System;
 
 /// The fields of which a number is believed at this pace.
 fn believed_count(fields: &[Sightings], pace: Pace) -> usize
@@ -21,13 +23,26 @@ fn believed_count(fields: &[Sightings], pace: Pace) -> usize
     count
 }
 
-/// The pace of the disc: that of film where more numbers are believed by it than by that of video.
-pub fn found_pace(fields: &[Sightings]) -> Pace
-    ensures { IsFound fields.now result }
+/// The pace by which more numbers are believed: that of film where they are over a tenth more than by that of video.
+fn more_believed(fields: &[Sightings]) -> Pace
+    ensures { IsMore fields.now result }
 {
-    if believed_count(fields, Pace::Film) > believed_count(fields, Pace::Video) {
+    // Film leaves room for half a picture more, so of a video disc some wrong numbers are believed by it as well.
+    let video = believed_count(fields, Pace::Video);
+    let film = believed_count(fields, Pace::Film);
+    if 10 * film as u128 > 11 * video as u128 {
         Pace::Film
     } else {
         Pace::Video
+    }
+}
+
+/// The pace of the disc. Only the pictures of NTSC may be film.
+pub fn found_pace(system: System, counted: Counted, fields: &[Sightings]) -> Pace
+    ensures { IsFound system counted fields.now result }
+{
+    match (system, counted) {
+        (System::Ntsc, Counted::Pictures) => more_believed(fields),
+        _ => Pace::Video,
     }
 }

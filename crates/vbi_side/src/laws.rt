@@ -1,7 +1,12 @@
 //! Laws of the definitions in `specs/`. A function here does nothing: its contract is a law, which holds of every
 //! capture.
 
-ghost use Rattle.std.specs.Prelude.{◌≡◌, ◌≢◌, ◌↔◌, ◌⊎◌, ℕ, ◌+◌, ◌<◌, ◌≤◌, true, List, Option, Some, slice_get};
+ghost use Rattle.std.specs.Prelude.{◌≡◌, ◌≢◌, ◌↔◌, ◌⊎◌, ℕ, ◌+◌, ◌<◌, ◌≤◌, true, false, List, [], ◌∷◌, map};
+ghost use Rattle.std.specs.Prelude.{Option, Some, None, slice_get};
+ghost use Rattle.vbi_words.specs.declared.system.System.TheVariants.{Ntsc, Pal};
+ghost use Rattle.vbi_words.specs.declared.code.Code.TheVariants.{Picture, Time, ClvPicture, Chapter};
+ghost use Rattle.vbi_words.specs.declared.code.Code.TheVariants.{LeadIn, LeadOut, ClvMark};
+ghost use Rattle.vbi_side.specs.declared.lines.Counted.TheVariants.{Pictures, Times};
 ghost use Rattle.vbi_words.specs.declared.system.System.{System};
 ghost use Rattle.vbi_side.specs.declared.lines.Counted.{Counted};
 ghost use Rattle.vbi_side.specs.declared.lines.Shown.{Shown};
@@ -10,20 +15,39 @@ ghost use Rattle.vbi_side.specs.declared.sighting.Sightings.{Sightings};
 ghost use Rattle.vbi_side.specs.declared.pace.Pace.{Pace};
 ghost use Rattle.vbi_side.specs.declared.pace.Pace.TheVariants.{Video, Film};
 ghost use Rattle.vbi_side.specs.Sightings.{Shows};
-ghost use Rattle.vbi_side.specs.Lines.{number_from, code_in};
-ghost use Rattle.vbi_side.specs.Paces.{fits, stays};
-ghost use Rattle.vbi_side.specs.Beliefs.{enough, support_of, Believed};
-ghost use Rattle.vbi_side.specs.Due.{Due};
-ghost use Rattle.vbi_side.specs.Found.{IsFound};
+ghost use Rattle.vbi_side.specs.Lines.{number_from, code_in, sightings_of, pass_weight, number_weight};
+ghost use Rattle.vbi_side.specs.Lines.{is_instead};
+ghost use Rattle.vbi_side.specs.Paces.{fits, stays, nearly};
+ghost use Rattle.vbi_side.specs.Beliefs.{reach, enough, field_most, support_of, Believed};
+ghost use Rattle.vbi_side.specs.Due.{slack_of, Due};
+ghost use Rattle.vbi_side.specs.Found.{pace_by, IsFound};
 ghost use Rattle.vbi_side.specs.Numbers.{IsAnswer, IsKnown};
-ghost use Rattle.vbi_side.specs.Truth.{IsNear, RunsOn, IsSound, IsSoundStill, wrong_weight, video_disc, film_disc};
-ghost use Rattle.vbi_side.specs.Worked.{wrong_by_9, wrong_by_10};
+ghost use Rattle.vbi_side.specs.Truth.{IsNear, AreEven, RunsOn, IsRegular, IsSound, IsSoundStill, wrong_weight};
+ghost use Rattle.vbi_side.specs.Truth.{video_disc, film_disc};
+ghost use Rattle.vbi_side.specs.Misread.{Lines, Words, numbers_in, misread_weight, AreTold, IsRead};
+ghost use Rattle.vbi_side.specs.Whole.{IsWhole, TakesTurns};
+ghost use Rattle.vbi_side.specs.Worked.{wrong_by_9, wrong_by_10, apart_by, still_of};
+ghost use Rattle.vbi_side.specs.Worked.{field_of, instead_of, shown_in, told_by};
 
 /// Where the disc ran on around a field that has a number and what was misread there weighs less than enough, a
 /// believed number is that number.
 pub fn sound()
     ensures { (pace : Pace) (recorded : ℕ → Option ℕ) (fields : List Sightings) (i m n : ℕ)
         → IsSound pace recorded fields i m → Believed pace fields i n → n ≡ m }
+{}
+
+/// Where the disc ran on around a field and what was misread there weighs less than enough, a number that is believed
+/// of the field fits one that was recorded within reach of it and read, whether the field has a number on the disc or
+/// not. Of video it fits each that was recorded in a field an even number of fields away, so it is the one that the
+/// disc counts there.
+pub fn on_the_disc()
+    ensures one { (pace : Pace) (recorded : ℕ → Option ℕ) (fields : List Sightings) (i n : ℕ)
+        → RunsOn pace recorded i → wrong_weight recorded fields i < enough → Believed pace fields i n
+        → (j m : ℕ) × IsNear i j × (recorded j ≡ Some m) × Shows (slice_get fields j) m
+        × (fits pace i n j m ≡ true) }
+    ensures each { (recorded : ℕ → Option ℕ) (fields : List Sightings) (i n : ℕ)
+        → RunsOn Video recorded i → wrong_weight recorded fields i < enough → Believed Video fields i n
+        → (j m : ℕ) → IsNear i j → AreEven i j → recorded j ≡ Some m → fits Video i n j m ≡ true }
 {}
 
 /// Where the player stood still around a field and what was misread there weighs 4 less than enough, a number believed
@@ -33,13 +57,13 @@ pub fn sound_still()
         → IsSoundStill recorded fields i m → Believed Video fields i n → n ≡ m }
 {}
 
-/// Where the disc ran on around a field and the numbers believed within reach of it are those recorded, a number that
-/// is due there is the recorded one, if the field has one.
+/// Where the disc is regular around a field and the numbers believed within reach of it are those recorded, the field
+/// has the number that is due in it.
 pub fn due_sound()
-    ensures { (pace : Pace) (recorded : ℕ → Option ℕ) (fields : List Sightings) (i m n : ℕ)
-        → RunsOn pace recorded i → recorded i ≡ Some m
+    ensures { (pace : Pace) (recorded : ℕ → Option ℕ) (fields : List Sightings) (i n : ℕ)
+        → IsRegular pace recorded i
         → ((j k : ℕ) → IsNear i j → Believed pace fields j k → recorded j ≡ Some k)
-        → Due pace fields i n → n ≡ m }
+        → Due pace fields i n → recorded i ≡ Some n }
 {}
 
 /// Where the disc ran on around a field that shows the number that it has, and what fits that weighs enough and more
@@ -51,10 +75,13 @@ pub fn complete()
         → Believed pace fields i m }
 {}
 
-/// There are discs that run on, at either pace, with a number in the first field of each picture.
+/// There are discs that run on and are regular, at either pace, with a number in the first field of each picture.
 pub fn discs_run()
     ensures video { (i : ℕ) → RunsOn Video video_disc i }
+    ensures video_regular { (i : ℕ) → IsRegular Video video_disc i }
     ensures film { (i : ℕ) → RunsOn Film film_disc i }
+    ensures film_regular { (i : ℕ) → IsRegular Film film_disc i }
+    ensures film_turns { TakesTurns film_disc }
 {}
 
 /// The premise of `sound` can be met, and it is sharp. With wrong readings of weight 9 around a field its number is
@@ -91,9 +118,28 @@ pub fn known_numbers()
         → IsKnown answer n ↔ (Believed pace fields i n ⊎ Due pace fields i n) }
 {}
 
+/// The pace of a disc that runs on and is read whole is found, where enough supports each number at that pace; of film,
+/// where its pictures take turns and one number is shown. In a few fields too little supports a number: six fields of
+/// video with a number on each are taken for film.
+pub fn whole_found()
+    ensures video { (system : System) (counted : Counted) (recorded : ℕ → Option ℕ) (fields : List Sightings)
+        (pace : Pace) → IsWhole Video recorded fields → IsFound system counted fields pace → pace ≡ Video }
+    ensures film { (recorded : ℕ → Option ℕ) (fields : List Sightings) (i n : ℕ) (pace : Pace)
+        → IsWhole Film recorded fields → TakesTurns recorded → Shows (slice_get fields i) n
+        → IsFound Ntsc Pictures fields pace → pace ≡ Film }
+{}
+
+/// Where film is found, by the numbers that are believed at either pace.
+pub fn worked_paces()
+    ensures equal { map (pace_by 10) (0 ∷ 10 ∷ 11 ∷ 12 ∷ []) ≡ Video ∷ Video ∷ Video ∷ Film ∷ [] }
+    ensures many { map (pace_by 1000) (1000 ∷ 1100 ∷ 1101 ∷ 2000 ∷ []) ≡ Video ∷ Video ∷ Film ∷ Film ∷ [] }
+    ensures none { map (pace_by 0) (0 ∷ 1 ∷ []) ≡ Video ∷ Film ∷ [] }
+{}
+
 /// Of a capture one pace is found.
 pub fn one_found()
-    ensures { (fields : List Sightings) (one other : Pace) → IsFound fields one → IsFound fields other → one ≡ other }
+    ensures { (system : System) (counted : Counted) (fields : List Sightings) (one other : Pace)
+        → IsFound system counted fields one → IsFound system counted fields other → one ≡ other }
 {}
 
 /// A number is never believed for its own field alone: another field within reach shows one that fits it, or that is of
@@ -104,11 +150,15 @@ pub fn never_alone()
         × ((fits pace i n j m ≡ true) ⊎ (stays i n j m ≡ true)) }
 {}
 
-/// Two captures that agree on the fields within reach of one believe the same of it.
+/// Two captures that agree on the fields within reach of one believe the same of it. Where they agree on those within
+/// twice that, the same is due in it. So a capture that goes on changes no more than its last 24 fields, and 48.
 pub fn only_near()
-    ensures { (pace : Pace) (fields others : List Sightings) (i n : ℕ)
+    ensures believed { (pace : Pace) (fields others : List Sightings) (i n : ℕ)
         → ((j : ℕ) → IsNear i j → slice_get fields j ≡ slice_get others j)
         → Believed pace fields i n → Believed pace others i n }
+    ensures due { (pace : Pace) (fields others : List Sightings) (i n : ℕ)
+        → ((j : ℕ) → i ≤ j + 48 → j ≤ i + 48 → slice_get fields j ≡ slice_get others j)
+        → Due pace fields i n → Due pace others i n }
 {}
 
 /// The number that a line shows is that of the words on it and on line 16: where it is another than what was recorded,
@@ -118,4 +168,105 @@ pub fn same_words()
         → line_16.word ≡ recorded_16.word → line.word ≡ recorded.word
         → number_from system counted (code_in line_16) (code_in line)
         ≡ number_from system counted (code_in recorded_16) (code_in recorded) }
+{}
+
+/// What was misread around a field weighs in numbers no more than in words, line 16 of a time counting for both lines
+/// beside it. So where the disc ran on around a field and the misread words of lines 16, 17 and 18 weigh less than
+/// enough, a believed number is the one that the words on the disc tell.
+pub fn misread_words()
+    ensures weight { (system : System) (counted : Counted) (lines : List Lines) (disc : ℕ → Words)
+        (recorded : ℕ → Option ℕ) (i : ℕ) → AreTold system counted disc recorded
+        → wrong_weight recorded (map (numbers_in system counted) lines) i ≤ misread_weight counted lines disc i }
+    ensures sound { (system : System) (counted : Counted) (pace : Pace) (lines : List Lines) (disc : ℕ → Words)
+        (recorded : ℕ → Option ℕ) (i m n : ℕ) → IsRead system counted pace lines disc recorded i m
+        → Believed pace (map (numbers_in system counted) lines) i n → n ≡ m }
+{}
+
+/// The numbers that fields show by the words of their lines 16, 17 and 18, written down by hand; 0 stands for no word.
+pub fn worked_numbers()
+    ensures cav { told_by Ntsc Pictures 0 0xF12345 0xF12345 ∷ told_by Pal Pictures 0 0xF00001 0
+        ∷ told_by Pal Pictures 0x8AE712 0 0xFF9999 ∷ told_by Ntsc Pictures 0xF12345 0x82CFFF 0
+        ∷ told_by Pal Pictures 0 0xF12345 0x835DDD ∷ told_by Ntsc Pictures 0 0x88FFFF 0x88FFFF
+        ∷ told_by Pal Pictures 0 0 0x80EEEE ∷ told_by Ntsc Pictures 0x8AE712 0xF0DD59 0
+        ∷ told_by Ntsc Pictures 0 0xF12345 0x800DDD ∷ told_by Pal Pictures 0 0xF00000 0x801DDD
+        ∷ told_by Ntsc Pictures 0 0x8AE712 0xF12345 ∷ told_by Pal Pictures 0x8AE712 0x8AE712 0xF12345 ∷ []
+        ≡ field_of 12345 2 12345 2 ∷ field_of 1 2 0 0
+        ∷ field_of 0 0 79999 2 ∷ field_of 0 0 0 0
+        ∷ instead_of 12345 2 0 0 ∷ instead_of 0 0 0 0
+        ∷ instead_of 0 0 0 0 ∷ instead_of 0 0 0 0
+        ∷ instead_of 12345 2 0 0 ∷ instead_of 0 2 0 0
+        ∷ field_of 0 0 12345 2 ∷ field_of 0 0 12345 2 ∷ [] }
+    ensures clv_ntsc { map (told_by Ntsc Times 0x8AE712 0xF0DD59) (0xF0DD59 ∷ 0 ∷ 0x835DDD ∷ 0xF12345 ∷ [])
+        ≡ field_of 106422 2 106422 2 ∷ field_of 106422 2 0 0 ∷ instead_of 106422 2 0 0 ∷ instead_of 106422 2 0 0 ∷ [] }
+    ensures ntsc_counts { map (λ line_16. told_by Ntsc Times line_16 0xF1DD23 0)
+        (0x8AE000 ∷ 0x8AE024 ∷ 0x8AE025 ∷ 0x8AE029 ∷ 0x8AE030 ∷ 0x8EE524 ∷ 0x8FE929 ∷ 0 ∷ 0xF1DD23 ∷ [])
+        ≡ field_of 149400 2 0 0 ∷ field_of 149424 2 0 0 ∷ field_of 149425 2 0 0 ∷ field_of 149429 2 0 0
+        ∷ field_of 0 0 0 0 ∷ field_of 150774 2 0 0 ∷ field_of 151199 2 0 0 ∷ field_of 0 0 0 0 ∷ field_of 0 0 0 0 ∷ [] }
+    ensures pal_counts { map (λ line_16. told_by Pal Times line_16 0xF1DD23 0)
+        (0x8AE000 ∷ 0x8AE024 ∷ 0x8AE025 ∷ 0x8AE029 ∷ 0x8AE030 ∷ 0x8EE524 ∷ 0x8FE924 ∷ [])
+        ≡ field_of 124500 2 0 0 ∷ field_of 124524 2 0 0 ∷ field_of 0 0 0 0 ∷ field_of 0 0 0 0 ∷ field_of 0 0 0 0
+        ∷ field_of 125649 2 0 0 ∷ field_of 125999 2 0 0 ∷ [] }
+    ensures minutes { map (λ line_17. told_by Pal Times 0x8FE924 line_17 0)
+        (0xF0DD00 ∷ 0xF0DD59 ∷ 0xF0DD60 ∷ 0xF1DD00 ∷ 0xF9DD59 ∷ 0xF9DD60 ∷ [])
+        ≡ field_of 1499 2 0 0 ∷ field_of 89999 2 0 0 ∷ field_of 0 0 0 0 ∷ field_of 91499 2 0 0 ∷ field_of 899999 2 0 0
+        ∷ field_of 0 0 0 0 ∷ [] }
+    ensures passes { sightings_of Ntsc Pictures (shown_in 2 0) (shown_in 2 0xF12345) (shown_in 1 0xF12345)
+        ∷ sightings_of Ntsc Times (shown_in 1 0x8AE712) (shown_in 2 0xF0DD59) (shown_in 1 0xF0DD59)
+        ∷ sightings_of Ntsc Times (shown_in 2 0x8AE712) (shown_in 1 0xF0DD59) (shown_in 1 0xF0DD59)
+        ∷ sightings_of Pal Pictures (shown_in 1 0) (shown_in 3 0xF12345) (shown_in 4 0xF12345)
+        ∷ sightings_of Pal Times (shown_in 3 0x8AE712) (shown_in 3 0xF0DD59) (shown_in 2 0xF0DD59) ∷ []
+        ≡ field_of 12345 1 12345 2 ∷ field_of 106422 1 106422 2 ∷ field_of 106422 1 106422 1
+        ∷ field_of 12345 1 12345 2 ∷ field_of 88687 1 88687 1 ∷ [] }
+{}
+
+/// The numbers that codes tell, what they weigh by the passes of their lines, and the codes that stand in place of one.
+pub fn worked_lines()
+    ensures ntsc { map (λ line_16. number_from Ntsc Times line_16 (Some (Time 1 23)))
+        (Some (ClvPicture 0 0) ∷ Some (ClvPicture 0 29) ∷ Some (ClvPicture 0 30) ∷ Some (ClvPicture 59 29) ∷ None ∷ [])
+        ≡ Some 149400 ∷ Some 149429 ∷ None ∷ Some 151199 ∷ None ∷ [] }
+    ensures pal { map (λ line_16. number_from Pal Times line_16 (Some (Time 1 23)))
+        (Some (ClvPicture 0 0) ∷ Some (ClvPicture 0 24) ∷ Some (ClvPicture 0 25) ∷ Some (ClvPicture 59 24) ∷ None ∷ [])
+        ≡ Some 124500 ∷ Some 124524 ∷ None ∷ Some 125999 ∷ None ∷ [] }
+    ensures minutes { map (number_from Pal Times (Some (ClvPicture 59 24)))
+        (Some (Time 0 59) ∷ Some (Time 0 60) ∷ Some (Time 9 59) ∷ None ∷ [])
+        ≡ Some 89999 ∷ None ∷ Some 899999 ∷ None ∷ [] }
+    ensures weights { map pass_weight (0 ∷ 1 ∷ 2 ∷ 3 ∷ 4 ∷ []) ≡ 2 ∷ 2 ∷ 1 ∷ 1 ∷ 2 ∷ [] }
+    ensures lighter { map (λ pass. number_weight Times (shown_in pass 0) (shown_in 1 0)) (1 ∷ 2 ∷ []) ≡ 2 ∷ 1 ∷ [] }
+    ensures lighter_line { map (λ pass. number_weight Times (shown_in 1 0) (shown_in pass 0)) (1 ∷ 2 ∷ [])
+        ≡ 2 ∷ 1 ∷ [] }
+    ensures own { map (λ pass. number_weight Pictures (shown_in 2 0) (shown_in pass 0)) (1 ∷ 2 ∷ []) ≡ 2 ∷ 1 ∷ [] }
+    ensures instead { map (is_instead Pictures)
+        (Some (Chapter 0) ∷ Some LeadIn ∷ Some LeadOut ∷ Some (Time 0 0) ∷ Some (Picture 0) ∷ Some ClvMark ∷ None ∷ [])
+        ≡ true ∷ true ∷ true ∷ true ∷ false ∷ false ∷ false ∷ [] }
+    ensures instead_of_times { map (is_instead Times)
+        (Some (Chapter 0) ∷ Some LeadIn ∷ Some LeadOut ∷ Some (Time 0 0) ∷ Some (Picture 0) ∷ Some ClvMark ∷ None ∷ [])
+        ≡ true ∷ true ∷ true ∷ false ∷ true ∷ false ∷ false ∷ [] }
+{}
+
+/// When two numbers fit, or are of one still, at each edge: number 100 in field 10, and the fields in which another one
+/// fits it. Others count within 24 fields, a weight of 10 is enough, and a still loses 4 of it. Between numbers at most 8
+/// fields apart others may be a field off.
+pub fn worked_fits()
+    ensures video { map (λ j. fits Video 10 100 j 101) (11 ∷ 12 ∷ 13 ∷ []) ≡ false ∷ true ∷ false ∷ [] }
+    ensures video_back { map (λ j. fits Video 10 100 j 96) (1 ∷ 2 ∷ 3 ∷ []) ≡ false ∷ true ∷ false ∷ [] }
+    ensures film { map (λ j. fits Film 10 100 j 101) (11 ∷ 12 ∷ 13 ∷ 14 ∷ []) ≡ false ∷ true ∷ true ∷ false ∷ [] }
+    ensures film_two { map (λ j. fits Film 10 100 j 102) (13 ∷ 14 ∷ 15 ∷ 16 ∷ 17 ∷ [])
+        ≡ false ∷ true ∷ true ∷ true ∷ false ∷ [] }
+    ensures film_back { map (λ j. fits Film 10 100 j 97) (1 ∷ 2 ∷ 3 ∷ 4 ∷ []) ≡ false ∷ true ∷ true ∷ false ∷ [] }
+    ensures still { map (λ j. stays 10 100 j 100) (8 ∷ 9 ∷ 10 ∷ 11 ∷ 34 ∷ [])
+        ≡ true ∷ false ∷ true ∷ false ∷ true ∷ [] }
+    ensures still_of_one { map (stays 10 100 12) (99 ∷ 100 ∷ 101 ∷ []) ≡ false ∷ true ∷ false ∷ [] }
+    ensures numbers { (reach ≡ 24) × (enough ≡ 10) × (field_most ≡ 4) }
+    ensures close { map (slack_of 0) (2 ∷ 8 ∷ 9 ∷ 48 ∷ []) ≡ 1 ∷ 1 ∷ 0 ∷ 0 ∷ [] }
+    ensures nearly { map (λ j. nearly Video 1 10 100 j 101) (10 ∷ 11 ∷ 12 ∷ 13 ∷ 14 ∷ [])
+        ≡ false ∷ true ∷ true ∷ true ∷ false ∷ [] }
+{}
+
+/// What supports a number: others within 24 fields, on either side, and not further; of a still all but the weight of
+/// one field.
+pub fn worked_support()
+    ensures reach { (support_of Film (apart_by 24) 0 0 ≡ 4) × (support_of Film (apart_by 24) 24 10 ≡ 4)
+        × (support_of Film (apart_by 25) 0 0 ≡ 2) × (support_of Film (apart_by 25) 25 10 ≡ 2) }
+    ensures stood { map (λ pictures. support_of Video (still_of pictures) 0 5) (2 ∷ 3 ∷ 6 ∷ 7 ∷ [])
+        ≡ 2 ∷ 2 ∷ 8 ∷ 10 ∷ [] }
 {}

@@ -57,4 +57,13 @@ impl Sightings {
     {
         self.instead != 0
     }
+    /// Whether both lines show one number, as they do if both were read in pass 1.
+    pub(crate) fn shows_twice(&self) -> bool
+        ensures { (result ≡ true) ↔ ((2 ≤ self.now.line_17.weight) × (2 ≤ self.now.line_18.weight)
+            × (self.now.line_17.number ≡ self.now.line_18.number)) }
+    {
+        self.line_17.weight >= 2
+            && self.line_18.weight >= 2
+            && self.line_17.number == self.line_18.number
+    }
 }

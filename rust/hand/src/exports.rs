@@ -180,6 +180,19 @@ pub unsafe extern "C" fn ldvbi_judge(
 }
 
 #[no_mangle]
+pub unsafe extern "C" fn ldvbi_find_pace(
+    system: u32,
+    counted: u32,
+    readings: *const LdvbiFieldReadings,
+    count: usize,
+    seen: *mut Sightings,
+    seen_count: usize,
+    pace: *mut u32,
+) -> u32 {
+    c::ldvbi_find_pace(system, counted, values(readings, count), room(seen, seen_count), &mut *pace)
+}
+
+#[no_mangle]
 pub unsafe extern "C" fn ldvbi_first_of(numbers: *const Number, count: usize, number: u32) -> usize {
     c::ldvbi_first_of(values(numbers, count), number)
 }

@@ -1,7 +1,9 @@
 use Rattle.std.proofs.Common.{arith, refl}
-use Rattle.vbi_side.proofs.Around.{left_due, marked_at, state_at, instead_at, code_at, nothing_there, not_both}
+use Rattle.vbi_side.proofs.Around.{left_due, marked_at, state_at, instead_at, code_at, twice_at, lines_at, nothing_there}
+use Rattle.vbi_side.proofs.Around.{not_both}
 use Rattle.vbi_side.proofs.due.number_due.Goals.{then-is_believed-via-then-is_believed}
 use Rattle.vbi_side.proofs.due.number_due.Goals.{then-is_believed-via-else-is_believed+then-shows_instead}
+use Rattle.vbi_side.proofs.due.number_due.Goals.{then-is_believed-via-else-is_believed+else-shows_instead+then-shows_twice}
 use Rattle.vbi_side.proofs.due.number_due.Goals as goal
 
 pub returns-then-is_believed : goal.returns-then-is_believed
@@ -15,6 +17,9 @@ returns-then-is_believed c n =
       | then-is_believed-via-else-is_believed+then-shows_instead w ↦
           nothing_there _ n refl (λ due. due.vacant (instead_at c.args.fields.now i _ c.requires.inside
           (w.shows_instead.ensures.0 w.if-shows_instead.true)))
+      | then-is_believed-via-else-is_believed+else-shows_instead+then-shows_twice w ↦
+          nothing_there _ n refl (λ due. due.unread (twice_at c.args.fields.now i _ c.requires.inside
+          (w.shows_twice.ensures.0 w.if-shows_twice.true)))
     ]
 
 pub returns : goal.returns
@@ -24,4 +29,6 @@ returns c =
     (λ m b. not_both c.if-is_believed.false
     (c.is_believed.ensures.1 (state_at c.args.numbers.now i m _ ((c.requires.marked i m).1 b))))
     (λ instead. not_both c.if-shows_instead.false
-    (c.shows_instead.ensures.1 (code_at c.args.fields.now i _ instead))) c.left_around.ensures
+    (c.shows_instead.ensures.1 (code_at c.args.fields.now i _ instead)))
+    (λ twice. not_both c.if-shows_twice.false
+    (c.shows_twice.ensures.1 (lines_at c.args.fields.now i _ twice))) c.left_around.ensures

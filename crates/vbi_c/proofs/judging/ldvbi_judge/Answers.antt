@@ -1,0 +1,28 @@
+use Rattle.std.proofs.Common.{subst, sym, ◌∙◌}
+use Rattle.std.specs.Prelude.{Result, IfOk}
+use Rattle.vbi_side.specs.declared.pace.Pace as paces
+use Rattle.vbi_c.specs.declared.judging.Judging.{Judging}
+use Rattle.vbi_c.specs.declared.status.Refusal.{Refusal}
+use Rattle.vbi_c.specs.Judging.{AreJudged}
+use Rattle.vbi_c.proofs.Judged.{read_sound}
+use Rattle.vbi_c.proofs.judging.ldvbi_judge.Goals as goal
+
+pub returns-in-Ok-clause-judges : goal.returns-in-Ok-clause-judges
+returns-in-Ok-clause-judges c =
+    let readings = c.args.readings.now in
+    let seen = c.see_all.new.seen in
+    let numbers = c.judge.new.numbers in
+    let Judges : Result Judging Refusal → Type 0
+    = λ found. IfOk found (λ judging. (pace : paces.Pace) × AreJudged judging readings seen numbers pace) in
+    let judges = c.judge.ensures in
+    subst Judges (sym c.in-Ok.is ∙ c.judging_of.ensures) (
+      c.pace_for.result,
+      record {
+        pace_is = c.pace_for.ensures;
+        answers = judges.answers;
+        read = read_sound c.in-Ok.judging readings seen numbers c.pace_for.result c.see_all.ensures judges.sound;
+        sound = judges.sound;
+        sound_still = judges.sound_still;
+        due_sound = judges.due_sound;
+      },
+    )

@@ -1,0 +1,257 @@
+-- What was misread weighs in numbers no more than in words.
+use Rattle.std.proofs.Common.{◌≡◌, ◌≢◌, ℕ, zero, suc, ◌+◌, ◌*◌, ◌-◌, ◌≤◌, Bool, true, false, List}
+use Rattle.std.proofs.Common.{refl, arith, ap, sym, ◌∙◌}
+use Rattle.std.proofs.Common.{subst, inl, inr, map, min}
+use Rattle.std.specs.Prelude.{Option, Some, None, option_map, slice_get, ◌⊎◌, not, nat_le, if◌then◌else◌}
+use Rattle.std.proofs.Math.Dec.{eqb}
+use Rattle.std.proofs.lemmas.Bool.Decides.{eqb_tells}
+use Rattle.std.proofs.lemmas.Option.{slice_get-map}
+use Rattle.vbi_words.specs.declared.system.System.{System}
+use Rattle.vbi_words.specs.declared.code.Code.{Code}
+use Rattle.vbi_words.specs.declared.code.Code.TheVariants.{Picture, Chapter, Time, ClvPicture, CxOn, CxOff}
+use Rattle.vbi_words.specs.declared.code.Code.TheVariants.{Users, LeadIn, LeadOut, PictureStop, ClvMark, Other}
+use Rattle.vbi_words.specs.CodeTable.{code_of}
+use Rattle.vbi_side.specs.declared.lines.Counted.{Counted}
+use Rattle.vbi_side.specs.declared.lines.Counted.TheVariants.{Pictures, Times}
+use Rattle.vbi_side.specs.declared.lines.Shown.{Shown}
+use Rattle.vbi_side.specs.declared.pace.Pace.{Pace}
+use Rattle.vbi_side.specs.Lines.{pass_weight, code_in, number_from, sighting_from, sighting_of}
+use Rattle.vbi_side.specs.Beliefs.{reach, sighting_weight, field_weight, weight_at, weight_below, Believed}
+use Rattle.vbi_side.specs.Truth.{is_recorded, wrong_weight}
+use Rattle.vbi_side.specs.Misread.{Lines, Words, numbers_in, is_misread, line_weight, misread_in}
+use Rattle.vbi_side.specs.Misread.{misread_at, misread_below, misread_weight, number_of, AreTold, IsRead}
+use Rattle.vbi_side.proofs.Truth.{sound}
+
+-- ---- one number
+
+-- a word that wasn't misread is that on the disc, or none was read
+not_misread : (read word : Option ℕ) → is_misread read word ≡ false → (read ≡ None) ⊎ (read ≡ word)
+not_misread None word e = inl refl
+not_misread (Some a) None e = absurd (let clash : true ≡ false → ⊥ = λ h. cc in clash e)
+not_misread (Some a) (Some b) e = go (eqb_tells a b)
+  where
+    go : ((eqb a b ≡ true) × (a ≡ b)) ⊎ ((eqb a b ≡ false) × (a ≢ b)) → (Some a ≡ None) ⊎ (Some a ≡ Some b)
+    go (inl (t, is)) = inr (ap Some is)
+    go (inr (f, apart)) =
+        absurd (let clash : true ≡ false → ⊥ = λ h. cc in clash (subst (λ b. not b ≡ false) f e))
+
+recorded_self : (o : Option ℕ) (n : ℕ) → o ≡ Some n → is_recorded o n ≡ true
+recorded_self o n e = subst (λ p. is_recorded p n ≡ true) (sym e) (go (eqb_tells n n))
+  where
+    go : ((eqb n n ≡ true) × (n ≡ n)) ⊎ ((eqb n n ≡ false) × (n ≢ n)) → is_recorded (Some n) n ≡ true
+    go (inl (t, is)) = t
+    go (inr (f, apart)) = absurd (apart refl)
+
+-- without a word there is no number
+no_word : (system : System) (counted : Counted) (first : Option Code) (n : ℕ)
+    → number_from system counted first None ≡ Some n → ⊥
+no_word system Pictures first n e = cc
+no_word system Times None n e = cc
+no_word system Times (Some (Picture a)) n e = cc
+no_word system Times (Some (Chapter a)) n e = cc
+no_word system Times (Some (Time a b)) n e = cc
+no_word system Times (Some (ClvPicture a b)) n e = cc
+no_word system Times (Some (CxOn a)) n e = cc
+no_word system Times (Some (CxOff a)) n e = cc
+no_word system Times (Some (Users a b)) n e = cc
+no_word system Times (Some LeadIn) n e = cc
+no_word system Times (Some LeadOut) n e = cc
+no_word system Times (Some PictureStop) n e = cc
+no_word system Times (Some ClvMark) n e = cc
+no_word system Times (Some Other) n e = cc
+
+no_first : (system : System) (code : Option Code) (n : ℕ) → number_from system Times None code ≡ Some n → ⊥
+no_first system None n e = cc
+no_first system (Some (Picture a)) n e = cc
+no_first system (Some (Chapter a)) n e = cc
+no_first system (Some (Time a b)) n e = cc
+no_first system (Some (ClvPicture a b)) n e = cc
+no_first system (Some (CxOn a)) n e = cc
+no_first system (Some (CxOff a)) n e = cc
+no_first system (Some (Users a b)) n e = cc
+no_first system (Some LeadIn) n e = cc
+no_first system (Some LeadOut) n e = cc
+no_first system (Some PictureStop) n e = cc
+no_first system (Some ClvMark) n e = cc
+no_first system (Some Other) n e = cc
+
+-- of pictures line 16 says nothing
+pictures_alone : (system : System) (first other code : Option Code)
+    → number_from system Pictures first code ≡ number_from system Pictures other code
+pictures_alone system first other None = refl
+pictures_alone system first other (Some (Picture a)) = refl
+pictures_alone system first other (Some (Chapter a)) = refl
+pictures_alone system first other (Some (Time a b)) = refl
+pictures_alone system first other (Some (ClvPicture a b)) = refl
+pictures_alone system first other (Some (CxOn a)) = refl
+pictures_alone system first other (Some (CxOff a)) = refl
+pictures_alone system first other (Some (Users a b)) = refl
+pictures_alone system first other (Some LeadIn) = refl
+pictures_alone system first other (Some LeadOut) = refl
+pictures_alone system first other (Some PictureStop) = refl
+pictures_alone system first other (Some ClvMark) = refl
+pictures_alone system first other (Some Other) = refl
+
+-- the word was read that is on the disc, if a number was
+word_is : (system : System) (counted : Counted) (first : Option Code) (line : Shown) (word : Option ℕ) (n : ℕ)
+    → number_from system counted first (code_in line) ≡ Some n → is_misread line.word word ≡ false → line.word ≡ word
+word_is system counted first line word n e right = elim (not_misread line.word word right) [
+  | inl none ↦ absurd (no_word system counted first n
+      (subst (λ (w : Option ℕ). number_from system counted first (option_map code_of w) ≡ Some n) none e))
+  | inr is ↦ is
+]
+
+first_is : (system : System) (line_16 : Shown) (code : Option Code) (word : Option ℕ) (n : ℕ)
+    → number_from system Times (code_in line_16) code ≡ Some n → is_misread line_16.word word ≡ false
+    → line_16.word ≡ word
+first_is system line_16 code word n e right = elim (not_misread line_16.word word right) [
+  | inl none ↦ absurd (no_first system code n
+      (subst (λ (w : Option ℕ). number_from system Times (option_map code_of w) code ≡ Some n) none e))
+  | inr is ↦ is
+]
+
+-- a test that a number doesn't pass gives it no weight
+weighs_none : (wrong : ℕ → Bool) (n weight : ℕ) → wrong n ≡ false
+    → sighting_weight wrong (record { number = n; weight = weight }) ≡ 0
+weighs_none wrong n weight e = rw e refl
+
+weighs_less : (wrong : ℕ → Bool) (n weight : ℕ)
+    → sighting_weight wrong (record { number = n; weight = weight }) ≤ weight
+weighs_less wrong n weight = go (wrong n)
+  where
+    go : (b : Bool) → (if b then min weight 2 else 0) ≤ weight
+    go true = omega arith
+    go false = omega arith
+
+not_wrong : (recorded : Option ℕ) (n : ℕ) → recorded ≡ Some n → not (is_recorded recorded n) ≡ false
+not_wrong recorded n e = rw (recorded_self recorded n e) refl
+
+-- of pictures, a number that isn't on the disc is a misread word
+picture_misread : (system : System) (line_16 line : Shown) (first word : Option ℕ) (recorded : Option ℕ)
+    → ((n : ℕ) → number_of system Pictures first word ≡ Some n → recorded ≡ Some n)
+    → sighting_weight (λ n. not (is_recorded recorded n)) (sighting_of system Pictures line_16 line)
+    ≤ line_weight line word
+picture_misread system line_16 line first word recorded told =
+    go (number_from system Pictures (code_in line_16) (code_in line)) refl (is_misread line.word word) refl
+  where
+    go : (o : Option ℕ) → number_from system Pictures (code_in line_16) (code_in line) ≡ o
+        → (b : Bool) → is_misread line.word word ≡ b
+        → sighting_weight (λ n. not (is_recorded recorded n)) (sighting_from o (pass_weight line.pass))
+        ≤ (if b then pass_weight line.pass else 0)
+    go None e b f = omega (arith, weighs_less (λ n. not (is_recorded recorded n)) 0 0)
+    go (Some n) e true f = weighs_less (λ n. not (is_recorded recorded n)) n (pass_weight line.pass)
+    go (Some n) e false f =
+        let same = word_is system Pictures (code_in line_16) line word n e f in
+        let there : number_of system Pictures first word ≡ Some n
+        = pictures_alone system (option_map code_of first) (code_in line_16) (option_map code_of word)
+        ∙ ap (λ (w : Option ℕ). number_from system Pictures (code_in line_16) (option_map code_of w)) (sym same) ∙ e in
+        omega (
+          arith,
+          weighs_none (λ n. not (is_recorded recorded n)) n (pass_weight line.pass)
+              (not_wrong recorded n (told n there)),
+        )
+
+-- of times, on this line or on line 16
+time_misread : (system : System) (line_16 line : Shown) (first word : Option ℕ) (recorded : Option ℕ)
+    → ((n : ℕ) → number_of system Times first word ≡ Some n → recorded ≡ Some n)
+    → sighting_weight (λ n. not (is_recorded recorded n)) (sighting_of system Times line_16 line)
+    ≤ line_weight line_16 first + line_weight line word
+time_misread system line_16 line first word recorded told =
+    go (number_from system Times (code_in line_16) (code_in line)) refl (is_misread line_16.word first) refl
+    (is_misread line.word word) refl
+  where
+    go : (o : Option ℕ) → number_from system Times (code_in line_16) (code_in line) ≡ o
+        → (a : Bool) → is_misread line_16.word first ≡ a → (b : Bool) → is_misread line.word word ≡ b
+        → sighting_weight (λ n. not (is_recorded recorded n))
+        (sighting_from o (min (pass_weight line_16.pass) (pass_weight line.pass)))
+        ≤ (if a then pass_weight line_16.pass else 0) + (if b then pass_weight line.pass else 0)
+    go None e a f b g = omega (arith, weighs_less (λ n. not (is_recorded recorded n)) 0 0)
+    go (Some n) e true f b g = omega (
+      arith,
+      weighs_less (λ n. not (is_recorded recorded n)) n (min (pass_weight line_16.pass) (pass_weight line.pass)),
+    )
+    go (Some n) e false f true g = omega (
+      arith,
+      weighs_less (λ n. not (is_recorded recorded n)) n (min (pass_weight line_16.pass) (pass_weight line.pass)),
+    )
+    go (Some n) e false f false g =
+        let same = word_is system Times (code_in line_16) line word n e g in
+        let sames = first_is system line_16 (code_in line) first n e f in
+        let there : number_of system Times first word ≡ Some n
+        = ap (λ (w : Option ℕ). number_from system Times (option_map code_of w) (option_map code_of word)) (sym sames)
+        ∙ ap (λ (w : Option ℕ). number_from system Times (code_in line_16) (option_map code_of w)) (sym same) ∙ e in
+        omega (
+          arith,
+          weighs_none (λ n. not (is_recorded recorded n)) n
+              (min (pass_weight line_16.pass) (pass_weight line.pass)) (not_wrong recorded n (told n there)),
+        )
+
+-- ---- one field, and all within reach
+
+field_misread : (system : System) (counted : Counted) (lines : Option Lines) (words : Words) (recorded : Option ℕ)
+    → ((n : ℕ) → (number_of system counted words.line_16 words.line_17 ≡ Some n)
+    ⊎ (number_of system counted words.line_16 words.line_18 ≡ Some n) → recorded ≡ Some n)
+    → field_weight (λ n. not (is_recorded recorded n)) (option_map (numbers_in system counted) lines)
+    ≤ misread_in counted lines words
+field_misread system counted None words recorded told = omega arith
+field_misread system Pictures (Some lines) words recorded told = omega (
+  arith,
+  picture_misread system lines.line_16 lines.line_17 words.line_16 words.line_17 recorded (λ n e. told n (inl e)),
+  picture_misread system lines.line_16 lines.line_18 words.line_16 words.line_18 recorded (λ n e. told n (inr e)),
+)
+field_misread system Times (Some lines) words recorded told = omega (
+  arith,
+  time_misread system lines.line_16 lines.line_17 words.line_16 words.line_17 recorded (λ n e. told n (inl e)),
+  time_misread system lines.line_16 lines.line_18 words.line_16 words.line_18 recorded (λ n e. told n (inr e)),
+)
+
+at_misread : (system : System) (counted : Counted) (lines : List Lines) (disc : ℕ → Words) (recorded : ℕ → Option ℕ)
+    (i k : ℕ) → AreTold system counted disc recorded
+    → weight_at (λ j n. not (is_recorded (recorded j) n)) (map (numbers_in system counted) lines) i k
+    ≤ misread_at counted lines disc i k
+at_misread system counted lines disc recorded i k told = go (nat_le reach (i + k))
+  where
+    wrong : ℕ → Bool
+    wrong = λ n. not (is_recorded (recorded (i + k - reach)) n)
+
+    field : field_weight wrong (slice_get (map (numbers_in system counted) lines) (i + k - reach))
+        ≤ misread_in counted (slice_get lines (i + k - reach)) (disc (i + k - reach))
+    field = subst
+        (λ f. field_weight wrong f ≤ misread_in counted (slice_get lines (i + k - reach)) (disc (i + k - reach)))
+        (sym (slice_get-map (numbers_in system counted) lines (i + k - reach)))
+        (field_misread system counted (slice_get lines (i + k - reach)) (disc (i + k - reach))
+        (recorded (i + k - reach))
+        (told (i + k - reach)))
+
+    go : (b : Bool)
+        → (if b then field_weight wrong (slice_get (map (numbers_in system counted) lines) (i + k - reach)) else 0)
+        ≤ (if b then misread_in counted (slice_get lines (i + k - reach)) (disc (i + k - reach)) else 0)
+    go true = field
+    go false = omega arith
+
+below_misread : (system : System) (counted : Counted) (lines : List Lines) (disc : ℕ → Words) (recorded : ℕ → Option ℕ)
+    (i k : ℕ) → AreTold system counted disc recorded
+    → weight_below (λ j n. not (is_recorded (recorded j) n)) (map (numbers_in system counted) lines) i k
+    ≤ misread_below counted lines disc i k
+unfolding weight_below misread_below
+below_misread system counted lines disc recorded i zero told = omega arith
+below_misread system counted lines disc recorded i (suc k) told = omega (
+  arith,
+  below_misread system counted lines disc recorded i k told,
+  at_misread system counted lines disc recorded i k told,
+)
+
+pub wrong_misread : (system : System) (counted : Counted) (lines : List Lines) (disc : ℕ → Words)
+    (recorded : ℕ → Option ℕ) (i : ℕ) → AreTold system counted disc recorded
+    → wrong_weight recorded (map (numbers_in system counted) lines) i ≤ misread_weight counted lines disc i
+wrong_misread system counted lines disc recorded i = below_misread system counted lines disc recorded i (2 * reach + 1)
+
+pub sound_read : (system : System) (counted : Counted) (pace : Pace) (lines : List Lines) (disc : ℕ → Words)
+    (recorded : ℕ → Option ℕ) (i m n : ℕ) → IsRead system counted pace lines disc recorded i m
+    → Believed pace (map (numbers_in system counted) lines) i n → n ≡ m
+sound_read system counted pace lines disc recorded i m n read b =
+    sound pace recorded (map (numbers_in system counted) lines) i m n (
+      read.runs,
+      read.has,
+      omega (arith, read.few, wrong_misread system counted lines disc recorded i read.told),
+    ) b

@@ -1,0 +1,189 @@
+-- The pace of a disc that is read whole is found.
+use Rattle.std.proofs.Common.{◌≡◌, ◌≢◌, ℕ, zero, suc, ◌+◌, ◌*◌, ◌-◌, ◌%◌, ◌<◌, ◌≤◌, Bool, true, false, List, length}
+use Rattle.std.proofs.Common.{refl, arith, ap, sym, ◌∙◌, subst, inl, inr}
+use Rattle.std.specs.Prelude.{Option, Some, None, slice_get, ◌⊎◌, nat_lt, not, ◌&&◌, ◌==◌, if◌then◌else◌}
+use Rattle.std.proofs.Math.Dec.{eqb}
+use Rattle.std.proofs.lemmas.Bool.{eqb-true, ltb-true, lt-ltb}
+use Rattle.std.proofs.lemmas.Bool.Decides.{eqb_tells}
+use Rattle.std.proofs.lemmas.Option.{slice_get_within}
+use Rattle.vbi_words.specs.declared.system.System.{System}
+use Rattle.vbi_words.specs.declared.system.System.TheVariants.{Ntsc, Pal}
+use Rattle.vbi_side.specs.declared.lines.Counted.{Counted}
+use Rattle.vbi_side.specs.declared.lines.Counted.TheVariants.{Pictures, Times}
+use Rattle.vbi_side.specs.declared.sighting.Sightings.{Sightings}
+use Rattle.vbi_side.specs.declared.pace.Pace.{Pace}
+use Rattle.vbi_side.specs.declared.pace.Pace.TheVariants.{Video, Film}
+use Rattle.vbi_side.specs.Sightings.{Shows}
+use Rattle.vbi_side.specs.Paces.{fits, stays}
+use Rattle.vbi_side.specs.Beliefs.{reach, enough, field_most, window_weight, weight_at, support_of, Believed}
+use Rattle.vbi_side.specs.Found.{IsCount, pace_by, IsMore, IsFound}
+use Rattle.vbi_side.specs.Truth.{IsNear, RunsOn, is_recorded, wrong_weight}
+use Rattle.vbi_side.specs.Whole.{IsWhole, TakesTurns}
+use Rattle.vbi_side.proofs.Truth.{both, and_so, recorded_is, wrong_or_right, film_fits, complete, wrong_still}
+use Rattle.vbi_side.proofs.Weights.{weight_below-split, once, spread, weight_at-passes}
+
+-- ---- counts
+
+some_most : (pace other : Pace) (fields : List Sightings) (n few many : ℕ)
+    → ((i m : ℕ) → Believed pace fields i m → Believed other fields i m)
+    → IsCount pace fields n few → IsCount other fields n many → few ≤ many
+some_most pace other fields zero few many so counted counts = omega (arith, counted, counts)
+some_most pace other fields (suc n) few many so (inl (m, less, b, counted, is)) (inl (k, fewer, c, counts, are)) =
+    omega (arith, some_most pace other fields n less fewer so counted counts, is, are)
+some_most pace other fields (suc n) few many so (inl (m, less, b, counted, is)) (inr (none, counts)) =
+    absurd (none m (so n m b))
+some_most pace other fields (suc n) few many so (inr (none, counted)) (inl (k, fewer, c, counts, are)) =
+    omega (arith, some_most pace other fields n few fewer so counted counts, are)
+some_most pace other fields (suc n) few many so (inr (none, counted)) (inr (nones, counts)) =
+    some_most pace other fields n few many so counted counts
+
+none_counted : (pace : Pace) (fields : List Sightings) (n count : ℕ)
+    → ((i m : ℕ) → Believed pace fields i m → ⊥) → IsCount pace fields n count → count ≡ 0
+none_counted pace fields zero count none counted = counted
+none_counted pace fields (suc n) count none (inl (m, fewer, b, counted, is)) = absurd (none n m b)
+none_counted pace fields (suc n) count none (inr (nones, counted)) = none_counted pace fields n count none counted
+
+one_counted : (pace : Pace) (fields : List Sightings) (n count i m : ℕ) → Believed pace fields i m → i < n
+    → IsCount pace fields n count → 1 ≤ count
+one_counted pace fields zero count i m b less counted = absurd (omega (arith, less))
+one_counted pace fields (suc n) count i m b less (inl (k, fewer, c, counted, is)) = omega (arith, is)
+one_counted pace fields (suc n) count i m b less (inr (none, counted)) =
+    go (eqb_tells i n) (λ before. one_counted pace fields n count i m b before counted)
+  where
+    go : ((eqb i n ≡ true) × (i ≡ n)) ⊎ ((eqb i n ≡ false) × (i ≢ n)) → (i < n → 1 ≤ count) → 1 ≤ count
+    go (inl (t, e)) others = absurd (none m (subst (λ j. Believed pace fields j m) e b))
+    go (inr (f, apart)) others = others (omega (arith, less, apart))
+
+-- ---- nothing is misread
+
+is_right : (o : Option ℕ) (n : ℕ) → o ≡ Some n → not (is_recorded o n) ≡ true → ⊥
+is_right o n e wrong = go (eqb_tells n n) (subst (λ p. not (is_recorded p n) ≡ true) e wrong)
+  where
+    go : ((eqb n n ≡ true) × (n ≡ n)) ⊎ ((eqb n n ≡ false) × (n ≢ n)) → not (n == n) ≡ true → ⊥
+    go (inl (t, same)) is = let turned : not true ≡ true = subst (λ b. not b ≡ true) t is in cc
+    go (inr (f, apart)) is = apart refl
+
+none_misread : (recorded : ℕ → Option ℕ) (fields : List Sightings) (i : ℕ)
+    → ((j n : ℕ) → Shows (slice_get fields j) n → recorded j ≡ Some n) → wrong_weight recorded fields i ≡ 0
+none_misread recorded fields i right = go (spread wrong fields i (2 * reach + 1) (2 * reach + 1))
+  where
+    wrong : ℕ → ℕ → Bool
+    wrong = λ j n. not (is_recorded (recorded j) n)
+
+    go : ((wrong_weight recorded fields i ≤ field_most)
+        × (2 * reach + 1 ≤ 2 * reach + 1 → wrong_weight recorded fields i ≡ 0))
+        ⊎ ((k : ℕ) × (k < 2 * reach + 1) × (k ≢ 2 * reach + 1) × (0 < weight_at wrong fields i k))
+        → wrong_weight recorded fields i ≡ 0
+    go (inl (most, none)) = none (omega arith)
+    go (inr (k, less, apart, more)) =
+        let p = weight_at-passes wrong fields i k more in
+        absurd (is_right (recorded (i + k - reach)) p.1.0 (right (i + k - reach) p.1.0 p.1.1) p.1.2)
+
+-- so each number that is shown is believed
+all_believed : (pace : Pace) (recorded : ℕ → Option ℕ) (fields : List Sightings) (i n : ℕ)
+    → IsWhole pace recorded fields → Shows (slice_get fields i) n → Believed pace fields i n
+all_believed pace recorded fields i n whole shown =
+    let much = whole.much i n shown in
+    complete pace recorded fields i n (whole.runs i) (whole.right i n shown) shown much
+    (omega (arith, none_misread recorded fields i whole.right, much))
+
+-- ---- video
+
+video_most : (video film : ℕ) → film ≤ video → pace_by video film ≡ Video
+video_most video film less = go (nat_lt (11 * video) (10 * film)) refl
+  where
+    go : (b : Bool) → nat_lt (11 * video) (10 * film) ≡ b → pace_by video film ≡ Video
+    go true e = absurd (omega (arith, ltb-true (11 * video) (10 * film) e, less))
+    go false e = rw e refl
+
+pub finds_video : (system : System) (counted : Counted) (recorded : ℕ → Option ℕ) (fields : List Sightings)
+    (pace : Pace) → IsWhole Video recorded fields → IsFound system counted fields pace → pace ≡ Video
+finds_video Ntsc Pictures recorded fields pace whole (video, film, videos, films, is) =
+    is ∙ video_most video film (some_most Film Video fields (length fields) film video
+    (λ i m b. all_believed Video recorded fields i m whole b.shown) films videos)
+finds_video Ntsc Times recorded fields pace whole found = found
+finds_video Pal counted recorded fields pace whole found = found
+
+-- ---- film
+
+film_most : (film : ℕ) → 1 ≤ film → pace_by 0 film ≡ Film
+film_most film some =
+    let more : nat_lt (11 * 0) (10 * film) ≡ true = lt-ltb (11 * 0) (10 * film) (omega (arith, some)) in rw more refl
+
+-- at the pace of video two fields support a number of film
+turns_weight : (recorded : ℕ → Option ℕ) (fields : List Sightings) (i m : ℕ) → TakesTurns recorded → recorded i ≡ Some m
+    → window_weight (fits Video i m) fields i ≤ wrong_weight recorded fields i + 2 * field_most
+turns_weight recorded fields i m turns has =
+    omega (
+      arith,
+      weight_below-split (fits Video i m) wrong right fields i (2 * reach + 1) (omega arith) split,
+      weight_below-split right here other fields i (2 * reach + 1) (omega arith) apart,
+      once here fields i (2 * reach + 1) (omega arith) one,
+      once other fields i (2 * reach + 1) (omega arith) alone,
+    )
+  where
+    wrong : ℕ → ℕ → Bool
+    wrong = λ j n. not (is_recorded (recorded j) n)
+
+    right : ℕ → ℕ → Bool
+    right = λ j n. fits Video i m j n && is_recorded (recorded j) n
+
+    here : ℕ → ℕ → Bool
+    here = λ j n. j == i
+
+    other : ℕ → ℕ → Bool
+    other = λ j n. not (j == i) && (fits Video i m j n && is_recorded (recorded j) n)
+
+    split : (j n : ℕ) → IsNear i j → fits Video i m j n ≡ true → (wrong j n ≡ true) ⊎ (right j n ≡ true)
+    split j n near e = elim (wrong_or_right recorded j n) [
+      | inl is ↦ inl is
+      | inr is ↦ inr (and_so (fits Video i m j n) (is_recorded (recorded j) n) e is)
+    ]
+
+    apart : (j n : ℕ) → IsNear i j → right j n ≡ true → (here j n ≡ true) ⊎ (other j n ≡ true)
+    apart j n near e = go (eqb_tells j i)
+      where
+        go : ((eqb j i ≡ true) × (j ≡ i)) ⊎ ((eqb j i ≡ false) × (j ≢ i)) → (here j n ≡ true) ⊎ (other j n ≡ true)
+        go (inl (t, is)) = inl t
+        go (inr (f, isnt)) = inr (and_so (not (j == i)) (right j n) (ap not f) e)
+
+    one : (j k l n : ℕ) → IsNear i j → IsNear i k → here j l ≡ true → here k n ≡ true → j ≡ k
+    one j k l n near others e f = eqb-true j i e ∙ sym (eqb-true k i f)
+
+    isnt : (j : ℕ) → not (j == i) ≡ true → j ≢ i
+    isnt j e same = is_right (Some i) i refl (subst (λ k. not (k == i) ≡ true) same e)
+
+    alone : (j k l n : ℕ) → IsNear i j → IsNear i k → other j l ≡ true → other k n ≡ true → j ≡ k
+    alone j k l n near others e f =
+        let p = both (not (j == i)) (right j l) e in
+        let q = both (not (k == i)) (right k n) f in
+        let a = both (fits Video i m j l) (is_recorded (recorded j) l) p.1 in
+        let b = both (fits Video i m k n) (is_recorded (recorded k) n) q.1 in
+        turns i m j k l n near others (isnt j p.0) (isnt k q.0) has (recorded_is (recorded j) l a.1)
+        (recorded_is (recorded k) n b.1) a.0 b.0
+
+-- so none is believed at it
+none_believed : (recorded : ℕ → Option ℕ) (fields : List Sightings) (i n : ℕ) → IsWhole Film recorded fields
+    → TakesTurns recorded → Believed Video fields i n → ⊥
+none_believed recorded fields i n whole turns b =
+    omega (
+      arith,
+      b.enough,
+      none_misread recorded fields i whole.right,
+      turns_weight recorded fields i n turns (whole.right i n b.shown),
+      wrong_still Film recorded fields i n (whole.runs i),
+    )
+
+pub finds_film : (recorded : ℕ → Option ℕ) (fields : List Sightings) (i n : ℕ) (pace : Pace)
+    → IsWhole Film recorded fields → TakesTurns recorded → Shows (slice_get fields i) n
+    → IsFound Ntsc Pictures fields pace → pace ≡ Film
+finds_film recorded fields i n pace whole turns shown (video, film, videos, films, is) =
+    let none : video ≡ 0 = none_counted Video fields (length fields) video
+    (λ j m b. none_believed recorded fields j m whole turns b) videos in
+    is ∙ ap (λ v. pace_by v film) none ∙ film_most film
+    (one_counted Film fields (length fields) film i n (all_believed Film recorded fields i n whole shown)
+    (within (slice_get fields i) refl shown) films)
+  where
+    within : (field : Option Sightings) → slice_get fields i ≡ field → Shows field n → i < length fields
+    within None e shows = absurd shows
+    within (Some field) e shows = slice_get_within fields i field e

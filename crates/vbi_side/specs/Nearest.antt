@@ -1,0 +1,42 @@
+-- How what is due is reckoned: the numbers nearest to a field that lie whole pictures away from it.
+use Rattle.std.specs.Prelude.{◌≡◌, ℕ, ◌+◌, ◌-◌, ◌%◌, ◌==◌, ◌<◌, ◌≤◌, Bool, true}
+use Rattle.vbi_side.specs.declared.pace.Pace.{Pace}
+use Rattle.vbi_side.specs.declared.pace.Pace.TheVariants.{Video, Film}
+use Rattle.vbi_side.specs.Paces.{nearly}
+use Rattle.vbi_side.specs.Beliefs.{reach}
+
+-- so many fields last whole pictures
+abbrev pub are_whole : Pace → ℕ → Bool
+are_whole Video fields = fields % 2 == 0
+are_whole Film fields = fields % 5 == 0
+
+-- field j, with number m, is the nearest field before field i, within reach and whole pictures away, that has a number
+pub record IsBefore (HasNumber : ℕ → ℕ → Type 0) (pace : Pace) (i j m : ℕ) : Type 0 where
+  pub before : j < i
+  pub near : i ≤ j + reach
+  pub whole : are_whole pace (i - j) ≡ true
+  pub has : HasNumber j m
+  pub nearest : (k n : ℕ) → j < k → k < i → are_whole pace (i - k) ≡ true → HasNumber k n → ⊥
+
+-- field j, with number m, is the nearest field behind field i, within reach and whole pictures away, that has a number
+pub record IsBehind (HasNumber : ℕ → ℕ → Type 0) (pace : Pace) (i j m : ℕ) : Type 0 where
+  pub behind : i < j
+  pub near : j ≤ i + reach
+  pub whole : are_whole pace (j - i) ≡ true
+  pub has : HasNumber j m
+  pub nearest : (k n : ℕ) → i < k → k < j → are_whole pace (k - i) ≡ true → HasNumber k n → ⊥
+
+-- no field before field i, within reach and whole pictures away, has a number
+abbrev pub NoneBefore : (ℕ → ℕ → Type 0) → Pace → ℕ → Type 0
+NoneBefore HasNumber pace i =
+    (k n : ℕ) → i ≤ k + reach → k < i → are_whole pace (i - k) ≡ true → HasNumber k n → ⊥
+
+-- no field behind field i, within reach and whole pictures away, has a number
+abbrev pub NoneBehind : (ℕ → ℕ → Type 0) → Pace → ℕ → Type 0
+NoneBehind HasNumber pace i =
+    (k n : ℕ) → i < k → k ≤ i + reach → are_whole pace (k - i) ≡ true → HasNumber k n → ⊥
+
+-- no number between fields j and k is off from number n in field i
+abbrev pub AllNearly : (ℕ → ℕ → Type 0) → Pace → ℕ → ℕ → ℕ → ℕ → ℕ → Type 0
+AllNearly HasNumber pace slack j k i n =
+    (h x : ℕ) → j < h → h < k → HasNumber h x → nearly pace slack i n h x ≡ true
