@@ -53,10 +53,10 @@ class Comparison:
         """Which numbers are missing and why; of those that are undecided, how many there are of each."""
         answer, truth = self.answer, self.truth
         missing = {why: self._numbers_in(one for one in answer["missing"] if one["why"] == why)
-                   for why in ("damaged", "lost", "undecided")}
+                   for why in ("unread", "lost", "undecided")}
         undecided = missing["undecided"]
         self.counts["undecided"] = len(undecided)
-        for why in ("damaged", "lost"):
+        for why in ("unread", "lost"):
             self.counts["undecided, " + why] = sum(truth.missing.get(number) == why for number in undecided)
             self.counts[why + " numbers"] = len(missing[why])
             self.counts[why + " numbers found"] = sum(truth.missing.get(number) == why for number in missing[why])
@@ -79,10 +79,10 @@ class Comparison:
         self.counts["numbers"] = len(showings)
         self.counts["numbers found"] = sum(numbers[field - 1] == number for number, field in showings)
         self._exact("first fields", _firsts(showings), truth.read)
-        due = {(self._number_of(one["number"]), one["field"]) for one in self.answer["damaged"]}
+        due = {(self._number_of(one["number"]), one["field"]) for one in self.answer["unread"]}
         self.counts["due"] = len(due)
         self.counts["due found"] = sum(numbers[field - 1] == number for number, field in due)
-        self._share("damaged fields", due, truth.due)
+        self._share("unread fields", due, truth.due)
         for number, field in sorted(due):
             if numbers[field - 1] != number:
                 self.tell("due in the wrong field", (number, field))

@@ -57,7 +57,7 @@ class Package:
                        ldvbi.classify(words[line - 16]).kind == kind for line in lines):
                     self.believed[field - 1] = number
                     self.firsts.setdefault(number, field - 1)
-        for one in answer["damaged"] if lines else ():
+        for one in answer["unread"] if lines else ():
             number = number_of(one["number"], rate, unit)
             self.due[one["field"] - 1] = number
             self.firsts.setdefault(number, one["field"] - 1)

@@ -18,7 +18,7 @@ from sound import faults_of
 from truth import Truth
 
 SHARES = ("wrong", "right", "wrong chapters", "right chapters", "numbers", "due", "lost", "lost places", "backs",
-          "damaged numbers", "lost numbers", "damaged fields", "swaps", "speeds")
+          "unread numbers", "lost numbers", "unread fields", "swaps", "speeds")
 EXACT = ("missing", "left out", "first fields", "stops", "chapter table", "whole", "reasons")
 
 
@@ -54,7 +54,7 @@ def print_table(totals):
                            for name in SHARES if counts[name])
         print("%s: %d sides; exact: %s; faults %d" % (kind, counts["sides"], exact, counts["faults"]))
         print("    found: %s; %.1f us a field" % (shares, counts["microseconds"] / counts["fields"]))
-        print("    undecided %(undecided)d, of these damaged %(undecided, damaged)d and lost %(undecided, lost)d; but "
+        print("    undecided %(undecided)d, of these unread %(undecided, unread)d and lost %(undecided, lost)d; but "
               "for the clock's numbers inside a loss: missing exact %(missing but for hidden)d, left out exact "
               "%(left out but for hidden)d, lost %(lost and hidden)d more" % counts)
 

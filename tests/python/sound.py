@@ -34,7 +34,7 @@ class Sound:
         self._look_at_words()
         self._look_at_conflicts()
         if self.unit in OTHERS:
-            self._look_at_damaged()
+            self._look_at_unread()
             self._look_at_doubtful()
             self._look_at_lost()
         if self.unit == "time":
@@ -111,10 +111,10 @@ class Sound:
         self.faults += ["field %d: lines that differ" % one[0] for one in wanted + found
                         if one not in wanted or one not in found]
 
-    def _look_at_damaged(self):
+    def _look_at_unread(self):
         """No number is due where another code stands, and 'none was read there' is said only where none was."""
         own = Kind.picture if self.unit == "picture" else Kind.clv_picture
-        for one in self.answer["damaged"]:
+        for one in self.answer["unread"]:
             weight = 0
             for kind, _, _, of_pass in self.codes[one["field"]]:
                 weight += PASS_WEIGHTS[of_pass] if kind in OTHERS[self.unit] else 0

@@ -13,8 +13,10 @@ import tempfile
 import termios
 import time
 import unittest
+import unittest.mock
 
 import ldvbi
+from ldvbi_side.side import side_of_tbc
 from streams import NTSC, PAL, PROGRAM, pictures, write_stream
 
 COMMAND = [sys.executable, "-m", "ldvbi_side"]
@@ -56,7 +58,7 @@ class Runs(unittest.TestCase):
                              stderr=subprocess.PIPE, timeout=DEADLINE, check=False, **more)
         return run.returncode, run.stdout, run.stderr.decode()
 
-    def refused(self, text, *words, status=1):
+    def refused(self, text, *words, status=2):
         self.assertEqual(self.run_command(*words), (status, b"", "ldvbi-side: %s\n" % text))
 
 
@@ -70,7 +72,7 @@ class WithoutLibrary(Runs):
             with self.subTest(words):
                 status, text, said = self.run_command("side.vbi.json", *words, env=self.absent)
                 # a number in each field is no whole side
-                self.assertEqual((status, said), (int(words == ["--summary"]), ""))
+                self.assertEqual((status, said), (1 if words == ["--summary"] else 0, ""))
                 self.assertEqual(self.run_command("side.vbi.json", *words), (status, text, said))
         status, text, said = self.run_command("--help", env=self.absent)
         self.assertEqual((status, text[:18], said), (0, b"usage: ldvbi-side ", ""))
@@ -79,7 +81,7 @@ class WithoutLibrary(Runs):
         for words in ([], ["--summary"], ["--document"]):
             with self.subTest(words):
                 status, text, said = self.run_command("side.tbc", *LEVELS, *words, env=self.absent)
-                self.assertEqual((status, text), (1, b""))
+                self.assertEqual((status, text), (2, b""))
                 self.assertEqual(said, "ldvbi-side: no library to read samples with (/absent: cannot open shared "
                                  "object file: No such file or directory): `make lib` builds it, LDVBI_LIBRARY names "
                                  "its file\n")
@@ -156,7 +158,7 @@ class Metadata(Runs):
         status, printed, said = self.run_command("side.tbc", "--json")
         known = json.loads(printed)
         self.assertEqual((status, said, known["metadataFields"], known["frameBegin"]), (0, text, 14, 1))
-        self.assertIn({"why": "metadata", "text": "12 fields of 14 that the metadata has"}, known["reasons"])
+        self.assertIn({"why": "metadata", "whole": "no", "text": "12 fields of 14 that the metadata has"}, known["reasons"])
         self.assertEqual(self.run_command("side.vbi.json", "--meta", "side.tbc.json", "--seek", "3"),
                          (0, b"field 4, frame 2\n", text))
         self.write("side.tbc", self.read("side.tbc") + b"x" * 7)
@@ -175,6 +177,38 @@ class Metadata(Runs):
         status, text, _ = self.run_command("side.tbc", *LEVELS, "--summary", "--strict")
         self.assertEqual((status, text.split(b"\n")[0]), (1, b"whole: no: no lead-in; no lead-out"))
 
+    def test_whether_that_can_be_told(self):
+        """Statuses 0, 1 and 4: pictures 1 to 4, pictures 3 to 6, and no number."""
+        for first, status, text in ((1, 0, b"yes"), (3, 1, b"no: begins at 3, ends at 6"),
+                                    (None, 4, b"can't tell: no picture number and no time")):
+            words = [0xF00000 + first + place // 2 if first and place % 2 == 0 else 0x800DDD for place in range(8)]
+            write_stream(self.path("side.tbc"), NTSC, [[0, word, word] for word in words])
+            found = self.run_command("side.tbc", *LEVELS, "--summary")
+            self.assertEqual((found[0], found[1].split(b"\n")[0]), (status, b"whole: " + text))
+
+    def test_the_judge_of_the_library(self):
+        """Of a TBC file the library judges the numbers, too: pictures 1 to 30, of which 10 reads 79999."""
+        words = [[0, picture, picture] if place == 0 else [0, 0x800DDD, 0x800DDD]
+                 for number in range(1, 31) for picture in [0xF79999 if number == 10 else 0xF00000 + number // 10 * 16
+                                                            + number % 10] for place in (0, 1)]
+        write_stream(self.path("side.tbc"), NTSC, words)
+        wanted = {"both": 29, "judgeAlone": 0, "packageAlone": 0, "differ": 0, "first": None}
+        for more in ([], ["--no-recover"]):
+            found = self.run_command("side.tbc", *LEVELS, *more, "--json")
+            self.assertEqual(json.loads(found[1])["judged"], wanted)
+        found = self.run_command("side.tbc", *LEVELS, "--summary")[1]
+        self.assertIn(b"judged by the library, too: 29 fields alike, 0 believed by it alone, 0 here alone, 0 differ\n",
+                      found)
+        self.write("side.vbi.json", self.extracted("side.tbc"))
+        self.assertIsNone(json.loads(self.run_command("side.vbi.json", "--json")[1])["judged"])
+
+    def test_a_library_without_a_judge(self):
+        side = side_of_tbc(self.path("side.tbc"), NTSC, 16384, 51200)
+        self.assertEqual(side.answer["judged"]["differ"], 0)
+        with unittest.mock.patch("ldvbi_side.side.judge", side_effect=OSError("too old")):
+            side = side_of_tbc(self.path("side.tbc"), NTSC, 16384, 51200, recover=False)
+        self.assertIsNone(side.answer["judged"])
+        self.assertEqual(side.answer["unit"], "picture")
 
 class Comparisons(Runs):
     def test_two_captures(self):
@@ -251,7 +285,7 @@ class Files(Runs):
         with open("/dev/full", "wb") as full:
             run = subprocess.run(COMMAND + ["side.tbc", *LEVELS, "--document"], cwd=self.folder, stdout=full,
                                  stderr=subprocess.PIPE, timeout=DEADLINE, check=False)
-        self.assertEqual((run.returncode, run.stderr), (1, b"ldvbi-side: [Errno 28] No space left on device\n"))
+        self.assertEqual((run.returncode, run.stderr), (2, b"ldvbi-side: [Errno 28] No space left on device\n"))
 
     def test_no_output_in_the_place_of_an_input(self):
         shutil.copy(self.path("side.vbi.json"), self.path("meta.json"))
@@ -270,7 +304,7 @@ class Files(Runs):
             with self.subTest(words), open(self.path(name), "ab") as file:
                 run = subprocess.run(COMMAND + words, cwd=self.folder, stdout=file, stderr=subprocess.PIPE, check=False)
                 self.assertEqual((run.returncode, run.stderr.decode()),
-                                 (1, "ldvbi-side: %s\n" % text % "standard output"))
+                                 (2, "ldvbi-side: %s\n" % text % "standard output"))
         self.assertEqual({name: self.read(name) for name in os.listdir(self.folder)}, before)
 
 
@@ -408,7 +442,7 @@ class Interrupted(Runs):
         self.assertEqual(self.unread([sys.executable, "-c", code]), (130, b""))
 
     def test_no_reader(self):
-        self.assertEqual(self.unread(COMMAND + ["side.vbi.json", "--csv"]), (1, b""))
+        self.assertEqual(self.unread(COMMAND + ["side.vbi.json", "--csv"]), (2, b""))
 
     def test_a_reader_that_has_seen_enough(self):
         write_stream(self.path("side.tbc"), NTSC, [[0, 0, 0]], 2000 * SIZE)
@@ -417,7 +451,7 @@ class Interrupted(Runs):
         process.stdout.close()
         said = process.stderr.read()
         process.stderr.close()
-        self.assertEqual((process.wait(DEADLINE), said), (1, b""))
+        self.assertEqual((process.wait(DEADLINE), said), (2, b""))
 
 
 if __name__ == "__main__":

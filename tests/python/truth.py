@@ -30,7 +30,7 @@ def said_by(word):
 class Truth:
     """`read` is the first field in which each number can be read, `chapters` that of each chapter; `right` and
     `right_chapters` are the lines whose word says a number or a chapter rightly, `wrong` and `wrong_chapters` those
-    that say one wrongly; `missing` the numbers of the disc that can't be read, each with why (`damaged` where a field
+    that say one wrongly; `missing` the numbers of the disc that can't be read, each with why (`unread` where a field
     has it, else `lost`), `left_out` those that the disc hasn't; `due` are pairs of a number and the field that has it
     where it can't be read, between two fields whose numbers can; `lost` how many fields are lost behind which field,
     `hidden` the numbers that the disc hasn't inside such a loss, where no field shows that, by its field;
@@ -85,7 +85,7 @@ class Truth:
         on_disc = set(self.side.on_disc)
         span = range(min(self.read), max(self.read) + 1) if self.read else ()
         captured = set(self.side.numbers)
-        self.missing = {number: "damaged" if number in captured else "lost"
+        self.missing = {number: "unread" if number in captured else "lost"
                         for number in span if number not in self.read and number in on_disc}
         self.left_out = {number for number in span if number not in on_disc}
 
