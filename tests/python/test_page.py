@@ -163,7 +163,8 @@ class Indexes(unittest.TestCase):
             self.assertEqual(read.texts["td"][1:6], [
                 "no", "12", "6, 7 to 14", "2 pictures, 4 fields",
                 "4 fields lost; 2 pictures lost; begins at 7, ends at 14"])
-            self.assertEqual(read.texts["td"][7:12], ["can't tell", "0", "none", "none", "no picture number and no time"])
+            self.assertEqual(read.texts["td"][7:12], [
+                "can't tell", "0", "none", "none", "no picture number and no time"])
             self.assertEqual(read.texts["td"][13:18], ["yes", "4", "2, 1 to 2", "none", ""])
             self.refuses_an_older_page(folder, names[0])
             other = os.path.join(folder, "other.html")

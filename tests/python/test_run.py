@@ -13,10 +13,8 @@ import tempfile
 import termios
 import time
 import unittest
-import unittest.mock
 
 import ldvbi
-from ldvbi_side.side import side_of_tbc
 from streams import NTSC, PAL, PROGRAM, pictures, write_stream
 
 COMMAND = [sys.executable, "-m", "ldvbi_side"]
@@ -177,38 +175,6 @@ class Metadata(Runs):
         status, text, _ = self.run_command("side.tbc", *LEVELS, "--summary", "--strict")
         self.assertEqual((status, text.split(b"\n")[0]), (1, b"whole: no: no lead-in; no lead-out"))
 
-    def test_whether_that_can_be_told(self):
-        """Statuses 0, 1 and 4: pictures 1 to 4, pictures 3 to 6, and no number."""
-        for first, status, text in ((1, 0, b"yes"), (3, 1, b"no: begins at 3, ends at 6"),
-                                    (None, 4, b"can't tell: no picture number and no time")):
-            words = [0xF00000 + first + place // 2 if first and place % 2 == 0 else 0x800DDD for place in range(8)]
-            write_stream(self.path("side.tbc"), NTSC, [[0, word, word] for word in words])
-            found = self.run_command("side.tbc", *LEVELS, "--summary")
-            self.assertEqual((found[0], found[1].split(b"\n")[0]), (status, b"whole: " + text))
-
-    def test_the_judge_of_the_library(self):
-        """Of a TBC file the library judges the numbers, too: pictures 1 to 30, of which 10 reads 79999."""
-        words = [[0, picture, picture] if place == 0 else [0, 0x800DDD, 0x800DDD]
-                 for number in range(1, 31) for picture in [0xF79999 if number == 10 else 0xF00000 + number // 10 * 16
-                                                            + number % 10] for place in (0, 1)]
-        write_stream(self.path("side.tbc"), NTSC, words)
-        wanted = {"both": 29, "judgeAlone": 0, "packageAlone": 0, "differ": 0, "first": None}
-        for more in ([], ["--no-recover"]):
-            found = self.run_command("side.tbc", *LEVELS, *more, "--json")
-            self.assertEqual(json.loads(found[1])["judged"], wanted)
-        found = self.run_command("side.tbc", *LEVELS, "--summary")[1]
-        self.assertIn(b"judged by the library, too: 29 fields alike, 0 believed by it alone, 0 here alone, 0 differ\n",
-                      found)
-        self.write("side.vbi.json", self.extracted("side.tbc"))
-        self.assertIsNone(json.loads(self.run_command("side.vbi.json", "--json")[1])["judged"])
-
-    def test_a_library_without_a_judge(self):
-        side = side_of_tbc(self.path("side.tbc"), NTSC, 16384, 51200)
-        self.assertEqual(side.answer["judged"]["differ"], 0)
-        with unittest.mock.patch("ldvbi_side.side.judge", side_effect=OSError("too old")):
-            side = side_of_tbc(self.path("side.tbc"), NTSC, 16384, 51200, recover=False)
-        self.assertIsNone(side.answer["judged"])
-        self.assertEqual(side.answer["unit"], "picture")
 
 class Comparisons(Runs):
     def test_two_captures(self):

@@ -52,7 +52,8 @@ class NotWhole(unittest.TestCase):
 
     def test_cav_with_clv_behind_it(self):
         self.assertEqual(said(WHOLE + times(range(10))), "no: codes of CLV in 20 fields, from field 69 on")
-        self.assertRegex(said(times(range(20)) + pictures(range(1, 16))), "^no: .*codes of CAV in 15 fields, from field 41")
+        self.assertRegex(said(times(range(20)) + pictures(range(1, 16))),
+                         "^no: .*codes of CAV in 15 fields, from field 41")
 
     def test_a_restart(self):
         self.assertEqual(said(pictures(list(range(1, 31)) + list(range(1, 41)))), "no: 1 jump (back)")

@@ -35,8 +35,8 @@ class _Head(HTMLParser):
 
 
 def index_of(path: str, pages: Iterable[str]) -> str:
-    """The text of an index that is written to `path`: a row for each of these pages, those that aren't whole first, then
-    those of which that can't be told. A ValueError where one is no page of a side, or has another form."""
+    """The text of an index that is written to `path`: a row for each of these pages, those that aren't whole first, and
+    then those of which that can't be told. A ValueError where one is no page of a side, or has another form."""
     rows = []
     for page in pages:
         head = _Head()

@@ -19,7 +19,8 @@ MARK = "ldvbi-side"
 STYLE = """body{font:16px/1.5 sans-serif;color:#1e293b;margin:0 auto;max-width:1200px;padding:0 16px}
 h1{font-size:1.5em;overflow-wrap:anywhere}table{border-collapse:collapse}th,td{padding:2px 10px;text-align:left}
 th{border-bottom:1px solid #64748b}.yes,.no,.open{padding:8px 16px;border-left:6px solid}.yes{border-color:#15803d}
-.no{border-color:#b91c1c}.open{border-color:#d97706}.wide{overflow-x:auto}dt{font-weight:bold}dd{margin:0 0 6px 16px;overflow-wrap:anywhere}
+.no{border-color:#b91c1c}.open{border-color:#d97706}.wide{overflow-x:auto}dt{font-weight:bold}
+dd{margin:0 0 6px 16px;overflow-wrap:anywhere}
 summary{cursor:pointer;padding:4px 0}details svg{max-width:100%;height:auto}
 """ + ".recovered{color:%s}" % SHOWN["recovered"]
 # The lists of the answer, and how a page names them
