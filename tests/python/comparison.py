@@ -128,13 +128,20 @@ class Comparison:
         self._share("speeds", found, set(truth.speeds))
 
     def _compare_reasons(self):
-        """Whether the side is whole, and each reason of which the truth says whether it holds."""
-        wanted = Reasons(self.truth).of_why
+        """Whether the side is whole, and each reason of which the truth says whether it holds. That it can't be told is
+        never wrong."""
+        reasons, said = Reasons(self.truth), self.answer["whole"]
+        is_lacking = any(reasons.no.values())
+        is_known = is_lacking or None not in reasons.no.values()
+        self.counts["said " + said] = 1
+        self.counts["whole"] = int(not is_known or said != ("yes" if is_lacking else "no"))
+        if not self.counts["whole"]:
+            self.tell("whole", said)
+        wanted = {**reasons.no, **reasons.open}
         found = {one["why"] for one in self.answer["reasons"]}
+        if "undecided" in found:
+            wanted["missing"] = None
         sure = {why for why, holds in wanted.items() if holds is not None}
-        has_reason = any(wanted.values())
-        is_known = has_reason or None not in wanted.values()
-        self.counts["whole"] = int(not is_known or self.answer["whole"] != has_reason)
         self._exact("reasons", found & sure, {why for why in sure if wanted[why]})
 
 

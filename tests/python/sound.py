@@ -33,6 +33,7 @@ class Sound:
             self.faults.append("a word is set aside twice")
         self._look_at_words()
         self._look_at_conflicts()
+        self._look_at_whole()
         if self.unit in OTHERS:
             self._look_at_unread()
             self._look_at_doubtful()
@@ -194,6 +195,20 @@ class Sound:
                 if weight > least:
                     return True
         return False
+
+    def _look_at_whole(self):
+        """Of a side on which something is lost, or not in its place, it is said that it isn't whole. Of one on which
+        something is undecided it isn't said that it is."""
+        answer = self.answer
+        lacking = [one for one in answer["missing"] if one["why"] == "lost"] + answer["swapped"] + answer["speeds"]
+        lacking += [one for one in answer["lost"] if one["by"] != "undecided"]
+        lacking += [one for one in answer["breaks"] if one["kind"] != "lost"]
+        if lacking and answer["whole"] != "no":
+            self.faults.append("something is lacking, and whole is: %s" % answer["whole"])
+        if answer["whole"] == "yes" and any(one["why"] == "undecided" for one in answer["missing"]):
+            self.faults.append("a number is undecided, and the side is whole")
+        if (answer["whole"] == "yes") == bool(answer["reasons"]):
+            self.faults.append("whole is %s, and the reasons are %s" % (answer["whole"], answer["reasons"]))
 
 
 def faults_of(fields, answer):

@@ -156,7 +156,8 @@ class Metadata(Runs):
         status, printed, said = self.run_command("side.tbc", "--json")
         known = json.loads(printed)
         self.assertEqual((status, said, known["metadataFields"], known["frameBegin"]), (0, text, 14, 1))
-        self.assertIn({"why": "metadata", "whole": "no", "text": "12 fields of 14 that the metadata has"}, known["reasons"])
+        self.assertIn({"why": "metadata", "whole": "no", "text": "12 fields of 14 that the metadata has"},
+                      known["reasons"])
         self.assertEqual(self.run_command("side.vbi.json", "--meta", "side.tbc.json", "--seek", "3"),
                          (0, b"field 4, frame 2\n", text))
         self.write("side.tbc", self.read("side.tbc") + b"x" * 7)

@@ -71,6 +71,12 @@ class Bounds(unittest.TestCase):
                             ("chapter table", 42), ("whole", 42), ("reasons", 42)):
             self.assertGreaterEqual(self.all[name], least, self.told)
 
+    def test_it_is_seldom_left_open_whether_a_side_is_whole(self):
+        said = [self.all["said " + word] for word in ("yes", "no", "can't tell")]
+        self.assertEqual([sum(said), self.all["judged otherwise"]], [42, 0])
+        self.assertGreater(said[0], 5)
+        self.assertLessEqual(said[2], 1, self.told)
+
     def test_each_kind_has_something_to_find(self):
         for kind, counts in self.totals.items():
             for name in ("wrong", "right", "numbers"):
@@ -243,6 +249,17 @@ class Soundness(unittest.TestCase):
             next(entry for entry in one["missing"] if entry["why"] == "lost")["count"] += 10
 
         self.check("losses", [(more, "too few fields"), (lambda one: one["lost"].clear(), "too few fields")], 0, 600)
+
+    def test_whether_it_is_whole(self):
+        lacking, undecided = pictures(range(1, 30)), times([0, 1, 3, 4], 30)
+        del lacking[20:24]
+        for rows, text in ((lacking, "something is lacking, and whole is: yes"),
+                           (undecided, "a number is undecided, and the side is whole")):
+            found, = self.faults(plain(rows, "NTSC"), lambda one: one.update(whole="yes", reasons=[]))
+            self.assertEqual(found, [text])
+        for whole, rows in (("no", pictures([1])), ("yes", pictures([3]))):
+            found, = self.faults(plain(rows), lambda one: one.update(whole=whole))
+            self.assertEqual([text.split(",")[0] for text in found], ["whole is " + whole])
 
     def test_minutes(self):
         def completed_from_afar(one):

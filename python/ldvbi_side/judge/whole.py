@@ -1,5 +1,5 @@
-"""Whether a capture is whole: `yes`, `no`, or `can't tell`, of which the last two have their reasons in order of weight;
-by the answer's other members alone."""
+"""Whether a capture is whole: `yes`, `no`, or `can't tell`, of which the last two have reasons in order of weight. They
+are found by the answer's other members alone."""
 
 import bisect
 from collections import Counter
