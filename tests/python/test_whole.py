@@ -178,6 +178,20 @@ class NotTold(unittest.TestCase):
         rows = pictures(range(1, 10)) + [BAD] * 4 + pictures(range(14, 31))
         self.assertEqual(said(rows), "no: 4 fields lost; 4 pictures undecided")
 
+    def test_fields_of_film_that_may_be_swapped(self):
+        """Even pictures have 3 fields; the first two of picture 20 are written in each other's place."""
+        rows = film(range(1, 41), 0)
+        place = rows.index("- F00020 F00020")
+        rows[place:place + 2] = rows[place + 1], rows[place]
+        self.assertEqual(said(rows, "NTSC"), "can't tell: fields %d and %d may be swapped" % (place + 1, place + 2))
+        again = film(range(1, 81), 0)
+        for number in (20, 60):
+            place = again.index("- F000%d F000%d" % (number, number))
+            again[place:place + 2] = again[place + 1], again[place]
+        self.assertEqual(said(again, "NTSC"), "can't tell: 2 pairs of fields may be swapped")
+        # where the film is cut once it goes on in another way
+        self.assertEqual(said(film(range(1, 21), 0) + film(range(21, 41), 1), "NTSC"), "yes")
+
     def test_a_line_without_codes(self):
         rows = ["- - %s" % row.split(" ")[2] for row in pictures(range(1, 31))]
         self.assertEqual(said(rows), "can't tell: line 17 shows no code")
