@@ -253,23 +253,28 @@ class Judged(unittest.TestCase):
 
 class Order(unittest.TestCase):
     def test_the_order_of_all(self):
-        rows = pictures(range(11, 41)) + [LEAD_IN] * 2 + pictures(range(1, 10)) + times(range(5))
-        for field in (2, 4, 6, 8, 10):
-            rows[field] = "- F70000 F70000"
-        del rows[39]
-        known = analyse(plain(rows)._replace(expected=999, is_strict=True, cut={"seqNo": len(rows) + 1, "bytes": 1}))
-        self.assertEqual([one["why"] for one in known["reasons"]], [
-            "lost", "jumps", "missing", "unread", "lead-out", "joined", "format", "metadata", "cut", "doubtful"])
-        self.assertEqual({one["whole"] for one in known["reasons"][:-1]}, {"no"})
-        self.assertEqual([known["reasons"][-1]["whole"], known["whole"]], ["can't tell", "no"])
-        known["numbers"].update(least=11, greatest=40)
+        rows = film(range(1, 41), 0)
+        rows[47:49] = rows[48], rows[47]  # the first fields of picture 20
+        known = answer(rows, "NTSC")
+        self.assertEqual([one["why"] for one in known["reasons"]], ["order"])
+        place = {"after": 9, "before": 10}
+        known.update(
+            lost=[dict(place, fields=2, by="number")], breaks=[dict(place, kind="back")], swapped=[{"field": 9}],
+            speeds=[{"first": 9, "last": 49}], leadIn=[{"first": 40, "last": 40}],
+            missing=[dict(place, count=1, why=why) for why in ("undecided", "unread", "lost")],
+            stray=[{"field": field, "why": "format"} for field in (9, 10)], metadataFields=999, fields=500,
+            cutField={"seqNo": 501}, judged={"differ": 1},
+            doubtful=[{"field": field, "kind": "picture"} for field in range(9, 50, 3)])
+        known["numbers"]["least"] = 11
         known["lines"]["18"].update(pass1=0, pass2=0)
-        known["judged"] = {"differ": 1}
-        known["fields"] = 999
-        known["missing"][0]["why"] = "undecided"
-        whys = [one["why"] for one in reasons_of(known, True)]
-        self.assertEqual(whys, ["lost", "jumps", "begins", "unread", "lead-out", "joined", "format", "cut",
-                                "undecided", "ends", "judged", "line", "doubtful"])
+        reasons = reasons_of(known, True)
+        no = ["lost", "jumps", "speed", "missing", "swapped", "begins", "unread", "lead-out", "joined", "format",
+              "metadata", "cut"]
+        self.assertEqual([one["why"] for one in reasons if one["whole"] == "no"], no)
+        self.assertEqual([one["why"] for one in reasons][len(no):],
+                         ["undecided", "ends", "order", "judged", "line", "doubtful"])
+        known["leadIn"] = []
+        self.assertEqual([one["why"] for one in reasons_of(known, True)][7:9], ["lead-in", "lead-out"])
 
     def test_what_is_lacking_outweighs_what_is_not_known(self):
         no, unknown = {"whole": "no"}, {"whole": "can't tell"}

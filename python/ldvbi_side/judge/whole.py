@@ -166,16 +166,17 @@ def _order(answer):
     even number is compared with even ones, and each odd one with odd ones."""
     if answer["pace"] != "film":
         return None
-    begins = [one["before"] for one in answer["breaks"]]
+    begins, known = [one["before"] for one in answer["breaks"]], {one["field"] for one in answer["swapped"]}
     rows = defaultdict(list)
     for number, field, _ in answer["showings"]:
         rows[bisect.bisect(begins, field), number % 2].append((field, 2 * field - 5 * number))
-    pairs = [(field - (here > before), field + (here < before)) for row in rows.values()
+    pairs = {field - (here > before) for row in rows.values()
              for (_, before), (field, here), (_, after) in zip(row, row[1:], row[2:])
-             if before == after and abs(here - before) == 2]
+             if before == after and abs(here - before) == 2} - known
     if not pairs:
         return None
-    text = "fields %d and %d" % pairs[0] if len(pairs) == 1 else "%d pairs of fields" % len(pairs)
+    first = min(pairs)
+    text = "fields %d and %d" % (first, first + 1) if len(pairs) == 1 else "%d pairs of fields" % len(pairs)
     return "order", text + " may be swapped"
 
 
