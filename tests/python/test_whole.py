@@ -136,6 +136,16 @@ class Ends(unittest.TestCase):
         self.assertEqual(said([BAD] * 5 + film(range(3, 40)), "NTSC"), "yes")
         self.assertEqual(said([BAD] * 4 + film(range(3, 40)), "NTSC"), "no: begins at 3, ends at 39")
 
+    def test_the_clock_may_leave_out_first_times(self):
+        """Two numbers a minute at most, so of three times before the first one one is sure to have its fields."""
+        rows = times(range(4, 40), 30)
+        self.assertEqual([said([BAD] * count + rows, "NTSC") for count in (6, 5, 2, 1)], [
+            "yes", "can't tell: no number in fields 1 to 5", "can't tell: no number in fields 1 to 2",
+            "no: begins at 0:00:00.04, ends at 0:00:01.09"])
+        rows = ["- 87FFFF %s" % minutes(0, minute) for minute in (1, 2) for _ in range(3600)]
+        self.assertEqual([said([BAD] * count + rows, "NTSC") for count in (3592, 3591)], [
+            "can't tell: no number in fields 1 to 3592", "no: begins at 0:01, ends at 0:02"])
+
     def test_first_minutes_that_were_not_read(self):
         rows = ["- 87FFFF %s" % minutes(0, minute) for minute in (1, 2) for _ in range(3000)]
         self.assertEqual(said([BAD] * 2999 + rows), "no: begins at 0:01, ends at 0:02")
