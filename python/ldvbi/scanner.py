@@ -93,7 +93,8 @@ class Scanner:
                 raise NotJson("nested too deep, or with too long a number, at character %d" % (
                     self._before + self._at)) from None
             else:
-                may_go_on, wrong, wanted = False, _past_space(self._held, end), " or ".join(ends)
+                may_go_on, wrong = False, _past_space(self._held, end)
+                wanted = "a colon" if ends == ":" else "a comma or an end"
                 if self._held[wrong:wrong + 1] and self._held[wrong] in ends:
                     self.begin, self.text, self._at = self._before + self._at, self._held[self._at:end], wrong
                     return value
