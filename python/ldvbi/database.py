@@ -24,11 +24,8 @@ def first_of_database(path: str) -> List[Any]:
     """Of each field, in their order, whether it is the first one of its frame: true, false, or None where that isn't
     known. There is nothing where no table, or more than one, has the fields."""
     with opened(path) as database:
-        table = table_of_fields(database)
-        if table is None:
-            return []
-        values = database.execute('SELECT is_first_field FROM "%s" ORDER BY field_id' % table)
-        return [bool(value) if value in (0, 1) else None for value, in values]
+        values = column_of_fields(database, "is_first_field") or []
+    return [bool(value) if value in (0, 1) else None for value in values]
 
 
 @contextlib.contextmanager
@@ -49,14 +46,22 @@ def tables_of(database: sqlite3.Connection) -> List[str]:
 
 def columns_of(database: sqlite3.Connection, table: str) -> List[str]:
     """The names of a table's columns; none where there is no such table."""
-    return [row[1] for row in database.execute('PRAGMA table_info("%s")' % table)]
+    return [row[1] for row in database.execute("PRAGMA table_info(%s)" % _quoted(table))]
 
 
-def table_of_fields(database: sqlite3.Connection) -> Optional[str]:
-    """The one table that has the fields; None where no table has them, or more than one."""
-    tables = [table for table in tables_of(database) if '"' not in table
-              and {"field_id", "is_first_field"} <= set(columns_of(database, table))]
-    return tables[0] if len(tables) == 1 else None
+def column_of_fields(database: sqlite3.Connection, column: str) -> Optional[List[Any]]:
+    """The values of a column, in the order of the fields, of the one table that has these; None where no table has
+    them, or more than one."""
+    tables = [table for table in tables_of(database)
+              if {"field_id", "is_first_field"} <= set(columns_of(database, table))]
+    if len(tables) != 1:
+        return None
+    rows = database.execute("SELECT %s FROM %s ORDER BY field_id" % (column, _quoted(tables[0])))
+    return [value for value, in rows]
+
+
+def _quoted(name):
+    return '"%s"' % name.replace('"', '""')
 
 
 def _parameters(database):

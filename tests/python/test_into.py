@@ -1,4 +1,4 @@
-"""Words into a JSON document of ld-decode's metadata: where they go in a field, and a copy that is otherwise the same."""
+"""Words into a JSON document of ld-decode's metadata: where they go in a field, and a copy that is the same else."""
 
 import io
 import json
@@ -97,9 +97,9 @@ class Documents(unittest.TestCase):
             field = {"audioSamples": choose.randrange(800), "diskLoc": choose.random() * 1e5, "seqNo": number,
                      "isFirstField": number % 2 == 1, "note": choose.choice(["", "ü", '"vbi":{', "\\", "}"]),
                      "dropOuts": {"endx": [choose.randrange(900) for _ in range(choose.randrange(5))]}}
-            kind = choose.randrange(4)
-            if kind:
-                field["vbi"] = [{"vbiData": [0, 0, 0]}, {"note": "kept", "vbiData": [-1, 2, 3], "a": 1e-7}, {}][kind - 1]
+            vbi = choose.choice([None, {"vbiData": [0, 0, 0]}, {"note": "kept", "vbiData": [-1, 2, 3], "a": 1e-7}, {}])
+            if vbi is not None:
+                field["vbi"] = dict(vbi)
             field["medianBurstIRE"] = choose.choice([1.0, 17.25, 1e22, None])
             yield field
 
@@ -133,7 +133,7 @@ class Documents(unittest.TestCase):
             def member(name, value):
                 return '"%s"%s:%s%s' % (name, white(), white(), value)
 
-            others = ["1.50", "-0", "1E+2", '"\\u00fc\\/"', '"ü"', "[ 1,2 ]", '{"vbi" : 3}', "null", "100000000000000000000"]
+            others = ["1.50", "-0", "1E+2", '"\\u00fc\\/"', '"ü"', "[ 1,2 ]", '{"vbi" : 3}', "null", "1" * 30]
             fields = []
             for number in range(1, 6):
                 inner = [member("a", choose.choice(others)), member("vbiData", joined(["@"] * 3, "[", "]"))]
@@ -146,8 +146,9 @@ class Documents(unittest.TestCase):
             numbers = iter([number for three in words for number in three])
             wanted = "".join(str(next(numbers)) if part == "@" else part for part in text)
             piece = choose.choice([1, 10, 1 << 18])
+            old = text.replace("@", choose.choice(["0", "-1", "1.5"]))
             with self.subTest((piece, text)):
-                self.assertEqual(copied(text.replace("@", choose.choice(["0", "-1", "1.5"])), words, piece), (5, wanted))
+                self.assertEqual(copied(old, words, piece), (5, wanted))
 
     def test_no_field_at_all(self):
         for text in ("{}", '{"fields":[]}', ' { "fields" : [ ] } \n', '{"fields":5}'):

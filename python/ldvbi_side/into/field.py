@@ -1,9 +1,10 @@
-"""Where in the JSON text of one field of ld-decode's metadata its words go, its `vbi.vbiData`: all else of the text stays
-as it is, and what is new in it is written like what stands there."""
+"""Where in the JSON text of one field of ld-decode's metadata its words go, its `vbi.vbiData`: all else of the text
+stays as it is, and what is new in it is written like what stands there."""
 
+import functools
 import json
 import re
-from typing import Any, NamedTuple, Tuple
+from typing import Any, NamedTuple, Optional, Tuple
 
 Words = Tuple[int, int, int]  # of a field: those of lines 16, 17 and 18, each 0 where there is none
 
@@ -32,15 +33,15 @@ def place_of_words(text: str, field: Any, number: int) -> Place:
         raise ValueError("its seqNo is %s" % json.dumps(field["seqNo"]))
     if "vbi" not in field:
         _, colon, gap = _style_of(text, 0)
-        return _added(text, 0, len(text), '"vbi"%s{"vbiData"%s%s}' % (colon, colon, _list_like("", gap)))
+        return _added(text, 0, len(text), '"vbi"%s{"vbiData"%s%s}' % (colon, colon, _list_with(gap)))
     if not isinstance(field["vbi"], dict):
         raise ValueError("its vbi is no object")
     begin, end = _value_place(text, 0, len(text), "vbi")
     if "vbiData" not in field["vbi"]:
         _, colon, gap = _style_of(text, begin if field["vbi"] else 0)
-        return _added(text, begin, end, '"vbiData"%s%s' % (colon, _list_like("", gap)))
+        return _added(text, begin, end, '"vbiData"%s%s' % (colon, _list_with(gap)))
     data_begin, data_end = _value_place(text, begin, end, "vbiData")
-    return Place(data_begin, data_end, _list_like(text[data_begin:data_end], _style_of(text, begin)[2]))
+    return Place(data_begin, data_end, _list_like(text[data_begin:data_end]) or _list_with(_style_of(text, begin)[2]))
 
 
 def _style_of(text: str, begin: int) -> Tuple[str, str, str]:
@@ -60,10 +61,16 @@ def _added(text: str, begin: int, end: int, member: str) -> Place:
     return Place(place, place, comma + member)
 
 
-def _list_like(old: str, gap: str) -> str:
-    """The form of a list, with the white space of an old one of three items, or else with this behind each comma."""
+def _list_with(gap: str) -> str:
+    """The form of a list with this white space behind each comma."""
+    return "[%%d,%s%%d,%s%%d]" % (gap, gap)
+
+
+@functools.lru_cache(maxsize=64)
+def _list_like(old: str) -> Optional[str]:
+    """The form of a list with the white space of an old one, if that has three items."""
     three = _THREE.fullmatch(old)
-    return "[%s%%d%s%%d%s%%d%s]" % (three.groups() if three else ("", "," + gap, "," + gap, ""))
+    return "[%s%%d%s%%d%s%%d%s]" % three.groups() if three else None
 
 
 def _value_place(text: str, begin: int, end: int, name: str) -> Tuple[int, int]:

@@ -1,10 +1,11 @@
-"""A database of ld-decode's metadata, copied with the words of its fields: its table `vbi` has a row for each of them."""
+"""A database of ld-decode's metadata, copied with the words of its fields: the table `vbi` has a row for each of
+them."""
 
 import contextlib
 import sqlite3
 from typing import Iterable
 
-from ldvbi.database import columns_with, opened, table_of_fields
+from ldvbi.database import column_of_fields, columns_with, opened
 from .field import Words
 
 # What SQLite writes beside a database, each with the database's name before it
@@ -25,10 +26,12 @@ class Rows:
         self._path = path
         with opened(path) as database:
             self._columns = columns_with(database, "vbi", ("field_id", "vbi0", "vbi1", "vbi2"))
-            table = table_of_fields(database) or "vbi"
-            self._fields = [field for field, in database.execute('SELECT field_id FROM "%s" ORDER BY field_id' % table)]
-        if self._fields and self._fields != list(range(self._fields[0], self._fields[0] + len(self))):
-            raise ValueError("%s: the numbers field_id of table %s leave some out, or have one twice" % (path, table))
+            fields = column_of_fields(database, "field_id")
+            if fields is None:
+                fields = [field for field, in database.execute("SELECT field_id FROM vbi ORDER BY field_id")]
+        if fields and fields != list(range(fields[0], fields[0] + len(fields))):
+            raise ValueError("%s: the fields' numbers, field_id, leave some out, or have one twice" % path)
+        self._fields = fields
 
     def __len__(self) -> int:
         return len(self._fields)
