@@ -143,6 +143,8 @@ class Copies(Databases):
         self.make(again="INSERT INTO field_record VALUES (5, 5, 0, 1, 0)",
                   gone="DELETE FROM field_record WHERE field_id = 11")
         self.refused("the fields' numbers, field_id, leave some out, or have one twice")
+        self.make(0, "CREATE TABLE vbi (field_id INT, vbi0, vbi1, vbi2); INSERT INTO vbi VALUES (NULL, 1, 2, 3)")
+        self.refused("the fields' numbers, field_id, leave some out, or have one twice")
         self.make(form=FORM.replace("capture_notes TEXT", "x").replace("(capture_id INTEGER PRIMARY KEY, system",
                                                                        "(id INTEGER, system"))
         self.refused("no such column: capture_id")

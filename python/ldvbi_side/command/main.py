@@ -46,8 +46,8 @@ def _parser():
     parser.add_argument("side", help="the TBC file, or the document; - is standard input, for a document")
     parser.add_argument("--meta", metavar="FILE", help="take system and levels of a TBC file from this .tbc.json or "
                         ".tbc.db of ld-decode, and not from the one beside the file. Levels with decimals are rounded "
-                        "to the next whole number. The count of fields in it is compared with the side. isFirstField "
-                        "in a .tbc.json shows single lost fields, of a document as well")
+                        "to the next whole number. The count of fields in it is compared with the side. Its "
+                        "isFirstField shows single lost fields, of a document as well")
     _add_settings(parser)
     parser.add_argument("--no-recover", action="store_true", help="leave out the words that are recovered from worn "
                         "lines of a TBC file, those of pass 3")
