@@ -16,7 +16,7 @@ from test_into_rows import FORM
 from test_run import COMMAND, DEADLINE, LEVELS, SIZE, Runs
 
 PARAMETERS = {"system": "NTSC", "black16bIre": 16384.0, "white16bIre": 51200, "sampleRate": 14318181.818181818}
-MEMORY = 100 << 20  # bytes that a run may hold at most
+MEMORY = 50 << 20  # bytes
 
 
 class Copies(Runs):
@@ -206,14 +206,16 @@ class Long(Copies):
             self.assertEqual(self.names(), before)
 
     def test_no_document_is_held_as_a_whole(self):
-        """The process may take no more memory than this, a part of it for what the library maps."""
+        """The process may hold no more memory than this, beside the pages of the TBC file, which are the system's."""
         def limit():
-            resource.setrlimit(resource.RLIMIT_DATA, (MEMORY // 2, MEMORY // 2))
+            resource.setrlimit(resource.RLIMIT_DATA, (MEMORY, MEMORY))
 
+        # what records each line holds more with each of them
+        env = {name: value for name, value in os.environ.items() if name != "LDVBI_LINES"}
         self.assertGreater(os.path.getsize(self.path("side.tbc.json")), 8 << 20)
         for meta, copy in (("side.tbc.json", "copy.json"), ("rows.db", "copy.db")):
-            self.assertEqual(self.run_command("side.tbc", "--meta", meta, "--into", copy, preexec_fn=limit),
-                             (0, b"", ""))
+            ended = self.run_command("side.tbc", "--meta", meta, "--into", copy, preexec_fn=limit, env=env)
+            self.assertEqual(ended, (0, b"", ""))
             self.assertEqual(len(self.words_of(copy)), 20004)
 
 

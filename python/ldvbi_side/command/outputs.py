@@ -1,6 +1,7 @@
 """The files that the command writes: under their names only when they are whole, and never in the place of an input."""
 
 import contextlib
+import errno
 import os
 import shutil
 import stat
@@ -20,16 +21,16 @@ def whole_file(path: str) -> Iterator[IO[str]]:
             yield file
         return
     part = _part_of(target)
-    file = open(part, "x", encoding="utf-8")
     try:
-        with file:
+        with open(part, "x", encoding="utf-8") as file:
             yield file
             file.flush()
             # Else the name could come through a loss of power, and the text not.
             os.fsync(file.fileno())
         _rename(part, target)
     except BaseException:
-        os.unlink(part)
+        with contextlib.suppress(FileNotFoundError):
+            os.unlink(part)
         raise
 
 
@@ -44,19 +45,24 @@ def whole_path(path: str, ends: Sequence[str]) -> Iterator[str]:
         if os.path.exists(target + end):
             raise ValueError("%s is there: %s is in use, or was left unfinished" % (path + end, path))
     folder = _part_of(target)
-    os.mkdir(folder)
     try:
+        os.mkdir(folder)
         part = os.path.join(folder, "part")
         yield part
         with open(part, "rb") as file:
             os.fsync(file.fileno())
         _rename(part, target)
     finally:
-        shutil.rmtree(folder)
+        shutil.rmtree(folder, ignore_errors=True)
 
 
 def _part_of(target):
-    return "%s.%d.part" % (target, os.getpid())
+    """What a part of a file is called until it is whole. There may be none, of an earlier process with this number: what
+    is there later is ours, from the moment on in which it is made."""
+    part = "%s.%d.part" % (target, os.getpid())
+    if os.path.lexists(part):
+        raise FileExistsError(errno.EEXIST, os.strerror(errno.EEXIST), part)
+    return part
 
 
 def _rename(part, target):
