@@ -104,6 +104,12 @@ class Copies(Databases):
         rows.copy(self.copy, words(2))
         self.assertEqual(self.run_in(self.copy, "SELECT * FROM vbi"), [[(7, *words(2)[1]), (6, *words(2)[0])]])
 
+    def test_a_row_of_no_field_stays(self):
+        self.make(row="INSERT INTO vbi VALUES (4, 50, 1, 2, 3)")
+        Rows(self.path).copy(self.copy, words(12))
+        self.assertEqual(self.run_in(self.copy, "SELECT * FROM vbi WHERE field_id >= 11 ORDER BY field_id"),
+                         [[(4, 11, *words(12)[11]), (4, 50, 1, 2, 3)]])
+
     def test_what_was_written_last_is_copied_too(self):
         """In a database with a log of its own, which another program still has open."""
         self.make()

@@ -95,6 +95,13 @@ class Values(unittest.TestCase):
         self.assertLess(tracemalloc.get_traced_memory()[1], 100000)
 
 
+    def test_a_long_value_is_begun_a_few_times(self):
+        """As often as what is read is twice as long: a value that is longer by far than a piece takes no longer."""
+        with mock.patch.object(scanner, "_DECODER", mock.Mock(wraps=json.JSONDecoder())) as decoder:
+            self.assertEqual(scanned('["%s"]' % ("a" * 100000), 1)[0][1], "a" * 100000)
+        self.assertLess(decoder.raw_decode.call_count, 40)
+
+
 class Refused(unittest.TestCase):
     def refused(self, text, wanted, pieces=(1, 2, 3, 7, 1 << 18)):
         for piece in pieces:
