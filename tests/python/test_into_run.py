@@ -78,6 +78,18 @@ class Words(Copies):
         self.assertEqual(json.loads(self.read("copy.json"), parse_float=str), old)
         self.assertIn(b"14318181.818181818", self.read("copy.json"))
 
+    def test_ends_of_lines_and_other_letters_stay(self):
+        def text():
+            return json.dumps(document, indent=1, ensure_ascii=False).replace("\n", "\r\n").encode()
+
+        self.metadata(12, vbi={"vbiData": [0, 0, 0], "note": "ü\U0001d11e"})
+        document = json.loads(self.read("side.tbc.json"))
+        self.write("side.tbc.json", text())
+        self.assertEqual(self.run_command("side.tbc", "--into", "copy.json")[0], 0)
+        for field, words in zip(document["fields"], self.document_words(self.document)):
+            field["vbi"]["vbiData"] = words
+        self.assertEqual(self.read("copy.json"), text())
+
     def test_recovered_words(self):
         fields = pictures(12)
         fields[4][1] = worn_line(0xF00004, NTSC, 10, 10)

@@ -225,7 +225,8 @@ def _options(words):
 def _compare(words):
     """Prints what two sides have of each other's numbers."""
     parser = argparse.ArgumentParser(prog=NAME + " compare", description=COMPARISON)
-    parser.add_argument("sides", nargs=2, metavar="SIDE", help="a document, or a TBC file with its metadata beside it")
+    parser.add_argument("sides", nargs=2, metavar="SIDE", help="a document, or a TBC file with its metadata beside "
+                        "it or with the options below")
     parser.add_argument("--json", action="store_true", help="print all stretches, as JSON")
     _add_settings(parser)
     options = parser.parse_args(words)

@@ -57,8 +57,8 @@ def whole_path(path: str, ends: Sequence[str]) -> Iterator[str]:
 
 
 def _part_of(target):
-    """What a part of a file is called until it is whole. There may be none, of an earlier process with this number: what
-    is there later is ours, from the moment on in which it is made."""
+    """What a part of a file is called until it is whole. There may be none yet, of an earlier process with this number:
+    so what is there later is ours, from the moment on in which it is made."""
     part = "%s.%d.part" % (target, os.getpid())
     if os.path.lexists(part):
         raise FileExistsError(errno.EEXIST, os.strerror(errno.EEXIST), part)
