@@ -13,7 +13,7 @@ import unittest
 
 from streams import NTSC, pictures, worn_line, write_stream
 from test_into_rows import FORM
-from test_run import COMMAND, DEADLINE, LEVELS, SIZE, Runs
+from test_run import DEADLINE, LEVELS, SIZE, Runs
 
 PARAMETERS = {"system": "NTSC", "black16bIre": 16384.0, "white16bIre": 51200, "sampleRate": 14318181.818181818}
 MEMORY = 50 << 20  # bytes
@@ -195,27 +195,42 @@ class Refused(Copies):
             self.assertEqual(os.stat(self.path("copy")).st_mode & 0o777, 0o640)
 
 
+# A run in which the words end in a long wait: a part of the copy is written then.
+WAITING = """
+import itertools, sys, time, ldvbi_side.__main__
+from ldvbi_side.command import into
+words = into._words_of_stream
+def waiting(stream):
+    yield from itertools.islice(words(stream), 5)
+    time.sleep(%d)
+into._words_of_stream = waiting
+sys.exit(ldvbi_side.__main__.main(sys.argv[1:]))
+""" % DEADLINE
+
+
+class Interrupted(Copies):
+    def test_nothing_is_left_of_a_copy(self):
+        self.database(12)
+        for meta in ("side.tbc.json", "side.tbc.db"):
+            before = self.names()
+            process = subprocess.Popen([sys.executable, "-c", WAITING, "side.tbc", "--meta", meta, "--into", "copy"],
+                                       cwd=self.folder, stdout=subprocess.PIPE, stderr=subprocess.PIPE)
+            end = time.monotonic() + DEADLINE
+            while self.names() == before and time.monotonic() < end:
+                time.sleep(0.001)
+            self.assertEqual([name for name in self.names() if name not in before], ["copy.%d.part" % process.pid])
+            process.send_signal(signal.SIGINT)
+            text, said = process.communicate(timeout=DEADLINE)
+            self.assertEqual((process.returncode, text, said), (130, b"", b""))
+            self.assertEqual(self.names(), before)
+
+
 class Long(Copies):
     def setUp(self):
         super().setUp()
         write_stream(self.path("side.tbc"), NTSC, pictures(4), 20000 * SIZE)
         self.metadata(20004, dropOuts={"startx": list(range(80))}, vbi={"vbiData": [0, 0, 0]})
         self.database(20004, "rows.db")
-
-    def test_interrupted(self):
-        """As soon as a part of the copy is there."""
-        for meta in ("side.tbc.json", "rows.db"):
-            before = self.names()
-            process = subprocess.Popen(COMMAND + ["side.tbc", "--meta", meta, "--into", "copy"], cwd=self.folder,
-                                       stdout=subprocess.PIPE, stderr=subprocess.PIPE)
-            end = time.monotonic() + DEADLINE
-            while self.names() == before and time.monotonic() < end:
-                time.sleep(0.001)
-            self.assertRegex(" ".join(self.names()), r"\bcopy\.\d+\.part\b")
-            process.send_signal(signal.SIGINT)
-            text, said = process.communicate(timeout=DEADLINE)
-            self.assertEqual((process.returncode, text, said), (130, b"", b""))
-            self.assertEqual(self.names(), before)
 
     def test_no_document_is_held_as_a_whole(self):
         """The process may hold no more memory than this, beside the pages of the TBC file, which are the system's."""
