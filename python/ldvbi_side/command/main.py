@@ -64,8 +64,9 @@ def _parser():
                         "and what to look at first; status 0 if it is whole, else 1" % MOST_LINES)
     output.add_argument("--document", action="store_true", help="print the document of the TBC file, byte for byte as "
                         "`ldvbi extract` writes it")
-    parser.add_argument("--recovered", action="store_true", help="print with --document the one that has the recovered "
-                        "words, too, of version 3; copy them with --into")
+    parser.add_argument("--recovered", action="store_true", help="copy with --into the recovered words, too; print "
+                        "with --document the one that has the recovered "
+                        "words, too, of version 3")
     parser.add_argument("--strict", action="store_true", help="say that a side without lead-in or lead-out isn't whole")
     parser.add_argument("-o", "--output", metavar="FILE", help="print into this file, which gets its name only when it "
                         "is complete")
