@@ -24,8 +24,8 @@ loader finds. `classify` and `format_of` need no library. Only CPython and its s
 
 Read first `classes` (what a word says) and `codes` (on which lines), then `library` and `samples` (the calls of C and
 the memory that they get), `readings`, `near`, `stream` and `judging` (these calls as Python has them), at last
-`document` and `metadata` (with `database`), the files beside a TBC file. What the words of a whole side mean is the
-business of the package `ldvbi_side`, which stands on this one: nothing here imports it.
+`document` and `metadata` (with `scanner` and `database`), the files beside a TBC file. What the words of a whole side
+mean is the business of the package `ldvbi_side`, which stands on this one: nothing here imports it.
 """
 
 

@@ -1,11 +1,11 @@
 """ld-decode's metadata in SQLite, as newer versions keep it: table `capture` with the columns `system`, `black_16b_ire`
-and `white_16b_ire`, and perhaps with the fields' size and count. No file of ld-decode's own was at hand to try it
-on."""
+and `white_16b_ire`, and perhaps with the fields' size and count; and a table of the fields, whatever its name is, with
+the columns `field_id` and `is_first_field`. No file of ld-decode's own was at hand to try it on."""
 
 import contextlib
 import pathlib
 import sqlite3
-from typing import Any, Dict
+from typing import Any, Dict, Iterable, Iterator, List, Optional
 
 # The columns that are read, and the members of the JSON metadata that they stand for
 _COLUMNS = {"system": "system", "black_16b_ire": "black16bIre", "white_16b_ire": "white16bIre"}
@@ -16,22 +16,56 @@ _OPTIONAL = {"field_width": "fieldWidth", "field_height": "fieldHeight",
 def parameters_of_database(path: str) -> Dict[str, Any]:
     """The values of a database under the names that the JSON metadata's videoParameters have. A ValueError where it has
     another form."""
+    with opened(path) as database:
+        return _parameters(database)
+
+
+def first_of_database(path: str) -> List[Any]:
+    """Of each field, in their order, whether it is the first one of its frame: true, false, or None where that isn't
+    known. There is nothing where no table, or more than one, has the fields."""
+    with opened(path) as database:
+        values = column_of_fields(database, "is_first_field") or []
+    return [bool(value) if value in (0, 1) else None for value in values]
+
+
+@contextlib.contextmanager
+def opened(path: str) -> Iterator[sqlite3.Connection]:
+    """The database in this file, to read it. What is wrong with it is a ValueError that names the file."""
     address = pathlib.Path(path).absolute().as_uri() + "?mode=ro"
     try:
         with contextlib.closing(sqlite3.connect(address, uri=True)) as database:
-            return _parameters(database)
+            yield database
     except (sqlite3.Error, ValueError) as error:
         raise ValueError("%s: %s" % (path, error)) from None
 
 
+def tables_of(database: sqlite3.Connection) -> List[str]:
+    """The names of the tables."""
+    return [name for name, in database.execute("SELECT name FROM sqlite_master WHERE type = 'table' ORDER BY name")]
+
+
+def columns_of(database: sqlite3.Connection, table: str) -> List[str]:
+    """The names of a table's columns; none where there is no such table."""
+    return [row[1] for row in database.execute("PRAGMA table_info(%s)" % _quoted(table))]
+
+
+def column_of_fields(database: sqlite3.Connection, column: str) -> Optional[List[Any]]:
+    """The values of a column, in the order of the fields, of the one table that has these; None where no table has
+    them, or more than one."""
+    tables = [table for table in tables_of(database)
+              if {"field_id", "is_first_field"} <= set(columns_of(database, table))]
+    if len(tables) != 1:
+        return None
+    rows = database.execute("SELECT %s FROM %s ORDER BY field_id" % (column, _quoted(tables[0])))
+    return [value for value, in rows]
+
+
+def _quoted(name):
+    return '"%s"' % name.replace('"', '""')
+
+
 def _parameters(database):
-    tables = [name for name, in database.execute("SELECT name FROM sqlite_master WHERE type = 'table' ORDER BY name")]
-    if "capture" not in tables:
-        raise ValueError("no table capture; there are: %s" % _listed(tables))
-    columns = [row[1] for row in database.execute("PRAGMA table_info(capture)")]
-    missing = [column for column in _COLUMNS if column not in columns]
-    if missing:
-        raise ValueError("table capture has no column %s; there are: %s" % (missing[0], _listed(columns)))
+    columns = columns_with(database, "capture", _COLUMNS)
     known = dict(_COLUMNS, **{column: name for column, name in _OPTIONAL.items() if column in columns})
     rows = database.execute("SELECT %s FROM capture LIMIT 2" % ", ".join(known)).fetchall()
     if len(rows) != 1:
@@ -39,6 +73,18 @@ def _parameters(database):
     # a column that isn't filled is as good as one that isn't there, but for the three that are needed
     return {name: value for name, value in zip(known.values(), rows[0])
             if value is not None or name in _COLUMNS.values()}
+
+
+def columns_with(database: sqlite3.Connection, table: str, wanted: Iterable[str]) -> List[str]:
+    """The names of the columns of a table that has to be there, with these columns."""
+    tables = tables_of(database)
+    if table not in tables:
+        raise ValueError("no table %s; there are: %s" % (table, _listed(tables)))
+    columns = columns_of(database, table)
+    missing = [column for column in wanted if column not in columns]
+    if missing:
+        raise ValueError("table %s has no column %s; there are: %s" % (table, missing[0], _listed(columns)))
+    return columns
 
 
 def _listed(names):

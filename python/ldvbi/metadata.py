@@ -1,19 +1,24 @@
 """System, black and white of a run, how many fields there are and which of them begin a frame, from ld-decode's
 metadata, JSON or SQLite. JSON is read as `ldvbi` reads it, but for this: levels with decimals are rounded here to the
-next whole number, a half upwards."""
+next whole number, a half upwards, and no more than one field is held at a time."""
 
-import json
+import io
 import math
 import os
-from typing import Any, Dict, List, NamedTuple, Optional, Tuple
+from typing import Any, BinaryIO, Callable, Dict, Iterator, List, NamedTuple, Optional, Tuple
 
+from .collector import paused
 from .library import System
 from .readings import size_of
+from .scanner import NotJson, Scanner
+
+# What is told of each field of a JSON text: its place in the text, in characters, its own text, and its value
+OnField = Callable[[int, str, Any], None]
 
 
 class Metadata(NamedTuple):
-    """What a file has: the videoParameters, how many fields there are, and of each `isFirstField`, which databases are
-    not asked for. Each is None where the file doesn't have it."""
+    """What a file has: the videoParameters, how many fields there are, and of each `isFirstField`. Each is None where
+    the file doesn't have it."""
     path: str
     parameters: Optional[Dict[str, Any]]
     fields: Optional[int]
@@ -33,27 +38,61 @@ def beside(path: str) -> Optional[str]:
     return next((name for name in (path + ".json", path + ".db") if os.path.exists(name)), None)
 
 
-def read_metadata(path: str) -> Metadata:
+def is_database(begin: bytes) -> bool:
+    """Whether a file that begins with these bytes, at least 16 where it has so many, is a database."""
+    return begin.startswith(b"SQLite format 3\0")
+
+
+@paused()
+def read_metadata(path: str, on_field: Optional[OnField] = None) -> Metadata:
     """The `Metadata` of a file, which is read once, since it may be a pipe. A database of another form is a ValueError;
-    a text that isn't metadata has none of the three."""
+    a text that isn't metadata has none of the three. `on_field` is called with each field of a text as it is read."""
     with open(path, "rb") as file:
         # A pipe begins with less, perhaps, and is no database.
-        if file.peek(16).startswith(b"SQLite format 3\0"):
-            from .database import parameters_of_database  # sqlite3 is no part of the smallest Pythons
-            columns = parameters_of_database(path)
-            return Metadata(path, columns, _count(columns), None)
+        if is_database(file.peek(16)):
+            from .database import first_of_database, parameters_of_database  # the smallest Pythons have no sqlite3
+            found = _Found(parameters_of_database(path), first_of_database(path))
+        else:
+            found = _of_text(file, on_field)
+    parameters, first = found
+    count = len(first) if first else _count(parameters or {})
+    return Metadata(path, parameters, count, first if first and all(isinstance(one, bool) for one in first) else None)
+
+
+class _Found(NamedTuple):
+    """The videoParameters, and of each field its `isFirstField`, each None where it isn't there."""
+    parameters: Optional[Dict[str, Any]]
+    first: List[Any]
+
+
+def _of_text(file: BinaryIO, on_field: Optional[OnField]) -> _Found:
+    """What a JSON text has. Of members with one name the last one counts."""
+    parameters: Optional[Dict[str, Any]] = None
+    first: List[Any] = []
+    with io.TextIOWrapper(file, encoding="utf-8", newline="") as text:
+        scanner = Scanner(text)
         try:
-            text = json.loads(file.read().decode("utf-8"))
-        except (ValueError, RecursionError):
-            text = None
-    members = text if isinstance(text, dict) else {}
-    parameters = members.get("videoParameters")
-    parameters = parameters if isinstance(parameters, dict) else None
-    fields = members.get("fields")
-    if not isinstance(fields, list) or not fields:
-        return Metadata(path, parameters, _count(parameters or {}), None)
-    first: List[Any] = [field.get("isFirstField") if isinstance(field, dict) else None for field in fields]
-    return Metadata(path, parameters, len(fields), first if all(isinstance(one, bool) for one in first) else None)
+            for name in scanner.members():
+                if name == "fields" and scanner.comes("["):
+                    first = list(_first_of_each(scanner, on_field))
+                    continue
+                value = scanner.value()
+                if name == "videoParameters":
+                    parameters = value if isinstance(value, dict) else None
+                elif name == "fields":
+                    first = []
+            scanner.end()
+        except NotJson:
+            return _Found(None, [])
+    return _Found(parameters, first)
+
+
+def _first_of_each(scanner: Scanner, on_field: Optional[OnField]) -> Iterator[Any]:
+    for _ in scanner.items():
+        field = scanner.value()
+        if on_field:
+            on_field(scanner.begin, scanner.text, field)
+        yield field.get("isFirstField") if isinstance(field, dict) else None
 
 
 def _count(parameters):

@@ -14,12 +14,12 @@ _ldvbi_side() {
     case $before in
         --system) answers='NTSC PAL' ;;
         --black | --white | --seek) return ;;
-        --meta | --svg | --html | --map | --output | -o) compopt -o default ;;
+        --meta | --svg | --html | --map | --into | --output | -o) compopt -o default ;;
         *)
             case $word in
                 -*)
                     answers='--help --meta --system --black --white --no-recover --csv --json --bad-lines --seek'
-                    answers="$answers --summary --document --recovered --strict --output --svg --html --map"
+                    answers="$answers --summary --document --recovered --strict --output --svg --html --map --into"
                     ;;
                 *) compopt -o default ;;
             esac

@@ -158,7 +158,8 @@ class Documents(Sides):
             ran = subprocess.run([sys.executable, "-m", "ldvbi_side", self.path, *words], stdout=subprocess.PIPE,
                                  stderr=subprocess.PIPE, check=False)
             self.assertEqual((ran.returncode, ran.stdout), (2, b""))
-            self.assertTrue(ran.stderr.endswith(b"error: --recovered is of --document, and not with --no-recover\n"))
+            self.assertTrue(ran.stderr.endswith(
+                b"error: --recovered is of --document or --into, and not with --no-recover\n"))
 
 
 if __name__ == "__main__":

@@ -17,6 +17,7 @@ from ..seek import seek, text_of, wanted_of
 from ..judge.whole import NO, OPEN, YES
 from ..side import Side, side_of_document, side_of_stream
 from .compare import compare, comparison_text
+from .into import Into
 from .map import COLUMNS as MAP_COLUMNS, map_rows
 from .outputs import drop_standard_output, refuse_inputs, whole_file
 from .progress import Progress
@@ -49,11 +50,9 @@ def _parser():
     parser.add_argument("side", help="the TBC file, or the document; - is standard input, for a document")
     parser.add_argument("--meta", metavar="FILE", help="take system and levels of a TBC file from this .tbc.json or "
                         ".tbc.db of ld-decode, and not from the one beside the file. Levels with decimals are rounded "
-                        "to the next whole number. The count of fields in it is compared with the side. isFirstField "
-                        "in a .tbc.json shows single lost fields, of a document as well")
-    parser.add_argument("--system", choices=list(System.__members__))
-    parser.add_argument("--black", type=int, help=LEVELS % "black")
-    parser.add_argument("--white", type=int, help=LEVELS % "white")
+                        "to the next whole number. The count of fields in it is compared with the side. Its "
+                        "isFirstField shows single lost fields, of a document as well")
+    _add_settings(parser)
     parser.add_argument("--no-recover", action="store_true", help="leave out the words that are recovered from worn "
                         "lines of a TBC file, those of pass 3")
     output = parser.add_mutually_exclusive_group()
@@ -70,7 +69,8 @@ def _parser():
                         % MOST_LINES)
     output.add_argument("--document", action="store_true", help="print the document of the TBC file, byte for byte as "
                         "`ldvbi extract` writes it")
-    parser.add_argument("--recovered", action="store_true", help="print with --document the one that has the recovered "
+    parser.add_argument("--recovered", action="store_true", help="copy with --into the recovered words, too; print "
+                        "with --document the one that has the recovered "
                         "words, too, of version 3")
     parser.add_argument("--strict", action="store_true", help="say that a side without lead-in or lead-out, or with an "
                         "unread number, isn't whole")
@@ -82,21 +82,40 @@ def _parser():
                         "file, with drawings of the bad lines of a TBC file; print only what another option asks for")
     parser.add_argument("--map", metavar="FILE", help="write into this file where each number, chapter and picture "
                         "stop is, for a player to seek by; print only what another option asks for")
+    parser.add_argument("--into", metavar="FILE", help="write a copy of ld-decode's metadata into this file, of --meta "
+                        "or beside the TBC file, in which each field has its words as vbi.vbiData (in a .tbc.db a row "
+                        "of the table vbi); print only what another option asks for")
     return parser
 
 
-def _source(options):
-    """The side of the document that the options name, or the stream of the TBC file; and the metadata, or None."""
-    given = [options.system, options.black, options.white]
+def _add_settings(parser):
+    parser.add_argument("--system", choices=list(System.__members__))
+    parser.add_argument("--black", type=int, help=LEVELS % "black")
+    parser.add_argument("--white", type=int, help=LEVELS % "white")
+
+
+def _settings(options):
+    """What the options have of system and levels, in place of the metadata's."""
+    return [options.system, options.black, options.white]
+
+
+def _refuse_settings(options, sources):
+    """Raises a ValueError where system or levels are given, and no source is a TBC file."""
+    is_given = any(value is not None for value in _settings(options))
+    if is_given and all(isinstance(source, Side) for source in sources):
+        raise ValueError("a document has its system and levels; they are options of a TBC file")
+
+
+def _source(options, on_field=None):
+    """The side of the document that the options name, or the stream of the TBC file; and the metadata, or None, whose
+    fields `on_field` is told of."""
     is_standard_input = options.side == "-"
     with open(0 if is_standard_input else options.side, "rb", closefd=not is_standard_input) as file:
         if is_standard_input or is_document(options.side, file.peek(64)):
-            if any(value is not None for value in given):
-                raise ValueError("a document has its system and levels; they are options of a TBC file")
             side = side_of_document(file.read())
-            return side, options.meta and read_metadata(options.meta)
-    metadata = options.meta and read_metadata(options.meta)
-    settings = settings_of(metadata, *given)
+            return side, options.meta and read_metadata(options.meta, on_field)
+    metadata = options.meta and read_metadata(options.meta, on_field)
+    settings = settings_of(metadata, *_settings(options))
     for note in settings.notes:
         _note(note)
     stream = Stream(options.side, settings.system, settings.black, settings.white, not options.no_recover)
@@ -183,16 +202,28 @@ def _plot_command(side, options):
 
 def _files(options):
     """The files that are written beside what is printed; None for one that isn't asked for."""
+    return [options.into, *_drawn(options)]
+
+
+def _drawn(options):
+    """Those of them that have what the words mean."""
     return [options.svg, options.map, options.html]
+
+
+def _is_judged(options):
+    """Whether it is asked what the words mean, or for a document that takes a side, and not for words alone."""
+    return not (options.into or options.document) or any([
+        *_drawn(options), options.csv, options.json, options.bad_lines, options.seek, options.summary,
+        options.document and options.recovered])
 
 
 def _options(words):
     """The options of these words, with the metadata beside the TBC file where they leave something open."""
     parser = _parser()
     options = parser.parse_args(words)
-    if options.recovered and (not options.document or options.no_recover):
-        parser.error("--recovered is of --document, and not with --no-recover")
-    is_open = None in (options.system, options.black, options.white)
+    if options.recovered and (not (options.document or options.into) or options.no_recover):
+        parser.error("--recovered is of --document or --into, and not with --no-recover")
+    is_open = options.into or None in _settings(options)
     if not options.meta and is_open and options.side.endswith(".tbc"):
         options.meta = beside(options.side)
     return options
@@ -201,15 +232,17 @@ def _options(words):
 def _compare(words):
     """Prints what two sides have of each other's numbers."""
     parser = argparse.ArgumentParser(prog=NAME + " compare", description=COMPARISON)
-    parser.add_argument("sides", nargs=2, metavar="SIDE", help="a document, or a TBC file with its metadata beside it")
+    parser.add_argument("sides", nargs=2, metavar="SIDE", help="a document, or a TBC file with its metadata beside "
+                        "it or with the options below")
     parser.add_argument("--json", action="store_true", help="print all stretches, as JSON")
+    _add_settings(parser)
     options = parser.parse_args(words)
     refuse_inputs([1], options.sides)
-    sides = []
-    for path in options.sides:
-        settings = _options(["--", path])
-        sides.append(_loaded(*_source(settings), settings))
-    found = compare(*sides)
+    given = ["--%s=%s" % pair for pair in zip(("system", "black", "white"), _settings(options)) if pair[1] is not None]
+    of_each = [_options([*given, "--", path]) for path in options.sides]
+    sources = [_source(one) for one in of_each]
+    _refuse_settings(options, [source for source, _ in sources])
+    found = compare(*(_loaded(*source, one) for source, one in zip(sources, of_each)))
     print(json.dumps(found) if options.json else "\n".join(comparison_text(found, options.sides)))
     return 0
 
@@ -240,16 +273,20 @@ def _run(options):
 
 def _answer(options):
     """Prints and draws what the options ask for."""
-    source, metadata = _source(options)
+    into = Into(options.into) if options.into else None
+    source, metadata = _source(options, into and into.places.add)
+    _refuse_settings(options, [source])
     if options.document:
         if isinstance(source, Side):
             raise ValueError("--document is of a TBC file, and this is a document")
         if not options.recovered:
             _print_document(options.side, source)
-            if not any(_files(options)):
-                return _cut_status(cut_of(source), source.system)
+    if into:
+        into.write(options.side, source, metadata, options.recovered)
+    if not _is_judged(options):
+        return _cut_status(source.cut if isinstance(source, Side) else cut_of(source), source.system)
     side = _loaded(source, metadata, options)
-    if options.recovered:
+    if options.document and options.recovered:
         write_recovered(side, sys.stdout)
     _write_files(side, options, not isinstance(source, Side))
     if options.seek:

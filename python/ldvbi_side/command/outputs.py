@@ -1,11 +1,12 @@
 """The files that the command writes: under their names only when they are whole, and never in the place of an input."""
 
 import contextlib
+import errno
 import os
 import shutil
 import stat
 import sys
-from typing import IO, Iterable, Iterator, Optional, Union
+from typing import IO, Iterable, Iterator, Optional, Sequence, Union
 
 Place = Union[str, int, None]  # a file: its path, the number of an open one, or none
 
@@ -19,20 +20,56 @@ def whole_file(path: str) -> Iterator[IO[str]]:
         with open(target, "w", encoding="utf-8") as file:
             yield file
         return
-    part = "%s.%d.part" % (target, os.getpid())
-    file = open(part, "x", encoding="utf-8")
+    part = _part_of(target)
     try:
-        with file:
+        with open(part, "x", encoding="utf-8") as file:
             yield file
             file.flush()
             # Else the name could come through a loss of power, and the text not.
             os.fsync(file.fileno())
-        if os.path.exists(target):
-            shutil.copymode(target, part)
-        os.replace(part, target)
+        _rename(part, target)
     except BaseException:
-        os.unlink(part)
+        with contextlib.suppress(FileNotFoundError):
+            os.unlink(part)
         raise
+
+
+@contextlib.contextmanager
+def whole_path(path: str, ends: Sequence[str]) -> Iterator[str]:
+    """The path of a file to make by what wants a path, as `whole_file` has it. It stands in a folder of its own, with
+    what is written beside it under its name with these ends; nothing of that may lie beside an older file."""
+    target = os.path.realpath(path)
+    if os.path.exists(target) and not os.path.isfile(target):
+        raise ValueError("%s is no file" % path)
+    for end in ends:
+        if os.path.exists(target + end):
+            raise ValueError("%s is there: %s is in use, or was left unfinished" % (path + end, path))
+    folder = _part_of(target)
+    try:
+        os.mkdir(folder)
+        part = os.path.join(folder, "part")
+        yield part
+        with open(part, "rb") as file:
+            os.fsync(file.fileno())
+        _rename(part, target)
+    finally:
+        shutil.rmtree(folder, ignore_errors=True)
+
+
+def _part_of(target):
+    """What a part of a file is called until it is whole. There may be none yet, of an earlier process with this number:
+    so what is there later is ours, from the moment on in which it is made."""
+    part = "%s.%d.part" % (target, os.getpid())
+    if os.path.lexists(part):
+        raise FileExistsError(errno.EEXIST, os.strerror(errno.EEXIST), part)
+    return part
+
+
+def _rename(part, target):
+    """Gives a file its name, and the mode of an older one of this name."""
+    if os.path.exists(target):
+        shutil.copymode(target, part)
+    os.replace(part, target)
 
 
 def refuse_inputs(outputs: Iterable[Place], inputs: Iterable[Place]) -> None:

@@ -1,0 +1,126 @@
+"""JSON texts of any length, read in pieces: no more of one is held than a value of it, which is read by Python's json,
+and the piece behind it."""
+
+import json
+import re
+from typing import Any, Iterator, Optional, TextIO
+
+PIECE = 1 << 18  # characters
+LONGEST = 1 << 28  # the characters of a value; the program takes no longer metadata
+
+_SPACE = re.compile(r"[ \t\n\r]*")
+# What may look wrong only because it ends with what has been read: at most an escape of two parts, \ud834\udd1e
+_CUT = 12
+_DECODER = json.JSONDecoder()
+
+
+class NotJson(ValueError):
+    """A text that isn't JSON, or has a value that is too long or nested too deep."""
+
+
+class Scanner:
+    """A JSON text, from its beginning on. Where an object or a list comes next, `members` or `items` goes through it;
+    each of its values in turn is gone past by `value`. `begin` is then the place of this value in the whole text, and
+    `text` is the value's own. A `NotJson` is raised where the text is seen to be none.
+
+    The file is a text file that was opened with newline="", so that places are those of its characters."""
+
+    def __init__(self, file: TextIO, piece: int = PIECE) -> None:
+        self._file, self._piece = file, piece
+        self._held = ""  # what has been read, from some place before the next value on
+        self._before = 0  # how many characters there were before that
+        self._at = 0  # what comes next, a place in what is held
+        self.begin, self.text = 0, ""
+
+    def comes(self, mark: str) -> bool:
+        """Whether this character comes next, behind white space."""
+        return self._next() == mark
+
+    def members(self) -> Iterator[str]:
+        """Goes through an object: yields the name of each member where its value comes next."""
+        for _ in self._parts("{", "}"):
+            if not self.comes('"'):
+                raise self._fault("a name")
+            name = self._scanned(":")
+            self._at += 1
+            yield name
+
+    def items(self) -> Iterator[None]:
+        """Goes through a list: yields where each of its values comes next."""
+        return self._parts("[", "]")
+
+    def value(self) -> Any:
+        """Goes past a member's or an item's value, which is the answer."""
+        self._next()
+        return self._scanned(",]}")
+
+    def end(self) -> None:
+        """Sees that nothing but white space comes behind the text's one value."""
+        if self._next():
+            raise self._fault("the end")
+
+    def _parts(self, begin: str, end: str) -> Iterator[None]:
+        """Goes past these two marks, and past the commas between them; yields where a part comes next."""
+        self._past(begin)
+        if not self.comes(end):
+            yield
+            while self.comes(","):
+                self._at += 1
+                yield
+        self._past(end)
+
+    def _past(self, mark: str) -> None:
+        if not self.comes(mark):
+            raise self._fault(mark)
+        self._at += 1
+
+    def _next(self) -> str:
+        """Goes past white space. The answer is the character that comes next, or nothing at the end of the text."""
+        while True:
+            self._at = _past_space(self._held, self._at)
+            if self._at < len(self._held) or not self._more():
+                return self._held[self._at:self._at + 1]
+
+    def _scanned(self, ends: str) -> Any:
+        """Goes past a value, and past the white space behind it, where one of these characters has to come: else a
+        number might go on there."""
+        while True:
+            try:
+                value, end = _DECODER.raw_decode(self._held, self._at)
+            except json.JSONDecodeError as error:
+                may_go_on, wrong, wanted = error.msg.startswith("Unterminated"), error.pos, "a value"
+            except (RecursionError, ValueError):
+                raise NotJson("nested too deep, or with too long a number, at character %d" % (
+                    self._before + self._at)) from None
+            else:
+                may_go_on, wrong = False, _past_space(self._held, end)
+                wanted = "a colon" if ends == ":" else "a comma or an end"
+                if self._held[wrong:wrong + 1] and self._held[wrong] in ends:
+                    self.begin, self.text, self._at = self._before + self._at, self._held[self._at:end], wrong
+                    return value
+            fault = self._fault(wanted, wrong)
+            if not (may_go_on or wrong + _CUT > len(self._held)) or not self._more():
+                raise fault
+
+    def _more(self) -> bool:
+        """Reads more: as much again as there is, so that a long value isn't begun too often. False at the end."""
+        if len(self._held) - self._at > LONGEST:
+            raise NotJson("too long: what begins at character %d" % (self._before + self._at))
+        try:
+            read = self._file.read(max(self._piece, len(self._held) - self._at))
+        except UnicodeDecodeError:
+            raise NotJson("not UTF-8") from None
+        self._held = self._held[self._at:] + read
+        self._before += self._at
+        self._at = 0
+        return bool(read)
+
+    def _fault(self, wanted: str, place: Optional[int] = None) -> NotJson:
+        return NotJson("not JSON at character %d, where %s has to stand" % (
+            self._before + (self._at if place is None else place), wanted))
+
+
+def _past_space(text: str, at: int) -> int:
+    match = _SPACE.match(text, at)
+    assert match is not None
+    return match.end()

@@ -1,0 +1,93 @@
+"""Where in the JSON text of one field of ld-decode's metadata its words go, its `vbi.vbiData`: all else of the text
+stays as it is, and what is new in it is written like what stands there."""
+
+import functools
+import json
+import re
+from typing import Any, NamedTuple, Optional, Tuple
+
+Words = Tuple[int, int, int]  # of a field: those of lines 16, 17 and 18, each 0 where there is none
+
+_WHITE = r"[ \t\n\r]*"
+_NAME = re.compile(r'{w}("[^"\\]*(?:\\.[^"\\]*)*"){w}:{w}'.format(w=_WHITE))
+_NEXT_NAME = re.compile(_WHITE + "," + _NAME.pattern)
+_FIRST = re.compile(r'\{{({w})"[^"\\]*(?:\\.[^"\\]*)*"({w}:({w}))'.format(w=_WHITE))
+_COLON = re.compile("{w}:({w})".format(w=_WHITE))
+_THREE = re.compile(r"\[({w}){i}({w},{w}){i}({w},{w}){i}({w})\]".format(w=_WHITE, i=r'[^ \t\n\r",:{}\[\]]+'))
+_DECODER = json.JSONDecoder()
+
+
+class Place(NamedTuple):
+    """A part of a text, from its begin to its end, and what stands there in its copy, with `%d` for each word."""
+    begin: int
+    end: int
+    form: str
+
+
+def place_of_words(text: str, field: Any, number: int) -> Place:
+    """The place of the words in the text of the field with this number, whose value is known. What is wrong with the
+    field is a ValueError."""
+    if not isinstance(field, dict):
+        raise ValueError("it is no object")
+    if field.get("seqNo", number) != number:
+        raise ValueError("its seqNo is %s" % json.dumps(field["seqNo"]))
+    if "vbi" not in field:
+        _, colon, gap = _style_of(text, 0)
+        return _added(text, 0, len(text), '"vbi"%s{"vbiData"%s%s}' % (colon, colon, _list_with(gap)))
+    if not isinstance(field["vbi"], dict):
+        raise ValueError("its vbi is no object")
+    begin, end = _value_place(text, 0, len(text), "vbi")
+    if "vbiData" not in field["vbi"]:
+        _, colon, gap = _style_of(text, begin if field["vbi"] else 0)
+        return _added(text, begin, end, '"vbiData"%s%s' % (colon, _list_with(gap)))
+    data_begin, data_end = _value_place(text, begin, end, "vbiData")
+    return Place(data_begin, data_end, _list_like(text[data_begin:data_end]) or _list_with(_style_of(text, begin)[2]))
+
+
+def _style_of(text: str, begin: int) -> Tuple[str, str, str]:
+    """How the members of the object that begins there are written, by its first one: the comma with the white space
+    behind it, the colon with that around it, and that behind the colon alone."""
+    first = _FIRST.match(text, begin)
+    if first is None:
+        return ",", ":", ""  # there is none
+    before, colon, gap = first.groups()
+    return "," + (before if "\n" in before else gap), colon, gap
+
+
+def _added(text: str, begin: int, end: int, member: str) -> Place:
+    """The place of one more member in the object that stands there, behind all others."""
+    place = begin + len(text[begin:end - 1].rstrip(" \t\n\r"))
+    comma = _style_of(text, begin)[0] if place > begin + 1 else ""
+    return Place(place, place, comma + member)
+
+
+def _list_with(gap: str) -> str:
+    """The form of a list with this white space behind each comma."""
+    return "[%%d,%s%%d,%s%%d]" % (gap, gap)
+
+
+@functools.lru_cache(maxsize=64)
+def _list_like(old: str) -> Optional[str]:
+    """The form of a list with the white space of an old one, if that has three items."""
+    three = _THREE.fullmatch(old)
+    return "[%s%%d%s%%d%s%%d%s]" % three.groups() if three else None
+
+
+def _value_place(text: str, begin: int, end: int, name: str) -> Tuple[int, int]:
+    """Where the value of the member with this name begins and ends, which the object that stands there has."""
+    quoted = '"%s"' % name
+    if text.count(quoted, begin, end) == 1 and text.find("\\", begin, end) < 0:
+        # nothing else can be the name, or have it written in another way
+        colon = _COLON.match(text, text.index(quoted, begin, end) + len(quoted))
+        assert colon is not None
+        return colon.end(), _DECODER.raw_decode(text, colon.end())[1]
+    found = []
+    member = _NAME.match(text, begin + 1)
+    while member:
+        value_end = _DECODER.raw_decode(text, member.end())[1]
+        if json.loads(member[1]) == name:
+            found.append((member.end(), value_end))
+        member = _NEXT_NAME.match(text, value_end)
+    if len(found) > 1:
+        raise ValueError("it has more than one %s" % name)
+    return found[0]

@@ -1,0 +1,41 @@
+"""A JSON document of ld-decode's metadata, copied with the words of its fields."""
+
+import shutil
+from array import array
+from typing import IO, Any, Dict, Iterable
+
+from .field import Words, place_of_words
+
+
+class Places:
+    """Where the words of each field go in a document: what it has to be told of each field as the document is read. Of
+    a document no more is kept than that."""
+
+    def __init__(self) -> None:
+        self._begins, self._ends, self._forms = array("Q"), array("Q"), array("Q")
+        self._numbers: Dict[str, int] = {}  # of each form; a document has few
+
+    def __len__(self) -> int:
+        return len(self._begins)
+
+    def add(self, begin: int, text: str, field: Any) -> None:
+        """Adds the next field: its place in the document, its text and its value."""
+        number = len(self) + 1
+        try:
+            place = place_of_words(text, field, number)
+        except ValueError as error:
+            raise ValueError("field %d of the metadata: %s" % (number, error)) from None
+        self._begins.append(begin + place.begin)
+        self._ends.append(begin + place.end)
+        self._forms.append(self._numbers.setdefault(place.form, len(self._numbers)))
+
+    def copy(self, old: IO[str], new: IO[str], words: Iterable[Words]) -> None:
+        """Copies the document, a text file that was opened with newline="", with the words of each field in turn."""
+        forms = list(self._numbers)
+        at = 0
+        for begin, end, form, three in zip(self._begins, self._ends, self._forms, words):
+            new.write(old.read(begin - at))
+            new.write(forms[form] % three)
+            old.read(end - begin)
+            at = end
+        shutil.copyfileobj(old, new)

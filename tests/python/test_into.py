@@ -1,0 +1,166 @@
+"""Words into a JSON document of ld-decode's metadata: where they go in a field, and a copy that is the same else."""
+
+import io
+import json
+import random
+import unittest
+
+from ldvbi.scanner import Scanner
+from ldvbi_side.into.field import place_of_words
+from ldvbi_side.into.text import Places
+
+WORDS = (8572927, 0, 15803205)
+COMPACT, SPACED = (",", ":"), (", ", ": ")
+
+
+def with_words(text, number=7):
+    """The text of a field with WORDS."""
+    place = place_of_words(text, json.loads(text), number)
+    return text[:place.begin] + place.form % WORDS + text[place.end:]
+
+
+def copied(text, words, piece=1 << 18):
+    """A document with these words in its fields."""
+    places, new = Places(), io.StringIO(newline="")
+    scanner = Scanner(io.StringIO(text, newline=""), piece)
+    for name in scanner.members():
+        if name != "fields":
+            scanner.value()
+            continue
+        for _ in scanner.items():
+            field = scanner.value()
+            places.add(scanner.begin, scanner.text, field)
+    places.copy(io.StringIO(text, newline=""), new, iter(words))
+    return len(places), new.getvalue()
+
+
+def some_words(choose, count):
+    return [tuple(choose.choice([0, choose.randrange(0x800000, 0x1000000)]) for _ in range(3)) for _ in range(count)]
+
+
+class Fields(unittest.TestCase):
+    def test_where_they_go(self):
+        for old, new in (
+                # the numbers alone are others, where there are three items
+                ('{"vbi":{"vbiData":[0,0,0]}}', '{"vbi":{"vbiData":[8572927,0,15803205]}}'),
+                ('{"vbi": {"vbiData": [ 1 , 2.5,\n-1e3 ]}}', '{"vbi": {"vbiData": [ 8572927 , 0,\n15803205 ]}}'),
+                ('{"vbi":{"vbiData":[null,true,0]},"b":1.50}', '{"vbi":{"vbiData":[8572927,0,15803205]},"b":1.50}'),
+                # any other value gives way to a list
+                ('{"vbi": {"vbiData": null}}', '{"vbi": {"vbiData": [8572927, 0, 15803205]}}'),
+                ('{"vbi":{"vbiData":[0,0],"a":1}}', '{"vbi":{"vbiData":[8572927,0,15803205],"a":1}}'),
+                ('{"vbi":{"a": 1,"vbiData": ["1",2,3]}}', '{"vbi":{"a": 1,"vbiData": [8572927, 0, 15803205]}}'),
+                # a field without them gets them behind all else, in its style
+                ('{}', '{"vbi":{"vbiData":[8572927,0,15803205]}}'),
+                ('{ }', '{"vbi":{"vbiData":[8572927,0,15803205]} }'),
+                ('{"a":1}', '{"a":1,"vbi":{"vbiData":[8572927,0,15803205]}}'),
+                ('{"a": 1, "b": {}}', '{"a": 1, "b": {}, "vbi": {"vbiData": [8572927, 0, 15803205]}}'),
+                ('{ "a" : 1 }', '{ "a" : 1, "vbi" : {"vbiData" : [8572927, 0, 15803205]} }'),
+                ('{\r\n\t"a": 1,\r\n\t"b": 2\r\n}',
+                 '{\r\n\t"a": 1,\r\n\t"b": 2,\r\n\t"vbi": {"vbiData": [8572927, 0, 15803205]}\r\n}'),
+                # and so does a member vbi
+                ('{"vbi":{},"a":1}', '{"vbi":{"vbiData":[8572927,0,15803205]},"a":1}'),
+                ('{"vbi": {"a": "x"}}', '{"vbi": {"a": "x", "vbiData": [8572927, 0, 15803205]}}'),
+                ('{"vbi": {}}', '{"vbi": {"vbiData": [8572927, 0, 15803205]}}'),
+                ('{"vbi":{\n"a":1\n}}', '{"vbi":{\n"a":1,\n"vbiData":[8572927,0,15803205]\n}}'),
+                # names are what they mean, and others are no matter
+                ('{"v\\u0062i":{"\\u0076biData":[1,2,3]}}', '{"v\\u0062i":{"\\u0076biData":[8572927,0,15803205]}}'),
+                ('{"a":{"vbi":1,"vbiData":[1,2,3]},"c":"\\"vbi\\"}","vbi":{"vbiData":[1,2,3]},"vbiData":[1,2,3]}',
+                 '{"a":{"vbi":1,"vbiData":[1,2,3]},"c":"\\"vbi\\"}","vbi":{"vbiData":[8572927,0,15803205]},'
+                 '"vbiData":[1,2,3]}'),
+                ('{"vbi ":1,"VBI":2,"vbidata":3}',
+                 '{"vbi ":1,"VBI":2,"vbidata":3,"vbi":{"vbiData":[8572927,0,15803205]}}'),
+                ('{"a":"vbi","vbi":{"a":[{"vbiData":5}],"vbiData":[]}}',
+                 '{"a":"vbi","vbi":{"a":[{"vbiData":5}],"vbiData":[8572927,0,15803205]}}'),
+                # what stands twice is no matter where nothing looks at it
+                ('{"a":1,"a":2}', '{"a":1,"a":2,"vbi":{"vbiData":[8572927,0,15803205]}}'),
+                ('{"seqNo":7,"%d":"%s"}', '{"seqNo":7,"%d":"%s","vbi":{"vbiData":[8572927,0,15803205]}}')):
+            with self.subTest(old):
+                self.assertEqual(with_words(old), new)
+
+    def test_refused(self):
+        for text, wanted in (("5", "it is no object"), ("[]", "it is no object"), ("null", "it is no object"),
+                             ('{"seqNo":8}', "its seqNo is 8"), ('{"seqNo":"7"}', 'its seqNo is "7"'),
+                             ('{"seqNo":null}', "its seqNo is null"), ('{"vbi":null}', "its vbi is no object"),
+                             ('{"vbi":[1,2,3]}', "its vbi is no object"),
+                             ('{"vbi":{"vbiData":[]},"vbi":{"vbiData":[]}}', "it has more than one vbi"),
+                             ('{"vbi":5,"v\\u0062i":{}}', "it has more than one vbi"),
+                             ('{"vbi":{"vbiData":[],"a":1, "vbiData":[]}}', "it has more than one vbiData")):
+            with self.subTest(text), self.assertRaises(ValueError) as caught:
+                with_words(text)
+            self.assertEqual(str(caught.exception), wanted)
+
+
+class Documents(unittest.TestCase):
+    def drawn_fields(self, choose, count):
+        """Fields as ld-decode has them, with or without words, or with some of them."""
+        for number in range(1, count + 1):
+            field = {"audioSamples": choose.randrange(800), "diskLoc": choose.random() * 1e5, "seqNo": number,
+                     "isFirstField": number % 2 == 1, "note": choose.choice(["", "ü", '"vbi":{', "\\", "}"]),
+                     "dropOuts": {"endx": [choose.randrange(900) for _ in range(choose.randrange(5))]}}
+            vbi = choose.choice([None, {"vbiData": [0, 0, 0]}, {"note": "kept", "vbiData": [-1, 2, 3], "a": 1e-7}, {}])
+            if vbi is not None:
+                field["vbi"] = dict(vbi)
+            field["medianBurstIRE"] = choose.choice([1.0, 17.25, 1e22, None])
+            yield field
+
+    def test_as_the_module_json_writes_it_anew(self):
+        """In each style that is json's own, a copy is what json makes of the parsed document with the words in it."""
+        choose = random.Random(48)
+        for separators in (COMPACT, SPACED) * 10:
+            fields = list(self.drawn_fields(choose, 20))
+            document = {"fields": fields, "videoParameters": {"sampleRate": 14318181.8, "system": "NTSC"}}
+            if choose.random() < 0.5:
+                document = dict(reversed(list(document.items())))
+            is_ascii = choose.random() < 0.5
+            text = json.dumps(document, separators=separators, ensure_ascii=is_ascii)
+            words = some_words(choose, len(fields))
+            for field, three in zip(fields, words):
+                field.setdefault("vbi", {})["vbiData"] = list(three)
+            wanted = json.dumps(document, separators=separators, ensure_ascii=is_ascii)
+            for piece in (1, 7, 100, 1 << 18):
+                self.assertEqual(copied(text, words, piece), (len(fields), wanted))
+
+    def test_all_else_is_the_same(self):
+        """White space of any kind, and numbers that are written in another way: what isn't a word stays."""
+        choose = random.Random(49)
+        for _ in range(200):
+            def white():
+                return choose.choice(["", "", " ", "\n", "\r\n\t", "  "])
+
+            def joined(parts, begin, end):
+                return begin + white() + (white() + "," + white()).join(parts) + white() + end
+
+            def member(name, value):
+                return '"%s"%s:%s%s' % (name, white(), white(), value)
+
+            others = ["1.50", "-0", "1E+2", '"\\u00fc\\/"', '"ü"', "[ 1,2 ]", '{"vbi" : 3}', "null", "1" * 30]
+            fields = []
+            for number in range(1, 6):
+                inner = [member("a", choose.choice(others)), member("vbiData", joined(["@"] * 3, "[", "]"))]
+                parts = [member(name, choose.choice(others)) for name in ("x", "y", "vbiData")]
+                parts += [member("seqNo", number), member("vbi", joined(choose.sample(inner, 2), "{", "}"))]
+                fields.append(joined(choose.sample(parts, 5), "{", "}"))
+            text = white() + joined(choose.sample([
+                member("fields", joined(fields, "[", "]")), member("z", choose.choice(others))], 2), "{", "}") + white()
+            words = some_words(choose, 5)
+            numbers = iter([number for three in words for number in three])
+            wanted = "".join(str(next(numbers)) if part == "@" else part for part in text)
+            piece = choose.choice([1, 10, 1 << 18])
+            old = text.replace("@", choose.choice(["0", "-1", "1.5"]))
+            with self.subTest((piece, text)):
+                self.assertEqual(copied(old, words, piece), (5, wanted))
+
+    def test_no_field_at_all(self):
+        for text in ("{}", '{"fields":[]}', ' { "fields" : [ ] } \n', '{"fields":5}'):
+            places, new = Places(), io.StringIO()
+            places.copy(io.StringIO(text), new, iter(()))
+            self.assertEqual((len(places), new.getvalue()), (0, text))
+
+    def test_a_field_that_is_refused_is_named(self):
+        with self.assertRaises(ValueError) as caught:
+            copied('{"fields":[{"seqNo":1},{"seqNo":3}]}', [WORDS] * 2)
+        self.assertEqual(str(caught.exception), "field 2 of the metadata: its seqNo is 3")
+
+
+if __name__ == "__main__":
+    unittest.main()

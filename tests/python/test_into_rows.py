@@ -1,0 +1,188 @@
+"""Words into a database of ld-decode's metadata, and `isFirstField` out of one. The form is that of newer versions of
+ld-decode, as far as it is known here."""
+
+import contextlib
+import os
+import sqlite3
+import tempfile
+import unittest
+
+from ldvbi.metadata import read_metadata
+from ldvbi_side.into.rows import Rows
+
+FORM = """
+CREATE TABLE capture (capture_id INTEGER PRIMARY KEY, system TEXT NOT NULL, field_width INTEGER,
+    number_of_sequential_fields INTEGER, white_16b_ire INTEGER, black_16b_ire INTEGER, capture_notes TEXT);
+CREATE TABLE field_record (capture_id INTEGER NOT NULL REFERENCES capture(capture_id) ON DELETE CASCADE,
+    field_id INTEGER NOT NULL, disk_loc REAL, is_first_field INTEGER CHECK (is_first_field IN (0, 1)),
+    median_burst_ire REAL, PRIMARY KEY (capture_id, field_id));
+CREATE TABLE vbi (capture_id INTEGER NOT NULL, field_id INTEGER NOT NULL, vbi0 INTEGER NOT NULL, vbi1 INTEGER NOT NULL,
+    vbi2 INTEGER NOT NULL, FOREIGN KEY (capture_id, field_id) REFERENCES field_record(capture_id, field_id)
+    ON DELETE CASCADE, PRIMARY KEY (capture_id, field_id));
+CREATE TABLE drop_outs (capture_id INTEGER NOT NULL, field_id INTEGER NOT NULL, startx INTEGER NOT NULL);
+INSERT INTO capture VALUES (4, 'NTSC', 910, NULL, 51200, 16384, 'ü');
+"""
+
+
+def words(count):
+    return [(0x800000 + number, 0, 0xF00000 + number) for number in range(count)]
+
+
+class Databases(unittest.TestCase):
+    def setUp(self):
+        folder = tempfile.TemporaryDirectory()
+        self.addCleanup(folder.cleanup)
+        self.folder = folder.name
+        self.path, self.copy = self.named("side.tbc.db"), self.named("copy.db")
+
+    def named(self, name):
+        return os.path.join(self.folder, name)
+
+    def run_in(self, path, *statements):
+        with contextlib.closing(sqlite3.connect(path)) as database:
+            answers = [database.execute(statement).fetchall() for statement in statements]
+            database.commit()
+        return answers
+
+    def make(self, count=12, form=FORM, begin=0, **more):
+        """A database of so many fields, of which each third one has words, and what else these statements make."""
+        if os.path.exists(self.path):
+            os.unlink(self.path)
+        with contextlib.closing(sqlite3.connect(self.path)) as database:
+            database.executescript(form)
+            for number in range(begin, begin + count):
+                database.execute("INSERT INTO field_record VALUES (4, ?, ?, ?, 17.25)",
+                                 (number, number / 3, (number - begin) % 2))
+                database.execute("INSERT INTO drop_outs VALUES (4, ?, 100)", (number,))
+                if number % 3 == 0:
+                    database.execute("INSERT INTO vbi (capture_id, field_id, vbi0, vbi1, vbi2) VALUES (4, ?, -1, 5, 6)",
+                                     (number,))
+            for statement in more.values():
+                database.execute(statement)
+            database.commit()
+
+    def refused(self, text):
+        with self.assertRaises(ValueError) as caught:
+            Rows(self.path).copy(self.copy, words(12))
+        self.assertEqual(str(caught.exception), "%s: %s" % (self.path, text))
+
+
+class Copies(Databases):
+    def test_each_field_has_a_row(self):
+        for begin in (0, 1, 100):
+            self.make(begin=begin)
+            before = self.run_in(self.path, "SELECT * FROM vbi")
+            rows = Rows(self.path)
+            self.assertEqual(len(rows), 12)
+            rows.copy(self.copy, words(12))
+            self.assertEqual(self.run_in(self.copy, "SELECT * FROM vbi ORDER BY field_id"), [
+                [(4, begin + place, *three) for place, three in enumerate(words(12))]])
+            self.assertEqual(self.run_in(self.path, "SELECT * FROM vbi"), before)
+            os.unlink(self.copy)
+
+    def test_all_else_is_the_same(self):
+        self.make(1000, FORM.replace("vbi2 INTEGER NOT NULL,", "vbi2 INTEGER NOT NULL, note TEXT DEFAULT 'new',"),
+                  index="CREATE INDEX by_field ON vbi (field_id)", old="UPDATE vbi SET note = 'kept'",
+                  version="PRAGMA user_version = 3", view="CREATE VIEW words AS SELECT * FROM vbi")
+        Rows(self.path).copy(self.copy, words(1000))
+        lines = []
+        for path in (self.path, self.copy):
+            with contextlib.closing(sqlite3.connect(path)) as database:
+                lines.append([line for line in database.iterdump() if not line.startswith('INSERT INTO "vbi"')])
+        self.assertEqual(lines[0], lines[1])
+        for statement in ("PRAGMA user_version", "PRAGMA journal_mode", "SELECT * FROM sqlite_master"):
+            self.assertEqual(*(self.run_in(path, statement) for path in (self.path, self.copy)))
+        found = self.run_in(self.copy, "SELECT note, count(*) FROM vbi GROUP BY note", "PRAGMA integrity_check",
+                            "PRAGMA foreign_key_check")
+        self.assertEqual(found, [[("kept", 334), ("new", 666)], [("ok",)], []])
+
+    def test_the_fields_are_those_of_the_table_vbi_where_no_other_has_them(self):
+        self.make(0, form="CREATE TABLE vbi (field_id INT, vbi0 INT, vbi1 INT, vbi2 INT);"
+                          "INSERT INTO vbi VALUES (7, 1, 2, 3), (6, 1, 2, 3)")
+        rows = Rows(self.path)
+        self.assertEqual(len(rows), 2)
+        rows.copy(self.copy, words(2))
+        self.assertEqual(self.run_in(self.copy, "SELECT * FROM vbi"), [[(7, *words(2)[1]), (6, *words(2)[0])]])
+
+    def test_a_row_of_no_field_stays(self):
+        self.make(row="INSERT INTO vbi VALUES (4, 50, 1, 2, 3)")
+        Rows(self.path).copy(self.copy, words(12))
+        self.assertEqual(self.run_in(self.copy, "SELECT * FROM vbi WHERE field_id >= 11 ORDER BY field_id"),
+                         [[(4, 11, *words(12)[11]), (4, 50, 1, 2, 3)]])
+
+    def test_what_was_written_last_is_copied_too(self):
+        """In a database with a log of its own, which another program still has open."""
+        self.make()
+        with contextlib.closing(sqlite3.connect(self.path)) as other:
+            other.execute("PRAGMA journal_mode = WAL")
+            other.execute("UPDATE field_record SET median_burst_ire = 5 WHERE field_id = 11")
+            other.commit()
+            Rows(self.path).copy(self.copy, words(12))
+            self.assertTrue(os.path.exists(self.path + "-wal"))
+        found = self.run_in(self.copy, "SELECT field_id FROM field_record WHERE median_burst_ire = 5")
+        self.assertEqual(found, [[(11,)]])
+        self.assertEqual(sorted(os.listdir(self.folder)), ["copy.db", "side.tbc.db"])
+
+    def test_all_words_come_in_one_transaction(self):
+        """Where the words end in a fault, the copy has none of them."""
+        def interrupted():
+            yield from words(5)
+            raise KeyboardInterrupt
+
+        self.make()
+        with self.assertRaises(KeyboardInterrupt):
+            Rows(self.path).copy(self.copy, interrupted())
+        self.assertEqual(*(self.run_in(path, "SELECT * FROM vbi") for path in (self.path, self.copy)))
+        self.make(trigger="CREATE TRIGGER no BEFORE INSERT ON vbi WHEN new.field_id = 7 "
+                          "BEGIN SELECT raise(ABORT, 'no words here'); END")
+        os.unlink(self.copy)
+        self.refused("no words here")
+        self.assertEqual(*(self.run_in(path, "SELECT * FROM vbi") for path in (self.path, self.copy)))
+
+    def test_other_forms(self):
+        self.make(form=FORM.replace("vbi1 INTEGER NOT NULL", "b INTEGER").replace("VALUES (4, ?, -1", "("), count=0)
+        self.refused("table vbi has no column vbi1; there are: capture_id, field_id, vbi0, b, vbi2")
+        self.make(form=FORM.replace("TABLE vbi", "TABLE words"), count=0)
+        self.refused("no table vbi; there are: capture, drop_outs, field_record, words")
+        self.make(gap="UPDATE field_record SET field_id = 20 WHERE field_id = 5")
+        self.refused("the fields' numbers, field_id, leave some out, or have one twice")
+        self.make(again="INSERT INTO field_record VALUES (5, 5, 0, 1, 0)",
+                  gone="DELETE FROM field_record WHERE field_id = 11")
+        self.refused("the fields' numbers, field_id, leave some out, or have one twice")
+        self.make(0, "CREATE TABLE vbi (field_id INT, vbi0, vbi1, vbi2); INSERT INTO vbi VALUES (NULL, 1, 2, 3)")
+        self.refused("the fields' numbers, field_id, leave some out, or have one twice")
+        self.make(form=FORM.replace("capture_notes TEXT", "x").replace("(capture_id INTEGER PRIMARY KEY, system",
+                                                                       "(id INTEGER, system"))
+        self.refused("no such column: capture_id")
+
+
+class FirstFields(Databases):
+    def test_they_are_read(self):
+        self.make()
+        self.assertEqual(read_metadata(self.path)[2:], (12, [False, True] * 6))
+        self.make(null="UPDATE field_record SET is_first_field = NULL WHERE field_id = 5")
+        self.assertEqual(read_metadata(self.path)[2:], (12, None))
+
+    def test_in_the_order_of_the_fields(self):
+        self.make(4, order="UPDATE field_record SET field_id = 9 - field_id")
+        self.assertEqual(read_metadata(self.path)[2:], (4, [True, False] * 2))
+
+    def test_which_table_has_them(self):
+        """One alone, whatever its name is; else the count is that of the table capture."""
+        count = "UPDATE capture SET number_of_sequential_fields = 640"
+        other = "CREATE TABLE b AS SELECT * FROM %s"
+        for name in ("field_record", "fields", '"my ""own"" fields"'):
+            form = FORM.replace("field_record", name)
+            self.make(0, form)
+            rows = "INSERT INTO %s VALUES (4, 0, 0, 0, 0), (4, 1, 0, 1, 0)" % name
+            self.run_in(self.path, rows, count)
+            self.assertEqual((read_metadata(self.path)[2:], len(Rows(self.path))), ((2, [False, True]), 2))
+            self.run_in(self.path, other % name)
+            self.assertEqual((read_metadata(self.path)[2:], len(Rows(self.path))), ((640, None), 0))
+        self.make(0, FORM.replace("is_first_field", "first"))
+        self.run_in(self.path, count, "INSERT INTO field_record VALUES (4, 0, 0, 0, 0)")
+        self.assertEqual(read_metadata(self.path)[2:], (640, None))
+
+
+if __name__ == "__main__":
+    unittest.main()

@@ -1,0 +1,278 @@
+"""The option --into of the command as a process: which words it copies, where it writes, and what it leaves alone."""
+
+import contextlib
+import json
+import os
+import resource
+import signal
+import sqlite3
+import subprocess
+import sys
+import time
+import unittest
+
+from streams import NTSC, pictures, worn_line, write_stream
+from test_into_rows import FORM
+from test_run import DEADLINE, LEVELS, SIZE, Runs
+
+PARAMETERS = {"system": "NTSC", "black16bIre": 16384.0, "white16bIre": 51200, "sampleRate": 14318181.818181818}
+MEMORY = 50 << 20  # bytes
+
+
+class Copies(Runs):
+    def setUp(self):
+        super().setUp()
+        self.metadata(12)
+
+    def metadata(self, count, name="side.tbc.json", **more):
+        fields = [{"seqNo": place, "diskLoc": place / 3, "isFirstField": place % 2 == 0, **more}
+                  for place in range(1, count + 1)]
+        self.write(name, json.dumps({"videoParameters": PARAMETERS, "fields": fields}).encode())
+
+    def database(self, count, name="side.tbc.db"):
+        with contextlib.closing(sqlite3.connect(self.path(name))) as database:
+            database.executescript(FORM)
+            database.executemany("INSERT INTO field_record VALUES (4, ?, 0.5, ?, 17.25)",
+                                 [(place, place % 2) for place in range(count)])
+            database.commit()
+
+    def words_of(self, name):
+        """The words of each field of a copy."""
+        if name.endswith(".db"):
+            with contextlib.closing(sqlite3.connect(self.path(name))) as database:
+                return [list(row) for row in database.execute("SELECT vbi0, vbi1, vbi2 FROM vbi ORDER BY field_id")]
+        return [field["vbi"]["vbiData"] for field in json.loads(self.read(name))["fields"]]
+
+    def document_words(self, text):
+        return [field["vbi"]["vbiData"] for field in json.loads(text)["fields"]]
+
+    def names(self):
+        return sorted(os.listdir(self.folder))
+
+
+class Words(Copies):
+    def test_the_words_of_the_document(self):
+        self.database(12)
+        before = self.read("side.tbc.json"), self.read("side.tbc.db")
+        wanted = self.document_words(self.document)
+        self.assertEqual(self.run_command("side.tbc", "--into", "copy.json"), (0, b"", ""))
+        self.assertEqual(self.words_of("copy.json"), wanted)
+        for words in (["side.tbc", "--meta", "side.tbc.db"], ["side.tbc", *LEVELS, "--meta", "side.tbc.db"],
+                      ["side.vbi.json", "--meta", "side.tbc.db"]):
+            self.assertEqual(self.run_command(*words, "--into", "copy.db"), (0, b"", ""))
+            self.assertEqual(self.words_of("copy.db"), wanted)
+        for words in (["side.tbc", *LEVELS], ["side.tbc", "--no-recover"],
+                      ["side.vbi.json", "--meta", "side.tbc.json"]):
+            self.assertEqual(self.run_command(*words, "--into", "other.json"), (0, b"", ""))
+            self.assertEqual(self.read("other.json"), self.read("copy.json"))
+        self.assertEqual((self.read("side.tbc.json"), self.read("side.tbc.db")), before)
+        self.assertEqual(self.names(), ["copy.db", "copy.json", "other.json", "side.tbc", "side.tbc.db",
+                                        "side.tbc.json", "side.vbi.json"])
+
+    def test_all_else_stays_as_it_was(self):
+        self.metadata(12, vbi={"vbiData": [0, 0, 0], "note": "kept"})
+        old = json.loads(self.read("side.tbc.json"), parse_float=str)
+        self.assertEqual(self.run_command("side.tbc", "--into", "copy.json")[0], 0)
+        for field, words in zip(old["fields"], self.document_words(self.document)):
+            field["vbi"]["vbiData"] = words
+        self.assertEqual(json.loads(self.read("copy.json"), parse_float=str), old)
+        self.assertIn(b"14318181.818181818", self.read("copy.json"))
+
+    def test_ends_of_lines_and_other_letters_stay(self):
+        def text():
+            return json.dumps(document, indent=1, ensure_ascii=False).replace("\n", "\r\n").encode()
+
+        self.metadata(12, vbi={"vbiData": [0, 0, 0], "note": "ü\U0001d11e"})
+        document = json.loads(self.read("side.tbc.json"))
+        self.write("side.tbc.json", text())
+        self.assertEqual(self.run_command("side.tbc", "--into", "copy.json")[0], 0)
+        for field, words in zip(document["fields"], self.document_words(self.document)):
+            field["vbi"]["vbiData"] = words
+        self.assertEqual(self.read("copy.json"), text())
+
+    def test_recovered_words(self):
+        fields = pictures(12)
+        fields[4][1] = worn_line(0xF00004, NTSC, 10, 10)
+        write_stream(self.path("side.tbc"), NTSC, fields)
+        self.run_command("side.tbc", "--document", "--recovered", "-o", "side.vbi.json")
+        for words, word in (([], 0), (["--recovered"], 0xF00004)):
+            self.assertEqual(self.run_command("side.tbc", "--into", "copy.json", *words), (0, b"", ""))
+            self.assertEqual(self.words_of("copy.json")[4], [0xF00004, word, 0xF00004])
+        self.assertEqual(self.words_of("copy.json"), self.document_words(self.read("side.vbi.json")))
+        # a document has the words that it has
+        self.run_command("side.vbi.json", "--meta", "side.tbc.json", "--into", "other.json")
+        self.assertEqual(self.read("other.json"), self.read("copy.json"))
+        self.refused("--recovered is of a TBC file, and this is a document", "side.vbi.json", "--meta", "side.tbc.json",
+                     "--into", "other.json", "--recovered")
+        self.assertEqual(self.run_command("side.tbc", "--recovered", "--csv")[0], 2)
+
+    def test_beside_what_is_printed(self):
+        for words, status in ((["--seek", "3"], 0), (["--summary"], 1), (["--document"], 0), (["--svg", "svg"], 0),
+                              (["--document", "--recovered"], 0), ([], 0)):
+            with self.subTest(words):
+                printed = self.run_command("side.tbc", *words) if words else (0, b"", "")
+                self.assertEqual(printed[0], status)
+                self.assertEqual(self.run_command("side.tbc", *words, "--into", "copy.json"), printed)
+                self.assertEqual(len(self.words_of("copy.json")), 12)
+                os.unlink(self.path("copy.json"))
+
+    def test_a_cut_field_has_no_words(self):
+        os.truncate(self.path("side.tbc"), 11 * SIZE + 7)
+        self.write("side.vbi.json", self.extracted("side.tbc"))
+        self.metadata(11)
+        said = "ldvbi-side: the last field is cut: field 12 has 7 of 478660 bytes\n"
+        for words in (["side.tbc"], ["side.vbi.json", "--meta", "side.tbc.json"]):
+            self.assertEqual(self.run_command(*words, "--into", "copy.json"), (3, b"", said))
+            self.assertEqual(len(self.words_of("copy.json")), 11)
+
+
+class Refused(Copies):
+    def setUp(self):
+        super().setUp()
+        self.database(12, "rows.db")
+
+    def test_another_count_of_fields(self):
+        self.metadata(13)
+        self.database(11)
+        for words, text in ((["side.tbc"], "side.tbc has 12 whole fields, and side.tbc.json has 13"),
+                            (["side.vbi.json", "--meta", "side.tbc.db"],
+                             "side.vbi.json has 12 whole fields, and side.tbc.db has 11")):
+            self.refused(text, *words, "--into", "copy")
+        self.write("side.tbc.json", b'{"videoParameters": {"system": "NTSC", "black16bIre": 1, "white16bIre": 2}}')
+        self.refused("side.tbc has 12 whole fields, and side.tbc.json has 0", "side.tbc", "--into", "copy")
+        self.assertNotIn("copy", self.names())
+
+    def test_a_field_of_another_form(self):
+        self.metadata(12, vbi=5)
+        self.refused("field 1 of the metadata: its vbi is no object", "side.tbc", "--into", "copy")
+
+    def test_no_metadata(self):
+        for text in (b"", b"{", b"[]"):
+            self.write("side.tbc.json", text)
+            for words in (["side.tbc", *LEVELS], ["side.vbi.json", "--meta", "side.tbc.json"]):
+                self.refused("side.tbc.json is no metadata with videoParameters", *words, "--into", "copy")
+        self.metadata(12, "other")
+        os.unlink(self.path("side.tbc.json"))
+        for words in (["side.tbc", *LEVELS], ["side.vbi.json"]):
+            self.refused("%s: no .tbc.json or .tbc.db beside it to copy; give --meta" % words[0],
+                         *words, "--into", "copy")
+        run = subprocess.run(["sh", "-c", 'cat other | "$0" -m ldvbi_side side.vbi.json --meta /dev/stdin --into copy',
+                              sys.executable], cwd=self.folder, stdout=subprocess.PIPE, stderr=subprocess.PIPE,
+                             timeout=DEADLINE, check=False)
+        self.assertEqual(run.stderr, b"ldvbi-side: /dev/stdin is no file that can be copied\n")
+        self.assertNotIn("copy", self.names())
+
+    def test_onto_an_input(self):
+        os.link(self.path("side.tbc.json"), self.path("hard"))
+        os.symlink("side.tbc.json", self.path("soft"))
+        os.symlink("rows.db", self.path("soft.db"))
+        before = self.names(), self.read("side.tbc.json"), self.read("rows.db"), self.read("side.vbi.json")
+        rows = ["--meta", "rows.db"]
+        for name, words in (("side.tbc.json", []), ("./side.tbc.json", []), ("hard", []), ("soft", []),
+                            ("side.tbc", []), ("rows.db", rows), ("soft.db", rows), ("rows.db-wal", rows),
+                            ("rows.db-journal", rows)):
+            self.refused("%s would be written in the place of an input or of another output" % name,
+                         "side.tbc", *words, "--into", name)
+        self.refused("copy would be written in the place of an input or of another output",
+                     "side.tbc", "--into", "copy", "--svg", "copy")
+        self.assertEqual((self.names(), self.read("side.tbc.json"), self.read("rows.db"), self.read("side.vbi.json")),
+                         before)
+
+    def test_a_database_that_is_in_use(self):
+        for end in ("-journal", "-wal", "-shm"):
+            self.write("copy" + end, b"")
+            self.refused("copy%s is there: copy is in use, or was left unfinished" % end,
+                         "side.tbc", "--meta", "rows.db", "--into", "copy")
+            os.unlink(self.path("copy" + end))
+        self.refused("/dev/null is no file", "side.tbc", "--meta", "rows.db", "--into", "/dev/null")
+        self.assertNotIn("copy", self.names())
+
+    def test_an_older_copy_keeps_its_mode(self):
+        for meta in ("side.tbc.json", "rows.db"):
+            self.write("copy", b"old")
+            os.chmod(self.path("copy"), 0o640)
+            self.assertEqual(self.run_command("side.tbc", "--meta", meta, "--into", "copy")[0], 0)
+            self.assertEqual(os.stat(self.path("copy")).st_mode & 0o777, 0o640)
+
+
+# A run in which the words end in a long wait: a part of the copy is written then.
+WAITING = """
+import itertools, sys, time, ldvbi_side.__main__
+from ldvbi_side.command import into
+words = into._words_of_stream
+def waiting(stream):
+    yield from itertools.islice(words(stream), 5)
+    time.sleep(%d)
+into._words_of_stream = waiting
+sys.exit(ldvbi_side.__main__.main(sys.argv[1:]))
+""" % DEADLINE
+
+
+class Interrupted(Copies):
+    def test_nothing_is_left_of_a_copy(self):
+        self.database(12)
+        for meta in ("side.tbc.json", "side.tbc.db"):
+            before = self.names()
+            process = subprocess.Popen([sys.executable, "-c", WAITING, "side.tbc", "--meta", meta, "--into", "copy"],
+                                       cwd=self.folder, stdout=subprocess.PIPE, stderr=subprocess.PIPE)
+            end = time.monotonic() + DEADLINE
+            while self.names() == before and time.monotonic() < end:
+                time.sleep(0.001)
+            self.assertEqual([name for name in self.names() if name not in before], ["copy.%d.part" % process.pid])
+            process.send_signal(signal.SIGINT)
+            text, said = process.communicate(timeout=DEADLINE)
+            self.assertEqual((process.returncode, text, said), (130, b"", b""))
+            self.assertEqual(self.names(), before)
+
+
+class Long(Copies):
+    def setUp(self):
+        super().setUp()
+        write_stream(self.path("side.tbc"), NTSC, pictures(4), 20000 * SIZE)
+        self.metadata(20004, dropOuts={"startx": list(range(80))}, vbi={"vbiData": [0, 0, 0]})
+        self.database(20004, "rows.db")
+
+    def test_no_document_is_held_as_a_whole(self):
+        """The process may hold no more memory than this, beside the pages of the TBC file, which are the system's."""
+        def limit():
+            resource.setrlimit(resource.RLIMIT_DATA, (MEMORY, MEMORY))
+
+        # what records each line holds more with each of them
+        env = {name: value for name, value in os.environ.items() if name != "LDVBI_LINES"}
+        self.assertGreater(os.path.getsize(self.path("side.tbc.json")), 8 << 20)
+        for meta, copy in (("side.tbc.json", "copy.json"), ("rows.db", "copy.db")):
+            ended = self.run_command("side.tbc", "--meta", meta, "--into", copy, preexec_fn=limit, env=env)
+            self.assertEqual(ended, (0, b"", ""))
+            self.assertEqual(len(self.words_of(copy)), 20004)
+
+
+class Sides(Copies):
+    def test_is_first_field_of_a_database(self):
+        os.unlink(self.path("side.tbc.json"))
+        self.database(12)
+        self.assertEqual(self.run_command("side.tbc", "--seek", "4"), (0, b"field 5, frame 2\n", ""))
+        self.assertEqual(self.run_command("side.vbi.json", "--meta", "side.tbc.db", "--seek", "4"),
+                         (0, b"field 5, frame 2\n", ""))
+
+    def test_compare_with_system_and_levels(self):
+        os.unlink(self.path("side.tbc.json"))
+        write_stream(self.path("other.tbc"), NTSC, pictures(16)[4:])
+        wanted = self.run_command("compare", "side.vbi.json", "side.vbi.json")[1]
+        self.refused("no system given", "compare", "side.tbc", "side.vbi.json")
+        self.assertEqual(self.run_command("compare", *LEVELS, "side.tbc", "side.tbc"),
+                         (0, wanted.replace(b"side.vbi.json", b"side.tbc"), ""))
+        self.assertEqual(self.run_command("compare", "other.tbc", "side.vbi.json", *LEVELS)[1].split(b"\n")[0],
+                         b"pictures: 12 in other.tbc, 12 in side.vbi.json, 8 in both")
+        # in place of the metadata's, each by itself
+        self.metadata(12)
+        self.assertEqual(self.run_command("compare", "side.tbc", "side.vbi.json")[0], 0)
+        self.refused("the first side has no numbers to compare", "compare", "side.tbc", "side.vbi.json",
+                     "--black=60000", "--white=60001")
+        self.refused("no white level given", "compare", "other.tbc", "side.tbc", *LEVELS[:-2])
+        self.refused("a document has its system and levels; they are options of a TBC file", "compare", "side.vbi.json",
+                     "side.vbi.json", "--white", "51200")
+        self.assertEqual(self.run_command("compare", "--system", "SECAM", "side.tbc", "side.tbc")[0], 2)
+
+
+if __name__ == "__main__":
+    unittest.main()
