@@ -8,3 +8,5 @@ pub mod Numbers
 pub mod Found
 pub mod Truth
 pub mod Worked
+pub mod Chapters
+pub mod WorkedChapters
