@@ -67,6 +67,7 @@ _ARGUMENTS = {
 # Those of the calls that an older library may lack, and what it can't do then
 _LATER = {
     "ldvbi_judge": ("judge numbers", [_NUMBER] * 3 + [_MEMORY, _SIZE] * 3),
+    "ldvbi_judge_chapters": ("judge chapters", [_MEMORY, _SIZE] * 3),
     "ldvbi_nearest": ("find nearest words", _SETUP + [_MEMORY, _SIZE, _MEMORY]),
     "ldvbi_recover_rows": ("recover words", _SETUP + [_MEMORY, _SIZE, _MEMORY]),
     "ldvbi_recover_fields": ("recover words", _SETUP + [_MEMORY, _SIZE, _MEMORY, _SIZE]),

@@ -119,14 +119,22 @@ own_opposed recorded fields i m rises has =
     here : IsNear i i
     here = (omega arith, omega arith)
 
+    later : (j k : ℕ) → IsNear i j → recorded j ≡ Some k → (nat_le j i && nat_lt m k) ≡ true → ⊥
+    later j k near is e =
+        let p = and_parts (nat_le j i) (nat_lt m k) e in
+        omega (arith, ltb-true m k p.1, rises j i k m near here (leb-true j i p.0) is has)
+
+    earlier : (j k : ℕ) → IsNear i j → recorded j ≡ Some k → (nat_le i j && nat_lt k m) ≡ true → ⊥
+    earlier j k near is e =
+        let p = and_parts (nat_le i j) (nat_lt k m) e in
+        omega (arith, ltb-true k m p.1, rises i j m k here near (leb-true i j p.0) has is)
+
     wrong : (j k : ℕ) → IsNear i j → opposes i m j k ≡ true → not (is_recorded (recorded j) k) ≡ true
     wrong j k near e = elim (wrong_or_right recorded j k) [
       | inl is ↦ is
       | inr is ↦ absurd (elim (or_cases (nat_le j i && nat_lt m k) (nat_le i j && nat_lt k m) e) [
-        | inl h ↦ let p = and_parts (nat_le j i) (nat_lt m k) h in
-            omega (arith, ltb-true m k p.1, rises j i k m near here (leb-true j i p.0) (recorded_is (recorded j) k is) has)
-        | inr h ↦ let p = and_parts (nat_le i j) (nat_lt k m) h in
-            omega (arith, ltb-true k m p.1, rises i j m k here near (leb-true i j p.0) has (recorded_is (recorded j) k is))
+        | inl h ↦ later j k near (recorded_is (recorded j) k is) h
+        | inr h ↦ earlier j k near (recorded_is (recorded j) k is) h
       ])
     ]
 
