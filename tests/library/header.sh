@@ -82,6 +82,8 @@ ldvbi_format(0, 0xF12345, 0, format)
 ldvbi_draw_line(1, 1, 2, 0xF12345, drawn, 1820)
 ldvbi_judge(1, 1, 1, read, 9, seen, 9, numbers, 9)
 ldvbi_judge(1, 1, 1, NULL, 0, NULL, 0, NULL, 0)
+ldvbi_judge_chapters(read, 9, seen, 9, numbers, 9)
+ldvbi_judge_chapters(NULL, 0, NULL, 0, NULL, 0)
 END
 while read -r call; do
     called_as "return $call"
