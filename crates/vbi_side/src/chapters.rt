@@ -76,7 +76,7 @@ fn believed(fields: &[Sightings], field: usize, line: &Sighting, other: &Sightin
 }
 
 /// The chapter that is believed of a field, if one is.
-pub fn judge_chapter(fields: &[Sightings], field: usize) -> Option<u32>
+fn judge_chapter(fields: &[Sightings], field: usize) -> Option<u32>
     requires { field < length fields.now }
     ensures { (n : ℕ) → (result ≡ Some n) ↔ BelievedChapter fields.now field n }
 {

@@ -21,7 +21,7 @@ mod sighting;
 
 pub use answers::judge;
 pub use belief::{ENOUGH, REACH, judge_field, support};
-pub use chapters::{chapters_shown, judge_chapter, judge_chapters};
+pub use chapters::{chapters_shown, judge_chapters};
 pub use found::found_pace;
 pub use lines::{Counted, Shown, sightings};
 pub use number::{BELIEVED, DOUBTFUL, DUE, NOTHING, Number};
