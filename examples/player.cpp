@@ -2,8 +2,8 @@
 // stop. It prints the field, from 1, at which each command ends. Status 1: a command found nothing; 2: the side can't
 // be read so, and standard error says why. It also says where the file ends inside a field.
 //
-// The library recovers the words of worn lines. A picture's number is one that it believes by the fields around it, or
-// that is due between such fields, and never one that was misread. What a chapter's field shows is taken as it is.
+// The library recovers the words of worn lines. A picture or a chapter is one that it believes by the fields around it,
+// or a picture that is due between such fields, so one that was misread isn't found.
 //
 //     c++ -std=c++17 -o player player.cpp -lldvbi
 //     ./player side.tbc NTSC 16384 51200 search 12345 play chapter 3 play
@@ -11,7 +11,6 @@
 #include <cstdint>
 #include <cstdlib>
 #include <fcntl.h>
-#include <functional>
 #include <iostream>
 #include <ldvbi.h>
 #include <optional>
@@ -106,15 +105,36 @@ bool has_stop(const LdvbiFieldReadings &field) {
     return false;
 }
 
-// The numbers of a side's pictures, of which those around the field that is asked for are judged.
-class Pictures {
+// Readings of fields that follow each other, and the room that their judging needs.
+struct Fields {
+    std::vector<LdvbiFieldReadings> readings;
+    std::vector<LdvbiSightings> seen;
+    std::vector<LdvbiNumber> numbers;
+
+    Fields(const Side &side, std::size_t begin, std::size_t end) : seen(end - begin), numbers(end - begin) {
+        for (std::size_t field = begin; field < end; field++) readings.push_back(side.read(field));
+    }
+};
+
+void judge(const Side &side, std::uint32_t kind, Fields &fields) {
+    const std::size_t count = fields.readings.size();
+    check(kind == LDVBI_CHAPTER
+              ? ldvbi_judge_chapters(fields.readings.data(), count, fields.seen.data(), count, fields.numbers.data(),
+                                     count)
+              : ldvbi_judge(side.system(), LDVBI_PICTURES, LDVBI_FIND_PACE, fields.readings.data(), count,
+                            fields.seen.data(), count, fields.numbers.data(), count));
+}
+
+// The pictures or the chapters of a side, of which those around the field that is asked for are judged.
+class Numbers {
 public:
-    explicit Pictures(const Side &side) : side_(side), are_judged_(is_any_believed()) {}
+    Numbers(const Side &side, std::uint32_t kind) : side_(side), kind_(kind) {}
 
     // The number that is believed of a field, or due there. A side of which no number is believed is too short to be
     // judged, or has too few: of that, and of that alone, what the lines say is taken as it is.
     std::optional<std::uint32_t> at(std::size_t field) {
-        if (!are_judged_) return number_of(side_.read(field), LDVBI_PICTURE);
+        if (!are_judged_) are_judged_ = is_any_believed();
+        if (!*are_judged_) return number_of(side_.read(field), kind_);
         const LdvbiNumber number = judged(field);
         if (number.state != LDVBI_BELIEVED && number.state != LDVBI_DUE) return std::nullopt;
         return number.number;
@@ -127,23 +147,18 @@ private:
     static constexpr std::size_t block = 64, margin = 2 * LDVBI_REACH;
 
     LdvbiNumber judged(std::size_t field) {
-        if (field < first_ || field - first_ >= numbers_.size()) judge(field);
+        if (field < first_ || field - first_ >= numbers_.size()) judge_block(field);
         return numbers_[field - first_];
     }
 
     // Judges the block from a field on, and forgets what is beside it.
-    void judge(std::size_t field) {
+    void judge_block(std::size_t field) {
         const std::size_t begin = field - std::min(field, margin);
-        const std::size_t end = field + std::min(side_.fields() - field, block + margin), count = end - begin;
-        std::vector<LdvbiFieldReadings> readings;
-        for (std::size_t i = begin; i < end; i++) readings.push_back(side_.read(i));
-        std::vector<LdvbiSightings> seen(count);
-        std::vector<LdvbiNumber> numbers(count);
-        check(ldvbi_judge(side_.system(), LDVBI_PICTURES, LDVBI_FIND_PACE, readings.data(), count, seen.data(), count,
-                          numbers.data(), count));
-        const std::size_t length = std::min(block, side_.fields() - field);
+        Fields fields(side_, begin, field + std::min(side_.fields() - field, block + margin));
+        judge(side_, kind_, fields);
+        const auto answers = fields.numbers.begin() + (field - begin);
         first_ = field;
-        numbers_.assign(numbers.begin() + (field - begin), numbers.begin() + (field - begin + length));
+        numbers_.assign(answers, answers + std::min(block, side_.fields() - field));
     }
 
     // Looks no further than to the first one, which is near the beginning of most sides.
@@ -154,32 +169,31 @@ private:
     }
 
     const Side &side_;
+    std::uint32_t kind_;
     std::size_t first_ = 0;
     std::vector<LdvbiNumber> numbers_; // those of the fields from first_ on
-    bool are_judged_;                  // the last, since what finds it out needs the others
+    std::optional<bool> are_judged_;   // once one was asked for
 };
 
-using NumberAt = std::function<std::optional<std::uint32_t>(std::size_t)>;
-
-// The first field with this number, where numbers rise along the side: by halving, in some 20 looks. A chapter that was
-// misread can lead astray, so where nothing is found so, each field is looked at.
-std::optional<std::size_t> search(std::size_t fields, const NumberAt &number_at, std::uint32_t number) {
+// The first field with this number, where numbers rise along the side: by halving, in some 20 looks. A side that the
+// player went back on can lead astray, so where nothing is found so, each field is looked at.
+std::optional<std::size_t> search(std::size_t fields, Numbers &numbers, std::uint32_t number) {
     std::size_t low = 0, high = fields; // it isn't before `low`, and a field from `high` on has it or more
     while (low < high) {
         const std::size_t middle = low + (high - low) / 2;
         std::size_t field = middle; // the first one from there on that has a number
         std::optional<std::uint32_t> here;
-        while (field < high && !(here = number_at(field))) field++;
+        while (field < high && !(here = numbers.at(field))) field++;
         if (here && *here < number) low = field + 1;
         else high = middle;
     }
     for (std::size_t field = low; field < fields; field++)
-        if (const auto here = number_at(field)) {
+        if (const auto here = numbers.at(field)) {
             if (*here == number) return field;
             break;
         }
     for (std::size_t field = 0; field < fields; field++)
-        if (number_at(field) == number) return field;
+        if (numbers.at(field) == number) return field;
     return std::nullopt;
 }
 
@@ -190,7 +204,7 @@ std::optional<std::size_t> play(const Side &side, std::size_t from) {
     return std::nullopt;
 }
 
-void print(const std::string &what, Pictures &pictures, std::size_t field) {
+void print(const std::string &what, Numbers &pictures, std::size_t field) {
     std::cout << what << ": field " << field + 1;
     if (const auto picture = pictures.at(field)) std::cout << " picture " << *picture;
     std::cout << '\n';
@@ -202,9 +216,7 @@ int main(int count, char **words) try {
     if (ldvbi_abi() != LDVBI_ABI) throw std::runtime_error("the library has another interface");
     if (count < 6) throw std::invalid_argument("usage: player FILE NTSC|PAL BLACK WHITE search N|chapter N|play ..");
     const Side side(words[1], parse_system(words[2]), parse_number("black", words[3]), parse_number("white", words[4]));
-    Pictures pictures(side);
-    const NumberAt picture_at = [&](std::size_t at) { return pictures.at(at); };
-    const NumberAt chapter_at = [&](std::size_t at) { return number_of(side.read(at), LDVBI_CHAPTER); };
+    Numbers pictures(side, LDVBI_PICTURE), chapters(side, LDVBI_CHAPTER);
     std::size_t field = 0;
     for (int i = 5; i < count; i++) {
         const std::string command = words[i];
@@ -213,7 +225,7 @@ int main(int count, char **words) try {
             found = play(side, field);
         } else if ((command == "search" || command == "chapter") && i + 1 < count) {
             const std::uint32_t number = parse_number(command, words[++i]);
-            found = search(side.fields(), command == "search" ? picture_at : chapter_at, number);
+            found = search(side.fields(), command == "search" ? pictures : chapters, number);
         } else {
             throw std::invalid_argument("no such command: " + command);
         }

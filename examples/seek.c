@@ -1,11 +1,14 @@
-/* Finds a picture in a TBC file and prints the number of its first field, from 1: that of a CAV disc by its number,
- * that of a CLV disc by its time, as 0:59:29.07 for picture 7 of its second. Status 0: found; 1: not found; 2: what was
- * asked for can't be read, and standard error says why. It also says where the file ends inside a field.
+/* Finds a picture or a chapter in a TBC file and prints the number of its first field, from 1: a picture of a CAV disc
+ * by its number, one of a CLV disc by its time, as 0:59:29.07 for picture 7 of its second, and a chapter by the word
+ * `chapter` and its number. Status 0: found; 1: not found; 2: what was asked for can't be read, and standard error says
+ * why. It also says where the file ends inside a field.
  *
  * The library recovers the words of worn lines, and judges the numbers of all fields: a field is found where its number
- * is believed, or where the believed numbers around it leave no other, and never by a number that was misread.
+ * or chapter is believed, or where the believed numbers around it leave no other, and never by a number that was
+ * misread.
  *
- *     cc -o seek seek.c -lldvbi && ./seek side.tbc NTSC 16384 51200 12345 */
+ *     cc -o seek seek.c -lldvbi && ./seek side.tbc NTSC 16384 51200 12345
+ *     ./seek side.tbc NTSC 16384 51200 chapter 3 */
 #define _DEFAULT_SOURCE
 #include <errno.h>
 #include <fcntl.h>
@@ -41,7 +44,7 @@ static int parse_system(const char *text, uint32_t *system) {
     return *system != 0;
 }
 
-/* What is looked for: a picture's number or the hours and minutes of a time, with its seconds and picture. */
+/* What is looked for: a picture's number, a chapter, or the hours and minutes of a time, with its seconds and picture. */
 typedef struct {
     LdvbiCode number, seconds;
 } Wanted;
@@ -55,10 +58,14 @@ static int parse_time(const char *text, Wanted *wanted) {
            parse_number(&text, 99, &wanted->seconds.second) && *text == '\0';
 }
 
-static int parse_wanted(const char *text, Wanted *wanted) {
+/* Of a word, or of `chapter` and its number. */
+static int parse_wanted(char **words, Wanted *wanted) {
     static const Wanted picture = {{LDVBI_PICTURE, 0, 0}, {LDVBI_OTHER, 0, 0}};
+    static const Wanted chapter = {{LDVBI_CHAPTER, 0, 0}, {LDVBI_OTHER, 0, 0}};
+    *wanted = chapter;
+    if (words[1] != NULL) return parse_whole(words[1], 79, &wanted->number.first);
     *wanted = picture;
-    return parse_whole(text, 79999, &wanted->number.first) || parse_time(text, wanted);
+    return parse_whole(words[0], 79999, &wanted->number.first) || parse_time(words[0], wanted);
 }
 
 /* ---- Fields */
@@ -84,7 +91,7 @@ static int find_number(const LdvbiFieldReadings *field, uint32_t kind, LdvbiCode
 static int shows(const LdvbiFieldReadings *field, const Wanted *wanted) {
     LdvbiCode code;
     if (!find_number(field, wanted->number.kind, &code) || !is_same(&code, &wanted->number)) return 0;
-    if (wanted->number.kind == LDVBI_PICTURE) return 1;
+    if (wanted->number.kind != LDVBI_TIME) return 1;
     return find_code(&field->lines[0], LDVBI_CLV_PICTURE, &code) && is_same(&code, &wanted->seconds);
 }
 
@@ -93,7 +100,7 @@ static int shows(const LdvbiFieldReadings *field, const Wanted *wanted) {
 static int judged_number(uint32_t system, const Wanted *wanted, uint32_t *number) {
     uint32_t rate = system == LDVBI_NTSC ? 30 : 25;
     *number = wanted->number.first;
-    if (wanted->number.kind == LDVBI_PICTURE) return 1;
+    if (wanted->number.kind != LDVBI_TIME) return 1;
     *number = ((*number * 60 + wanted->number.second) * 60 + wanted->seconds.first) * rate + wanted->seconds.second;
     return wanted->number.second < 60 && wanted->seconds.second < rate;
 }
@@ -184,11 +191,15 @@ static void release(Room *room) {
     free(room->numbers);
 }
 
-/* Judges the side, at the pace that is found: that of video, or that of film, whose pictures last two and three fields
- * by turns. Says whether any number is believed. */
-static uint32_t judge(const Side *side, uint32_t counted, const Room *room, int *is_any_believed) {
-    uint32_t status = ldvbi_judge(side->system, counted, LDVBI_FIND_PACE, room->readings, side->fields, room->seen,
-                                  side->fields, room->numbers, side->fields);
+/* Judges numbers of this kind: pictures and times at the pace that is found, that of video, or that of film, whose
+ * pictures last two and three fields by turns. Says whether any is believed. */
+static uint32_t judge(const Side *side, uint32_t kind, const Room *room, int *is_any_believed) {
+    uint32_t counted = kind == LDVBI_PICTURE ? LDVBI_PICTURES : LDVBI_TIMES;
+    uint32_t status = kind == LDVBI_CHAPTER
+                          ? ldvbi_judge_chapters(room->readings, side->fields, room->seen, side->fields, room->numbers,
+                                                 side->fields)
+                          : ldvbi_judge(side->system, counted, LDVBI_FIND_PACE, room->readings, side->fields,
+                                        room->seen, side->fields, room->numbers, side->fields);
     *is_any_believed = 0;
     for (size_t i = 0; status == LDVBI_DONE && i < side->fields; i++)
         *is_any_believed |= room->numbers[i].state == LDVBI_BELIEVED;
@@ -202,20 +213,21 @@ static size_t first_shown(const Side *side, const Wanted *wanted, const Room *ro
     return field;
 }
 
-/* The first field whose number is believed or due, and is the one that is wanted. A side of which no number is
- * believed, neither as a picture's nor as a time, is too short to be judged, or has too few: of that, and of that
- * alone, what the lines say is taken as it is. */
+/* The first field whose number is believed or due, and is the one that is wanted. A side of which no chapter is
+ * believed, or no number, neither as a picture's nor as a time, is too short to be judged, or has too few: of that, and
+ * of that alone, what the lines say is taken as it is. */
 static uint32_t find(const Side *side, const Wanted *wanted, const Room *room, size_t *found) {
-    int is_picture = wanted->number.kind == LDVBI_PICTURE, is_judged, is_other_disc;
-    uint32_t number, status = read_side(side, room->readings);
-    if (status == LDVBI_DONE) status = judge(side, is_picture ? LDVBI_PICTURES : LDVBI_TIMES, room, &is_judged);
+    int is_judged, is_other_disc = 0;
+    uint32_t kind = wanted->number.kind, number, status = read_side(side, room->readings);
+    if (status == LDVBI_DONE) status = judge(side, kind, room, &is_judged);
     if (status != LDVBI_DONE) return status;
     if (is_judged) {
         if (judged_number(side->system, wanted, &number))
             *found = ldvbi_first_of(room->numbers, side->fields, number);
         return LDVBI_DONE;
     }
-    status = judge(side, is_picture ? LDVBI_TIMES : LDVBI_PICTURES, room, &is_other_disc);
+    if (kind != LDVBI_CHAPTER)
+        status = judge(side, kind == LDVBI_PICTURE ? LDVBI_TIME : LDVBI_PICTURE, room, &is_other_disc);
     if (status == LDVBI_DONE && !is_other_disc) *found = first_shown(side, wanted, room);
     return status;
 }
@@ -248,11 +260,13 @@ int main(int count, char **words) {
     Side side = {0, 0, 0, NULL, 0, 0};
     Wanted wanted;
     if (ldvbi_abi() != LDVBI_ABI) return refuse("the library has another interface");
-    if (count != 6) return refuse("usage: seek FILE NTSC|PAL BLACK WHITE NUMBER|H:MM:SS.PP");
+    if (count != 6 && (count != 7 || strcmp(words[5], "chapter") != 0))
+        return refuse("usage: seek FILE NTSC|PAL BLACK WHITE NUMBER|H:MM:SS.PP|chapter N");
     if (!parse_system(words[2], &side.system)) return refuse(ldvbi_status_text(LDVBI_BAD_SYSTEM));
     if (!parse_whole(words[3], UINT32_MAX, &side.black)) return refuse("black is not a whole number");
     if (!parse_whole(words[4], UINT32_MAX, &side.white)) return refuse("white is not a whole number");
-    if (!parse_wanted(words[5], &wanted)) return refuse("neither a picture from 0 to 79999 nor a time as 0:59:29.07");
+    if (!parse_wanted(words + 5, &wanted))
+        return refuse("neither a picture from 0 to 79999, a time as 0:59:29.07, nor a chapter from 0 to 79");
     /* Of no field the library tests the numbers alone. */
     uint32_t status = ldvbi_recover_fields(side.system, side.black, side.white, NULL, 0, NULL, 0);
     if (status != LDVBI_DONE) return refuse(ldvbi_status_text(status));

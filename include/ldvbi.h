@@ -53,7 +53,8 @@
  * lines. It belongs to the picture of its field, else to the latest picture before it.
  *
  * Words are wrong at times, those of pass 2 more often. If you have the fields around, believe a number only where it
- * fits theirs: ldvbi_judge does that for picture numbers and times, `ldvbi-side` for all that a side has.
+ * fits theirs: ldvbi_judge does that for picture numbers and times, ldvbi_judge_chapters for chapters, `ldvbi-side` for
+ * all that a side has.
  *
  * Some words, as digits: F and 5 decimal digits is a picture (F00123 is picture 123), 8 and two decimal digits and DDD
  * a chapter (807DDD is chapter 7), 82CFFF a stop, 87FFFF the CLV mark, 88FFFF lead-in, 80EEEE lead-out.
@@ -327,8 +328,7 @@ uint32_t ldvbi_format(uint32_t first, uint32_t second, uint32_t third, uint32_t 
  *
  * Nothing is promised where the player jumped, the capture lost a field, or the clock of an NTSC CLV disc leaves out a
  * number, within LDVBI_REACH fields, nor where film stands still, nor at a pace that is not the disc's, though errors
- * are rare there too. Minutes without their seconds, chapters and lost fields are not judged here: `ldvbi-side` judges
- * them all. */
+ * are rare there too. Minutes without their seconds and lost fields are not judged here: `ldvbi-side` judges them. */
 
 /* How many fields before a field, and how many behind it, are looked at. */
 enum { LDVBI_REACH = 24 };
@@ -387,6 +387,32 @@ uint32_t ldvbi_judge(uint32_t system, uint32_t counted, uint32_t pace, const Ldv
 LDVBI_RESULT LDVBI_POINTER(7)
 uint32_t ldvbi_find_pace(uint32_t system, uint32_t counted, const LdvbiFieldReadings *readings, size_t count,
                          LdvbiSightings *seen, size_t seen_count, uint32_t *pace);
+
+/* ---- Judging chapters
+ *
+ * The fields around a field decide on its chapter too. A chapter is believed only where the codes that say it, in the
+ * field itself and in the LDVBI_REACH fields before and behind it, weigh 10 or more, and more than those that say any
+ * other chapter of the field. Those that speak against it have to weigh less than 10: codes of later chapters before
+ * the field or in it, and of earlier chapters behind the field or in it.
+ *
+ * This is proved, whatever the disc and the player do: if the chapter codes within LDVBI_REACH fields of a field that
+ * aren't what the disc has there weigh less than 10, a believed chapter is one that the disc has within these fields.
+ * And where the codes of one chapter weigh 10 or more within LDVBI_REACH fields before a field, and 10 or more within
+ * as many behind it, no other chapter is believed of it.
+ *
+ * So a chapter that is far away on the disc, or not on it at all, is not believed where less than that is misread. A
+ * code can be misread as the next chapter shortly before that begins, or as the last one shortly after that has ended:
+ * then a chapter seems longer by a few fields. Where a player goes back to an earlier chapter, none may be believed for
+ * LDVBI_REACH fields before and behind. */
+
+/* Judges the chapters of `count` fields that follow each other, as ldvbi_judge does their numbers. `chapters` gets the
+ * answers: the number is the chapter, and the state is never LDVBI_DUE. Most fields have no code of a chapter: these
+ * have LDVBI_NOTHING, and are of the chapter that was believed last. `seen` gets the chapters that lines 17 and 18
+ * show, with `instead` 0. ldvbi_first_of finds the first field of a chapter.
+ * LDVBI_BAD_LENGTH. */
+LDVBI_RESULT
+uint32_t ldvbi_judge_chapters(const LdvbiFieldReadings *readings, size_t count, LdvbiSightings *seen, size_t seen_count,
+                              LdvbiNumber *chapters, size_t chapter_count);
 
 /* The first field, counted from 0, whose number is believed or due and is this one; `count` where there is none. */
 size_t ldvbi_first_of(const LdvbiNumber *numbers, size_t count, uint32_t number);

@@ -47,9 +47,13 @@ SECTIONS = {
         ("crates/vbi_side/src/seek.rt", ("first_of",)),
     ]),
     "words": ("From words to numbers", FROM_WORDS),
+    "chapters": ("The chapter that is believed", [
+        ("crates/vbi_side/src/chapters.rt", ("chapters_shown", "judge_chapters")),
+        ("crates/vbi_side/src/chapter_laws.rt", ("chapters_sound",)),
+    ]),
 }
 # By the last section that each is for, the marks of the lists of words of the standard library
-WORDS = {"counts": "words of std", "words": "further words of std"}
+WORDS = {"counts": "words of std", "chapters": "further words of std"}
 
 
 def marked(mark):

@@ -17,6 +17,7 @@ library|out|"vbiPass"|"vbiPaSS"
 library|include/ldvbi.h|s/LDVBI_HOLD = 4/LDVBI_HOLD = 5/
 library|tests/library/library_numbers.c|s/(105) . 106..110/(106) . 106..110/
 library|tests/library/library_paces.c|s/100..119 . 121? . 121/100..119 . 120? . 121/
+library|tests/library/library_chapters.c|s/{"7\*4 7~\*2", "7\*6"}/{"7*4 7~*2", "7*5 7?"}/
 library|tests/library/library_sightings.c|s/SEEN(1079999, 2, 1079999, 2, 0)/SEEN(1079999, 2, 1079999, 1, 0)/
 library|tests/library/library_worn.c|s/.noise = 0.3}, 1000, 1000/.noise = 0.5}, 1000, 1000/
 examples|tests/library/examples.sh|s/^SECAM 16384 51200$/NTSC 16384 51200/
@@ -29,6 +30,7 @@ misread|examples/seek.c|s/ \&\& !is_other_disc//
 misread|examples/seek.c|s/seconds.second < rate/seconds.second < 100/
 misread|examples/seek.c|s/refuse(strerror(ENOMEM))/1/
 misread|examples/player.cpp|s/ \&\& number.state != LDVBI_DUE//
+misread|examples/player.cpp|s/check(kind == LDVBI_CHAPTER$/check(kind == LDVBI_OTHER/
 misread|examples/stops.cpp|s/LDVBI_FIND_PACE/LDVBI_VIDEO/
 header|include/ldvbi.h|s/^#define LDVBI_H$/#define LDVBI_H_/
 header|tests/library/header.sh|s/^ldvbi_classify(0xF12345, NULL)$/ldvbi_classify(0xF12345, code)/

@@ -10,6 +10,7 @@
 
     numbers = ldvbi.judge(side, "NTSC")
     print(numbers[7].number, numbers[7].state, ldvbi.first_of(numbers, 12345))
+    print(ldvbi.first_of(ldvbi.judge_chapters(side), 3))
 
 A line, a field or a stream is anything with the buffer protocol that holds samples of 16 bits, the low byte first, as
 ld-decode's TBC files do: a numpy array of uint16, an array of "H"; or the bytes of such samples: bytes, a mapped file,
@@ -30,7 +31,7 @@ mean is the business of the package `ldvbi_side`, which stands on this one: noth
 
 
 from .classes import Code, Format, Kind, classify, format_of
-from .judging import Number, State, find_pace, first_of, judge
+from .judging import Number, State, find_pace, first_of, judge, judge_chapters
 from .library import Counted, Pace, System
 from .near import Near, nearest
 from .readings import (PACKED_FIELD, Cause, FieldReadings, Reading, draw_line, field_bytes, line_bytes, read_field,
@@ -39,6 +40,6 @@ from .stream import BLOCK, Stream, fields
 
 __all__ = ["System", "Cause", "Kind", "Format", "Counted", "Pace", "State", "Reading", "FieldReadings", "Code",
            "Number", "Near", "Stream", "line_bytes", "field_bytes", "read_line", "read_rows", "read_field", "fields",
-           "classify", "format_of", "judge", "find_pace", "first_of", "nearest", "draw_line"]
+           "classify", "format_of", "judge", "find_pace", "judge_chapters", "first_of", "nearest", "draw_line"]
 
 __version__ = "0.1.0"

@@ -1,9 +1,9 @@
-"""Which number of its disc each field shows, judged by the fields around it: the library's judge."""
+"""Which number or chapter of its disc each field shows, judged by the fields around it: the library's judge."""
 
 import ctypes
 import enum
 import struct
-from typing import Any, Iterable, List, NamedTuple, Optional, Tuple, Union
+from typing import Any, Callable, Iterable, List, NamedTuple, Optional, Tuple, Union
 
 from .library import Counted, Pace, check, counted_number, later_call, pace_number, system_number
 from .readings import PACKED_FIELD, AnySystem, FieldReadings
@@ -22,9 +22,9 @@ class State(enum.IntEnum):
 
 
 class Number(NamedTuple):
-    """The answer of the judge for a field. `number` is the number of a picture, from 0 to 79999; of a time it is the
-    count of pictures from the disc's beginning, 30 (NTSC) or 25 (PAL) a second. It is None if `state` is `nothing`. If
-    this module doesn't know the state, which a later library may have, `state` is its number."""
+    """The answer of the judge for a field. `number` is the number of a picture, from 0 to 79999, or of a chapter; of a
+    time it is the count of pictures from the disc's beginning, 30 (NTSC) or 25 (PAL) a second. It is None if `state` is
+    `nothing`. If this module doesn't know the state, which a later library may have, `state` is its number."""
     number: Optional[int]
     state: State
 
@@ -43,15 +43,32 @@ def judge(readings: Any, system: AnySystem, counted: Union[Counted, str] = Count
 
     If the disc ran on around a field at the pace that is judged by, and the misread words there weigh less than 10 (one
     read in pass 1 weighs 2, in pass 2 or 3 it weighs 1, and line 16 of a time counts twice), a believed number is the
-    one that was recorded, if the field has one. Minutes without their seconds, chapters and lost fields are not judged
-    here: `ldvbi-side` judges them all."""
+    one that was recorded, if the field has one. Minutes without their seconds and lost fields are not judged here:
+    `ldvbi-side` judges them."""
     call = later_call("ldvbi_judge")
     asked = system_number(system), counted_number(counted), pace_number(pace)
     check(call(*asked, None, 0, None, 0, None, 0))  # of no field the library tests these alone
+    return _judged(readings, lambda *arrays: call(*asked, *arrays))
+
+
+def judge_chapters(readings: Any) -> List[Number]:
+    """The chapter of each field as a `Number`, in a list: `number` is the chapter, from 0 to 79, and `state` is never
+    `due`. Most fields have no code of a chapter: these have `nothing`, and are of the chapter that was believed last.
+    `readings` are as for `judge`.
+
+    If the chapter codes in the field, in the 24 fields before it and in the 24 behind it that aren't what the disc has
+    there weigh less than 10 (a word of pass 1 weighs 2, one of pass 2 or 3 weighs 1), a believed chapter is one that
+    the disc has within these fields. And where the codes of one chapter weigh 10 or more before a field and 10 or more
+    behind it, no other chapter is believed of it."""
+    return _judged(readings, later_call("ldvbi_judge_chapters"))
+
+
+def _judged(readings: Any, call: Callable[..., int]) -> List[Number]:
+    """What a call answers of each field, which takes the readings, and room for what is seen and for the answers."""
     packed, count = _packed(readings)
     seen = ctypes.create_string_buffer(_SIGHTINGS_BYTES * count)
     numbers = ctypes.create_string_buffer(_PACKED_NUMBER.size * count)
-    check(call(*asked, packed, count, seen, count, numbers, count))
+    check(call(packed, count, seen, count, numbers, count))
     return [Number(number if state else None, _STATES.get(state, state))
             for number, state in _PACKED_NUMBER.iter_unpack(numbers)]
 
@@ -102,7 +119,7 @@ def _packed_field(number: int, readings: FieldReadings) -> bytes:
 
 def first_of(numbers: Iterable[Number], number: int) -> Optional[int]:
     """The index, from 0, of the first field whose number is this one and is believed or due; None if there is none.
-    `numbers` is what `judge` returned."""
+    `numbers` is what `judge` or `judge_chapters` returned."""
     for field, (known, state) in enumerate(numbers):
         if known == number and state in (State.believed, State.due):
             return field

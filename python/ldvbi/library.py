@@ -69,6 +69,7 @@ _ARGUMENTS = {
 _LATER = {
     "ldvbi_judge": ("judge numbers", [_NUMBER] * 3 + [_MEMORY, _SIZE] * 3),
     "ldvbi_find_pace": ("find paces", [_NUMBER] * 2 + [_MEMORY, _SIZE] * 2 + [_MEMORY]),
+    "ldvbi_judge_chapters": ("judge chapters", [_MEMORY, _SIZE] * 3),
     "ldvbi_nearest": ("find nearest words", _SETUP + [_MEMORY, _SIZE, _MEMORY]),
     "ldvbi_recover_rows": ("recover words", _SETUP + [_MEMORY, _SIZE, _MEMORY]),
     "ldvbi_recover_fields": ("recover words", _SETUP + [_MEMORY, _SIZE, _MEMORY, _SIZE]),

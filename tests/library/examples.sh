@@ -317,8 +317,14 @@ stops_usage='stops: usage: stops NTSC|PAL BLACK WHITE < FILE'
 check 'stops: without words' refuses "$stops_usage" ./stops
 check 'stops: with a word too many' refuses "$stops_usage" ./stops $on_cav cav.tbc
 seek_usage='usage: seek FILE NTSC|PAL BLACK WHITE NUMBER|H:MM:SS.PP'
-check 'seek: without words' refuses "seek: $seek_usage" ./seek
-check 'seek: with a word too many' refuses "seek: $seek_usage" ./seek cav.tbc $on_cav 3 4
+for words in '' "cav.tbc $on_cav" "cav.tbc $on_cav 3 4" "cav.tbc $on_cav 3 chapter" "cav.tbc $on_cav chapter 3 4"; do
+    check "seek: with the words '$words'" refuses "seek: $seek_usage|chapter N" ./seek $words
+done
+for chapter in 80 -1 3x 256 4294967299; do
+    check "seek: chapter $chapter" refuses \
+        'seek: neither a picture from 0 to 79999, a time as 0:59:29.07, nor a chapter from 0 to 79' \
+        ./seek cav.tbc $on_cav chapter $chapter
+done
 seek_usage="seek.py: $(echo "$seek_usage" | sed 's/seek/seek.py/')"
 check 'seek.py: without words' refuses "$seek_usage" python3 "$top/examples/seek.py"
 check 'seek.py: with a word too many' refuses "$seek_usage" python3 "$top/examples/seek.py" cav.tbc $on_cav 3 4

@@ -84,6 +84,8 @@ ldvbi_judge(1, 1, 1, read, 9, seen, 9, numbers, 9)
 ldvbi_judge(1, 1, 1, NULL, 0, NULL, 0, NULL, 0)
 ldvbi_find_pace(1, 1, read, 9, seen, 9, format)
 ldvbi_find_pace(1, 1, NULL, 0, NULL, 0, format)
+ldvbi_judge_chapters(read, 9, seen, 9, numbers, 9)
+ldvbi_judge_chapters(NULL, 0, NULL, 0, NULL, 0)
 END
 while read -r call; do
     called_as "return $call"

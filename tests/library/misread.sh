@@ -32,6 +32,20 @@ awk 'BEGIN {
         print "- 803DDD 803DDD"
     }
 }' | draws video
+# Chapters 1, 2 and 5 of 20, 21 and 19 pictures: near the beginning and in the middle of chapter 1 codes read 2 and 48, on
+# both lines, and one of the first of chapter 2 reads 19; of chapter 5 the first code is on line 18 alone. Two codes of
+# chapter 2 read 3 on a line, and one of chapter 5 reads 4 on both.
+awk 'BEGIN {
+    for (picture = 1; picture <= 60; picture++) {
+        chapter = picture <= 20 ? 1 : picture <= 41 ? 2 : 5
+        first = picture == 2 ? 2 : picture == 10 ? 48 : picture == 22 ? 19 : picture == 30 || picture == 31 ? 3 : chapter
+        if (picture == 50)
+            first = chapter = 4
+        second = picture == 2 || picture == 10 ? first : chapter
+        printf "- F%05d F%05d\n", picture, picture
+        printf "- %s 8%02dDDD\n", picture == 42 ? "-" : sprintf("8%02dDDD", first), second
+    }
+}' | draws chapters
 # Film, whose pictures last two and three fields by turns: 5 and 6 read 79999, on line 17 alone
 draws film << 'WORDS'
 - F00001 F00001
@@ -125,7 +139,21 @@ check 'player: the stops' prints 0 'play: field 13 picture 100
 play: field 53 picture 120
 play: field 73
 play: field 115 picture 151' ./player video.tbc $on_cav play play play play
-check 'player: a chapter is taken as it is' prints 0 'chapter: field 2' ./player video.tbc $on_cav chapter 3
+# A chapter is found where it begins, and one that was misread isn't, on a line or on both.
+while read -r side number ended text; do
+    check "player: chapter $number of $side" prints $ended "chapter: $text" ./player $side.tbc $on_cav chapter $number
+    check "seek: chapter $number of $side" prints $ended "${text% picture *}" ./seek $side.tbc $on_cav chapter $number
+done << 'END'
+video 3 0 field 2
+video 2 1 not found
+chapters 1 0 field 2
+chapters 2 0 field 42
+chapters 5 0 field 84
+chapters 48 1 not found
+chapters 19 1 not found
+chapters 4 1 not found
+chapters 3 1 not found
+END
 check 'stops: pictures that were misread' prints 0 'field 13 picture 100
 field 53 picture 120
 field 73

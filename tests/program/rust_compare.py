@@ -265,6 +265,23 @@ def compare_judge(call, choose):
     yield call("ldvbi_first_of", numbers, size(count), number(choose.randrange(4)))
 
 
+def compare_chapters(call, choose):
+    """The chapters of a side judged: such as rise, with codes that were misread and fields that were left out."""
+    size, readings, chapter = ctypes.c_size_t, bytearray(), choose.randrange(80)
+    for _ in range(choose.choice([0, 1, 9, 60, 150])):
+        chapter = (chapter + (choose.random() < 0.06)) % 80
+        for line in range(3):
+            other = choose.choice([chapter ^ 1 << choose.randrange(7), choose.randrange(80)])
+            said = chapter if choose.random() < 0.8 else other % 80
+            word = choose.choice([0, 0x800DDD | said // 10 << 16 | said % 10 << 12])
+            word = choose.randrange(2 ** 32) if choose.random() < 0.02 else word
+            readings += struct.pack("<BBHI", choose.randrange(5), choose.choice([1, 1, 2, 3, 255]), line, word)
+    count = len(readings) // 24
+    off = (choose.random() < 0.05) * choose.randrange(3)
+    yield call("ldvbi_judge_chapters", bytes(readings), size(count), ..., size(count), At(20 * count),
+               size(count + off), room=28 * count + 16)
+
+
 def compare_near(call, choose):
     """The nearest word of lines, and the words of three worn ones, alone and as fields of a stream."""
     number, size = ctypes.c_uint32, ctypes.c_size_t
@@ -328,6 +345,7 @@ def compare_library(paths, choose, count):
             count_of = choose.choice([1, 2, 3, 2 ** 40])
             yield call("ldvbi_read_fields", *first, field * 2, size(2 * len(field)), ..., size(count_of), room=72)
         yield from compare_judge(call, choose)
+        yield from compare_chapters(call, choose)
         if choose.random() < 0.2:
             yield from compare_near(call, choose)
     yield call("ldvbi_read_fields", number(1), number(1), number(2), None, size(0), None, size(0))

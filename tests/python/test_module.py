@@ -220,6 +220,7 @@ class Library(unittest.TestCase):
         file = self.other(1, 0, 1)
         for call, purpose, name in (("ldvbi.judge([], 'NTSC')", "judge numbers", "ldvbi_judge"),
                                     ("ldvbi.find_pace([], 'NTSC')", "find paces", "ldvbi_find_pace"),
+                                    ("ldvbi.judge_chapters([])", "judge chapters", "ldvbi_judge_chapters"),
                                     ("ldvbi.nearest(b'', 'NTSC', 1, 2)", "find nearest words", "ldvbi_nearest"),
                                     ("ldvbi.Stream(b'', 'NTSC', 1, 2, True)", "recover words", "ldvbi_recover_fields")):
             code = READ + "\ntry:\n    %s\nexcept OSError as error:\n    print(error)" % call

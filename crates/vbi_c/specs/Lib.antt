@@ -8,3 +8,4 @@ pub mod Setups
 pub mod Statuses
 pub mod Words
 pub mod Recovering
+pub mod Chapters

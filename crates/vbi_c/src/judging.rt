@@ -78,7 +78,7 @@ pub(crate) fn judging_of(
 }
 
 /// What a line shows by its reading, of which C may have made anything.
-fn shown_by(reading: &LdvbiReading) -> Shown
+pub(crate) fn shown_by(reading: &LdvbiReading) -> Shown
     ensures { result ≡ shown_by reading.now }
 {
     Shown {

@@ -9,6 +9,7 @@
 //! between two calls, so calls from several threads don't meet.
 #![tactic(auto)]
 
+mod chapters;
 mod code;
 mod drawing;
 mod fields;
@@ -25,6 +26,7 @@ mod status;
 mod version;
 mod word;
 
+pub use chapters::ldvbi_judge_chapters;
 pub use code::{LdvbiCode, ldvbi_classify};
 pub use drawing::ldvbi_draw_line;
 pub use fields::{LdvbiFieldReadings, ldvbi_read_field, ldvbi_read_fields, ldvbi_read_rows};

@@ -4,15 +4,19 @@ use Rattle.vbi_side.specs.declared.sighting.Sighting.{Sighting}
 use Rattle.vbi_side.specs.declared.sighting.Sightings.{Sightings}
 use Rattle.vbi_side.specs.declared.pace.Pace.{Pace}
 use Rattle.vbi_side.specs.declared.belief.Fit.{Fit}
-use Rattle.vbi_side.specs.declared.belief.Fit.TheVariants.{Runs, Stays}
+use Rattle.vbi_side.specs.declared.belief.Fit.TheVariants.{Runs, Stays, Says, Opposes}
 use Rattle.vbi_side.specs.Sightings.{Has}
 use Rattle.vbi_side.specs.Paces.{fits, stays}
 use Rattle.vbi_side.specs.Beliefs.{enough, support_of}
+use Rattle.vbi_side.specs.Chapters.{says, opposes}
 
--- whether two numbers fit in this way: at the disc's pace, or as of one still
+-- whether two numbers stand to each other in this way: at the disc's pace, or as of one still; of chapters, as the same
+-- one, or against each other
 abbrev pub fits_as : Fit → ℕ → ℕ → ℕ → ℕ → Bool
 fits_as (Runs pace) = fits pace
 fits_as Stays = stays
+fits_as Says = says
+fits_as Opposes = opposes
 
 -- less supports another number that the other sighting has
 abbrev pub IsAhead : Pace → List Sightings → ℕ → ℕ → Sighting → Type 0

@@ -11,3 +11,5 @@ pub mod Truth
 pub mod Misread
 pub mod Whole
 pub mod Worked
+pub mod Chapters
+pub mod WorkedChapters

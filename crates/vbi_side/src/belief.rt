@@ -17,6 +17,8 @@
 //! places and numbers are compared by sums and products, with nothing to divide or to round. On film 2 pictures last 5
 //! fields, so a picture needn't begin where its number says, and numbers fit to within one field.
 //!
+//! chapters.rt weighs chapters by the same sums.
+//!
 //! answers.rt asks `judge_field` of each field, and found.rt counts what is believed at each pace to find the disc's.
 //! due.rt fills in what the believed numbers leave. All else about a side (what is missing, swapped or lost) is judged
 //! by the Python package, by a rule of its own over the whole side (docs/SIDES.md).
@@ -45,16 +47,20 @@ pub const ENOUGH: u32 = 10;
 /// The most that one field's sightings weigh.
 const FIELD_MOST: u32 = 4;
 
-/// How a sighting may fit a number.
+/// How a sighting may stand to a number.
 #[derive(Clone, Copy)]
-enum Fit {
-    /// At the disc's pace.
+pub(crate) enum Fit {
+    /// It fits at the disc's pace.
     Runs(Pace),
-    /// As of one still.
+    /// It fits as of one still.
     Stays,
+    /// It says the same chapter.
+    Says,
+    /// It speaks against the chapter: a later one that stands before, or an earlier one that stands behind.
+    Opposes,
 }
 
-/// Whether `number` of field i is fitted by `other` of field i + offset - `REACH`.
+/// Whether `other` of field i + offset - `REACH` stands in this way to `number` of field i.
 fn fits_as(fit: Fit, number: u32, offset: usize, other: u32) -> bool
     requires { offset ≤ 2 * reach }
     ensures { (i : ℕ) → reach ≤ i + offset → result ≡ fits_as fit i number (i + offset - reach) other }
@@ -69,6 +75,9 @@ fn fits_as(fit: Fit, number: u32, offset: usize, other: u32) -> bool
             let there = 2 * middle + 5 * wide_other;
             here <= there + 2 && there <= here + 2
         }
+        Fit::Says => other == number,
+        Fit::Opposes => (offset <= middle && number < other)
+            || (middle <= offset && other < number),
     }
 }
 
@@ -106,7 +115,7 @@ fn weight_of_other(fields: &[Sightings], fit: Fit, field: usize, number: u32, of
 }
 
 /// The weight of the sightings within reach of a field that fit this number there.
-fn weight_around(fields: &[Sightings], fit: Fit, field: usize, number: u32) -> u32
+pub(crate) fn weight_around(fields: &[Sightings], fit: Fit, field: usize, number: u32) -> u32
     requires { field < length fields.now }
     ensures { result ≡ window_weight (fits_as fit field number) fields.now field }
 {
@@ -129,7 +138,13 @@ pub fn support(fields: &[Sightings], pace: Pace, field: usize, number: u32) -> u
 }
 
 /// Whether the sightings within reach of a field that fit this number there weigh so much.
-fn reaches(fields: &[Sightings], fit: Fit, field: usize, number: u32, wanted: u32) -> bool
+pub(crate) fn reaches(
+    fields: &[Sightings],
+    fit: Fit,
+    field: usize,
+    number: u32,
+    wanted: u32,
+) -> bool
     requires inside { field < length fields.now }
     requires some { 1 ≤ wanted }
     ensures { (result ≡ true) ↔ (wanted ≤ window_weight (fits_as fit field number) fields.now field) }

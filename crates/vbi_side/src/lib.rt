@@ -1,13 +1,16 @@
-//! Which number of its disc each field of a capture shows, judged by the fields around it.
+//! Which number and which chapter of its disc each field of a capture shows, judged by the fields around it.
 //!
 //! A line that was misread shows a number like any other. So a number is believed only where sightings of the same
 //! field and of the 24 before it and behind it fit it at the disc's pace and weigh enough together. The definitions are
 //! in `specs/`, and the module `laws` says what holds of them: above all that where less than enough of what was read
-//! around a field is wrong, a believed number is the true one. Nothing allocates or fails.
+//! around a field is wrong, a believed number is the true one. Chapters are weighed alike (`chapter_laws`). Nothing
+//! allocates or fails.
 #![tactic(auto)]
 
 mod answers;
 mod belief;
+pub mod chapter_laws;
+mod chapters;
 mod due;
 mod found;
 pub mod laws;
@@ -19,6 +22,7 @@ mod sighting;
 
 pub use answers::judge;
 pub use belief::{ENOUGH, REACH, judge_field, support};
+pub use chapters::{chapters_shown, judge_chapters};
 pub use found::found_pace;
 pub use lines::{Counted, Shown, sightings};
 pub use number::{BELIEVED, DOUBTFUL, DUE, NOTHING, Number};

@@ -37,7 +37,7 @@ impl Shown {
     }
 
     /// How much its word weighs.
-    fn weight(&self) -> u32
+    pub(crate) fn weight(&self) -> u32
         ensures value { result ≡ pass_weight self.now.pass }
         ensures range { result ≤ 2 }
     {
@@ -48,7 +48,7 @@ impl Shown {
     }
 
     /// The code of its word.
-    fn code(&self) -> Option<Code>
+    pub(crate) fn code(&self) -> Option<Code>
         ensures { result ≡ code_in self.now }
     {
         match self.word {

@@ -193,6 +193,19 @@ pub unsafe extern "C" fn ldvbi_find_pace(
 }
 
 #[no_mangle]
+pub unsafe extern "C" fn ldvbi_judge_chapters(
+    readings: *const LdvbiFieldReadings,
+    count: usize,
+    seen: *mut Sightings,
+    seen_count: usize,
+    chapters: *mut Number,
+    chapter_count: usize,
+) -> u32 {
+    let (seen, chapters) = (room(seen, seen_count), room(chapters, chapter_count));
+    c::ldvbi_judge_chapters(values(readings, count), seen, chapters)
+}
+
+#[no_mangle]
 pub unsafe extern "C" fn ldvbi_first_of(numbers: *const Number, count: usize, number: u32) -> usize {
     c::ldvbi_first_of(values(numbers, count), number)
 }
