@@ -44,7 +44,8 @@ static int parse_system(const char *text, uint32_t *system) {
     return *system != 0;
 }
 
-/* What is looked for: a picture's number, a chapter, or the hours and minutes of a time, with its seconds and picture. */
+/* What is looked for: a picture's number, a chapter, or the hours and minutes of a time, with its seconds and
+ * picture. */
 typedef struct {
     LdvbiCode number, seconds;
 } Wanted;

@@ -32,13 +32,15 @@ awk 'BEGIN {
         print "- 803DDD 803DDD"
     }
 }' | draws video
-# Chapters 1, 2 and 5 of 20, 21 and 19 pictures: near the beginning and in the middle of chapter 1 codes read 2 and 48, on
-# both lines, and one of the first of chapter 2 reads 19; of chapter 5 the first code is on line 18 alone. Two codes of
-# chapter 2 read 3 on a line, and one of chapter 5 reads 4 on both.
+# Chapters 1, 2 and 5 of 20, 21 and 19 pictures: near the beginning and in the middle of chapter 1 codes read 2 and 48,
+# on both lines, and the first of chapter 2 reads 19 on a line; of chapter 5 the first code is on line 18 alone. Two
+# codes of chapter 2 read 3 on a line, and one of chapter 5 reads 4 on both.
 awk 'BEGIN {
     for (picture = 1; picture <= 60; picture++) {
         chapter = picture <= 20 ? 1 : picture <= 41 ? 2 : 5
-        first = picture == 2 ? 2 : picture == 10 ? 48 : picture == 22 ? 19 : picture == 30 || picture == 31 ? 3 : chapter
+        first = picture == 2 ? 2 : picture == 10 ? 48 : picture == 21 ? 19 : chapter
+        if (picture == 30 || picture == 31)
+            first = 3
         if (picture == 50)
             first = chapter = 4
         second = picture == 2 || picture == 10 ? first : chapter

@@ -21,7 +21,8 @@ from simulate import KINDS, PLAYED, simulated
 from truth import said_by
 
 FINDERS = ("judge", "package", "lines")
-NAMES = ("sides", "fields", "right", *("%s by the %s" % (how, finder) for how in ("right", "wrong") for finder in FINDERS),
+NAMES = ("sides", "fields", "right",
+         *("%s by the %s" % (how, finder) for how in ("right", "wrong") for finder in FINDERS),
          "promised", "broken promises", "chapters",
          *("%s by the %s" % (how, finder) for how in ("listed", "listed of no disc", "begun right")
            for finder in FINDERS))
