@@ -47,14 +47,14 @@ class Paces(unittest.TestCase):
                     fields, way[0], way[1])], [])
 
     def test_minutes_fit_within_one_minute(self):
-        pace = MinutePace(3000)
+        pace = MinutePace("PAL")
         self.assertEqual([pace.off(10, 4, 0), pace.off(2999, 4, 0), pace.off(1, 4, 1), pace.off(5999, 4, 1)], [0] * 4)
         self.assertEqual([pace.off(6001, 4, 1), pace.off(1, 4, 3), pace.off(5, 4, -1)], [3001, -8999, 3005])
 
     def test_how_many_numbers_have_so_many_fields(self):
         for pace, fields, numbers in ((Pace("video"), 5, 2), (Pace("both"), 3, 1), (Pace("film"), 2, 1),
                                       (Pace("film"), 4, 1), (Pace("film"), 5, 2), (Pace("film"), 7, 3),
-                                      (MinutePace(3000), 2999, 0), (MinutePace(3000), 5999, 1)):
+                                      (MinutePace("PAL"), 2999, 0), (MinutePace("PAL"), 5999, 1)):
             self.assertEqual(pace.numbers_in(fields), numbers)
 
     def test_one_chapter_may_be_passed_over_in_18_fields(self):

@@ -27,7 +27,7 @@ def analyse(fields: Fields) -> Answer:
     """The answer for these fields of a side."""
     codes = codes_of(fields)
     numbers, doubts = numbers_of(codes)
-    places = with_confirmed(places_of(numbers, fields.system), fields.nearest_word)
+    places = with_confirmed(places_of(numbers, codes), fields.nearest_word)
     begin = 2 if fields.first and not fields.first[0] else 1
     answer: Answer = {
         "version": VERSION, "system": fields.system, "format": codes.format, "unit": numbers.unit.name,
@@ -70,7 +70,7 @@ def _of_numbers(places: Places, doubts: Doubts) -> Answer:
 def _of_losses(places: Places, fields: Fields) -> Answer:
     """What isn't there, or isn't in the disc's order."""
     numbers = places.numbers
-    missing, left_out = missing_of(places, len(fields.words))
+    missing, left_out = missing_of(places, fields)
     return {
         "missing": missing, "leftOut": left_out,
         "lost": lost_fields(places, (fields.first or ())[:len(fields.words)]),
