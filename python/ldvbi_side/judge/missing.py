@@ -2,7 +2,7 @@
 lost; numbers that are shown again."""
 
 import bisect
-from typing import Any, Dict, List, NamedTuple, Optional, Sequence, Set, Tuple
+from typing import Any, Dict, Iterable, Iterator, List, NamedTuple, Optional, Sequence, Set, Tuple
 
 from .believed import Numbers, stretch_at
 from .order import pairs_of
@@ -20,18 +20,17 @@ def missing_of(places: Places, fields: Fields) -> Tuple[List[Answer], List[Answe
     firsts = _first_fields(places.showings)
     numbers = sorted(firsts)
     gaps = [(one, other) for one, other in zip(numbers, numbers[1:]) if other - one > 1]
-    passed, damaged = _passed_over(places, fields, gaps), {number for number, _ in places.due} | places.without_field
+    passed, damaged = _passed_over(places, fields), {number for number, _ in places.due} | places.without_field
     missing: List[List[Any]] = []
     left_out: List[List[Any]] = []
     for one, other in gaps:
         ends = firsts[one], firsts[other]
-        is_joined = _is_joined(places, one, other)
         if other - one > 4 * len(fields.words):
-            if passed.get(one) or not is_joined:
+            if passed.why(one + 1) != "unshown":
                 missing.append([one + 1, other - 1, "lost", ends])
             continue
         for number in range(one + 1, other):
-            why = _why(places, number, damaged, passed.get(one, ()), is_joined)
+            why = _why(places, number, damaged, passed)
             if why == "unshown":
                 continue
             stretches = left_out if why == "clock" else missing
@@ -58,7 +57,7 @@ def _stretch(stretch, unit):
 
 # ---- Lost or damaged
 
-class _Passed(NamedTuple):
+class Passed(NamedTuple):
     """Numbers from the first to the last that are passed over between two fields. For as many of them as `spare` there
     are fields in between in which they may stand; `is_lost` says whether so many fields are lost that one of them may
     be, too, or is None where that isn't known."""
@@ -67,41 +66,57 @@ class _Passed(NamedTuple):
     spare: int
     is_lost: Optional[bool]
 
-    def why(self, number: int) -> str:
-        count = self.last - self.first + 1
+    def parts(self) -> Iterator[Tuple[str, int, int]]:
+        """Why they aren't there, from which one to which."""
+        yield "lost", self.first, self.last
         if not self.is_lost:
-            return "undecided" if self.is_lost is None else "damaged"
-        if not self.spare:
-            return "lost"
-        # beside a wide jump only the numbers next to it can have been there
-        is_inside = self.spare <= number - self.first and self.spare <= self.last - number
-        return "lost" if FAR * self.spare <= count and is_inside else "undecided"
+            yield "undecided" if self.is_lost is None else "damaged", self.first, self.last
+        elif FAR * self.spare > self.last - self.first + 1:
+            yield "undecided", self.first, self.last
+        elif self.spare:  # beside a wide jump only the numbers next to it can have been there
+            yield "undecided", self.first, self.first + self.spare - 1
+            yield "undecided", self.last - self.spare + 1, self.last
 
 
-def _is_joined(places, one, other):
-    """Whether the numbers of one side end where this gap begins, or before it, and those of the next lie beyond it."""
-    ends = (sorted((before.number, after.number)) for before, after in places.joins)
-    return any(low <= one and other <= high for low, high in ends)
+class PassedOver:
+    """Why numbers aren't there that were passed over here: where one was more than once, a field for it is enough."""
+
+    def __init__(self, passed: Iterable[Passed], joins: Iterable[Tuple[int, int]] = ()) -> None:
+        spans: Dict[str, List[Tuple[int, int]]] = {"damaged": [], "undecided": [], "lost": [], "unshown": list(joins)}
+        for one in passed:
+            for why, first, last in one.parts():
+                spans[why].append((first, last))
+        self._ends = {why: _merged(ones) for why, ones in spans.items()}
+
+    def why(self, number: int) -> str:
+        """A number that is between those of two sides alone isn't one of either."""
+        for why, ends in self._ends.items():
+            if bisect.bisect(ends, number) % 2:
+                return why
+        return "lost"
 
 
-def _passed_over(places: Places, fields: Fields, gaps: List[Tuple[int, int]]) -> Dict[int, List[_Passed]]:
-    """Of each gap, by the number before it, where its numbers are passed over."""
-    found: Dict[int, List[_Passed]] = {}
-    begins, pace = [before for before, _ in gaps], places.numbers.pace
-    for one in places.breaks:
-        if pace and one["from"] < one["to"]:
-            passed = _Passed(one["from"] + 1, one["to"] - 1, *_fate(one, places.numbers, fields))
-            place = bisect.bisect_left(begins, one["from"])
-            while place < len(begins) and begins[place] < one["to"]:
-                found.setdefault(begins[place], []).append(passed)
-                place += 1
-    return found
+def _merged(spans):
+    """Where these spans begin and end, in turn: in one of them is what lies behind an odd count of these."""
+    ends: List[int] = []
+    for first, last in sorted(spans):
+        if ends and first <= ends[-1]:
+            ends[-1] = max(ends[-1], last + 1)
+        elif first <= last:
+            ends += [first, last + 1]
+    return ends
 
 
-def _why(places: Places, number: int, damaged: Set[int], passed: Sequence[_Passed], is_joined: bool) -> str:
-    """Why a number that is passed over at these places isn't there: where it is passed over more than once, one field
-    for it is enough. `damaged` are those that are due in a field. A number that is between those of two sides alone
-    isn't one of either."""
+def _passed_over(places: Places, fields: Fields) -> PassedOver:
+    """Why numbers aren't there that were passed over between two believed ones, or between two sides."""
+    passed = [Passed(one["from"] + 1, one["to"] - 1, *_fate(one, places.numbers, fields))
+              for one in places.breaks if one["from"] < one["to"]]
+    joins = (sorted((before.number, after.number)) for before, after in places.joins)
+    return PassedOver(passed, [(low + 1, high - 1) for low, high in joins])
+
+
+def _why(places: Places, number: int, damaged: Set[int], passed: PassedOver) -> str:
+    """Why a number isn't there. `damaged` are those that are due in a field."""
     clock = places.clock
     if clock.judged.get(number):
         return "clock"
@@ -111,12 +126,8 @@ def _why(places: Places, number: int, damaged: Set[int], passed: Sequence[_Passe
         return "unshown"
     if number in clock.judged:
         return "damaged"
-    whys = {one.why(number) for one in passed}
-    if number in clock.open or number in places.open:
-        whys.add("undecided")
-    elif not whys and is_joined:
-        return "unshown"
-    return next((why for why in ("damaged", "undecided") if why in whys), "lost")
+    why = passed.why(number)
+    return why if why == "damaged" or number not in clock.open and number not in places.open else "undecided"
 
 
 def _fate(one, numbers, fields):
