@@ -26,7 +26,7 @@ class Simulated(NamedTuple):
     that was misread. `swaps` are the first fields of pairs that stand in each other's place, `speeds` the first and the
     last field and the numbers a picture of each stretch at another speed. Where two discs are joined, `second` is the
     first field of the second one, `between` are the numbers that lie between those of both, and `other` are the fields
-    of a disc whose format is the other one."""
+    of a disc whose format is the other one. `dark` are fields that show nothing, and are none of the disc's."""
     kind: str
     layout: str
     settings: str
@@ -41,6 +41,7 @@ class Simulated(NamedTuple):
     second: Optional[int] = None
     between: range = range(0)
     other: frozenset = frozenset()
+    dark: frozenset = frozenset()
 
 
 def simulated(seed, kind=None, wrong=None, count=None):
@@ -78,6 +79,7 @@ def _played(seed, kind, wrong, count):
     return _side(kind, layout, damage, rows, order, _numbers_in(rows))._replace(
         swaps=[at + 1 for at in swaps], second=second, between=between,
         other=frozenset(field for field, place in enumerate(order, 1) if place in play.other),
+        dark=frozenset(field for field, place in enumerate(order, 1) if place in play.dark),
         speeds=[(bisect.bisect_left(kept, begin) + 1, bisect.bisect(kept, end), speed)
                 for begin, end, speed in play.at_speed])
 

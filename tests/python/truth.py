@@ -125,19 +125,31 @@ class Truth:
         self.lost, self.hidden, self.backs = {}, {}, []
         side, order = self.side, list(self.side.order)
         if not self.numbered or side.layout == "clv-minutes":
+            self._find_lost_of_minutes(order)
             return
         for field in side.swaps:
             order[field - 1:field + 1] = order[field], order[field - 1]
         for place, (before, after) in enumerate(zip(order, order[1:]), 1):
             if not self.numbered[0] <= place < self.numbered[-1] or place + 1 == side.second:
                 continue
-            if any(first <= place < last for first, last, _ in side.speeds):
+            if side.dark & {place, place + 1} or any(first <= place < last for first, last, _ in side.speeds):
                 continue
             if after - before > 1:
                 self.lost[place] = after - before - 1
                 self.hidden[place] = self.left_out & set(self._passed_over(place))
             elif after <= before:
                 self.backs.append(place)
+
+    def _find_lost_of_minutes(self, order):
+        """Minutes show what is lost of one that is neither the first nor the last, in a run without a jump back, where
+        that is more than what isn't read at its ends: a hundred fields."""
+        numbers, steps = self.side.numbers, list(enumerate(zip(order, order[1:]), 1))
+        is_long = len(set(numbers)) > 4 and all(after > before for _, (before, after) in steps)
+        for place, (before, after) in steps if is_long else ():
+            around = [number for number in numbers[place - 1:place + 1] if number is not None]
+            if after - before > 100 and min(set(numbers) - {None}) < min(around, default=-1) and (
+                    max(around) < max(set(numbers) - {None})):
+                self.lost[place], self.hidden[place] = after - before - 1, set()
 
     def _passed_over(self, place):
         """The numbers between the field of this place and the next one."""
@@ -170,6 +182,9 @@ class Reasons:
         return is_so or (None if self.truth.left_out else False)
 
     def _lost(self):
+        if self.side.layout == "clv-minutes" and not self.truth.lost:
+            order = self.side.order
+            return None if any(after - before != 1 for before, after in zip(order, order[1:])) else False
         is_so = self._or_clock(bool(self.truth.lost))
         return is_so if self.truth.join_is_seen() else self._beside_a_join(is_so)
 

@@ -125,11 +125,12 @@ class _Chains:
         """For each state the greatest value of a chain before this reading less the price of going on from it, and
         how many readings back and in which state that chain ends; and how many readings were looked at."""
         best, origin, values = [0, NEVER] * (self.states // 2), [None] * self.states, self.values
-        limit = max(index - (REACH if self.left > 0 else NEAR), 0)
+        limit = max(index - (REACH if self.left >= REACH else NEAR), 0)
         before, joined, enough = index - 1, 0, 0
+        join = self._join if self.states > 2 else self._join_one
         while before >= 0:
             if values[before] > enough:
-                enough = self._join(before, index, best, origin, enough)
+                enough = join(before, index, best, origin, enough)
             joined += 1
             if before == 0 or self.tops[before - 1] <= enough:  # no state can get better
                 break
@@ -137,7 +138,7 @@ class _Chains:
             before = before - 1 if before > limit else self.top_at[before - 1] if before == limit else -1
         same = self.last_of.get(self.readings[index].number, NONE)
         if index - REACH <= same < index - joined:  # a still may be worth as much, and goes on for nothing
-            self._join(same, index, best, origin, enough)
+            join(same, index, best, origin, enough)
             joined += 1
         self.looks += joined
         self.left = min(self.left + LOOKS, MOST_LOOKS) - min(joined, self.left + LOOKS)
@@ -161,6 +162,24 @@ class _Chains:
             if value + worth > best[state]:  # of equals the one with more readings
                 best[state], origin[state] = value + worth, (index - before, worths.index(worth))
         return min(map(max, best[::2], best[1::2]))
+
+    def _join_one(self, before, index, best, origin, enough):
+        """The same at a pace with one variant."""
+        other, reading, value = self.readings[before], self.readings[index], self.values[before]
+        apart = reading.field - other.field
+        if not apart:
+            return enough
+        off = self.pace.off(apart, other.number, reading.number - other.number)
+        moving, still = self.less[before]
+        if off is None:
+            worth = value + max(moving - price(apart), still)
+            if worth > best[1]:
+                best[1], origin[1] = worth, (index - before, int(moving - price(apart) < still))
+        else:
+            worth = value - price(off)
+            if worth > best[0]:
+                best[0], origin[0] = worth, (index - before, int(moving < 0))
+        return max(best)
 
     def _add_columns(self, apart, number, step):
         """What it costs to go on from this number by so many fields and numbers: of each state that can be reached the

@@ -98,7 +98,7 @@ class PassedOver:
 
 def _merged(spans):
     """Where these spans begin and end, in turn: in one of them is what lies behind an odd count of these."""
-    ends: List[int] = []
+    ends = []
     for first, last in sorted(spans):
         if ends and first <= ends[-1]:
             ends[-1] = max(ends[-1], last + 1)

@@ -15,6 +15,8 @@ LEAST = 8  # readings of a stretch
 FEWEST = 3  # different numbers of it
 STEPS = (2, 3, -1, -2, -3)  # numbers from one picture to the next
 ROUNDS = 2  # of a loop
+# By hand: numbers from one that is shown to the next, fields in which there are so many breaks and such numbers beside
+TURN, TURNED, SIGNS = 5, 40, 3
 
 
 # ---- Loops, and stills one after the other
@@ -63,6 +65,26 @@ def with_pictures_between(numbers: Numbers, readings: List[Reading]) -> Numbers:
         if len({reading.field for reading in between}) == len(between):
             more += [reading for reading in between if weights[reading.number] >= 2 * WEIGHTS[1]]
     return numbers.believing(sorted(believed + more, key=lambda one: one.field)) if more else numbers
+
+
+def with_turned(numbers: Numbers, readings: List[Reading]) -> Numbers:
+    """These numbers, with those that a disc showed while it was turned by hand: near those before and behind it, among
+    breaks that are as near. The chain passes over them where two others fit by chance."""
+    if numbers.pace is None or numbers.pace.kind not in ("video", "film"):
+        return numbers
+    taken, near, breaks = set(numbers.fields), [], []
+    for one in readings:
+        if one.field not in taken and one.weight >= WEIGHTS[1]:
+            around = [other for other in numbers.around(one.field) if other]
+            if all(abs(other.number - one.number) <= TURN and abs(other.field - one.field) <= TURNED for other in around):
+                near.append(one)
+    for one, other in zip(numbers.believed, numbers.believed[1:]) if near else ():
+        if abs(other.number - one.number) <= TURN and numbers.off(one, other) not in (None, 0):
+            breaks.append(other.field)
+    fields = sorted(breaks + [one.field for one in near])
+    more = {one.field: one for one in near if
+            bisect.bisect(fields, one.field + TURNED) - bisect.bisect_left(fields, one.field - TURNED) > SIGNS}
+    return numbers.believing(sorted(numbers.believed + list(more.values()), key=lambda one: one.field))
 
 
 def _that_go_on(pace, before, between, after):
