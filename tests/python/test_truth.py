@@ -2,7 +2,7 @@
 
 import unittest
 
-from discs import BLANK, LEAD_IN, LEAD_OUT, answer, picture, pictures, times
+from discs import BLANK, LEAD_IN, LEAD_OUT, answer, minutes, picture, pictures, times
 from ldvbi_side.seek import seek, wanted_of
 
 DARK = [BLANK] * 40
@@ -48,6 +48,72 @@ class Turned(unittest.TestCase):
         self.assertEqual([found["damaged"], missing(found)], [[], [(30, 30, "damaged")]])
         rows[58] = "- %s %s*" % (picture(70030), picture(70030))
         self.assertEqual(answer(rows)["damaged"], [{"number": 30, "field": 59, "read": 70030}])
+
+
+    def test_all_that_was_shown_is_believed(self):
+        """Among others that are turned by hand, a picture that no two around it leave room for was shown, too."""
+        rows = pictures(list(range(1, 41)) + [37 + step for step in PLAYED] + [50, 49, 48, 48, 50, 51] +
+                        list(range(52, 91)))
+        shown = [place + 1 for place, row in enumerate(rows) if " F" in row]
+        found = answer(rows)
+        self.assertEqual([found["doubtful"], [field for _, field, _ in found["showings"]]], [[], shown])
+        rows[86] = "- %s %s" % (picture(99), picture(99))  # far off
+        self.assertEqual([one["field"] for one in answer(rows)["doubtful"]], [87, 87])
+
+    def test_one_near_number_alone_is_a_wrong_word(self):
+        rows = pictures(range(1, 61))
+        rows[100] = "- %s %s" % (picture(53), picture(53))
+        self.assertEqual([one["field"] for one in answer(rows)["doubtful"]], [101, 101])
+
+
+class Minutes(unittest.TestCase):
+    """Six minutes alone, of which fields are lost, or shown twice."""
+
+    def rows(self, of_minute=3000):
+        return ["- %s %s" % (minutes(0, field // of_minute), minutes(0, field // of_minute))
+                for field in range(6 * of_minute)]
+
+    def check(self, rows, system, lost, held=()):
+        found = answer(rows, system)
+        self.assertEqual([(one["after"], one["before"], one["fields"]) for one in found["lost"]], lost)
+        self.assertEqual([one["fields"] for one in found["breaks"] if one["kind"] == "held"], list(held))
+        self.assertEqual([found["missing"], found["whole"]], [[], not lost and not held])
+
+    def test_whole(self):
+        self.check(self.rows(), "PAL", [])
+        for of_minute in (3590, 3596, 3600):
+            self.check(self.rows(of_minute), "NTSC", [])
+
+    def test_lost(self):
+        rows = self.rows()
+        self.check(rows[:6500] + rows[7500:], "PAL", [(6000, 8001, 1000)])
+        self.check(rows[:6050] + rows[8950:], "PAL", [(6000, 6101, 2900)])
+        # over the end of minute 2: each of both has lost its own
+        self.check(rows[:7505] + rows[10495:], "PAL", [(6000, 7506, 1495), (7505, 9011, 1495)])
+        rows = self.rows(3596)
+        self.check(rows[:8000] + rows[8100:], "NTSC", [(7192, 10689, 94)])
+
+    def test_one_that_is_unread_at_its_ends(self):
+        """So much may be there that fewer are sure to be lost."""
+        rows = self.rows()
+        rows[5900:6100] = ["- ? ?"] * 200
+        self.check(rows[:6500] + rows[7500:], "PAL", [(5900, 8001, 900)])
+
+    def test_held(self):
+        rows = self.rows()
+        self.check(rows[:8000] + rows[7100:], "PAL", [], [900])
+
+    def test_two_sides(self):
+        """One ends in its minute 2, and the next begins with its minute 3."""
+        rows = self.rows()
+        joined = rows[:6500] + [LEAD_OUT] * 9 + [LEAD_IN] * 9 + rows[9000:]
+        self.assertEqual([answer(joined)[name] for name in ("lost", "missing", "breaks")], [[], [], []])
+
+    def test_a_minute_that_is_lost_whole(self):
+        rows = self.rows()
+        found = answer(rows[:6000] + rows[9100:])
+        self.assertEqual([(one["after"], one["before"], one["fields"]) for one in found["lost"]], [(6000, 6001, 3000)])
+        self.assertEqual(missing(found), [("0:02", "0:02", "lost")])
 
 
 class Dark(unittest.TestCase):
