@@ -32,7 +32,7 @@ from side_sentences import sentences_of
 from source_names import read
 
 # The least that each check has to look at. A check that finds less no longer understands the documents.
-LEAST = {"links": 40, "paths": 95, "names": 475, "faults": 28, "causes": 20, "sizes": 28, "rules": 28, "numbers": 22,
+LEAST = {"links": 40, "paths": 95, "names": 475, "faults": 28, "causes": 20, "sizes": 28, "rules": 31, "numbers": 22,
          "changes": 65, "crates": 18}
 # The links to the net, of which nothing else is looked at
 NET = ["https://github.com/happycube/ld-decode"]

@@ -38,7 +38,7 @@ header|include/ldvbi.h|/^LDVBI_RESULT$/{N;s/.*\n\(uint32_t ldvbi_judge\)/\1/}
 header|include/ldvbi.h|s/^LDVBI_RESULT LDVBI_POINTER(4)$/LDVBI_RESULT/
 python|python/ldvbi_side/judge/answer.py|s/^def analyse(/def analyze(/
 python|tests/python/python.sh|s/\$3 == "python"/$1 == "side_schema"/
-python_unit|python/ldvbi_side/judge/missing.py|s/"lost", fields/"last", fields/
+python_unit|python/ldvbi_side/judge/missing.py|s/"lost", ends/"last", ends/
 python_unit|python/ldvbi_side/judge/confirmed.py|s/seconds % 60, part/seconds, part/
 python_unit|python/ldvbi/judging.py|s/in (State.believed, State.due)/in (State.believed,)/
 python_unit|python/ldvbi_side/judge/chain.py|s/^import operator$/import operator, ldvbi_side.draw.svg/

@@ -12,6 +12,7 @@ from .readings import PACKED_FIELD, AnySystem, Cut, FieldReadings, field_bytes, 
 from .samples import Samples
 
 BLOCK = 64  # fields to a call of the library; of a mapped file the pages of so many are fetched ahead
+_GIVE_BACK = getattr(mmap, "MADV_DONTNEED", None)  # not every system has it
 
 
 class Stream:
@@ -23,7 +24,7 @@ class Stream:
     where it is the nearest one. ldvbi_recover_rows in ldvbi.h has the rule.
 
     A file is mapped. Only the pages with lines 16, 17 and 18 are read from it, and a loop has the system fetch those of
-    the next fields ahead. If the file is made shorter meanwhile, this process ends by SIGBUS. `close`, or the end of a
+    the next fields ahead. Pages that were read are given back at once, so that a long file takes no more memory. If the file is made shorter meanwhile, this process ends by SIGBUS. `close`, or the end of a
     `with` block, releases the file or buffer. Whoever asks for a field after that gets a ValueError."""
 
     def __init__(self, source: Any, system: AnySystem, black: int, white: int, recover: bool = False) -> None:
@@ -87,8 +88,10 @@ class Stream:
         """The samples of lines 16, 17 and 18 of a field, counted from 0, as `read_rows` takes them."""
         if self._samples is None:
             raise ValueError("the stream is closed")
-        line = line_bytes(self.system)
-        return ctypes.string_at(self._samples.address + range(self._count)[index] * self._size + 15 * line, 3 * line)
+        line, field = line_bytes(self.system), range(self._count)[index]
+        rows = ctypes.string_at(self._samples.address + field * self._size + 15 * line, 3 * line)
+        self._give_back(field, field + 1)
+        return rows
 
     def packed(self, begin: int, end: int) -> Iterator[Any]:
         """Yields the readings of the fields from `begin` to `end` in blocks, as the library writes them: of each field
@@ -105,7 +108,14 @@ class Stream:
         out = ctypes.create_string_buffer(PACKED_FIELD.size * count)
         address = self._samples.address + first * self._size
         self._setup.check(self._read(*self._setup, address, count * self._size, out, count))
+        self._give_back(first, first + count)
         return out
+
+    def _give_back(self, begin: int, end: int) -> None:
+        """Has the system take back the pages of these fields, which were read."""
+        if self._file is not None and _GIVE_BACK is not None:
+            first = begin * self._size // mmap.PAGESIZE * mmap.PAGESIZE
+            self._file.madvise(_GIVE_BACK, first, end * self._size - first)
 
     def _fetch(self, begin: int, end: int) -> None:
         """Has the system fetch the pages of lines 16, 17 and 18 of these fields, of all of them at once."""

@@ -93,13 +93,16 @@ class Comparison:
         for one in answer["lost"]:
             if one["after"] < (truth.side.second or 0) <= one["before"]:
                 continue  # two discs look like a loss, too
+            if truth.side.dark.intersection(range(one["after"] + 1, one["before"])):
+                continue  # and so does a search in the dark
             inside = [after for after in truth.lost if one["after"] <= after < one["before"]]
             if one["by"] == "undecided" or one["by"] == "parity" and inside:
                 continue
             self.counts["lost"] += 1
             count, hidden = (sum(find(after) for after in inside)
                              for find in (truth.lost.get, lambda after: len(truth.hidden[after])))
-            if count == one["fields"]:
+            is_least = answer["unit"] == "minute" and (one["fields"] or 0) <= self._lost_in(one)
+            if count == one["fields"] or is_least:
                 self.counts["lost found"] += 1
             elif count + 2 * hidden == one["fields"]:
                 self.counts["lost and hidden"] += 1
@@ -108,6 +111,12 @@ class Comparison:
         places = {after for after in truth.lost for one in answer["lost"] + answer["breaks"]
                   if one["after"] <= after < one["before"]}
         self._share("lost places", places, set(truth.lost))
+
+    def _lost_in(self, one):
+        """The fields of the disc that the capture hasn't between these two."""
+        order = self.truth.side.order
+        return sum(after - before - 1 for before, after in zip(order[one["after"] - 1:one["before"] - 1],
+                                                               order[one["after"]:one["before"]]) if after > before)
 
     def _compare_backs(self):
         places = [(one["after"], one["before"]) for one in self.answer["breaks"] if one["kind"] != "lost"]

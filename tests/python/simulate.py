@@ -25,7 +25,8 @@ class Simulated(NamedTuple):
     `order` has the place on the disc of each field; `misread` are the field, the line and the true word of each word
     that was misread. `swaps` are the first fields of pairs that stand in each other's place, `speeds` the first and the
     last field and the numbers a picture of each stretch at another speed. Where two discs are joined, `second` is the
-    first field of the second one, and `other` are the fields of a disc whose format is the other one."""
+    first field of the second one, `between` are the numbers that lie between those of both, and `other` are the fields
+    of a disc whose format is the other one. `dark` are fields that show nothing, and are none of the disc's."""
     kind: str
     layout: str
     settings: str
@@ -38,7 +39,9 @@ class Simulated(NamedTuple):
     swaps: list = []
     speeds: list = []
     second: Optional[int] = None
+    between: range = range(0)
     other: frozenset = frozenset()
+    dark: frozenset = frozenset()
 
 
 def simulated(seed, kind=None, wrong=None, count=None):
@@ -69,13 +72,14 @@ def _played(seed, kind, wrong, count):
     swaps = sorted(rng.sample(range(0, len(order) - 1, 5), play.swapped))
     for at in swaps:
         order[at:at + 2] = order[at + 1], order[at]
-    on_disc = _numbers_in(rows)
+    between = range(0)
     if play.second is not None and not play.other:
-        on_disc = _of_two(_numbers_in(rows[:play.second]), _numbers_in(rows[play.second:]))
+        between = _between(_numbers_in(rows[:play.second]), _numbers_in(rows[play.second:]))
     second = play.second and bisect.bisect_left(order, play.second) + 1
-    return _side(kind, layout, damage, rows, order, on_disc)._replace(
-        swaps=[at + 1 for at in swaps], second=second,
+    return _side(kind, layout, damage, rows, order, _numbers_in(rows))._replace(
+        swaps=[at + 1 for at in swaps], second=second, between=between,
         other=frozenset(field for field, place in enumerate(order, 1) if place in play.other),
+        dark=frozenset(field for field, place in enumerate(order, 1) if place in play.dark),
         speeds=[(bisect.bisect_left(kept, begin) + 1, bisect.bisect(kept, end), speed)
                 for begin, end, speed in play.at_speed])
 
@@ -84,10 +88,9 @@ def _numbers_in(rows):
     return sorted({number for number, _, _ in rows if number is not None})
 
 
-def _of_two(one, other):
-    """The numbers of two joined discs. What lies between the two can't be told from numbers that are missing."""
-    between = range(min(one[-1], other[-1]) + 1, max(one[0], other[0]))
-    return sorted({*one, *other, *between})
+def _between(one, other):
+    """What lies between the numbers of two joined discs."""
+    return range(min(one[-1], other[-1]) + 1, max(one[0], other[0]))
 
 
 def _side(kind, layout, damage, rows, order, on_disc):

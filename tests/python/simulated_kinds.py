@@ -3,11 +3,13 @@ or lost, or from a worn disc."""
 
 from typing import NamedTuple, Optional
 
+import simulated_players as players
 from simulated_captures import played
 from simulated_discs import disc
 
 VIDEO = ("cav-pal", "cav-ntsc", "cav-both", "clv-pal", "clv-ntsc")  # layouts with two fields to each number
 CLV = ("clv-pal", "clv-ntsc")
+CAV = ("cav-pal", "cav-ntsc", "cav-film", "cav-both")
 ALL = ("cav-pal", "cav-ntsc", "cav-film", "cav-both", "clv-pal", "clv-ntsc", "clv-minutes")
 SPEEDS = ("3", "-1", "2", "1/3", "-2", "-3")  # numbers a picture
 PAIRS = (("cav-pal", "cav-pal"), ("clv-ntsc", "clv-ntsc"), ("cav-ntsc", "clv-ntsc"), ("clv-pal", "clv-pal"),
@@ -19,7 +21,8 @@ class Playing(NamedTuple):
     its fields. `lost` says of each line in how many fields it shows no word, where the kind has that; `swapped` is how
     many pairs of fields are swapped. `at_speed` are the first and the last field of the capture, from 0, and the
     numbers a picture of each stretch at another speed. `second` is the place of the second disc's first field, `other`
-    are the places of the disc that has the other format."""
+    are the places of the disc that has the other format, `dark` those of fields that show nothing and are none of the
+    disc's."""
     rows: list
     order: list
     lost: Optional[dict] = None
@@ -27,6 +30,7 @@ class Playing(NamedTuple):
     at_speed: tuple = ()
     second: Optional[int] = None
     other: range = range(0)
+    dark: range = range(0)
 
 
 def skips(rng, layout, count):
@@ -110,6 +114,15 @@ def restarts(rng, layout, count):
     return Playing(rows, order + list(range(rng.choice((0, begin)), len(rows))))
 
 
+def _by_hand(play):
+    """A kind of simulated_players.py as one of these."""
+    def playing_by_hand(rng, layout, count):
+        rows, order, *second = play(rng, layout, count)
+        dark = range(len(rows) - len(players.DARK), len(rows)) if play is players.searched else range(0)
+        return Playing(rows, order, second=second[0] if second else None, dark=dark)
+    return playing_by_hand
+
+
 def _parts(rng, total, count):
     """A total in so many parts by chance."""
     cuts = sorted(rng.sample(range(1, total), count - 1))
@@ -118,7 +131,10 @@ def _parts(rng, total, count):
 
 # The kinds, each with its layouts in turn
 PLAYED = {"skips": (skips, CLV), "worn": (worn, ALL), "swapped": (swapped, ALL), "speeds": (speeds, VIDEO),
-          "joined": (joined, PAIRS), "losses": (losses, ("clv-ntsc",)), "restarts": (restarts, ALL)}
+          "joined": (joined, PAIRS), "losses": (losses, ("clv-ntsc",)), "restarts": (restarts, ALL),
+          "loops": (_by_hand(players.loops), VIDEO), "turned": (_by_hand(players.turned), CAV),
+          "searched": (_by_hand(players.searched), CAV + CLV), "sides": (_by_hand(players.sides), CAV + CLV),
+          "minutes": (_by_hand(players.minutes), ("clv-minutes",))}
 
 
 def playing(rng, kind, seed, count):

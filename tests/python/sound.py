@@ -31,9 +31,11 @@ class Sound:
         self.codes, self.misplaced = self._codes()
         if len(self.aside) < len(places):
             self.faults.append("a word is set aside twice")
+        self.ends = [field for field, words in enumerate(fields.words, 1) if self._has_end(field, words)]
         self._look_at_words()
         self._look_at_conflicts()
         self._look_at_whole()
+        self._look_at_places()
         if self.unit in OTHERS:
             self._look_at_unread()
             self._look_at_doubtful()
@@ -123,6 +125,30 @@ class Sound:
                     self.faults.append("a number was read in field %d" % one["field"])
             if weight > 1:
                 self.faults.append("due in field %d, which has another code" % one["field"])
+
+    def _has_end(self, field, words):
+        """Whether a field has lead-in or lead-out in pass 1, or on two lines."""
+        passes = [of_pass for word, of_pass in zip(words[1:], self.fields.passes[field - 1][1:])
+                  if said_by(word)[0] in (Kind.lead_in, Kind.lead_out)]
+        return 1 in passes or len(passes) == 2
+
+    def _look_at_places(self):
+        """Nothing is lost before the first number or behind the last one, or between two sides. A still has no other
+        number in between. No number is due where both lines say another one in pass 1."""
+        for one in self.answer["lost"]:
+            if not self.numbered or not self.numbered[0] <= one["after"] < one["before"] <= self.numbered[-1]:
+                self.faults.append("lost beside the numbers, behind field %d" % one["after"])
+            if any(one["after"] < field < one["before"] for field in self.ends):
+                self.faults.append("lost between two sides, behind field %d" % one["after"])
+        for one in self.answer["stills"]:
+            shown = {self.believed.get(field) for field in range(one["first"], one["last"] + 1)}
+            if shown - {None, self.number_of(one["number"])}:
+                self.faults.append("another number in the still from field %d on" % one["first"])
+        for one in self.answer["unread"]:
+            said = [value for kind, value, _, of_pass in self.codes[one["field"]]
+                    if kind == Kind.picture and of_pass == 1 and self.unit == "picture"]
+            if len(said) == 2 and said[0] == said[1]:
+                self.faults.append("due in field %d, which says another number" % one["field"])
 
     def _look_at_doubtful(self):
         """No number fits the believed ones on both sides of it and is set aside."""

@@ -80,7 +80,7 @@ class Damage(unittest.TestCase):
     def test_one_wrong_number_of_600(self):
         found = answer(numbered(pictures(range(1, 601)), 400, "F79999", "F79999"))
         self.assertEqual(missing(found), [(400, 400, "unread")])
-        self.assertEqual(found["unread"], [{"number": 400, "field": 799, "read": 79999}])
+        self.assertEqual(found["unread"], [])  # since its field shows another one on both lines
         self.assertEqual(doubtful(found), [(799, 17, 79999, "neighbours"), (799, 18, 79999, "neighbours")])
         self.assertEqual(found["doubtful"][0]["before"], {"field": 797, "number": 399})
         self.assertEqual(found["doubtful"][0]["after"], {"field": 801, "number": 401})
@@ -278,13 +278,22 @@ class Parity(unittest.TestCase):
         for place, (after, before) in ((1, (1, 2)), (59, (59, 60))):
             first = [True, False] * 30
             first = first[:place] + [first[place - 1]] + [not one for one in first[place - 1:-2]]
-            found = answer([BLANK] * 60, first=first)
+            found = answer(["- %s %s" % (picture(number), picture(number)) for number in range(1, 31) for _ in (1, 2)],
+                           first=first)
             self.assertEqual([(one["after"], one["before"], one["by"]) for one in found["lost"]],
                              [(after, before, "parity")])
 
     def test_parity_alone_where_no_number_is_near(self):
-        found = answer([LEAD_IN] * 9, first=[True, False, True, True] + [False, True] * 2 + [False])
-        self.assertEqual(found["lost"], [{"after": 3, "before": 4, "fields": None, "by": "parity"}])
+        rows, first = pictures([1]) + [BLANK] * 4 + pictures([4]), [True, False, True, True] + [False, True] * 2
+        self.assertEqual(answer(rows, first=first)["lost"], [{"after": 3, "before": 4, "fields": None, "by": "parity"}])
+
+    def test_parity_outside_the_numbers(self):
+        """What is lost before the first number or behind the last one makes no side less whole."""
+        first = [True, True] + [False, True] * 31
+        for rows in ([LEAD_IN] * 4 + pictures(range(1, 31)), [LEAD_IN] * 64, [BLANK] * 64):
+            self.assertEqual(answer(rows, first=first)["lost"], [])
+        behind = [True, False] * 31 + [False, True]
+        self.assertEqual(answer(pictures(range(1, 31)) + [LEAD_OUT] * 4, first=behind)["lost"], [])
 
 
 class OtherFormat(unittest.TestCase):

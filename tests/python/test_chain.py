@@ -1,5 +1,6 @@
 """What breaks cost, how far apart numbers stand, and which readings are believed."""
 
+import random
 import unittest
 import unittest.mock
 
@@ -47,14 +48,14 @@ class Paces(unittest.TestCase):
                     fields, way[0], way[1])], [])
 
     def test_minutes_fit_within_one_minute(self):
-        pace = MinutePace(3000)
+        pace = MinutePace("PAL")
         self.assertEqual([pace.off(10, 4, 0), pace.off(2999, 4, 0), pace.off(1, 4, 1), pace.off(5999, 4, 1)], [0] * 4)
         self.assertEqual([pace.off(6001, 4, 1), pace.off(1, 4, 3), pace.off(5, 4, -1)], [3001, -8999, 3005])
 
     def test_how_many_numbers_have_so_many_fields(self):
         for pace, fields, numbers in ((Pace("video"), 5, 2), (Pace("both"), 3, 1), (Pace("film"), 2, 1),
                                       (Pace("film"), 4, 1), (Pace("film"), 5, 2), (Pace("film"), 7, 3),
-                                      (MinutePace(3000), 2999, 0), (MinutePace(3000), 5999, 1)):
+                                      (MinutePace("PAL"), 2999, 0), (MinutePace("PAL"), 5999, 1)):
             self.assertEqual(pace.numbers_in(fields), numbers)
 
     def test_one_chapter_may_be_passed_over_in_18_fields(self):
@@ -124,11 +125,39 @@ class Chains(unittest.TestCase):
         numbers = list(range(1, 101)) + [(place * 7919) % 79999 for place in range(100)]
         for most, is_within in ((chains.MOST_PRICES, False), (50, True)):
             with unittest.mock.patch.object(chains, "MOST_PRICES", most):
-                noise = chains._Chains(readings(*numbers), Pace("video"))
+                noise = chains._Chains(readings(*numbers), Pace("both"))
                 for index in range(200):
                     noise.add(index)
                 self.assertEqual(len(noise.columns) <= 50, is_within)
                 self.assertEqual(len(believed(readings(*range(1, 20), *range(40000, 40020)))), 39)
+
+    def test_noise_takes_no_more_looks_than_other_sides(self):
+        """For each reading a handful of earlier ones is looked at, and as many more as a side with damage needs."""
+        count, dice = 6000, random.Random(3)
+        noise = {"random": [dice.randrange(80000) for _ in range(count)], "small": [dice.randrange(50)
+                 for _ in range(count)], "one": [5] * count, "jumps": [
+                     40000 * (place // 5 % 2) + place for place in range(count)]}
+        for kind in ("video", "both", "film"):
+            for name, numbers in noise.items():
+                self.assertLessEqual(self.looks(readings(*numbers, weight=2), kind), 5 * count + 4000, (kind, name))
+        sound = readings(*range(count))
+        self.assertEqual(self.looks(sound, "video"), 0)
+        sound[1000:1000] = [Reading(2000, 7, 4, (17, 18))]
+        self.assertLess(self.looks(sound, "video"), 20)
+
+    def looks(self, ones, kind):
+        found, index = chains._Chains(ones, Pace(kind)), 0
+        while index < len(ones):
+            index = found.go_on(index)
+            if index < len(ones):
+                found.add(index)
+                index += 1
+        return found.looks
+
+    def test_a_wrong_number_in_a_still(self):
+        """It fits the still before it, and the number behind it is then as good as one that stays, but for later."""
+        ones = believed(readings(*[30] * 10, 31, *[30] * 10))
+        self.assertEqual([number for _, number in ones], [30] * 20)
 
     def test_what_was_found_of_like_readings_is_found_again(self):
         # with a wild number, a lost word and a lost field in each tenth picture, over and over

@@ -12,7 +12,7 @@ class Maps(unittest.TestCase):
         rows = [LEAD_IN] + pictures([1, 2, 3, 4, 5, 6])
         rows[3] = "- ? ?"  # picture 2
         rows[5] = "%s %s %s" % (STOP, STOP, picture(3))
-        rows[7] = "- %s %s" % (picture(70000), picture(70000))  # picture 4
+        rows[7] = "- %s %s*" % (picture(70000), picture(70000))  # picture 4
         rows[10] = "- 801DDD 801DDD"
         rows[12] = "- 801DDD 801DDD"
         self.assertEqual(list(map_rows(answer(rows))), [

@@ -72,8 +72,12 @@ class LostOrDamaged(unittest.TestCase):
         rows = shots(range(20, 41), range(26, 35))
         rows.insert(15, BLANK)
         found = answer(rows)
-        self.assertEqual(missing(found), [(26, 34, "unread")])
+        # a player that searched in the dark leaves blank fields, too
+        self.assertEqual(missing(found), [(26, 34, "undecided")])
         self.assertEqual([found["lost"], found["unread"]], [[], []])
+        for place in range(12, 31, 2):
+            rows[place] = "- ? -"
+        self.assertEqual(missing(answer(rows)), [(26, 34, "unread")])
 
     def test_one_picture_lost_of_nine_damaged_ones(self):
         rows = shots(range(20, 41), range(26, 35))
@@ -157,7 +161,7 @@ class Format(unittest.TestCase):
 class ReadInstead(unittest.TestCase):
     def test_what_a_damaged_field_shows(self):
         rows = pictures(range(1, 21))
-        rows[8], rows[12], rows[16] = "- F00017 F00017", "- F00044 F00045", "- ? ?"
+        rows[8], rows[12], rows[16] = "- F00017 F00017*", "- F00044 F00045", "- ? ?"
         found = answer(rows)
         self.assertEqual(found["unread"], [{"number": 5, "field": 9, "read": 17},
                                             {"number": 7, "field": 13, "read": 44},

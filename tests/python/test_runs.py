@@ -2,7 +2,7 @@
 
 import unittest
 
-from ldvbi_side.judge.missing import _Passed
+from ldvbi_side.judge.missing import Passed, PassedOver
 from ldvbi_side.judge.times import Runs
 
 WHOLE = 1500  # pictures of a minute
@@ -44,18 +44,28 @@ class Minutes(unittest.TestCase):
 class Fates(unittest.TestCase):
     def test_beside_a_wide_jump(self):
         """Of 100 numbers with fields for five those five at either end may have been there."""
-        passed = _Passed(1, 100, 5, True)
+        passed = PassedOver([Passed(1, 100, 5, True)])
         whys = [passed.why(number) for number in range(1, 101)]
         self.assertEqual(whys, ["undecided"] * 5 + ["lost"] * 90 + ["undecided"] * 5)
 
     def test_a_tenth_of_the_numbers(self):
-        self.assertEqual([_Passed(1, 100, spare, True).why(50) for spare in (0, 1, 10, 11)],
+        self.assertEqual([PassedOver([Passed(1, 100, spare, True)]).why(50) for spare in (0, 1, 10, 11)],
                          ["lost", "lost", "lost", "undecided"])
-        self.assertEqual([_Passed(1, 100, 10, True).why(number) for number in (10, 11, 90, 91)],
+        passed = PassedOver([Passed(1, 100, 10, True)])
+        self.assertEqual([passed.why(number) for number in (10, 11, 90, 91)],
                          ["undecided", "lost", "lost", "undecided"])
 
     def test_where_no_field_is_lost(self):
-        self.assertEqual([_Passed(1, 100, spare, False).why(50) for spare in (0, 1, 100)], ["damaged"] * 3)
+        for is_lost, why in ((False, "unread"), (None, "undecided")):
+            whys = [PassedOver([Passed(1, 100, spare, is_lost)]).why(50) for spare in (0, 1, 100)]
+            self.assertEqual(whys, [why] * 3)
+
+    def test_where_they_are_passed_over_more_than_once(self):
+        """A field for a number is enough, and between two sides it is none of either."""
+        passed = PassedOver([Passed(1, 100, 0, True), Passed(40, 60, 0, False), Passed(55, 80, 0, None)], [(50, 200)])
+        self.assertEqual([passed.why(number) for number in (39, 40, 60, 61, 80, 81, 100, 101, 200, 201)],
+                         ["lost", "unread", "unread", "undecided", "undecided", "lost", "lost", "unshown", "unshown",
+                          "lost"])
 
 
 if __name__ == "__main__":

@@ -75,8 +75,8 @@ class Seeking(unittest.TestCase):
 
     def test_a_doubtful_field_answers_for_no_other_number(self):
         rows = pictures(range(1, 21))
-        rows[18] = "- %s %s" % (picture(70000), picture(70000))
-        rows[8] = "- %s %s" % (picture(15), picture(15))
+        rows[18] = "- %s* %s" % (picture(70000), picture(70000))
+        rows[8] = "- %s ?" % picture(15)
         known = answer(rows)
         self.assertEqual([found(known, text) for text in ("70000", "15", "5", "10")],
                          ["not found", "field 29, frame 15",

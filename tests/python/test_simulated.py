@@ -128,6 +128,52 @@ class Played(unittest.TestCase):
             counts = self.totals[kind]
             self.assertGreaterEqual(counts["lost found"] + counts["lost and hidden"], counts["lost"] - 1, self.told)
 
+
+class ByHand(unittest.TestCase):
+    """Sides of a player at hand, and minutes alone: three of each kind."""
+
+    PICTURES = {"loops": 300, "turned": 300, "searched": 500, "sides": 200, "minutes": None}
+    # of these three sides at least so many have exact first fields, and just the reasons why they aren't whole
+    EXACT = {"loops": (3, 3), "turned": (3, 2), "searched": (2, 0), "sides": (3, 3), "minutes": (3, 3)}
+
+    @classmethod
+    def setUpClass(cls):
+        cls.totals, cls.told = {kind: Counter() for kind in cls.PICTURES}, []
+        for kind, count in cls.PICTURES.items():
+            for seed in range(3):
+                cls.totals[kind].update(measured(seed, kind, tell=cls.told.append, count=count,
+                                                 sound=kind != "minutes" or seed == 0)[1])
+        cls.all = sum(cls.totals.values(), Counter())
+
+    def test_no_answer_contradicts_the_words_of_its_side(self):
+        self.assertEqual([self.all["sides"], self.all["faults"]], [15, 0], self.told)
+
+    def test_exact_sides(self):
+        for kind, least in self.EXACT.items():
+            for name, count in zip(("first fields", "reasons"), least):
+                self.assertGreaterEqual(self.totals[kind][name], count, (kind, name, self.told))
+        self.assertEqual(self.all["whole"], 15, self.told)
+
+    def test_numbers(self):
+        self.assertEqual(self.all["wrong found"], self.all["wrong"], self.told)
+        self.assertGreater(self.all["wrong"], 40)
+        self.assertLessEqual(self.all["right found"], 20, self.told)
+        for name in ("numbers", "damaged numbers", "lost numbers"):
+            self.assertGreaterEqual(self.all[name + " found"], self.all[name] - 2, (name, self.told))
+            self.assertGreater(self.all[name], 0, name)
+
+    def test_places(self):
+        for name in ("loops", "turned"):
+            counts = self.totals[name]
+            self.assertGreater(counts["backs"], 10)
+            self.assertGreaterEqual(20 * counts["backs found"], 19 * counts["backs"], self.told)
+        for name in ("sides", "minutes"):
+            counts = self.totals[name]
+            self.assertEqual([counts["lost found"], counts["lost places found"]],
+                             [counts["lost"], counts["lost places"]], self.told)
+        self.assertGreater(self.totals["minutes"]["lost places"], 0)
+
+
 class Parity(unittest.TestCase):
     def test_parity_loses_nothing(self):
         for seed in range(2000, 2007):
@@ -236,6 +282,19 @@ class Soundness(unittest.TestCase):
         for kind in ("cav-ntsc", "cav-film", "clv-pal"):
             self.check(kind, [(due_in_a_chapter, "which has another code")])
 
+    def test_what_is_lost_due_or_a_still(self):
+        rows = [LEAD_IN] * 3 + pictures(range(1, 30)) + [LEAD_OUT] * 4 + pictures(range(100, 130))
+        rows[13] = "- %s %s" % (picture(70000), picture(70000))
+        wanted = ("lost beside the numbers, behind field 1", "lost between two sides, behind field 60",
+                  "another number in the still from field 6 on", "due in field 14, which says another number")
+        found = self.faults(plain(rows), *[
+            lambda one, name=name, entry=entry: one[name].append(entry) for name, entry in (
+                ("lost", {"after": 1, "before": 2, "fields": None, "by": "parity"}),
+                ("lost", {"after": 60, "before": 66, "fields": 9, "by": "number"}),
+                ("stills", {"number": 2, "first": 6, "last": 8}), ("unread", {"number": 6, "field": 14, "read": 7}))])
+        for text, faults in zip(wanted, found):
+            self.assertIn(text, faults)
+
     def test_numbers_around_a_doubtful_one(self):
         def others(one):
             next(entry for entry in one["doubtful"] if entry["why"] == "neighbours" and entry["kind"] != "time")[
@@ -280,7 +339,7 @@ class Soundness(unittest.TestCase):
                 entry["read"] = None
 
         # on film a number is sure to fit where the pictures beside it aren't read
-        wrong, scratched = "- F70000 F70000", damaged(film(range(1, 30)), range(22, 30), lambda row: BLANK)
+        wrong, scratched = "- F70000 F70000*", damaged(film(range(1, 30)), range(22, 30), lambda row: BLANK)
         sides = ((pictures(range(1, 30)), 18, wrong, "PAL", 10), (scratched, 25, wrong, "NTSC", 11),
                  (times(range(1000, 1030)), 18, "8AE017 87FFFF F0DD00", "PAL", "40.09"))
         for rows, place, row, system, right in sides:
@@ -309,7 +368,8 @@ class OtherDamage(unittest.TestCase):
     SIDES = (("cav", "PAL", pictures(range(1, 401))), ("cav far on", "NTSC", pictures(range(53000, 53400))),
              ("film", "NTSC", film(range(1, 401))), ("clv", "PAL", times(range(1300, 1700))))
 
-    def check(self, change):
+    def check(self, change, on_both=False):
+        """On both lines of a CAV side another number is shown: none is due there then."""
         for name, system, sound in self.SIDES:
             rng = random.Random(name)
             numbered = {field: number for number, field, _ in answer(sound, system)["showings"]}
@@ -319,8 +379,10 @@ class OtherDamage(unittest.TestCase):
             with self.subTest(name):
                 wanted = {field + 4: number for field, number in numbered.items() if field + 3 not in unread}
                 self.assertEqual({field: number for number, field, _ in found["showings"]}, wanted)
-                self.assertEqual({one["field"]: one["number"] for one in found["unread"]},
-                                 {field + 4: number for field, number in numbered.items() if field + 3 in unread})
+                due = {field + 4: number for field, number in numbered.items() if field + 3 in unread}
+                is_due = name in ("film", "clv") or not on_both
+                self.assertEqual({one["field"]: one["number"] for one in found["unread"]}, due if is_due else {})
+                self.assertEqual(sum(one["count"] for one in found["missing"]), len(due))
                 self.assertEqual(found["lost"] + found["breaks"] + found["secondRows"], [])
 
     def test_scratches_over_several_pictures(self):
@@ -365,7 +427,7 @@ class OtherDamage(unittest.TestCase):
                 late_rows[place] = rows[place - 10]
             unread = {place for place in places if rows[place] != rows[place - 10]}
             return late_rows, unread
-        self.check(late)
+        self.check(late, on_both=True)
 
     def test_words_of_the_other_format(self):
         def mixed(rng, rows):

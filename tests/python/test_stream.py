@@ -248,6 +248,27 @@ class Ahead(Streams):
                 for (begin, end), (first, last) in zip(self.fetched(), lines):
                     self.assertEqual((begin, end), (first - first % mmap.PAGESIZE, last))
 
+    def test_pages_that_were_read_are_given_back(self):
+        for setup, size in ((NTSC, 478660), (PAL, 710510)):
+            with self.subTest(setup):
+                Advised.notes = []
+                side = self.drawn(COUNT, setup)
+                self.assertEqual(len(list(side)), COUNT)
+                given = [note[1:] for note in Advised.notes if note[0] == mmap.MADV_DONTNEED]
+                # each block from the page with its first byte on, up to its last byte
+                begins = [first * size - first * size % mmap.PAGESIZE for first in range(0, COUNT, 64)]
+                ends = [min(first + 64, COUNT) * size for first in range(0, COUNT, 64)]
+                self.assertEqual([(begin, begin + length) for begin, length in given], list(zip(begins, ends)))
+                Advised.notes = []
+                side.rows(100)
+                self.assertEqual(Advised.notes, [(mmap.MADV_DONTNEED, 100 * size - 100 * size % mmap.PAGESIZE,
+                                                  size + 100 * size % mmap.PAGESIZE)])
+
+    def test_a_system_without_such_advice(self):
+        with mock.patch.object(ldvbi.stream, "_GIVE_BACK", None):
+            self.assertEqual(len(list(self.drawn(COUNT))), COUNT)
+        self.assertEqual([note for note in Advised.notes if note[0] == mmap.MADV_DONTNEED], [])
+
     def test_pages_of_one_field(self):
         side = self.drawn(COUNT)
         side[100]

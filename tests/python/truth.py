@@ -1,5 +1,6 @@
 """What is to be answered of a simulated side: made from its truth, and from what can still be read of it."""
 
+import bisect
 import functools
 
 from ldvbi import Kind
@@ -82,12 +83,29 @@ class Truth:
         return bool(self.kinds[field] & {Kind.picture, Kind.clv_picture}) or self.side.layout == "clv-minutes"
 
     def _find_missing(self):
-        on_disc = set(self.side.on_disc)
+        """Where nothing can be read between two joined discs, what lies between their numbers can't be told from those
+        that are missing."""
+        on_disc, between = set(self.side.on_disc), set(self.side.between)
+        if not self.join_is_seen():
+            on_disc |= between
         span = range(min(self.read), max(self.read) + 1) if self.read else ()
         captured = set(self.side.numbers)
         self.missing = {number: "unread" if number in captured else "lost"
                         for number in span if number not in self.read and number in on_disc}
-        self.left_out = {number for number in span if number not in on_disc}
+        self.left_out = {number for number in span if number not in on_disc | between}
+
+    def join_is_seen(self):
+        """Whether lead-out or lead-in can be read between two joined discs, in pass 1 or on two lines."""
+        place = bisect.bisect_left(self.numbered, self.side.second or 0)
+        if self.side.second is None or not 0 < place < len(self.numbered):
+            return False
+        for field in range(self.numbered[place - 1] + 1, self.numbered[place]):
+            record = self.side.document["fields"][field - 1]
+            passes = [of_pass for word, of_pass in zip(record["vbi"]["vbiData"], record["vbiPass"])
+                      if said_by(word)[0] in (Kind.lead_in, Kind.lead_out)]
+            if 1 in passes or len(passes) == 2:
+                return True
+        return False
 
     def _find_due(self):
         """Of a picture with its number on both fields neither is read, and the first one is meant."""
@@ -107,19 +125,31 @@ class Truth:
         self.lost, self.hidden, self.backs = {}, {}, []
         side, order = self.side, list(self.side.order)
         if not self.numbered or side.layout == "clv-minutes":
+            self._find_lost_of_minutes(order)
             return
         for field in side.swaps:
             order[field - 1:field + 1] = order[field], order[field - 1]
         for place, (before, after) in enumerate(zip(order, order[1:]), 1):
             if not self.numbered[0] <= place < self.numbered[-1] or place + 1 == side.second:
                 continue
-            if any(first <= place < last for first, last, _ in side.speeds):
+            if side.dark & {place, place + 1} or any(first <= place < last for first, last, _ in side.speeds):
                 continue
             if after - before > 1:
                 self.lost[place] = after - before - 1
                 self.hidden[place] = self.left_out & set(self._passed_over(place))
             elif after <= before:
                 self.backs.append(place)
+
+    def _find_lost_of_minutes(self, order):
+        """Minutes show what is lost of one that is neither the first nor the last, in a run without a jump back, where
+        that is more than what isn't read at its ends: a hundred fields."""
+        numbers, steps = self.side.numbers, list(enumerate(zip(order, order[1:]), 1))
+        is_long = len(set(numbers)) > 4 and all(after > before for _, (before, after) in steps)
+        for place, (before, after) in steps if is_long else ():
+            around = [number for number in numbers[place - 1:place + 1] if number is not None]
+            if after - before > 100 and min(set(numbers) - {None}) < min(around, default=-1) and (
+                    max(around) < max(set(numbers) - {None})):
+                self.lost[place], self.hidden[place] = after - before - 1, set()
 
     def _passed_over(self, place):
         """The numbers between the field of this place and the next one."""
@@ -160,10 +190,14 @@ class Reasons:
         return is_so or (None if self.truth.left_out else False)
 
     def _lost(self):
-        return self._beside_a_join(self._or_clock(bool(self.truth.lost)))
+        if self.side.layout == "clv-minutes" and not self.truth.lost:
+            order = self.side.order
+            return None if any(after - before != 1 for before, after in zip(order, order[1:])) else False
+        is_so = self._or_clock(bool(self.truth.lost))
+        return is_so if self.truth.join_is_seen() else self._beside_a_join(is_so)
 
     def _beside_a_join(self, is_so):
-        """Two discs that are joined look like a jump or a loss, too."""
+        """Two discs that are joined look like a jump, and where nothing is seen between them like a loss, too."""
         return is_so or (None if self.side.second and not self.side.other else is_so)
 
     def _jumps(self):

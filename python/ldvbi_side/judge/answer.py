@@ -2,7 +2,8 @@
 plain data out; docs/SIDES.md has the rules and the form of the answer. All else that speaks of a side prints this.
 
 Where the rules of docs/SIDES.md are: 1, 2, 4 and 7 in paces.py, 3 and 11 in readings.py, 5, 6 and 8 in chain.py, 9 in
-times.py, 10 in parts.py, 12 in places.py and missing.py, 13 in clock.py, 14 and 15 in order.py, 16 in confirmed.py."""
+times.py, 10 in parts.py, 12 in places.py and missing.py, 13 in clock.py, 14, 15 and the end of 6 in order.py, 16 in
+confirmed.py, 17 in minutes.py, 18 in sparse.py."""
 
 from typing import List
 
@@ -28,7 +29,7 @@ def analyse(fields: Fields) -> Answer:
     """The answer for these fields of a side."""
     codes = codes_of(fields)
     numbers, doubts = numbers_of(codes)
-    places = with_confirmed(places_of(numbers, fields.system), fields.nearest_word)
+    places = with_confirmed(places_of(numbers, codes), fields.nearest_word)
     begin = 2 if fields.first and not fields.first[0] else 1
     answer: Answer = {
         "version": VERSION, "system": fields.system, "format": codes.format, "unit": numbers.unit.name,
@@ -71,7 +72,7 @@ def _of_numbers(places: Places, doubts: Doubts) -> Answer:
 def _of_losses(places: Places, fields: Fields) -> Answer:
     """What isn't there, or isn't in the disc's order."""
     numbers = places.numbers
-    missing, left_out = missing_of(places, len(fields.words))
+    missing, left_out = missing_of(places, fields)
     return {
         "missing": missing, "leftOut": left_out,
         "lost": lost_fields(places, (fields.first or ())[:len(fields.words)]),

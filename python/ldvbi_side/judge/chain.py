@@ -12,7 +12,9 @@ whether its number has stayed, since a still is one break however long it lasts.
 reading has a best chain for each state.
 
 A reading looks back until no earlier chain is worth more than those it has found. After REACH readings it asks only the
-best chain of all before them, so a better one may be missed. `go_on` and `_situation` are there for speed: most
+best chain of all before them, so a better one may be missed. Among noise each reading would look at as many, so there
+are no more than LOOKS for each of all so far, and some to begin with; when these are used up, it asks the best chain of
+all behind NEAR. `go_on` and `_situation` are there for speed: most
 readings go on from the one before, or stand to those before as others did. All that a price depends on has to be in the
 keys of `_situation` and of `columns`, or else one case gets the answer of another.
 
@@ -26,6 +28,10 @@ from .paces import AnyPace, price
 from .readings import Reading
 
 REACH = 40  # readings back: setting aside more than these costs more than two of the widest breaks
+NEAR = 2  # readings back where breaks are dense
+NONE = -REACH - 1  # a reading that none can reach
+# Readings that are looked at for each one, in the mean, and more than that at first: on a side with damage it is fewer
+LOOKS, MOST_LOOKS = 4, 4000
 NEVER = -10 ** 9  # the value of a state that no chain has
 MOST_PRICES = 1 << 14  # to remember: a side has few different ones, and noise has any
 SURE = 100  # a value that is greater than each price
@@ -52,6 +58,8 @@ class _Chains:
         self.states = 2 * pace.variants
         # of each reading its best value, what each state has less, and whence: how many readings back, in which state
         self.values, self.less, self.origins = [], [], []
+        self.last_of = {}  # of each number its last reading
+        self.looks, self.left = 0, MOST_LOOKS  # at earlier readings: so many so far, and so many that may follow
         self.columns, self.known = {}, {}
         self.tops, self.top_at = [], []  # of all readings up to each the best value, and its reading
 
@@ -73,6 +81,7 @@ class _Chains:
             self.origins.append(_ON)
             self.tops.append(value)
             self.top_at.append(place)
+            self.last_of[reading.number] = place
             before = reading
         return len(readings)
 
@@ -97,6 +106,7 @@ class _Chains:
         self.origins.append(origin)
         self.tops.append(value if is_best else self.tops[-1])
         self.top_at.append(index if is_best else self.top_at[-1])
+        self.last_of[self.readings[index].number] = index
 
     def _situation(self, index):
         """All that the best chains before a reading depend on, where they end with one of the two readings before it;
@@ -104,6 +114,8 @@ class _Chains:
         if index < 3 or self.states == 2 or self.tops[index - 3] < SURE:
             return None
         other, one, reading = self.readings[index - 2:index + 1]
+        if index - REACH <= self.last_of.get(reading.number, NONE) < index - 2:
+            return None  # it may have stayed since then
         value = self.values[-1]
         return (reading.field - one.field, reading.number - one.number, one.field - other.field,
                 one.number - other.number, reading.number % self.pace.period, value - self.values[-2],
@@ -112,34 +124,62 @@ class _Chains:
     def _best_before(self, index):
         """For each state the greatest value of a chain before this reading less the price of going on from it, and
         how many readings back and in which state that chain ends; and how many readings were looked at."""
-        best, origin = [0, NEVER] * (self.states // 2), [None] * self.states
-        limit = max(index - REACH, 0)
-        before, joined = index - 1, 0
+        best, origin, values = [0, NEVER] * (self.states // 2), [None] * self.states, self.values
+        limit = max(index - (REACH if self.left >= REACH else NEAR), 0)
+        before, joined, enough = index - 1, 0, 0
+        join = self._join if self.states > 2 else self._join_one
         while before >= 0:
-            self._join(before, index, best, origin)
+            if values[before] > enough:
+                enough = join(before, index, best, origin, enough)
             joined += 1
-            if before == 0 or self.tops[before - 1] <= min(best[::2]):  # no state can get better
+            if before == 0 or self.tops[before - 1] <= enough:  # no state can get better
                 break
             # beyond the reach only the best chain of all before is asked
             before = before - 1 if before > limit else self.top_at[before - 1] if before == limit else -1
+        same = self.last_of.get(self.readings[index].number, NONE)
+        if index - REACH <= same < index - joined:  # a still may be worth as much, and goes on for nothing
+            join(same, index, best, origin, enough)
+            joined += 1
+        self.looks += joined
+        self.left = min(self.left + LOOKS, MOST_LOOKS) - min(joined, self.left + LOOKS)
         return best, origin, joined
 
-    def _join(self, before, index, best, origin):
-        """Goes on to a reading from the chains that end with an earlier one, where that is better."""
+    def _join(self, before, index, best, origin, enough):
+        """Goes on to a reading from the chains that end with an earlier one, where that is better. Returns what the
+        best chains are worth in each variant, `enough` so far: a still is never worse than the same value without."""
         other, reading, value = self.readings[before], self.readings[index], self.values[before]
         apart, step = reading.field - other.field, reading.number - other.number
         if not apart:
-            return
+            return enough
         columns = self.columns.get((apart, step, other.number % self.pace.period))
         if columns is None:
-            if step and value - price(self.pace.least_off(apart, other.number, step)) <= min(best[::2]):
-                return  # no state can get better
+            if step and value - price(self.pace.least_off(apart, other.number, step)) <= enough:
+                return enough  # no state can get better
             columns = self._add_columns(apart, other.number, step)
         for state, column in columns:
             worths = list(map(operator.sub, self.less[before], column))
             worth = max(worths)
             if value + worth > best[state]:  # of equals the one with more readings
                 best[state], origin[state] = value + worth, (index - before, worths.index(worth))
+        return min(map(max, best[::2], best[1::2]))
+
+    def _join_one(self, before, index, best, origin, enough):
+        """The same at a pace with one variant."""
+        other, reading, value = self.readings[before], self.readings[index], self.values[before]
+        apart = reading.field - other.field
+        if not apart:
+            return enough
+        off = self.pace.off(apart, other.number, reading.number - other.number)
+        moving, still = self.less[before]
+        if off is None:
+            worth = value + max(moving - price(apart), still)
+            if worth > best[1]:
+                best[1], origin[1] = worth, (index - before, int(moving - price(apart) < still))
+        else:
+            worth = value - price(off)
+            if worth > best[0]:
+                best[0], origin[0] = worth, (index - before, int(moving < 0))
+        return max(best)
 
     def _add_columns(self, apart, number, step):
         """What it costs to go on from this number by so many fields and numbers: of each state that can be reached the

@@ -1,39 +1,43 @@
-"""Numbers that no field has, and whether each is lost or damaged, by the fields that are there for it; fields that are
+"""Numbers that no field has, and whether each is lost or unread, by the fields that are there for it; fields that are
 lost; numbers that are shown again."""
 
 import bisect
-from typing import Any, Dict, List, NamedTuple, Optional, Sequence, Set, Tuple
+from typing import Any, Dict, Iterable, Iterator, List, NamedTuple, Optional, Sequence, Set, Tuple
 
 from .believed import Numbers, stretch_at
 from .order import pairs_of
 from .places import Places
-from .readings import Answer
+from .readings import Answer, Fields
 
+_BLANK = frozenset(["blank"])
 FAR = 10  # numbers passed over to one that fields may be there for: from here on most of them are sure to be lost
 
 
-def missing_of(places: Places, count: int) -> Tuple[List[Answer], List[Answer]]:
+def missing_of(places: Places, fields: Fields) -> Tuple[List[Answer], List[Answer]]:
     """The numbers between the least and the greatest that no field has, in stretches of one reason; and those that were
-    left out by the disc's clock. A gap of more than 4 numbers to each of the side's `count` fields isn't looked at
-    number by number."""
+    left out by the disc's clock. A gap of more than 4 numbers to each field of the side isn't looked at number by
+    number."""
     firsts = _first_fields(places.showings)
     numbers = sorted(firsts)
     gaps = [(one, other) for one, other in zip(numbers, numbers[1:]) if other - one > 1]
-    passed, damaged = _passed_over(places, gaps), {number for number, _ in places.due} | places.without_field
+    passed, unread = _passed_over(places, fields), {number for number, _ in places.due} | places.without_field
     missing: List[List[Any]] = []
     left_out: List[List[Any]] = []
     for one, other in gaps:
-        fields = firsts[one], firsts[other]
-        if other - one > 4 * count:
-            missing.append([one + 1, other - 1, "lost", fields])
+        ends = firsts[one], firsts[other]
+        if other - one > 4 * len(fields.words):
+            if passed.why(one + 1) != "unshown":
+                missing.append([one + 1, other - 1, "lost", ends])
             continue
         for number in range(one + 1, other):
-            why = _why(places, number, damaged, passed.get(one, ()))
+            why = _why(places, number, unread, passed)
+            if why == "unshown":
+                continue
             stretches = left_out if why == "clock" else missing
-            if stretches and stretches[-1][1:] == [number - 1, why, fields]:
+            if stretches and stretches[-1][1:] == [number - 1, why, ends]:
                 stretches[-1][1] = number
             else:
-                stretches.append([number, number, why, fields])
+                stretches.append([number, number, why, ends])
     unit = places.numbers.unit
     return [_stretch(one, unit) for one in missing], [_stretch(one, unit) for one in left_out]
 
@@ -47,74 +51,105 @@ def _first_fields(showings):
 
 def _stretch(stretch, unit):
     first, last, why, fields = stretch
-    why = "unread" if why == "damaged" else why  # what is damaged is the line: its field is there, and wasn't read
     return {"first": unit.text_of(first), "last": unit.text_of(last), "count": last - first + 1, "why": why,
             "after": fields[0], "before": fields[1]}
 
 
-# ---- Lost or damaged
+# ---- Lost or unread
 
-class _Passed(NamedTuple):
+class Passed(NamedTuple):
     """Numbers from the first to the last that are passed over between two fields. For as many of them as `spare` there
     are fields in between in which they may stand; `is_lost` says whether so many fields are lost that one of them may
-    be, too."""
+    be, too, or is None where that isn't known."""
     first: int
     last: int
     spare: int
-    is_lost: bool
+    is_lost: Optional[bool]
+
+    def parts(self) -> Iterator[Tuple[str, int, int]]:
+        """Why they aren't there, from which one to which."""
+        yield "lost", self.first, self.last
+        if not self.is_lost:
+            yield "undecided" if self.is_lost is None else "unread", self.first, self.last
+        elif FAR * self.spare > self.last - self.first + 1:
+            yield "undecided", self.first, self.last
+        elif self.spare:  # beside a wide jump only the numbers next to it can have been there
+            yield "undecided", self.first, self.first + self.spare - 1
+            yield "undecided", self.last - self.spare + 1, self.last
+
+
+class PassedOver:
+    """Why numbers aren't there that were passed over here: where one was more than once, a field for it is enough."""
+
+    def __init__(self, passed: Iterable[Passed], joins: Iterable[Tuple[int, int]] = ()) -> None:
+        spans: Dict[str, List[Tuple[int, int]]] = {"unread": [], "undecided": [], "lost": [], "unshown": list(joins)}
+        for one in passed:
+            for why, first, last in one.parts():
+                spans[why].append((first, last))
+        self._ends = {why: _merged(ones) for why, ones in spans.items()}
 
     def why(self, number: int) -> str:
-        count = self.last - self.first + 1
-        if not self.is_lost:
-            return "damaged"
-        if not self.spare:
-            return "lost"
-        # beside a wide jump only the numbers next to it can have been there
-        is_inside = self.spare <= number - self.first and self.spare <= self.last - number
-        return "lost" if FAR * self.spare <= count and is_inside else "undecided"
+        """A number that is between those of two sides alone isn't one of either."""
+        for why, ends in self._ends.items():
+            if bisect.bisect(ends, number) % 2:
+                return why
+        return "lost"
 
 
-def _passed_over(places: Places, gaps: List[Tuple[int, int]]) -> Dict[int, List[_Passed]]:
-    """Of each gap, by the number before it, where its numbers are passed over."""
-    found: Dict[int, List[_Passed]] = {}
-    begins, pace = [before for before, _ in gaps], places.numbers.pace
-    for one in places.breaks:
-        if pace and one["from"] < one["to"]:
-            is_lost = one["kind"] == "lost" and one["fields"] >= pace.least
-            passed = _Passed(one["from"] + 1, one["to"] - 1, _spare(one, places.numbers), is_lost)
-            place = bisect.bisect_left(begins, one["from"])
-            while place < len(begins) and begins[place] < one["to"]:
-                found.setdefault(begins[place], []).append(passed)
-                place += 1
-    return found
+def _merged(spans):
+    """Where these spans begin and end, in turn: in one of them is what lies behind an odd count of these."""
+    ends = []
+    for first, last in sorted(spans):
+        if ends and first <= ends[-1]:
+            ends[-1] = max(ends[-1], last + 1)
+        elif first <= last:
+            ends += [first, last + 1]
+    return ends
 
 
-def _why(places: Places, number: int, damaged: Set[int], passed: Sequence[_Passed]) -> str:
-    """Why a number that is passed over at these places isn't there: where it is passed over more than once, one field
-    for it is enough. `damaged` are those that are due in a field."""
+def _passed_over(places: Places, fields: Fields) -> PassedOver:
+    """Why numbers aren't there that were passed over between two believed ones, or between two sides."""
+    passed = [Passed(one["from"] + 1, one["to"] - 1, *_fate(one, places.numbers, fields))
+              for one in places.breaks if one["from"] < one["to"]]
+    joins = (sorted((before.number, after.number)) for before, after in places.joins)
+    return PassedOver(passed, [(low + 1, high - 1) for low, high in joins])
+
+
+def _why(places: Places, number: int, unread: Set[int], passed: PassedOver) -> str:
+    """Why a number isn't there. `unread` are those that are due in a field."""
     clock = places.clock
     if clock.judged.get(number):
         return "clock"
-    if number in damaged or number in clock.judged:
-        return "damaged"
-    if number in clock.open:
-        return "undecided"
-    whys = {one.why(number) for one in passed}
-    return next((why for why in ("damaged", "undecided") if why in whys), "lost")
+    if number in unread:
+        return "unread"
+    if number in places.unshown:
+        return "unshown"
+    if number in clock.judged:
+        return "unread"
+    why = passed.why(number)
+    return why if why == "unread" or number not in clock.open and number not in places.open else "undecided"
 
 
-def _spare(one, numbers):
-    """For how many of the numbers that are passed over at a break there may be fields."""
-    if all(field in numbers.others for field in range(one["after"] + 1, one["before"])):
-        return 0
-    return max(one["to"] - one["from"] - 1 - numbers.pace.numbers_in(one["fields"]), 0)
+def _fate(one, numbers, fields):
+    """For how many of the numbers that are passed over at a break there may be fields, and whether some are lost. Where
+    no field is too few, each of them had one in which something was read or seen: else, the player may have searched in
+    the dark."""
+    between = range(one["after"] + 1, one["before"])
+    if one["kind"] == "held":
+        seen = sum(field not in numbers.others and not _BLANK.issuperset(fields.causes[field - 1])
+                   for field in between)
+        return 0, False if seen > one["to"] - one["from"] - 2 else None
+    is_lost = one["fields"] >= numbers.pace.least
+    if all(field in numbers.others for field in between):
+        return 0, is_lost
+    return max(one["to"] - one["from"] - 1 - numbers.pace.numbers_in(one["fields"]), 0), is_lost
 
 
 # ---- Lost fields
 
 def lost_fields(places: Places, first: Sequence[bool]) -> List[Answer]:
-    """Where fields are lost: by numbers that come too early, and by two fields of one parity in a row, where `first`
-    says of each field whether it is the first one of its frame."""
+    """Where fields are lost: by numbers that come too early, and between the first number and the last by two fields of
+    one parity in a row, where `first` says of each field whether it is the first one of its frame."""
     lost = [{"after": one["after"], "before": one["before"], "fields": one["fields"],
              "by": "undecided" if one["from"] + 1 in places.clock.open and one["fields"] == 2 else "number"}
             for one in places.breaks if one["kind"] == "lost"]
@@ -123,11 +158,16 @@ def lost_fields(places: Places, first: Sequence[bool]) -> List[Answer]:
         for one in lost:
             if one["fields"] == 1:
                 _widen(one, places.numbers)
-    swapped = _swapped_parity(places.numbers, first)
-    for field in range(2, len(first) + 1):
-        if first[field - 1] == first[field - 2] and field not in swapped:
+    swapped, numbered = _swapped_parity(places.numbers, first), places.numbers.fields
+    for field in range(numbered[0] + 1, min(numbered[-1], len(first)) + 1) if numbered else ():
+        if first[field - 1] == first[field - 2] and field not in swapped and not _is_between_sides(places, field):
             _add_parity(lost, field)
     return sorted(lost, key=lambda one: one["after"])
+
+
+def _is_between_sides(places, field):
+    """Whether a field stands between the numbers of two sides."""
+    return any(before.field < field <= after.field for before, after in places.joins)
 
 
 def _widen(one, numbers):

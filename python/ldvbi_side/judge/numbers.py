@@ -5,9 +5,11 @@ Pictures are found here, and times in times.py, as a time is joined of two words
 1. The codes become readings: a number of a field, with its weight.
 2. These say at which pace the numbers go on (`pace_of`).
 3. `chain` chooses the readings that are believed at this pace, each in its own field.
-4. `with_speeds` and `with_swaps` find what the chain takes for breaks: stretches that were played at another speed, and
-   fields that were written in each other's place. Speeds come first: a swap is found between two numbers that fit, and
-   those of another speed fit only once it is known.
+4. `with_loops`, `with_pictures_between`, `with_speeds`, `with_turned` and `with_swaps` find what the chain takes for
+   stills or for breaks: a few pictures that were played again and again, pictures that were stepped over between two
+   stills, stretches that were played at another speed or turned by hand, and fields that were written in each other's
+   place. Speeds come before swaps: a swap is found between two numbers that fit, and those of another speed fit only
+   once it is known.
 5. What isn't believed then is set aside by name (`Doubts`).
 
 Each step returns new `Numbers`, and leaves those that it was given as they were. All later modules ask `Numbers.off` or
@@ -22,9 +24,9 @@ from ldvbi import Kind
 from .believed import Numbers, no_numbers, numbers_of_readings
 from .chain import chain
 from .doubts import Doubts, numbers_aside, second_rows
-from .order import with_speeds, with_swaps
+from .order import with_loops, with_pictures_between, with_speeds, with_swaps, with_turned
 from .paces import RATES, Unit, pace_of
-from .readings import Codes
+from .readings import WEIGHTS, Codes
 from .times import times_of
 
 
@@ -45,6 +47,8 @@ def pictures_of(codes: Codes) -> Tuple[Numbers, Doubts]:
     # a field with a chapter is the second one of its picture, unless both have the number
     others = set() if pace.kind == "both" else codes.sure_fields(Kind.chapter)
     numbers = numbers_of_readings(Unit("picture", RATES[system]), pace, chain(readings, pace), others)
-    numbers = with_speeds(numbers, readings)
+    numbers = numbers._replace(firm={one.field: one.number for one in readings if one.weight == 2 * WEIGHTS[1]})
+    numbers = with_pictures_between(with_loops(numbers, readings), readings)
+    numbers = with_turned(with_speeds(numbers, readings), readings)
     numbers = with_swaps(numbers, readings, {reading.field for reading in readings})
     return numbers, numbers_aside(codes, numbers, readings)._replace(second_rows=second_rows(numbers, readings))

@@ -1,10 +1,11 @@
-"""Numbers in another order than the disc's: fields that a capture has written in each other's place, so that a number
-stands one field before or behind its own; and stretches that were played at another speed, whose numbers go by in
-other steps, backwards, or three times each."""
+"""Numbers in another order than the disc's: a few pictures that were played again and again; fields that a capture has
+written in each other's place, so that a number stands one field before or behind its own; and stretches that were
+played at another speed, whose numbers go by in other steps, backwards, or three times each."""
 
 import bisect
 import math
-from typing import Callable, Collection, Dict, List, Mapping
+from collections import Counter
+from typing import Callable, Collection, Counter as Counted, Dict, List, Mapping
 
 from .believed import APART, SLOW, Line, Numbers, Stretch, line_from, meeting
 from .paces import Pace, price
@@ -13,6 +14,89 @@ from .readings import WEIGHTS, Reading
 LEAST = 8  # readings of a stretch
 FEWEST = 3  # different numbers of it
 STEPS = (2, 3, -1, -2, -3)  # numbers from one picture to the next
+ROUNDS = 2  # of a loop
+# By hand: numbers from one that is shown to the next, fields in which there are so many breaks and such numbers beside
+TURN, TURNED, SIGNS = 5, 40, 3
+
+
+# ---- Loops, and stills one after the other
+
+def with_loops(numbers: Numbers, readings: List[Reading]) -> Numbers:
+    """These numbers, with those that were shown between two showings of one number, if that is so twice or more. A few
+    pictures that are played again and again weigh less than the breaks between them, so the chain takes them for a
+    still; but a still has no other number in between."""
+    if numbers.pace is None or numbers.pace.kind == "minute":
+        return numbers
+    fields, last = [one.field for one in readings], None
+    found: List[List[Reading]] = []
+    rounds: List[List[Reading]] = []  # of the last still
+    for before, after in zip(numbers.believed, numbers.believed[1:]):
+        if before.number != after.number:
+            continue
+        if before is not last:
+            found += rounds if len(rounds) >= ROUNDS else []
+            rounds = []
+        between = readings[bisect.bisect(fields, before.field):bisect.bisect_left(fields, after.field)]
+        ones = {one.field: one for one in _that_go_on(numbers.pace, before, between, after)}
+        rounds += [list(ones.values())] if ones else []
+        last = after
+    found += rounds if len(rounds) >= ROUNDS else []
+    more = [one for ones in found for one in ones]
+    return numbers.believing(sorted(numbers.believed + more, key=lambda one: one.field)) if more else numbers
+
+
+def with_pictures_between(numbers: Numbers, readings: List[Reading]) -> Numbers:
+    """These numbers, with those between two stills that don't fit each other: of a player that is stepped from picture
+    to picture. Each is two breaks, and weighs less, but one break is there in any case. A number counts that was read
+    in pass 1 on both lines, or as often on one."""
+    if numbers.pace is None or numbers.pace.kind not in ("video", "film"):
+        return numbers
+    believed = numbers.believed
+    more: List[Reading] = []
+    fields: List[int] = []
+    for one, before, after, other in zip(believed, believed[1:], believed[2:], believed[3:]):
+        if one.number != before.number or after.number != other.number or numbers.off(before, after) in (None, 0):
+            continue
+        fields = fields or [reading.field for reading in readings]
+        between = readings[bisect.bisect(fields, before.field):bisect.bisect_left(fields, after.field)]
+        weights: Counted[int] = Counter()
+        for reading in between:
+            weights[reading.number] += reading.weight
+        if len({reading.field for reading in between}) == len(between):
+            more += [reading for reading in between if weights[reading.number] >= 2 * WEIGHTS[1]]
+    return numbers.believing(sorted(believed + more, key=lambda one: one.field)) if more else numbers
+
+
+def with_turned(numbers: Numbers, readings: List[Reading]) -> Numbers:
+    """These numbers, with those that a disc showed while it was turned by hand: near those before and behind it, among
+    breaks that are as near. The chain passes over them where two others fit by chance."""
+    if numbers.pace is None or numbers.pace.kind not in ("video", "film"):
+        return numbers
+    taken, near, breaks = set(numbers.fields), [], []
+    for one in readings:
+        if one.field not in taken and one.weight >= WEIGHTS[1]:
+            around = [other for other in numbers.around(one.field) if other]
+            if all(abs(other.number - one.number) <= TURN and abs(other.field - one.field) <= TURNED for other in around):
+                near.append(one)
+    for one, other in zip(numbers.believed, numbers.believed[1:]) if near else ():
+        if abs(other.number - one.number) <= TURN and numbers.off(one, other) not in (None, 0):
+            breaks.append(other.field)
+    fields = sorted(breaks + [one.field for one in near])
+    more = {one.field: one for one in near if
+            bisect.bisect(fields, one.field + TURNED) - bisect.bisect_left(fields, one.field - TURNED) > SIGNS}
+    return numbers.believing(sorted(numbers.believed + list(more.values()), key=lambda one: one.field))
+
+
+def _that_go_on(pace, before, between, after):
+    """Those of these readings that go on from the one before, or to the one behind."""
+    for one in between:
+        for variant in range(pace.variants) if one.number != before.number else ():
+            from_before = pace.off(one.field - before.field, before.number, one.number - before.number, before.variant,
+                                   variant)
+            to_after = pace.off(after.field - one.field, one.number, after.number - one.number, variant, after.variant)
+            if 0 in (from_before, to_after):
+                yield one._replace(variant=variant)
+                break
 
 
 # ---- Other speeds

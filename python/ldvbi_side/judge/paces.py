@@ -7,6 +7,8 @@ from typing import Any, List, NamedTuple, Optional, Union
 from .readings import Reading
 
 RATES = {"NTSC": 30, "PAL": 25}  # numbers of a second
+# Fields of a minute: at least, in the middle, at most. NTSC has 59.94 in a second, and its clock isn't exact.
+MINUTE_FIELDS = {"NTSC": (3590, 3596, 3600), "PAL": (3000, 3000, 3000)}
 FILM = 10  # pictures to one of 3 fields, at most
 
 
@@ -73,23 +75,28 @@ class Pace:
 
 
 class MinutePace:
-    """The pace of minutes, each of which stands on all its fields, of which it has so many."""
+    """The pace of minutes, each of which stands on all its fields. It has about `fields` of them, at least `shortest`
+    and at most `longest`."""
     kind, variants, change, period, least = "minute", 1, 0, 1, 1
 
-    def __init__(self, fields: int) -> None:
-        self.fields = fields
+    def __init__(self, system: str) -> None:
+        self.shortest, self.fields, self.longest = MINUTE_FIELDS[system]
 
     def least_off(self, fields: int, number: int, step: int) -> int:
         """As `Pace` has it."""
         return self.off(fields, number, step)
 
     def off(self, fields: int, number: int, step: int, variant: int = 0, other: int = 0) -> int:
-        apart = fields - step * self.fields
-        return 0 if step >= 0 and abs(apart) < self.fields else apart
+        return fields - step * self.fields if step < 0 or self.least_wrong(fields, step) else 0
 
     def numbers_in(self, fields: int) -> int:
         """How many minutes as many fields have at least, one after the other."""
         return fields // self.fields
+
+    def least_wrong(self, fields: int, step: int) -> int:
+        """The fields that are too many (or, negative, too few) at least, of two fields with minutes as far apart."""
+        few, many = (step - 1) * self.shortest + 1, (step + 1) * self.longest - 1
+        return min(fields - few, 0) or max(fields - many, 0)
 
 
 class ChapterPace:
@@ -120,9 +127,11 @@ AnyPace = Union[Pace, MinutePace, ChapterPace]
 
 def pace_of(readings: List[Reading], may_be_film: bool) -> Pace:
     """The numbers stand on both fields where a tenth of the steps from reading to reading is to the same number in the
-    next field: of a worn disc few pictures are read in both. A disc that may be film is one where at least one picture
-    in ten has 3 fields."""
-    steps = Counter((other.field - one.field, other.number - one.number) for one, other in zip(readings, readings[1:]))
-    if 10 * steps[1, 0] > len(readings):
+    next field: of a worn disc few pictures are read in both. Such steps in a row are one, since that is a field which
+    was frozen. A disc that may be film is one where at least one picture in ten has 3 fields."""
+    each = [(other.field - one.field, other.number - one.number) for one, other in zip(readings, readings[1:])]
+    steps = Counter(each)
+    in_a_row = sum(one == other == (1, 0) for one, other in zip(each, each[1:]))
+    if 10 * (steps[1, 0] - in_a_row) > len(readings):
         return Pace("both")
     return Pace("film" if may_be_film and FILM * steps[3, 1] >= max(steps[2, 1] + steps[3, 1], 1) else "video")

@@ -1,27 +1,38 @@
-"""What lies between each believed number and the next: nothing, fields in which a number is due, or a break."""
+"""What lies between each believed number and the next: nothing, fields in which a number is due, a break, or the end of
+one side and the start of another."""
 
+import bisect
 from typing import Dict, List, NamedTuple, Set, Tuple
 
+from ldvbi import Kind
 from .believed import Numbers, off_at_speed, passed_between
 from .clock import WIDE, Clock, Gap, Played, clock_of
-from .paces import Pace
-from .readings import Answer, Reading
+from .minutes import minute_breaks
+from .paces import MinutePace, Pace
+from .readings import Answer, Codes, Reading
+from .sparse import spacing_of
 
+NEAR = (-3, -2, -1, 1, 2, 3)  # fields from a number to those before and behind it
 Due = List[Tuple[int, int]]
 
 
 class Places(NamedTuple):
-    """Where the numbers of a side are. `showings` are lists of a number, its first and its last field; `due` are pairs
-    of a number that isn't there and the field that it belongs to; `without_field` are numbers that aren't there, where
-    no field is too few, and whose field isn't known. `clock` judges the numbers of an NTSC disc that may have been left
-    out by its clock. `number_of` has the number of each field that shows one or in which one is due. `confirmed` are
-    the fields whose number was due, and counts as shown since it is the nearest word of their lines."""
+    """Where the numbers of a side are. `showings` are lists of a number, its first and its last field; `joins` are the
+    readings between which another side begins; `due` are pairs of a number that isn't there and the field that it
+    belongs to; `without_field` are numbers that aren't there, where no field is too few, and whose field isn't known;
+    `open` are those in whose place another number was played, and `unshown` those that the disc doesn't show.
+    `clock` judges the numbers of an NTSC disc that may have been left out by its clock. `number_of` has the number of
+    each field that shows one or in which one is due. `confirmed` are the fields whose number was due, and counts as
+    shown since it is the nearest word of their lines."""
     numbers: Numbers
     showings: List[List[int]]
     breaks: List[Answer]
+    joins: List[Tuple[Reading, Reading]]
     stills: List[Answer]
     due: Due
     without_field: Set[int]
+    open: Set[int]
+    unshown: Set[int]
     clock: Clock
     number_of: Dict[int, int]
     confirmed: List[int] = []
@@ -38,27 +49,44 @@ class Places(NamedTuple):
 
 class _Step(NamedTuple):
     """Two believed readings, one behind the other. `kind` is `same` (one showing of a number), `still` (it is shown
-    again), `next` (they fit), `speed` (they fit at another speed), `gap` (the clock may have left out what is between
-    them) or `break`; `off` are the fields that are too many or too few."""
+    again), `next` (they fit), `speed` (they fit at another speed), `join` (another side begins between them), `gap`
+    (the clock may have left out what is between them) or `break`; `off` are the fields that are too many or too few."""
     before: Reading
     after: Reading
     kind: str
     off: int = 0
 
 
-def places_of(numbers: Numbers, system: str) -> Places:
+def places_of(numbers: Numbers, codes: Codes) -> Places:
     """The places of these numbers."""
-    may_leave_out = numbers.unit.name == "time" and system == "NTSC"
+    may_leave_out = numbers.unit.name == "time" and codes.fields.system == "NTSC"
+    ends = sorted(codes.sure_fields(Kind.lead_in) | codes.sure_fields(Kind.lead_out))
     steps = [_step(numbers, before, after, may_leave_out)
              for before, after in zip(numbers.believed, numbers.believed[1:])]
-    due, without_field = _due(numbers, steps)
-    clock = clock_of(_played(steps))
+    joins = [(step.before, step.after) for step in steps if ends and _is_join(step, ends)]
+    steps = [_joined(step) if (step.before, step.after) in set(joins) else step for step in steps] if joins else steps
+    due, without_field, unshown = _due(numbers, steps, codes)
+    turned, due = _turned(numbers, due, without_field)
+    clock, showings = clock_of(_played(steps)), _showings(numbers.believed, steps)
     breaks = [_break(numbers, step.before, step.after, step.off) for step in steps if step.kind == "break"]
     breaks += [_break(numbers, before, after, numbers.off(before, after)) for before, after in clock.breaks]
+    if isinstance(numbers.pace, MinutePace):
+        breaks += minute_breaks(numbers.pace, showings, ends)
     number_of = {field: number for number, field in due}
     number_of.update((reading.field, reading.number) for reading in numbers.believed)
-    return Places(numbers, _showings(numbers.believed, steps), sorted(breaks, key=lambda one: one["after"]),
-                  _stills(numbers.believed, steps), due, without_field, clock, number_of)
+    return Places(numbers, showings, sorted(breaks, key=lambda one: one["after"]),
+                  joins, _stills(numbers.believed, steps), due, without_field, turned, unshown, clock, number_of)
+
+
+def _is_join(step, ends):
+    """Whether lead-in or lead-out stands between two readings that don't fit, so that another side begins there."""
+    return step.kind in ("still", "gap", "break") and (
+        bisect.bisect(ends, step.before.field) < bisect.bisect_left(ends, step.after.field))
+
+
+def _joined(step):
+    """The step as one to another side. Where the numbers go back, it stays a break, too."""
+    return step if step.after.number < step.before.number else step._replace(kind="join")
 
 
 def _step(numbers, before, after, may_leave_out):
@@ -104,20 +132,45 @@ def _stills(believed, steps):
     return stills
 
 
-def _due(numbers, steps):
-    """The numbers between those that fit, each with the field in which it is due, and those that no field is for."""
-    found, without_field = [], set()
+def _due(numbers, steps, codes):
+    """The numbers between those that fit, each with the field in which it is due; those that no field is for; and those
+    that the disc doesn't show."""
+    found, without_field, unshown, spacing = [], set(), set(), spacing_of(numbers)
     for before, after, kind, _ in steps:
         if kind == "speed":
             found += passed_between(numbers, before, after)
         elif kind == "next" and after.number - before.number > 1:
             if isinstance(numbers.pace, Pace):
-                found += _due_between(numbers, before, after)
+                due = _due_between(numbers, before, after)
+                if spacing > 1:
+                    empty = {number for number, field in due if (number - before.number) % spacing and
+                             codes.fields.causes[field - 1][0] == "blank"}
+                    unshown |= empty
+                    due = [one for one in due if one[0] not in empty]
+                found += due
             else:  # of a minute that wasn't read no field is the first one
                 without_field.update(range(before.number + 1, after.number))
     # a field that shows a code in the place of a number has none
     without_field.update(number for number, field in found if field in numbers.others)
-    return [(number, field) for number, field in found if field not in numbers.others], without_field
+    return [(number, field) for number, field in found if field not in numbers.others], without_field, unshown
+
+
+def _turned(numbers, due, without_field):
+    """The numbers in whose field another one was read in pass 1 on both lines, if that was played there: it is at most
+    one off what a field beside it shows, as where a disc is turned by hand. And those due in a field that shows no such
+    number. The others are misread, so that no field is too few."""
+    turned, left, shown = set(), [], {}
+    if numbers.firm:
+        shown = {**numbers.firm, **{one.field: one.number for one in numbers.believed}}
+    for number, field in due:
+        said = numbers.firm.get(field)
+        if said is None:
+            left.append((number, field))
+        else:
+            near = [shown.get(field + step) for step in NEAR if field + step in shown]
+            is_played = any(abs(said - one) <= 1 for one in near)
+            (turned if is_played else without_field).add(number)
+    return turned, left
 
 
 def _due_between(numbers, before, after):
@@ -137,7 +190,7 @@ def _played(steps):
             count += step.after.number - step.before.number
             if step.kind == "gap":
                 gaps.append(Gap(step.before, step.after, -step.off // 2))
-        elif step.kind == "break" and abs(step.off) >= WIDE:
+        elif step.kind == "join" or step.kind == "break" and abs(step.off) >= WIDE:
             played.append(Played(count, gaps))
             count, gaps = 1, []
     return played + [Played(count, gaps)]
@@ -147,5 +200,7 @@ def _break(numbers, before, after, off):
     kind = "lost" if off < 0 else "held"
     if after.number < before.number and off_at_speed(numbers, before, after) is None:
         kind = "back"
+    elif isinstance(numbers.pace, MinutePace):
+        off = numbers.pace.least_wrong(after.field - before.field, after.number - before.number)
     return {"kind": kind, "after": before.field, "before": after.field, "from": before.number, "to": after.number,
             "fields": abs(off)}

@@ -10,12 +10,10 @@ from ldvbi import Kind
 from .believed import Around, Line, Numbers, no_numbers, numbers_of_readings
 from .chain import chain
 from .doubts import Doubts, conflict_of, doubts_of, numbers_aside, second_rows
-from .order import with_speeds, with_swaps
+from .order import with_loops, with_speeds, with_swaps
 from .paces import RATES, MinutePace, Unit, minute_text, pace_of
 from .readings import WEIGHTS, Answer, ByField, Codes, Lines, Reading
 
-# Fields of a minute. NTSC has 59.94 fields in a second, of which a minute has 3,596 or 3,597.
-MINUTE_FIELDS = {"NTSC": 3596, "PAL": 3000}
 CARRIED = 1  # seconds that are lost at most where a minute is carried over although others were read
 
 
@@ -95,7 +93,7 @@ def _minutes_alone(times):
     doubtful = [one for field in times.parts for one in doubts_of(codes, field, (16,), None, "minute")]
     if not readings:
         return no_numbers(system), Doubts(doubtful, [], [])
-    pace = MinutePace(MINUTE_FIELDS[system])
+    pace = MinutePace(system)
     numbers = numbers_of_readings(Unit("minute", RATES[system]), pace, chain(readings, pace), set())
     doubts = numbers_aside(codes, numbers, readings)
     return numbers, doubts._replace(doubtful=doubtful + doubts.doubtful)
@@ -107,10 +105,11 @@ def _believed(times, readings):
     codes, pace = times.codes, pace_of(readings, False)
     others = set().union(*map(codes.sure_fields, (Kind.chapter, Kind.cx_on, Kind.cx_off)))
     numbers = numbers_of_readings(Unit("time", times.rate), pace, chain(readings, pace), others)
-    more = _completions(times, numbers, readings)
+    more, known = _completions(times, numbers, readings), readings
     if more:
-        numbers = numbers.believing(chain(sorted(readings + more, key=lambda one: one.field), pace))
-    numbers = with_speeds(numbers, readings, times.of_line)
+        known = sorted(readings + more, key=lambda one: one.field)
+        numbers = numbers.believing(chain(known, pace))
+    numbers = with_speeds(with_loops(numbers, known), readings, times.of_line)
     numbers = with_swaps(numbers, readings, times.parts)
     numbers = numbers._replace(
         completed=frozenset(reading.field for reading in numbers.believed if reading.lines == (16,)))
