@@ -79,12 +79,13 @@ def columns(faults):
 def of_documents(geometry):
     """Returns triples: a document, a pattern of it, and the numbers that the source has for it."""
     edits = len(glob.glob("crates/*/must-fail/*.edit"))
-    whole = of_source(COMMAND, r"status (\d) \w+ it is whole, else (\d)")
+    whole = of_source(COMMAND, r"status (\d) \w+ it is whole, (\d) if it isn't, (\d) if that can't be told")
     cut, = of_source(COMMAND, r"^def _cut_status\(.*\n(?:    .*\n)*?    return ([1-9])$")
     gate = of_source("tests/gate.sh", r"^minutes='(\d+) to (\d+)'$")
     return [("docs/PROMISES.md", rf"Of {NUMBER} wrong bodies", [edits]),
             ("README.md", rf"every check[^|\n]*?{NUMBER} to {NUMBER} minutes", gate),
-            ("docs/SIDES.md", rf"`--summary` \|[^\n]*\| {NUMBER} \w+ it is whole, else {NUMBER} \|", whole),
+            ("docs/SIDES.md", rf"`--summary` \|[^\n]*\| {NUMBER} \w+ it is whole, {NUMBER} where it isn't, {NUMBER} where "
+             "that can't be told \\|", whole),
             ("docs/SIDES.md", rf"`--json` \|[^\n]*\| {NUMBER} \w+ the last field is cut, else {NUMBER} \|", [cut, 0]),
             ] + [("docs/SIGNAL.md", pattern, numbers) for pattern, numbers in glitches(geometry)]
 

@@ -45,14 +45,14 @@ python_side|out|"vbiPass"|"vbiPaSS"
 python_side|hangs
 python_side|python/ldvbi/classes.py|s/Kind.lead_in, "lead-in"/Kind.lead_in, "lead-out"/
 python_side|python/ldvbi_side/command/tables.py|s/"field", "frame", /"frame", "field", /
-side_schema|share/schema/ldvbi-side.schema.json|s/"damaged", //
+side_schema|share/schema/ldvbi-side.schema.json|s/"unread", "breaks"/"breaks"/
 side_schema|share/schema/ldvbi-side.schema.json|s/"enum": \[1820, 2270\]/"type": "integer"/
 side_schema|share/schema/ldvbi-recovered.schema.json|s/{"const": 3}\]},$/{"enum": [2, 3]}]},/
 side_schema|tests/python/answers.py|/yield "clock"/d
 side_schema|tests/validate_parts.py|s/self.validator.is_valid(document)/True/
 drawing|out|"blank"|"plank"
 drawing|hangs
-drawing|python/ldvbi_side/draw/marks.py|s/"missing: %s, after/"mizzing: %s, after/
+drawing|python/ldvbi_side/draw/marks.py|s/"%s: %s, after field/"%s: %s, behind field/
 drawing|docs/pictures/clv.svg|s/class="run"/class="ran"/
 jq_and_python|out|"vbiPass"|"vbiPaSS"
 jq_and_python|hangs
@@ -113,7 +113,7 @@ docs|docs/PROMISES.md|s/[0-9]* by a goal/1 by a goal/
 docs|docs/FORMATS.md|s/^. Picture stop (CAV) . 16 and 17/\x7c Picture stop (CAV) \x7c 17 and 18/
 docs|docs/FORMATS.md|s/^kind,number,field,frame,how/kind,number,frame,field,how/
 docs|docs/SIDES.md|s/chapter,time,stop,doubt/chapter,stop,time,doubt/
-docs|docs/SIDES.md|s/ 0 where it is whole, else 1/ 0 where it is whole, else 3/
+docs|docs/SIDES.md|s/ 1 where it isn't, 4 where/ 1 where it isn't, 3 where/
 docs|docs/SIGNAL.md|s/^glitch    \.*#####\.\.\./&./
 docs|docs/SIGNAL.md|s/one to three columns turned over/one to four columns turned over/
 docs|docs/SIGNAL.md|s/with five lows/with four lows/

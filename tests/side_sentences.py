@@ -14,7 +14,7 @@ def sentences_of():
     sys.path.insert(0, os.path.join(TOP, "python"))
     from ldvbi_side.command import summary
     from ldvbi_side.draw import page
-    from ldvbi_side.judge import answer, believed, chain, clock, lines, missing
+    from ldvbi_side.judge import answer, believed, chain, clock, ends, lines, missing
     from ldvbi_side.judge import order, paces, parts, readings, times, whole
     one, picture, ten, many = map(paces.price, (1, 2, 20, 20000))
     chapter, ntsc, pal = paces.ChapterPace, paces.RATES["NTSC"], paces.RATES["PAL"]
@@ -44,7 +44,8 @@ def sentences_of():
         f"There are at most {believed.APART} fields from one of them to the next.",
         f"and than {one} for each end.",
         f"show words of their own in less than one of {lines.FEW} lines,",
-        f"the least number is greater than {max(whole._FIRST['picture'])}, on CLV",
+        f"the least number is greater than {max(ends.FIRST['picture'])}, on CLV",
+        f"more than {ends.LONGEST} fields before the first number, or behind the last one, show none",
         f"codes of the other format stand {whole.NEAR} fields from each other or less;",
         f"a {ORDINALS[whole.SHARE]} or more of the fields with numbers have one that was set aside",
         f"The members of `--json`, version {answer.VERSION}.",

@@ -61,7 +61,7 @@ def _numbered(answer, wanted):
         def fits(number):
             return number == begin or number.startswith(begins)
     found = [(field, True, None) for number, field, _ in answer["showings"] if fits(number)]
-    return found + [(one["field"], False, one["read"]) for one in answer["damaged"] if fits(one["number"])]
+    return found + [(one["field"], False, one["read"]) for one in answer["unread"] if fits(one["number"])]
 
 
 def text_of(found: Optional[Dict[str, Any]]) -> str:

@@ -4,13 +4,13 @@ from a document that `ldvbi extract` wrote. Fields are counted from 1."""
 import functools
 from typing import Any, Callable, Dict, Iterable, Iterator, List, Optional, Tuple
 
-from ldvbi import FieldReadings, Reading, Stream, System, format_of, read_rows
+from ldvbi import FieldReadings, Reading, State, Stream, System, format_of, judge, read_rows
 from ldvbi.codes import code, codes_by_kind
 from ldvbi.document import read_document
 from ldvbi.readings import Cut, Levels, cause_text
 from ldvbi.stream import cut_of
 from .judge.answer import analyse
-from .judge.readings import Answer, Fields
+from .judge.readings import Answer, Fields, Judge
 from .near import nearest_word_in
 from .seek import seek, wanted_of
 
@@ -21,8 +21,9 @@ RECOVERED = 3  # the pass of a recovered word
 class Side:
     """The whole fields of a side in their order, and the field in which it was cut. `first` says of each field whether
     it is the first one of its frame, or is None where that isn't known. `expected` is the number of fields that the
-    metadata has, or None; with `is_strict` a side without lead-in or lead-out isn't whole. `samples` is the stream from
-    which words were recovered, or None.
+    metadata has, or None; with `is_strict` a side without lead-in or lead-out, or with an unread number, isn't whole.
+    `samples` is the stream from which words were recovered, and `judge` asks the library's judge; None where they
+    aren't at hand.
 
     `answer` is what the words mean, as docs/SIDES.md describes it; `pictures`, `times`, `chapters`, `stops` and
     `format` are parts of it. `codes` is what each field says, judged by nothing."""
@@ -36,6 +37,7 @@ class Side:
         self.levels = levels
         self.first = first
         self.samples = samples
+        self.judge: Optional[Judge] = None
         self.expected: Optional[int] = None
         self.is_strict = False
 
@@ -53,7 +55,7 @@ class Side:
         cut = self.cut and {"seqNo": self.cut.field, "bytes": self.cut.bytes}
         nearest_word = functools.partial(nearest_word_in, self.samples) if self.samples else None
         return Fields(self.system.name, words, passes, causes, cut, self.first, self.expected, self.is_strict,
-                      nearest_word)
+                      nearest_word, self.judge)
 
     @functools.cached_property
     def answer(self) -> Answer:
@@ -116,8 +118,20 @@ def side_of_stream(stream: Stream, over: Callable[[Stream], Iterable[FieldReadin
         for index, field in enumerate(readings):
             if RECOVERED in (field.first.pass_, field.second.pass_, field.third.pass_):
                 readings[index] = _with_causes(field, stream, index)
-    return Side(stream.system, readings, cut_of(stream), Levels(stream.black, stream.white), first,
+    side = Side(stream.system, readings, cut_of(stream), Levels(stream.black, stream.white), first,
                 stream if stream.recover else None)
+    side.judge = _judge_of(readings, stream.system)
+    return side
+
+
+def _judge_of(readings: List[FieldReadings], system: System) -> Optional[Judge]:
+    """What asks the library's judge about these readings; None where the library is too old to have one."""
+    try:
+        judge((), system)
+    except OSError:
+        return None
+    return lambda counted, pace: {field: one.number for field, one in enumerate(
+        judge(readings, system, counted, pace), 1) if one.state == State.believed and one.number is not None}
 
 
 def _with_causes(field: FieldReadings, stream: Stream, index: int) -> FieldReadings:

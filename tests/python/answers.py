@@ -38,6 +38,7 @@ def hand_made():
     yield "speed", answer(times(range(0, 60, 3)))
     yield "confirmed", analyse(plain(pictures([1, 2, 3, 4])[:4] + ["- ? ?", BLANK] + pictures([4, 5, 6]))._replace(
         nearest_word=lambda *_: 0xF00003))
+    yield "judged", analyse(plain(pictures(range(1, 9)))._replace(judge=lambda *_: {1: 1, 3: 2, 5: 4}))
     yield "far", answer(pictures(range(1, 31)) + pictures(range(60001, 60031)) + pictures([60030] * 9))
 
 

@@ -53,10 +53,10 @@ class Comparison:
         """Which numbers are missing and why; of those that are undecided, how many there are of each."""
         answer, truth = self.answer, self.truth
         missing = {why: self._numbers_in(one for one in answer["missing"] if one["why"] == why)
-                   for why in ("damaged", "lost", "undecided")}
+                   for why in ("unread", "lost", "undecided")}
         undecided = missing["undecided"]
         self.counts["undecided"] = len(undecided)
-        for why in ("damaged", "lost"):
+        for why in ("unread", "lost"):
             self.counts["undecided, " + why] = sum(truth.missing.get(number) == why for number in undecided)
             self.counts[why + " numbers"] = len(missing[why])
             self.counts[why + " numbers found"] = sum(truth.missing.get(number) == why for number in missing[why])
@@ -79,10 +79,10 @@ class Comparison:
         self.counts["numbers"] = len(showings)
         self.counts["numbers found"] = sum(numbers[field - 1] == number for number, field in showings)
         self._exact("first fields", _firsts(showings), truth.read)
-        due = {(self._number_of(one["number"]), one["field"]) for one in self.answer["damaged"]}
+        due = {(self._number_of(one["number"]), one["field"]) for one in self.answer["unread"]}
         self.counts["due"] = len(due)
         self.counts["due found"] = sum(numbers[field - 1] == number for number, field in due)
-        self._share("damaged fields", due, truth.due)
+        self._share("unread fields", due, truth.due)
         for number, field in sorted(due):
             if numbers[field - 1] != number:
                 self.tell("due in the wrong field", (number, field))
@@ -128,13 +128,20 @@ class Comparison:
         self._share("speeds", found, set(truth.speeds))
 
     def _compare_reasons(self):
-        """Whether the side is whole, and each reason of which the truth says whether it holds."""
-        wanted = Reasons(self.truth).of_why
+        """Whether the side is whole, and each reason of which the truth says whether it holds. That it can't be told is
+        never wrong."""
+        reasons, said = Reasons(self.truth), self.answer["whole"]
+        is_lacking = any(reasons.no.values())
+        is_known = is_lacking or None not in reasons.no.values()
+        self.counts["said " + said] = 1
+        self.counts["whole"] = int(not is_known or said != ("yes" if is_lacking else "no"))
+        if not self.counts["whole"]:
+            self.tell("whole", said)
+        wanted = {**reasons.no, **reasons.open}
         found = {one["why"] for one in self.answer["reasons"]}
+        if "undecided" in found:
+            wanted["missing"] = None
         sure = {why for why, holds in wanted.items() if holds is not None}
-        has_reason = any(wanted.values())
-        is_known = has_reason or None not in wanted.values()
-        self.counts["whole"] = int(not is_known or self.answer["whole"] != has_reason)
         self._exact("reasons", found & sure, {why for why in sure if wanted[why]})
 
 

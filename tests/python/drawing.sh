@@ -95,7 +95,8 @@ shows 'a disc with faults: its head and its counts' << 'END'
 title 150 28 side.vbi.json = side.vbi.json
 system NTSC, CAV, 64 fields, 21 pictures, 1 to 27
 count stops: 2
-count missing: 6
+count lost: 2
+count unread: 4
 count lost fields: 4
 count jumps: 1
 count stills: 1
@@ -116,11 +117,11 @@ chapter-line 195 248 488
 chapter-line 555 248 488
 END
 shows 'a disc with faults: the lanes' << 'END'
-missing 15-15 360-375 = missing: 7 to 8, after field 13, before field 15: no field is there for it
-missing 28-30 555-600 = missing: 14, after field 27, before field 31: fields are there for it, and none shows it
-missing 34-36 645-690 = missing: 17, after field 33, before field 37: fields are there for it, and none shows it
-missing 40-42 735-780 = missing: 20, after field 39, before field 43: fields are there for it, and none shows it
-missing 46-48 825-870 = missing: 23, after field 45, before field 49: fields are there for it, and none shows it
+lost 15-15 360-375 = lost: 7 to 8, after field 13, before field 15: no field is there for it
+unread 28-30 555-600 = unread: 14, after field 27, before field 31: fields are there for it, and none shows it
+unread 34-36 645-690 = unread: 17, after field 33, before field 37: fields are there for it, and none shows it
+unread 40-42 735-780 = unread: 20, after field 39, before field 43: fields are there for it, and none shows it
+unread 46-48 825-870 = unread: 23, after field 45, before field 49: fields are there for it, and none shows it
 lost-fields 15-15 360-375 = lost: 4 fields between fields 13 and 15, by the numbers
 jumps 55-55 960-975 = back from 26 in field 53 to 24 in field 55
 stills 19-23 420-495 = 11 stands still in fields 19 to 23
@@ -129,11 +130,7 @@ shown-again 55-59 960-1035 = 24 to 26 again in fields 55 to 59; first shown in f
 stray-codes 12-12 315-330 = stray: clv in field 12, line 17, pass 1: a code of the other format
 END
 shows 'a disc with faults: what crosses the curve' << 'END'
-upright 15-15 360-375 = missing: 7 to 8, after field 13, before field 15: no field is there for it
-upright 28-30 555-600 = missing: 14, after field 27, before field 31: fields are there for it, and none shows it
-upright 34-36 645-690 = missing: 17, after field 33, before field 37: fields are there for it, and none shows it
-upright 40-42 735-780 = missing: 20, after field 39, before field 43: fields are there for it, and none shows it
-upright 46-48 825-870 = missing: 23, after field 45, before field 49: fields are there for it, and none shows it
+upright 15-15 360-375 = lost: 7 to 8, after field 13, before field 15: no field is there for it
 upright 15-15 360-375 = lost: 4 fields between fields 13 and 15, by the numbers
 upright 55-55 960-975 = back from 26 in field 53 to 24 in field 55
 END
@@ -156,7 +153,7 @@ run 37-39 2 698 332 728 324 = 18 to 19 in fields 37 to 39
 run 43-45 2 788 306 818 297 = 21 to 22 in fields 43 to 45
 run 49-53 3 878 279 938 261 = 24 to 26 in fields 49 to 53
 run 55-61 4 968 279 1058 252 = 24 to 27 in fields 55 to 61
-axis 630 674 field
+axis 630 692 field
 END
 shows 'a disc with faults: its lines' << 'END'
 line-16 1-6 150-240 blank 28 = line 16, fields 1 to 6: blank
@@ -175,7 +172,7 @@ check 'the drawing of a TBC file' [ "$(sed 's/side.tbc/side.vbi.json/g' side.svg
 check 'the summary is printed too' grep -qx 'system: NTSC, CAV' out
 check 'its status' [ "$status" = 1 ]
 told side.vbi.json --svg absent/side.svg
-check 'a drawing that cannot be written' [ "$status $(wc -l < err)" = '1 1' ]
+check 'a drawing that cannot be written' [ "$status $(wc -l < err)" = '2 1' ]
 check 'what is said of it' grep -q 'ldvbi-side: .* No such file or directory: .*absent/side.svg' err
 
 # A CLV disc of PAL: 40 fields, 24 pixels each, from 0:59:59.15 to 1:00:00.09. Its mark is on line 17, the minutes of
@@ -202,8 +199,8 @@ number-label 140 382 1:00:00
 number-label 140 330 1:00:00.05
 number-label 140 278 1:00:00.10
 axis 36 368 time
-missing 24-26 702-774 = missing: 1:00:00.02, after field 23, before field 27: fields are there for it, and none shows it
-missing 33-33 918-942 = missing: 1:00:00.06 to 1:00:00.08, after field 31, before field 33: no field is there for it
+lost 33-33 918-942 = lost: 1:00:00.06 to 1:00:00.08, after field 31, before field 33: no field is there for it
+unread 24-26 702-774 = unread: 1:00:00.02, after field 23, before field 27: fields are there for it, and none shows it
 lost-fields 33-33 918-942 = lost: 6 fields between fields 31 and 33, by the numbers
 doubtful 9-9 342-366 = doubtful: time 0:58 in field 9, line 18, pass 1: the numbers around it fit each other (0:59:59.18 in field 7, 0:59:59.20 in field 11)
 doubtful 13-13 438-462 = doubtful: time 9:59 in field 13, line 18, pass 1: the numbers around it fit each other (0:59:59.20 in field 11, 0:59:59.22 in field 15)
@@ -214,7 +211,7 @@ run 27-31 3 786 347 882 326 = 1:00:00.03 to 1:00:00.05 in fields 27 to 31
 run 33-39 4 930 284 1074 253 = 1:00:00.09 to 1:00:00.12 in fields 33 to 39
 doubt 9 M354.0 493.0 = doubtful: time 0:58 in field 9, line 18, pass 1: the numbers around it fit each other (0:59:59.18 in field 7, 0:59:59.20 in field 11)
 doubt 13 M450.0 243.0 = doubtful: time 9:59 in field 13, line 18, pass 1: the numbers around it fit each other (0:59:59.20 in field 11, 0:59:59.22 in field 15)
-axis 630 674 field
+axis 630 692 field
 END
 
 # Minutes alone: each stands on all its fields. 48 fields, 20 pixels each; the last minute stays to the end.
@@ -266,10 +263,10 @@ run 1-19199 961 150 488 1110 248 = 1 to 9600 in fields 1 to 19199
 END
 pictures 9600 'n % 96 == 48 || n == 5042' > many.json
 drawn many.json
-check 'many marks: the count' grep -qx 'count missing: 101' found
-check 'many marks: two that fall together are one' [ "$(grep -c '^missing ' found)" = 100 ]
-joined='missing: 5040, after field 10077, before field 10081: fields are there for it, and none shows it; and 1 more up'
-check 'many marks: what these say' grep -qx "missing 10078-10084 654-656 = $joined to field 10084" found
+check 'many marks: the count' grep -qx 'count unread: 101' found
+check 'many marks: two that fall together are one' [ "$(grep -c '^unread ' found)" = 100 ]
+joined='unread: 5040, after field 10077, before field 10081: fields are there for it, and none shows it; and 1 more up'
+check 'many marks: what these say' grep -qx "unread 10078-10084 654-656 = $joined to field 10084" found
 lacks 'many marks' upright doubt
 
 # Each cause, in a side without numbers and with a name that XML has to quote; levels that are wrong; a long name; and

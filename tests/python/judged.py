@@ -14,7 +14,7 @@ from collections import Counter, defaultdict
 
 import ldvbi
 from ldvbi import Counted, Pace, State
-from judged_truth import JudgedTruth
+from judged_truth import JudgedTruth, packed_of
 from ldvbi_side.judge.answer import analyse
 from measure import fields_of
 from simulate import KINDS, PLAYED, simulated
@@ -30,13 +30,6 @@ NAMES = ("sides", "fields", "sides of another pace", "right", "promised", "right
          *(name for asked in ASKED for name in (
              asked, *("%s, %s by the %s" % (asked, how, finder) for how in ("found", "wrong") for finder in FINDERS),
              asked + ", wrong by the judge where promised")))
-
-
-def packed_of(fields):
-    """Plain data as readings of the library. What a line shows instead of a word isn't judged."""
-    return b"".join(ldvbi.PACKED_FIELD.pack(*(part for word, of_pass in zip(words, passes)
-                                              for part in (0 if word else 1, of_pass, 0, word)))
-                    for words, passes in zip(fields.words, fields.passes))
 
 
 class Package:
@@ -57,7 +50,7 @@ class Package:
                        ldvbi.classify(words[line - 16]).kind == kind for line in lines):
                     self.believed[field - 1] = number
                     self.firsts.setdefault(number, field - 1)
-        for one in answer["damaged"] if lines else ():
+        for one in answer["unread"] if lines else ():
             number = number_of(one["number"], rate, unit)
             self.due[one["field"] - 1] = number
             self.firsts.setdefault(number, one["field"] - 1)

@@ -11,6 +11,7 @@ import time
 from collections import Counter, defaultdict
 
 from comparison import Comparison
+from judged_truth import judge_of
 from ldvbi_side.judge.answer import analyse
 from ldvbi_side.judge.readings import Fields
 from simulate import KINDS, PLAYED, simulated
@@ -18,7 +19,7 @@ from sound import faults_of
 from truth import Truth
 
 SHARES = ("wrong", "right", "wrong chapters", "right chapters", "numbers", "due", "lost", "lost places", "backs",
-          "damaged numbers", "lost numbers", "damaged fields", "swaps", "speeds")
+          "unread numbers", "lost numbers", "unread fields", "swaps", "speeds")
 EXACT = ("missing", "left out", "first fields", "stops", "chapter table", "whole", "reasons")
 
 
@@ -35,12 +36,14 @@ def measured(seed, kind=None, parity=False, tell=lambda text: None, count=None, 
     can be asked for, and what holds of every answer can be left out."""
     side = simulated(seed, kind, count=count)
     fields = fields_of(side, parity)
+    fields = fields._replace(judge=judge_of(fields))
     begin = time.process_time()
     answer = analyse(fields)
     spent = time.process_time() - begin
     counts = Comparison(Truth(side), answer, lambda name, text: tell(
         "seed %d, %s, %s: %s: %s" % (seed, side.kind, side.settings, name, text))).counts
     counts["microseconds"] = round(1e6 * spent)
+    counts["judged otherwise"] = answer["judged"]["differ"] if answer["judged"] else 0
     for fault in faults_of(fields, answer) if sound else ():
         counts["faults"] += 1
         tell("seed %d, %s, %s: %s" % (seed, side.kind, side.settings, fault))
@@ -54,7 +57,9 @@ def print_table(totals):
                            for name in SHARES if counts[name])
         print("%s: %d sides; exact: %s; faults %d" % (kind, counts["sides"], exact, counts["faults"]))
         print("    found: %s; %.1f us a field" % (shares, counts["microseconds"] / counts["fields"]))
-        print("    undecided %(undecided)d, of these damaged %(undecided, damaged)d and lost %(undecided, lost)d; but "
+        print("    said: yes %(said yes)d, no %(said no)d, can't tell %(said can't tell)d; fields in which the library's "
+              "judge has another number: %(judged otherwise)d" % counts)
+        print("    undecided %(undecided)d, of these unread %(undecided, unread)d and lost %(undecided, lost)d; but "
               "for the clock's numbers inside a loss: missing exact %(missing but for hidden)d, left out exact "
               "%(left out but for hidden)d, lost %(lost and hidden)d more" % counts)
 

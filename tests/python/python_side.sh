@@ -102,7 +102,7 @@ judge 'metadata without isFirstField' 0 wanted_text 'ldvbi-side: without.json ha
 # Levels that can't be right are recognised, and the command that looks at a line is printed
 told side.tbc --system NTSC --black 1 --white 2 --summary
 grep '^levels: lines 17 and 18 have 0 words, 22 are bad, 0 blank: ' out > found
-check 'levels that are too low' [ "$status $(wc -l < found)" = '1 1' ]
+check 'levels that are too low' [ "$status $(wc -l < found)" = '4 1' ]
 sed -n 's/^levels: .* Look at one: //p' out > look.sh
 ln -s "$program" ldvbi
 status=0
@@ -163,10 +163,10 @@ done
 tail -c +505961 side.tbc | head -c 1820 | bounded "$program" line $ntsc > found
 check 'the offset is that of the line' [ "$(cat found)" = unfinished ]
 
-# What is refused: with status 1 and a line on standard error, or with status 2 where it is the command line
+# What is refused, with status 2 and a line on standard error
 side_of "$ntsc" < cav_words
 told side.vbi.json --system PAL
-judge 'refused: --system of a document' 1 empty \
+judge 'refused: --system of a document' 2 empty \
     'ldvbi-side: a document has its system and levels; they are options of a TBC file'
 for wrong in '--seek x' '--seek -1' '--csv --seek 1' '--system SECAM' '--black 1.0'; do
     told side.tbc $wrong

@@ -14,9 +14,9 @@ schema=$top/share/schema/ldvbi-side.schema.json
 mkdir answers
 status=0
 bounded python3 "$here/answers.py" answers < empty 2> err || status=$?
-check 'there are 26 answers' [ "$status $(find answers -name '*.json' | wc -l)" = '0 26' ]
+check 'there are 27 answers' [ "$status $(find answers -name '*.json' | wc -l)" = '0 27' ]
 validates "$schema" answers/*.json > said 2> err || status=$?
-check 'all of them are valid' [ "$status $(grep -c '^valid ' said)" = '0 26' ]
+check 'all of them are valid' [ "$status $(grep -c '^valid ' said)" = '0 27' ]
 # each list of the schema has an item in one of them, so that its form was looked at
 bounded jq -s -r '[.[] | to_entries[] | select(.value | type == "array" and length > 0) | .key] | unique[]' \
     answers/*.json < empty > full
@@ -33,7 +33,7 @@ status=0
 bounded "$(with_jsonschema)" "$tests/validate_parts.py" "$schema" places answers/*.json < empty > said 2> err ||
     status=$?
 cat said >> err
-check 'what may stand at each place, and what may not' [ "$status $(cat said)" = '0 215 places, 3667 documents' ]
+check 'what may stand at each place, and what may not' [ "$status $(cat said)" = '0 225 places, 3832 documents' ]
 # The document with recovered words, and what it may not be
 recovered=$top/share/schema/ldvbi-recovered.schema.json
 signal NTSC 1 << 'WORDS' | ntsc_samples > worn.tbc

@@ -33,8 +33,9 @@ class Sound:
             self.faults.append("a word is set aside twice")
         self._look_at_words()
         self._look_at_conflicts()
+        self._look_at_whole()
         if self.unit in OTHERS:
-            self._look_at_damaged()
+            self._look_at_unread()
             self._look_at_doubtful()
             self._look_at_lost()
         if self.unit == "time":
@@ -111,10 +112,10 @@ class Sound:
         self.faults += ["field %d: lines that differ" % one[0] for one in wanted + found
                         if one not in wanted or one not in found]
 
-    def _look_at_damaged(self):
+    def _look_at_unread(self):
         """No number is due where another code stands, and 'none was read there' is said only where none was."""
         own = Kind.picture if self.unit == "picture" else Kind.clv_picture
-        for one in self.answer["damaged"]:
+        for one in self.answer["unread"]:
             weight = 0
             for kind, _, _, of_pass in self.codes[one["field"]]:
                 weight += PASS_WEIGHTS[of_pass] if kind in OTHERS[self.unit] else 0
@@ -194,6 +195,20 @@ class Sound:
                 if weight > least:
                     return True
         return False
+
+    def _look_at_whole(self):
+        """Of a side on which something is lost, or not in its place, it is said that it isn't whole. Of one on which
+        something is undecided it isn't said that it is."""
+        answer = self.answer
+        lacking = [one for one in answer["missing"] if one["why"] == "lost"] + answer["swapped"] + answer["speeds"]
+        lacking += [one for one in answer["lost"] if one["by"] != "undecided"]
+        lacking += [one for one in answer["breaks"] if one["kind"] != "lost"]
+        if lacking and answer["whole"] != "no":
+            self.faults.append("something is lacking, and whole is: %s" % answer["whole"])
+        if answer["whole"] == "yes" and any(one["why"] == "undecided" for one in answer["missing"]):
+            self.faults.append("a number is undecided, and the side is whole")
+        if (answer["whole"] == "yes") == bool(answer["reasons"]):
+            self.faults.append("whole is %s, and the reasons are %s" % (answer["whole"], answer["reasons"]))
 
 
 def faults_of(fields, answer):

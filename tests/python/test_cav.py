@@ -32,7 +32,7 @@ class Sound(unittest.TestCase):
                          ["PAL", "cav", "picture", "video", 106])
         self.assertEqual(found["numbers"], {"count": 50, "least": 1, "greatest": 50})
         self.assertEqual(found["showings"][:2], [[1, 3, 3], [2, 5, 5]])
-        for name in ("missing", "damaged", "lost", "breaks", "stills", "repeated", "doubtful", "conflicts", "stray",
+        for name in ("missing", "unread", "lost", "breaks", "stills", "repeated", "doubtful", "conflicts", "stray",
                      "secondRows", "leftOut", "completed", "confirmed", "badLines"):
             self.assertEqual(found[name], [], name)
         self.assertEqual(found["leadIn"], [{"first": 1, "last": 2, "count": 2}])
@@ -79,8 +79,8 @@ class Sound(unittest.TestCase):
 class Damage(unittest.TestCase):
     def test_one_wrong_number_of_600(self):
         found = answer(numbered(pictures(range(1, 601)), 400, "F79999", "F79999"))
-        self.assertEqual(missing(found), [(400, 400, "damaged")])
-        self.assertEqual(found["damaged"], [{"number": 400, "field": 799, "read": 79999}])
+        self.assertEqual(missing(found), [(400, 400, "unread")])
+        self.assertEqual(found["unread"], [{"number": 400, "field": 799, "read": 79999}])
         self.assertEqual(doubtful(found), [(799, 17, 79999, "neighbours"), (799, 18, 79999, "neighbours")])
         self.assertEqual(found["doubtful"][0]["before"], {"field": 797, "number": 399})
         self.assertEqual(found["doubtful"][0]["after"], {"field": 801, "number": 401})
@@ -111,8 +111,8 @@ class Damage(unittest.TestCase):
         for field in range(60, 74):
             rows[field] = "- ? !"
         found = answer(rows)
-        self.assertEqual(missing(found), [(31, 37, "damaged")])
-        self.assertEqual([one["field"] for one in found["damaged"]], list(range(61, 74, 2)))
+        self.assertEqual(missing(found), [(31, 37, "unread")])
+        self.assertEqual([one["field"] for one in found["unread"]], list(range(61, 74, 2)))
         self.assertEqual(found["lost"], [])
         self.assertEqual(len(found["badLines"]), 28)
 
@@ -121,7 +121,7 @@ class Damage(unittest.TestCase):
         for field in range(60, 70, 2):  # the next digit up, the same on each picture: they fit one another
             rows[field] = "- %s ?" % picture(field // 2 + 1 + 40)
         found = answer(rows)
-        self.assertEqual(missing(found), [(31, 35, "damaged")])
+        self.assertEqual(missing(found), [(31, 35, "unread")])
         self.assertEqual({one["why"] for one in found["doubtful"]}, {"neighbours"})
         self.assertEqual(len(found["doubtful"]), 5)
 
@@ -191,7 +191,7 @@ class Breaks(unittest.TestCase):
         found = answer(rows)
         self.assertEqual(found["repeated"],
                          [{"first": 21, "last": 30, "field": 61, "lastField": 79, "before": 41}])
-        self.assertEqual([(one["number"], one["field"]) for one in found["damaged"]], [(26, 51), (24, 67)])
+        self.assertEqual([(one["number"], one["field"]) for one in found["unread"]], [(26, 51), (24, 67)])
         self.assertEqual(missing(found), [])
 
     def test_a_still(self):

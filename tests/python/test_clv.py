@@ -25,7 +25,7 @@ class Sound(unittest.TestCase):
         self.assertEqual([found[name] for name in ("format", "unit", "pace")], ["clv", "time", "video"])
         self.assertEqual(found["numbers"], {"count": 60, "least": "0:00:00.00", "greatest": "0:00:02.09"})
         self.assertEqual(found["showings"][1], ["0:00:00.01", 5, 5])
-        for name in ("missing", "damaged", "lost", "breaks", "doubtful", "conflicts", "stray", "completed", "leftOut"):
+        for name in ("missing", "unread", "lost", "breaks", "doubtful", "conflicts", "stray", "completed", "leftOut"):
             self.assertEqual(found[name], [], name)
 
     def test_both_systems_turn_the_second_at_their_rate(self):
@@ -104,16 +104,16 @@ class Damage(unittest.TestCase):
 
     def test_wrong_seconds_are_set_aside_for_themselves(self):
         found = answer(changed(times(range(1490, 1510)), 15, 16, second(19, 22)))
-        self.assertEqual(missing(found), [("0:00:59.22", "0:00:59.22", "damaged")])
+        self.assertEqual(missing(found), [("0:00:59.22", "0:00:59.22", "unread")])
         self.assertEqual(doubtful(found), [(15, 16, "19.22", "neighbours")])
-        self.assertEqual(found["damaged"], [{"number": "0:00:59.22", "field": 15, "read": "19.22"}])
+        self.assertEqual(found["unread"], [{"number": "0:00:59.22", "field": 15, "read": "19.22"}])
 
     def test_times_that_no_clock_shows(self):
         rows = changed(times(range(20)), 5, 16, second(0, 25))
         rows = changed(rows, 7, 18, minutes(0, 60))
         found = answer(rows)
         self.assertEqual(doubtful(found), [(5, 16, None, "clock"), (7, 18, None, "clock")])
-        self.assertEqual(missing(found), [("0:00:00.02", "0:00:00.02", "damaged")])
+        self.assertEqual(missing(found), [("0:00:00.02", "0:00:00.02", "unread")])
         self.assertEqual(answer(times(range(25, 30), 30), "NTSC")["numbers"]["least"], "0:00:00.25")
 
     def test_minutes_that_differ(self):
@@ -163,7 +163,7 @@ class MinutesAlone(unittest.TestCase):
         for system, fields in (("NTSC", 3596), ("PAL", 3000)):
             found = answer(self.rows([(0, 9)]) + [BLANK] * (10 * fields) + self.rows([(10, 9)]), system)
             self.assertEqual(found["breaks"] + found["doubtful"], [])
-            self.assertEqual(missing(found), [("0:01", "0:09", "damaged")])  # there are fields for all of them
+            self.assertEqual(missing(found), [("0:01", "0:09", "unread")])  # there are fields for all of them
 
     def test_a_wrong_minute_and_one_that_differs(self):
         rows = self.rows([(4, 40)])
@@ -205,7 +205,7 @@ class Clock(unittest.TestCase):
         rows = times(self.numbers(2000, lambda number: number in (1800, 1801)), 30)
         rows[3598] = "? ? ?"  # 1799
         found = answer(rows, "NTSC")
-        self.assertEqual(missing(found), [("0:00:59.29", "0:00:59.29", "damaged")])
+        self.assertEqual(missing(found), [("0:00:59.29", "0:00:59.29", "unread")])
         self.assertEqual([(one["first"], one["last"]) for one in found["leftOut"]], [("0:01:00.00", "0:01:00.01")])
 
     def test_a_long_loss_leaves_the_clock_as_it_is(self):
@@ -288,7 +288,7 @@ class Clock(unittest.TestCase):
         rows = times(self.numbers(6000, lambda number: number % 1001 == 400), 30)
         rows[798] = rows[799] = BLANK  # the number before the first one that is left out
         found = answer(rows, "NTSC")
-        self.assertEqual(missing(found), [("0:00:13.09", "0:00:13.09", "damaged")])
+        self.assertEqual(missing(found), [("0:00:13.09", "0:00:13.09", "unread")])
         self.assertEqual(len(found["leftOut"]), 6)
 
 

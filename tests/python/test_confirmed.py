@@ -29,9 +29,9 @@ class Pictures(unittest.TestCase):
         self.assertEqual(found["confirmed"], [9] if is_confirmed else [])
         self.assertEqual([number for number, _, _ in found["showings"]],
                          ALL if is_confirmed else [number for number in ALL if number != 5])
-        self.assertEqual([one["number"] for one in found["damaged"]], [] if is_confirmed else [5])
+        self.assertEqual([one["number"] for one in found["unread"]], [] if is_confirmed else [5])
         self.assertEqual([one["first"] for one in found["missing"]], [] if is_confirmed else [5])
-        self.assertEqual((found["numbers"]["count"], found["whole"]), (20, True) if is_confirmed else (19, False))
+        self.assertEqual((found["numbers"]["count"], found["whole"]), (20 if is_confirmed else 19, "yes"))
 
     def test_a_line_or_both(self):
         """Its two words: the first bit of the first digit has no meaning."""

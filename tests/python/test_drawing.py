@@ -46,12 +46,11 @@ class Marks(unittest.TestCase):
     def test_missing(self):
         place = ", after field 9, before field 13: "
         for why, first, last, text in (
-                ("damaged", 10, 12, "fields are there for it, and none shows it"),
+                ("unread", 10, 12, "fields are there for it, and none shows it"),
                 ("lost", 13, 13, "no field is there for it"),
-                ("undecided", 13, 13, "lost or damaged, or left out by the disc's clock")):
-            self.check("missing", "missing", missing(why), first, last, "missing: 5" + place + text)
-        self.check("missing", "missing", missing("lost", 3), 13, 13,
-                   "missing: 5 to 7" + place + "no field is there for it")
+                ("undecided", 13, 13, "lost or unread, or left out by the disc's clock")):
+            self.check(why, "missing", missing(why), first, last, why + ": 5" + place + text)
+        self.check("lost", "missing", missing("lost", 3), 13, 13, "lost: 5 to 7" + place + "no field is there for it")
 
     def test_lost_fields(self):
         for by, fields, text in (
@@ -97,9 +96,10 @@ class Marks(unittest.TestCase):
         self.check("shown again", "repeated", one, 21, 23, "5 to 6 again in fields 21 to 23; first shown in field 9")
 
     def test_counts(self):
-        counts = counts_of(answer_with(missing=[missing("lost", 3), missing("damaged")],
+        counts = counts_of(answer_with(missing=[missing("lost", 3), missing("unread"), missing("undecided", 2)],
                                        lost=[lost("number", 6), lost("parity", None)]))
-        self.assertEqual((counts["missing"], counts["lost fields"], counts["stills"]), (4, 7, 0))
+        self.assertEqual([counts[lane] for lane in ("lost", "unread", "undecided", "lost fields", "stills")],
+                         [3, 1, 2, 7, 0])
 
 
 class Parts(unittest.TestCase):
@@ -235,13 +235,26 @@ class Drawings(unittest.TestCase):
         self.assertNotIn("swapped fields: 0", found)
 
     def test_more_marks_than_can_cross_the_curve(self):
-        rows = discs.pictures(range(1, 601))
-        for number in range(8, 600, 8):
-            rows[2 * number - 2] = discs.BLANK
-        found = drawn(rows)
-        self.assertIn("missing: 74", of_class(found, "count"))
+        numbers = [number for number in range(1, 601) if number % 8]
+        found = drawn(discs.pictures(numbers))
+        self.assertIn("lost: 74", of_class(found, "count"))
         self.assertEqual(of_class(found, "upright"), [])
-        self.assertEqual(len(of_class(found, "missing")), 74)
+        self.assertEqual([len(of_class(found, name)) for name in ("lost", "lost-fields")], [74, 74])
+        self.assertEqual(len(of_class(drawn(discs.pictures(numbers[:350])), "upright")), 2 * 49)
+
+    def test_unread_numbers_are_pale_and_cross_nothing(self):
+        rows = discs.pictures(range(1, 31))
+        rows[20] = "- ? ?"
+        picture = xml.fromstring(drawing_of(discs.side(rows), "side.tbc"))
+        marks = [part.get("fill") for part in picture.iter() if part.get("class") == "unread"]
+        labels = [part.get("fill") for part in picture.iter() if part.text == "unread: 1"]
+        self.assertEqual((marks, labels), (["#fca5a5"], ["#64748b"]))
+        self.assertEqual(of_class(drawn(rows), "upright"), [])
+
+    def test_undecided_numbers_have_a_lane_where_there_are_some(self):
+        rows = discs.pictures(range(1, 10)) + ["- ? ?"] * 4 + discs.pictures(range(14, 31))
+        self.assertIn("undecided: 4", of_class(drawn(rows), "count"))
+        self.assertNotIn("undecided: 0", of_class(drawn(discs.pictures([1])), "count"))
 
 
 if __name__ == "__main__":

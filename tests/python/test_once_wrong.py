@@ -26,7 +26,7 @@ class NumbersOnBothFields(unittest.TestCase):
         self.assertEqual(found["pace"], "both")
         self.assertEqual([number for number, _, _ in found["showings"]], read)
         self.assertEqual(found["doubtful"] + found["lost"] + found["stills"] + found["breaks"], [])
-        self.assertEqual([one["number"] for one in found["damaged"]],
+        self.assertEqual([one["number"] for one in found["unread"]],
                          [number for number in range(1000, 1038) if number not in read])
 
 
@@ -72,8 +72,8 @@ class LostOrDamaged(unittest.TestCase):
         rows = shots(range(20, 41), range(26, 35))
         rows.insert(15, BLANK)
         found = answer(rows)
-        self.assertEqual(missing(found), [(26, 34, "damaged")])
-        self.assertEqual([found["lost"], found["damaged"]], [[], []])
+        self.assertEqual(missing(found), [(26, 34, "unread")])
+        self.assertEqual([found["lost"], found["unread"]], [[], []])
 
     def test_one_picture_lost_of_nine_damaged_ones(self):
         rows = shots(range(20, 41), range(26, 35))
@@ -93,7 +93,7 @@ class LostOrDamaged(unittest.TestCase):
     def test_numbers_for_which_all_fields_are_there_although_none_is_theirs(self):
         rows = pictures(range(1, 31))
         rows[18] = rows[19]  # a chapter's field in the place of picture 10
-        self.assertEqual(missing(answer(rows)), [(10, 10, "damaged")])
+        self.assertEqual(missing(answer(rows)), [(10, 10, "unread")])
 
     def test_a_lost_field_and_chapters_beside_it(self):
         """All fields there show chapters, so the number's field is the one that is lost; else it may be the other."""
@@ -105,10 +105,10 @@ class LostOrDamaged(unittest.TestCase):
 
     def test_a_number_passed_over_twice_was_there_once(self):
         rows = shots(list(range(1, 31)), (20,)) + shots(list(range(5, 20)) + list(range(21, 31)))
-        self.assertEqual(missing(answer(rows)), [(20, 20, "damaged")])
+        self.assertEqual(missing(answer(rows)), [(20, 20, "unread")])
         rows = shots([number for number in range(1, 31) if number != 20])
         rows += shots(list(range(5, 31)), (20,))
-        self.assertEqual(missing(answer(rows)), [(20, 20, "damaged")])
+        self.assertEqual(missing(answer(rows)), [(20, 20, "unread")])
 
     def test_film_and_numbers_on_both_fields(self):
         rows = film(range(1, 61))
@@ -119,7 +119,7 @@ class LostOrDamaged(unittest.TestCase):
         self.assertEqual(missing(answer(rows, "NTSC")), [(11, 13, "lost")])
         rows = ["- %s %s" % (picture(number), picture(number)) for number in range(1, 31) for _ in range(2)]
         rows[20:22] = [BLANK]  # of picture 11 one field is lost
-        self.assertEqual(missing(answer(rows)), [(11, 11, "damaged")])
+        self.assertEqual(missing(answer(rows)), [(11, 11, "unread")])
         del rows[20]
         self.assertEqual(missing(answer(rows)), [(11, 11, "lost")])
 
@@ -159,7 +159,7 @@ class ReadInstead(unittest.TestCase):
         rows = pictures(range(1, 21))
         rows[8], rows[12], rows[16] = "- F00017 F00017", "- F00044 F00045", "- ? ?"
         found = answer(rows)
-        self.assertEqual(found["damaged"], [{"number": 5, "field": 9, "read": 17},
+        self.assertEqual(found["unread"], [{"number": 5, "field": 9, "read": 17},
                                             {"number": 7, "field": 13, "read": 44},
                                             {"number": 9, "field": 17, "read": None}])
         self.assertEqual(text_of(seek(found, wanted_of("5"))),
@@ -173,7 +173,7 @@ class ReadInstead(unittest.TestCase):
         rows[16] = "8AE025 - %s" % minutes(0, 0)  # no clock shows picture 25
         rows[18] = "? - %s" % minutes(5, 50)
         rows[22] = "? - %s" % minutes(0, 1)
-        self.assertEqual([one["read"] for one in answer(rows)["damaged"]], ["19.22", "8AE025", "5:50", None])
+        self.assertEqual([one["read"] for one in answer(rows)["unread"]], ["19.22", "8AE025", "5:50", None])
 
 
 class Due(unittest.TestCase):
@@ -181,7 +181,7 @@ class Due(unittest.TestCase):
         rows = pictures(range(1, 31))
         rows[18] = rows[19]
         found = answer(rows)
-        self.assertEqual(found["damaged"], [])
+        self.assertEqual(found["unread"], [])
         self.assertEqual([(one["first"], one["last"]) for one in found["missing"]], [(10, 10)])
         self.assertIsNone(seek(found, wanted_of("10")))
 
@@ -189,9 +189,9 @@ class Due(unittest.TestCase):
         for item in ("8DC0A1", "8BA0A1"):
             rows = times(range(30))
             rows[18] = "%s - -" % item
-            self.assertEqual(answer(rows)["damaged"], [], item)
+            self.assertEqual(answer(rows)["unread"], [], item)
         rows[18] = "? ? ?"
-        self.assertEqual(answer(rows)["damaged"], [{"number": "0:00:00.09", "field": 19, "read": None}])
+        self.assertEqual(answer(rows)["unread"], [{"number": "0:00:00.09", "field": 19, "read": None}])
 
 
 if __name__ == "__main__":

@@ -85,15 +85,17 @@ class Pages(unittest.TestCase):
         one = damaged()
         read = Page(page(one))
         self.assertEqual(read.rows["showings"][1:], [list(map(str, row)) for row in one.answer["showings"]])
-        self.assertEqual(read.rows["missing"][1:], [
-            [str(cell) for cell in row.values()] for row in one.answer["missing"]])
+        unread, lost = one.answer["missing"]  # by number; on the page what is lost stands first
+        self.assertEqual((unread["why"], lost["why"]), ("unread", "lost"))
+        self.assertEqual(read.rows["missing"][1:], [[str(cell) for cell in row.values()] for row in (lost, unread)])
         self.assertEqual(read.rows["badLines"][1:], [
             [str(cell) for cell in row.values()] for row in one.answer["badLines"]])
         doubtful = read.rows["doubtful"][1]
         self.assertIn("picture", doubtful)
         self.assertIn("2 in field 5", doubtful)
         self.assertEqual(read.texts["li"], [reason["text"] for reason in one.answer["reasons"]])
-        self.assertIn("missing: %d" % len(one.answer["missing"]), read.texts["summary"])
+        self.assertIn("numbers lost, undecided or unread: 2", read.texts["summary"])
+        self.assertIn("unread, and their fields: 1", read.texts["summary"])
         self.assertIn("%(count)d, from %(least)d to %(greatest)d" % one.answer["numbers"], read.texts["dd"])
 
     def test_a_list_of_a_later_answer(self):
@@ -104,7 +106,9 @@ class Pages(unittest.TestCase):
         self.assertEqual(Page(page(one)).rows["later"][1], ["77777", "", "no", "1, 2"])
 
     def test_whole_or_not(self):
-        self.assertIn('<p class="yes">whole: yes</p>', page(side(pictures([1, 2]))))
+        self.assertIn('<div class="yes">whole: yes</div>', page(side(pictures([1, 2]))))
+        self.assertIn('<div class="open">whole: can&#x27;t tell<ul><li>no picture number and no time</li></ul></div>',
+                      page(side([])))
         self.assertIn('<div class="no">whole: no<ul><li>begins at 7, ends at 8</li></ul></div>',
                       page(side(pictures([7, 8]))))
 
@@ -146,22 +150,38 @@ class Indexes(unittest.TestCase):
     def test_an_index(self):
         with tempfile.TemporaryDirectory() as folder:
             names = []
-            for title, one in (("one & two.tbc", side(pictures([1, 2]))), ("other", side(pictures([7, 8]))),
-                               ("none", side([]))):
+            for title, one in (("one & two.tbc", side(pictures([1, 2]))), ("none", side([])),
+                               ("other", side(pictures([7, 8, 9, 12, 13, 14])))):
                 names.append(os.path.join(folder, title + " #1.html"))
                 with open(names[-1], "w", encoding="utf-8") as file:
                     file.write(page(one, title=title))
             read = Page(index_of(os.path.join(folder, "index.html"), names))
-            self.assertEqual(read.texts["h1"], ["3 sides, 1 whole"])
+            self.assertEqual(read.texts["h1"], ["3 sides: 1 whole, 1 not whole, 1 open"])
             self.assertEqual(read.texts["a"], ["other", "none", "one & two.tbc"])
             self.assertEqual([known["href"] for tag, known in read.tags if tag == "a"],
                              ["other%20%231.html", "none%20%231.html", "one%20%26%20two.tbc%20%231.html"])
-            self.assertEqual(read.texts["td"][1:5], ["no", "4", "2, 7 to 8", "begins at 7, ends at 8"])
+            self.assertEqual(read.texts["td"][1:6], [
+                "no", "12", "6, 7 to 14", "2 pictures, 4 fields",
+                "4 fields lost; 2 pictures lost; begins at 7, ends at 14"])
+            self.assertEqual(read.texts["td"][7:12], [
+                "can't tell", "0", "none", "none", "no picture number and no time"])
+            self.assertEqual(read.texts["td"][13:18], ["yes", "4", "2, 1 to 2", "none", ""])
+            self.refuses_an_older_page(folder, names[0])
             other = os.path.join(folder, "other.html")
             with open(other, "w", encoding="utf-8") as file:
                 file.write("<html><head><meta name=x></head></html>")
             with self.assertRaisesRegex(ValueError, "other.html is no page that --html wrote"):
                 index_of("index.html", [other])
+
+    def refuses_an_older_page(self, folder, page_there):
+        with open(page_there, encoding="utf-8") as file:
+            text = file.read()
+        older = os.path.join(folder, "older.html")
+        self.assertIn("&quot;version&quot;: 2, ", text)
+        with open(older, "w", encoding="utf-8") as file:
+            file.write(text.replace("&quot;version&quot;: 2, ", ""))
+        with self.assertRaisesRegex(ValueError, "older.html is a page of another version: write it again"):
+            index_of("index.html", [older])
 
 
 if __name__ == "__main__":

@@ -29,7 +29,7 @@ class Swaps(unittest.TestCase):
         """One pair of fields is swapped, and its number is believed where it was read."""
         self.assertEqual(found["swapped"], [{"field": field, "number": number}])
         self.assertIn([number, shown, shown], found["showings"])
-        self.assertEqual(lists(found, "doubtful", "missing", "damaged", "breaks", "lost", "repeated"), [[]] * 6)
+        self.assertEqual(lists(found, "doubtful", "missing", "unread", "breaks", "lost", "repeated"), [[]] * 6)
         self.assertEqual([one["why"] for one in found["reasons"]], ["swapped"])
 
     def test_times(self):
@@ -103,7 +103,7 @@ class Speeds(unittest.TestCase):
     def check(self, found, numbers, first, last, step):
         """All numbers are believed, those passed over are lost, and the speed is why the side isn't whole."""
         self.assertEqual(found["speeds"], [{"first": first, "last": last, "numbers": step}])
-        self.assertEqual(lists(found, "breaks", "lost", "doubtful", "damaged", "stills", "swapped"), [[]] * 6)
+        self.assertEqual(lists(found, "breaks", "lost", "doubtful", "unread", "stills", "swapped"), [[]] * 6)
         self.assertEqual(found["numbers"]["count"], len(set(numbers)))
         self.assertEqual(len(found["showings"]), len(numbers))
         passed = max(numbers) - min(numbers) + 1 - len(set(numbers))
@@ -152,7 +152,7 @@ class Speeds(unittest.TestCase):
         rows[244] = rows[244].rpartition(" ")[0] + " ?"
         found = answer(rows)
         self.assertEqual(len(found["speeds"]), 1)
-        self.assertEqual([(one["field"], one["number"], one["read"]) for one in found["damaged"]],
+        self.assertEqual([(one["field"], one["number"], one["read"]) for one in found["unread"]],
                          [(241, "0:00:02.10", None), (243, "0:00:02.09", "32.09")])
         self.assertEqual([(one["field"], one["why"]) for one in found["doubtful"]], [(243, "neighbours")])
         self.assertEqual((found["missing"], found["completed"]), ([], [245]))
@@ -164,7 +164,7 @@ class Speeds(unittest.TestCase):
             found = answer(rows)
             self.assertEqual(len(found["speeds"]), 1)
             self.assertEqual(lists(found, "breaks", "lost", "doubtful"), [[]] * 3)
-            self.assertEqual([one["number"] for one in found["damaged"]], [89, 90, 90 + int(step)])
+            self.assertEqual([one["number"] for one in found["unread"]], [89, 90, 90 + int(step)])
 
     def test_a_picture_that_the_capture_lost(self):
         numbers, _ = played("3", 90)

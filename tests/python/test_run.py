@@ -56,7 +56,7 @@ class Runs(unittest.TestCase):
                              stderr=subprocess.PIPE, timeout=DEADLINE, check=False, **more)
         return run.returncode, run.stdout, run.stderr.decode()
 
-    def refused(self, text, *words, status=1):
+    def refused(self, text, *words, status=2):
         self.assertEqual(self.run_command(*words), (status, b"", "ldvbi-side: %s\n" % text))
 
 
@@ -70,7 +70,7 @@ class WithoutLibrary(Runs):
             with self.subTest(words):
                 status, text, said = self.run_command("side.vbi.json", *words, env=self.absent)
                 # a number in each field is no whole side
-                self.assertEqual((status, said), (int(words == ["--summary"]), ""))
+                self.assertEqual((status, said), (1 if words == ["--summary"] else 0, ""))
                 self.assertEqual(self.run_command("side.vbi.json", *words), (status, text, said))
         status, text, said = self.run_command("--help", env=self.absent)
         self.assertEqual((status, text[:18], said), (0, b"usage: ldvbi-side ", ""))
@@ -79,7 +79,7 @@ class WithoutLibrary(Runs):
         for words in ([], ["--summary"], ["--document"]):
             with self.subTest(words):
                 status, text, said = self.run_command("side.tbc", *LEVELS, *words, env=self.absent)
-                self.assertEqual((status, text), (1, b""))
+                self.assertEqual((status, text), (2, b""))
                 self.assertEqual(said, "ldvbi-side: no library to read samples with (/absent: cannot open shared "
                                  "object file: No such file or directory): `make lib` builds it, LDVBI_LIBRARY names "
                                  "its file\n")
@@ -156,7 +156,8 @@ class Metadata(Runs):
         status, printed, said = self.run_command("side.tbc", "--json")
         known = json.loads(printed)
         self.assertEqual((status, said, known["metadataFields"], known["frameBegin"]), (0, text, 14, 1))
-        self.assertIn({"why": "metadata", "text": "12 fields of 14 that the metadata has"}, known["reasons"])
+        self.assertIn({"why": "metadata", "whole": "no", "text": "12 fields of 14 that the metadata has"},
+                      known["reasons"])
         self.assertEqual(self.run_command("side.vbi.json", "--meta", "side.tbc.json", "--seek", "3"),
                          (0, b"field 4, frame 2\n", text))
         self.write("side.tbc", self.read("side.tbc") + b"x" * 7)
@@ -251,7 +252,7 @@ class Files(Runs):
         with open("/dev/full", "wb") as full:
             run = subprocess.run(COMMAND + ["side.tbc", *LEVELS, "--document"], cwd=self.folder, stdout=full,
                                  stderr=subprocess.PIPE, timeout=DEADLINE, check=False)
-        self.assertEqual((run.returncode, run.stderr), (1, b"ldvbi-side: [Errno 28] No space left on device\n"))
+        self.assertEqual((run.returncode, run.stderr), (2, b"ldvbi-side: [Errno 28] No space left on device\n"))
 
     def test_no_output_in_the_place_of_an_input(self):
         shutil.copy(self.path("side.vbi.json"), self.path("meta.json"))
@@ -270,7 +271,7 @@ class Files(Runs):
             with self.subTest(words), open(self.path(name), "ab") as file:
                 run = subprocess.run(COMMAND + words, cwd=self.folder, stdout=file, stderr=subprocess.PIPE, check=False)
                 self.assertEqual((run.returncode, run.stderr.decode()),
-                                 (1, "ldvbi-side: %s\n" % text % "standard output"))
+                                 (2, "ldvbi-side: %s\n" % text % "standard output"))
         self.assertEqual({name: self.read(name) for name in os.listdir(self.folder)}, before)
 
 
@@ -408,7 +409,7 @@ class Interrupted(Runs):
         self.assertEqual(self.unread([sys.executable, "-c", code]), (130, b""))
 
     def test_no_reader(self):
-        self.assertEqual(self.unread(COMMAND + ["side.vbi.json", "--csv"]), (1, b""))
+        self.assertEqual(self.unread(COMMAND + ["side.vbi.json", "--csv"]), (2, b""))
 
     def test_a_reader_that_has_seen_enough(self):
         write_stream(self.path("side.tbc"), NTSC, [[0, 0, 0]], 2000 * SIZE)
@@ -417,7 +418,7 @@ class Interrupted(Runs):
         process.stdout.close()
         said = process.stderr.read()
         process.stderr.close()
-        self.assertEqual((process.wait(DEADLINE), said), (1, b""))
+        self.assertEqual((process.wait(DEADLINE), said), (2, b""))
 
 
 if __name__ == "__main__":

@@ -10,7 +10,7 @@ import unittest.mock
 
 from discs import (BLANK, LEAD_IN, LEAD_OUT, STOP, answer, film, minutes, picture, pictures, plain, side, times)
 from ldvbi.readings import Cut
-from ldvbi_side.command.summary import summary
+from ldvbi_side.command.summary import MOST_LINES, summary
 from ldvbi_side.command.tables import bad_line_rows, field_rows
 from ldvbi_side.draw.plot import plot_command, tbc_name
 from ldvbi_side.judge.lines import SIZES
@@ -172,14 +172,15 @@ class Summaries(unittest.TestCase):
         rows[26] = "- F00013 F00003"
         rows[44:46] = []  # picture 22
         self.assertEqual(lines_of(side(rows)), [
-            "whole: no: 2 fields lost; 3 pictures missing",
+            "whole: no: 2 fields lost; 1 picture lost",
             "system: PAL, CAV",
             "fields: 62, cut: none",
             "line 16: 1 words, 0 of them of pass 2; 1 bad (50.00 %), 60 blank",
             "line 17: 61 words, 0 of them of pass 2; 1 bad (1.61 %), 0 blank",
             "line 18: 61 words, 0 of them of pass 2; 1 bad (1.61 %), 0 blank",
             "pictures: 27, from 1 to 30",
-            "missing: 3 (damaged 2, lost 1: pictures 10 to 11 after field 19, picture 22 after field 43)",
+            "lost: 1 (picture 22 after field 43)",
+            "unread: 2 (pictures 10 to 11 after field 19)",
             "lost fields: 2 (2 after field 43)",
             "jumps: none",
             "stills: none",
@@ -209,7 +210,7 @@ class Summaries(unittest.TestCase):
         for field in (2, 6, 10, 14, 40):  # pictures 2, 4, 6, 8 and 18
             rows[field] = "- ? ?"
         lines = lines_of(side(rows))
-        for line in ("missing: 5 (damaged 5: picture 2 after field 1, picture 4 after field 5, "
+        for line in ("lost: none", "unread: 5 (picture 2 after field 1, picture 4 after field 5, "
                      "picture 6 after field 9, picture 8 after field 13 and 1 more)",
                      "jumps: 1 (picture 30 to 21 in field 67)", "stills: 1 (picture 10 in fields 19 to 25)",
                      "shown again: 2 (pictures 21 to 30 in field 67, picture 10 in field 21)"):
@@ -221,7 +222,7 @@ class Summaries(unittest.TestCase):
         rows = pictures(numbers + list(range(91, 96)) + list(range(71, 101)))
         rows[6:6] = pictures([3, 3])
         lines = lines_of(side(rows))
-        for line in ("missing: 6 (lost 6: pictures 31 to 33 after field 61, pictures 61 to 62 after field 125, "
+        for line in ("lost: 6 (pictures 31 to 33 after field 61, pictures 61 to 62 after field 125, "
                      "picture 10 after field 21)",
                      "lost fields: 12 (6 after field 61, 4 after field 125, 2 after field 21)",
                      "jumps: 2 (picture 95 to 71 in field 213, picture 100 to 91 in field 203)",
@@ -242,12 +243,12 @@ class Summaries(unittest.TestCase):
             {"cx": True, "digits": "0A1", "count": 28, "first": 2, "last": 60},
             {"cx": False, "digits": "0A1", "count": 1, "first": 4, "last": 4}])
         self.assertEqual(known["users"], [{"digit": 3, "digits": "00F", "count": 1, "first": 6, "last": 6}])
-        self.assertEqual([known["whole"], known["stray"]], [True, []])
+        self.assertEqual([known["whole"], known["stray"]], ["yes", []])
 
     def test_a_side_without_numbers(self):
         lines = lines_of(side([LEAD_IN]))
         self.assertEqual(lines[:1] + lines[6:], [
-            "whole: no: no picture number and no time",
+            "whole: can't tell: no picture number and no time",
             "pictures: none", "doubtful, set aside: none", "lines 17 and 18 differ: none", "chapters: none",
             "picture stops: none", "lead-in: 1 (field 1), lead-out: none", "unknown words: none",
             "programme status: none, users' codes: none", "stray codes: none"])
@@ -256,9 +257,9 @@ class Summaries(unittest.TestCase):
         self.assertEqual(lines_of(side(film(range(1, 31)), "NTSC"))[:2],
                          ["whole: yes", "system: NTSC, CAV, film (2 and 3 fields a picture)"])
         lines = lines_of(side(times([0, 1, 3, 4], 30), "NTSC"))
-        self.assertEqual([lines[1], lines[6], lines[7]], [
-            "system: NTSC, CLV", "times: 4, from 0:00:00.00 to 0:00:00.04",
-            "missing: 1 (undecided 1: time 0:00:00.02 after field 3)"])
+        self.assertEqual([lines[1]] + lines[6:9], [
+            "system: NTSC, CLV", "times: 4, from 0:00:00.00 to 0:00:00.04", "lost: none",
+            "unread: none, undecided: 1 (time 0:00:00.02 after field 3)"])
         left_out = times([number for number in range(6000) if number % 1001 != 400], 30)
         self.assertIn("left out by the disc's clock: 6", lines_of(side(left_out, "NTSC")))
 
@@ -286,7 +287,17 @@ class Summaries(unittest.TestCase):
         with unittest.mock.patch("ldvbi_side.draw.plot._PLACES", ("nowhere/plot_line.py",)):
             self.assertIn("| python3 plot_line.py --system NTSC ", lines_of(side([BLANK] * 4, "NTSC"))[6])
 
-    def test_at_most_24_lines(self):
+    def test_beside_the_judge_of_the_library(self):
+        known = side(pictures(range(1, 31))).answer
+        begin = "judged by the library, too: "
+        self.assertEqual([line for line in summary(known, lambda *line: "dd") if line.startswith(begin)], [])
+        for counts, text in (((29, 0, 1, 0, None), "29 fields alike, 0 believed by it alone, 1 here alone, 0 differ"),
+                             ((1, 2, 3, 4, {"field": 5, "judge": 6, "package": 7}),
+                              "1 field alike, 2 believed by it alone, 3 here alone, 4 differ (field 5: 6 and 7)")):
+            known["judged"] = dict(zip(("both", "judgeAlone", "packageAlone", "differ", "first"), counts))
+            self.assertIn(begin + text, list(summary(known, lambda *line: "dd")))
+
+    def test_at_most_26_lines(self):
         rows = times([number for number in range(9000) if number % 1001 != 400], 30)
         rows[100:110] = []
         for field in range(0, len(rows), 2):  # a second row of numbers on line 17
@@ -296,9 +307,11 @@ class Summaries(unittest.TestCase):
         known["levels"] = {"shows": "bad", "words": 1, "bad": 9, "blank": 1, "field": 1, "line": 17}
         known["secondRows"] = known["secondRows"] or [{"first": "2:20:00.00", "last": "2:20:01.00", "field": 1,
                                                        "lastField": 9, "count": 9, "weight": 9, "against": 9}]
+        known["judged"] = {"both": 9, "judgeAlone": 0, "packageAlone": 0, "differ": 0, "first": None}
+        known["swapped"] = [{"field": 1, "number": "2:20:00.00"}]
         lines = list(summary(known, lambda *line: "dd"))
         self.assertTrue(known["leftOut"])
-        self.assertLessEqual(len(lines), 24)
+        self.assertEqual((len(lines), MOST_LINES), (26, 26))
         self.assertTrue([line for line in lines if line.startswith("a second row of numbers, not taken: 2:20:")])
 
 

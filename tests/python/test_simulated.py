@@ -60,8 +60,8 @@ class Bounds(unittest.TestCase):
         self.assertGreater(self.all["lost"], 300)
 
     def test_why_numbers_are_missing(self):
-        self.assertEqual(self.all["damaged numbers found"], self.all["damaged numbers"], self.told)
-        self.assertGreater(self.all["damaged numbers"], 2700)
+        self.assertEqual(self.all["unread numbers found"], self.all["unread numbers"], self.told)
+        self.assertGreater(self.all["unread numbers"], 2700)
         self.assertGreaterEqual(self.all["lost numbers found"], self.all["lost numbers"] - 3, self.told)
         self.assertGreater(self.all["lost numbers"], 1400)
         self.assertLess(self.all["undecided"], 200)
@@ -70,6 +70,12 @@ class Bounds(unittest.TestCase):
         for name, least in (("stops", 42), ("missing", 41), ("left out", 42), ("first fields", 41),
                             ("chapter table", 42), ("whole", 42), ("reasons", 42)):
             self.assertGreaterEqual(self.all[name], least, self.told)
+
+    def test_it_is_seldom_left_open_whether_a_side_is_whole(self):
+        said = [self.all["said " + word] for word in ("yes", "no", "can't tell")]
+        self.assertEqual([sum(said), self.all["judged otherwise"]], [42, 0])
+        self.assertGreater(said[0], 5)
+        self.assertLessEqual(said[2], 1, self.told)
 
     def test_each_kind_has_something_to_find(self):
         for kind, counts in self.totals.items():
@@ -108,7 +114,7 @@ class Played(unittest.TestCase):
         self.assertEqual([self.all["wrong"], self.all["wrong found"]], [72, 72], self.told)
         self.assertGreater(self.all["right"], 23000)
         self.assertLessEqual(self.all["right found"], 10, self.told)
-        for name, least in (("numbers", 13700), ("due", 840), ("damaged numbers", 800)):
+        for name, least in (("numbers", 13700), ("due", 840), ("unread numbers", 800)):
             self.assertGreater(self.all[name], least)
             self.assertGreaterEqual(self.all[name + " found"], self.all[name] - 1, (name, self.told))
 
@@ -169,7 +175,7 @@ class Comparing(unittest.TestCase):
     def test_a_loss_that_is_none_and_a_wrong_place(self):
         def change(one):
             one["lost"].append({"after": 5, "before": 7, "fields": 9, "by": "number"})
-            one["damaged"].append({"number": 1, "field": 300})
+            one["unread"].append({"number": 1, "field": 300})
         before, _ = self.counts(lambda one: None)
         counts, told = self.counts(change)
         self.assertEqual(counts["lost"] - counts["lost found"], 1 + before["lost"] - before["lost found"])
@@ -225,7 +231,7 @@ class Soundness(unittest.TestCase):
 
     def test_due_where_another_code_stands(self):
         def due_in_a_chapter(one):
-            one["damaged"].append({"number": 1, "field": one["chapters"][0]["field"], "read": None})
+            one["unread"].append({"number": 1, "field": one["chapters"][0]["field"], "read": None})
 
         for kind in ("cav-ntsc", "cav-film", "clv-pal"):
             self.check(kind, [(due_in_a_chapter, "which has another code")])
@@ -244,6 +250,17 @@ class Soundness(unittest.TestCase):
 
         self.check("losses", [(more, "too few fields"), (lambda one: one["lost"].clear(), "too few fields")], 0, 600)
 
+    def test_whether_it_is_whole(self):
+        lacking, undecided = pictures(range(1, 30)), times([0, 1, 3, 4], 30)
+        del lacking[20:24]
+        for rows, text in ((lacking, "something is lacking, and whole is: yes"),
+                           (undecided, "a number is undecided, and the side is whole")):
+            found, = self.faults(plain(rows, "NTSC"), lambda one: one.update(whole="yes", reasons=[]))
+            self.assertEqual(found, [text])
+        for whole, rows in (("no", pictures([1])), ("yes", pictures([3]))):
+            found, = self.faults(plain(rows), lambda one: one.update(whole=whole))
+            self.assertEqual([text.split(",")[0] for text in found], ["whole is " + whole])
+
     def test_minutes(self):
         def completed_from_afar(one):
             number, field, last = one["showings"][0]
@@ -259,7 +276,7 @@ class Soundness(unittest.TestCase):
 
     def test_a_number_that_fits_and_one_that_was_read(self):
         def none_read(one):
-            for entry in one["damaged"]:
+            for entry in one["unread"]:
                 entry["read"] = None
 
         # on film a number is sure to fit where the pictures beside it aren't read
@@ -302,7 +319,7 @@ class OtherDamage(unittest.TestCase):
             with self.subTest(name):
                 wanted = {field + 4: number for field, number in numbered.items() if field + 3 not in unread}
                 self.assertEqual({field: number for number, field, _ in found["showings"]}, wanted)
-                self.assertEqual({one["field"]: one["number"] for one in found["damaged"]},
+                self.assertEqual({one["field"]: one["number"] for one in found["unread"]},
                                  {field + 4: number for field, number in numbered.items() if field + 3 in unread})
                 self.assertEqual(found["lost"] + found["breaks"] + found["secondRows"], [])
 

@@ -30,7 +30,7 @@ def said_by(word):
 class Truth:
     """`read` is the first field in which each number can be read, `chapters` that of each chapter; `right` and
     `right_chapters` are the lines whose word says a number or a chapter rightly, `wrong` and `wrong_chapters` those
-    that say one wrongly; `missing` the numbers of the disc that can't be read, each with why (`damaged` where a field
+    that say one wrongly; `missing` the numbers of the disc that can't be read, each with why (`unread` where a field
     has it, else `lost`), `left_out` those that the disc hasn't; `due` are pairs of a number and the field that has it
     where it can't be read, between two fields whose numbers can; `lost` how many fields are lost behind which field,
     `hidden` the numbers that the disc hasn't inside such a loss, where no field shows that, by its field;
@@ -85,7 +85,7 @@ class Truth:
         on_disc = set(self.side.on_disc)
         span = range(min(self.read), max(self.read) + 1) if self.read else ()
         captured = set(self.side.numbers)
-        self.missing = {number: "damaged" if number in captured else "lost"
+        self.missing = {number: "unread" if number in captured else "lost"
                         for number in span if number not in self.read and number in on_disc}
         self.left_out = {number for number in span if number not in on_disc}
 
@@ -135,17 +135,25 @@ class Truth:
 
 
 class Reasons:
-    """Why a side isn't whole, as far as its truth says it: of each reason True, False, or None where it doesn't."""
+    """Why a side isn't whole, and why that can't be told, as far as its truth says it: of each reason True, False, or
+    None where it doesn't."""
 
     def __init__(self, truth):
         self.truth, self.side = truth, truth.side
-        least = min(truth.read, default=0)
-        self.of_why = {
-            "numbers": not truth.read, "lost": self._lost(), "jumps": self._jumps(),
-            "missing": self._or_clock(bool(truth.missing)),
-            "begins": least > (0 if self.side.layout == "clv-minutes" else 1),
-            "joined": self._joined(), "format": self._format(), "line": False, "doubtful": self._doubtful(),
-            "metadata": False, "cut": False, "swapped": bool(truth.swaps), "speed": bool(truth.speeds)}
+        self.no = {
+            "lost": self._lost(), "jumps": self._jumps(),
+            "missing": self._or_clock("lost" in truth.missing.values()), "begins": self._begins(),
+            "joined": self._joined(), "format": self._format(), "metadata": False, "cut": False,
+            "swapped": bool(truth.swaps), "speed": bool(truth.speeds)}
+        self.open = {"numbers": not truth.read, "line": False, "doubtful": self._doubtful(), "judged": False,
+                     "ends": False, "undecided": None}
+
+    def _begins(self):
+        """Of the numbers before the least that can be read, from the disc's first one on, the capture lacks some."""
+        first = 0 if self.side.layout == "clv-minutes" else 1
+        captured, on_disc = set(self.side.numbers), set(self.side.on_disc)
+        return any(number not in captured and (number in on_disc or number < min(on_disc))
+                   for number in range(first, min(self.truth.read, default=0)))
 
     def _or_clock(self, is_so):
         """In a short stretch a number that the clock leaves out is undecided."""

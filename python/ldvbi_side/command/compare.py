@@ -5,6 +5,7 @@ from typing import Any, Dict, Iterator, List, Sequence
 
 from ldvbi import Kind
 from ldvbi.codes import LINES, code_of
+from ..judge.ends import ordinal_of
 from ..judge.paces import RATES
 from ..judge.readings import WEIGHTS, Answer
 from ..judge.whole import UNITS
@@ -47,7 +48,7 @@ def _weights(side):
         weight = sum(WEIGHTS[reading.pass_] for line, reading in zip(LINES, side.readings[field - 1])
                      if reading.word and code_of(reading.word).kind in _NUMBERS and (field, line) not in doubtful)
         weights[number] = max(weight, weights.get(number, 0))
-    for one in answer["damaged"]:
+    for one in answer["unread"]:
         weights.setdefault(one["number"], 0)
     return weights
 
@@ -61,22 +62,11 @@ def _verdict(one, other):
 
 def _add(stretches, number, rate):
     """Adds a number to the last stretch, if it follows it, else as a new one."""
-    ordinal = _ordinal(number, rate)
+    ordinal = ordinal_of(number, rate)
     if stretches and stretches[-1][3] == ordinal - 1:
         stretches[-1][1:] = [number, stretches[-1][2] + 1, ordinal]
     else:
         stretches.append([number, number, 1, ordinal])
-
-
-def _ordinal(number, rate):
-    """A picture as it is, a minute in minutes, a time in pictures from the disc's start."""
-    if isinstance(number, int):
-        return number
-    clock, _, picture = number.partition(".")
-    total = 0
-    for part in clock.split(":"):
-        total = 60 * total + int(part)
-    return total * rate + int(picture) if picture else total
 
 
 def comparison_text(found: Answer, names: Sequence[str]) -> Iterator[str]:

@@ -14,6 +14,7 @@ from ldvbi.metadata import beside, read_metadata, settings_of
 from ldvbi.stream import cut_of
 from ..draw.plot import plot_command
 from ..seek import seek, text_of, wanted_of
+from ..judge.whole import NO, OPEN, YES
 from ..side import Side, side_of_document, side_of_stream
 from .compare import compare, comparison_text
 from .map import COLUMNS as MAP_COLUMNS, map_rows
@@ -26,10 +27,13 @@ from .tables import BAD_LINE_COLUMNS, FIELD_COLUMNS, bad_line_rows, field_rows
 NAME = "ldvbi-side"
 DESCRIPTION = """Reads a side from a TBC file, or from a document that `ldvbi extract` wrote, and says what its words
 mean. A file is taken for a document if its name ends with .json or its text begins as a document does. Statuses: 0
-done, 1 a fault, 2 the command line was refused, 3 done and the last field is cut, 130 ended by Ctrl-C. The words
-`compare SIDE SIDE` compare two sides; `index FILE PAGE..` writes a file that links pages of --html."""
+done, 1 a side that isn't whole (--summary) or nothing found (--seek), 2 a fault or a refused command line, 3 done and
+the last field is cut, 4 it can't be told whether the side is whole (--summary), 130 ended by Ctrl-C. The words `compare
+SIDE SIDE` compare two sides; `index FILE PAGE..` writes a file that links pages of --html."""
 COMPARISON = """Compares two captures of one side by their numbers. It says which numbers only one of them has, and
 which of those that both have one of them shows better: by more lines, or by lines of pass 1 instead of others."""
+STATUSES = {YES: 0, NO: 1, OPEN: 4}  # of a side, by whether it is whole
+FAULT = 2
 LEVELS = "the sample of %s, from 0 to 65535; black is below white"
 
 
@@ -62,12 +66,14 @@ def _parser():
                         "number, or a CLV time h:mm:ss.pp), of a minute h:mm, of a second h:mm:ss, or of a chapter, as "
                         "'chapter 3'; status 1 if there is none")
     output.add_argument("--summary", action="store_true", help="print in at most %d lines whether the side is whole, "
-                        "and what to look at first; status 0 if it is whole, else 1" % MOST_LINES)
+                        "and what to look at first; status 0 if it is whole, 1 if it isn't, 4 if that can't be told"
+                        % MOST_LINES)
     output.add_argument("--document", action="store_true", help="print the document of the TBC file, byte for byte as "
                         "`ldvbi extract` writes it")
     parser.add_argument("--recovered", action="store_true", help="print with --document the one that has the recovered "
                         "words, too, of version 3")
-    parser.add_argument("--strict", action="store_true", help="say that a side without lead-in or lead-out isn't whole")
+    parser.add_argument("--strict", action="store_true", help="say that a side without lead-in or lead-out, or with an "
+                        "unread number, isn't whole")
     parser.add_argument("-o", "--output", metavar="FILE", help="print into this file, which gets its name only when it "
                         "is complete")
     parser.add_argument("--svg", metavar="FILE", help="draw the side into this file; print only what another option "
@@ -252,7 +258,7 @@ def _answer(options):
         return int(found is None)
     if options.summary:
         print(*summary(side.answer, _plot_command(side, options)), sep="\n")
-        return 0 if side.answer["whole"] else 1
+        return STATUSES[side.answer["whole"]]
     if options.json:
         json.dump(side.answer, sys.stdout)
         print()
@@ -272,7 +278,7 @@ def main(words: Optional[List[str]] = None) -> int:
         return status
     except BrokenPipeError:
         drop_standard_output()
-        return 1
+        return FAULT
     except (OSError, ValueError) as error:
         _note(error)
-        return 1
+        return FAULT

@@ -18,7 +18,7 @@ def map_rows(answer: Answer) -> Iterator[Tuple[Any, ...]]:
     places: Dict[Any, Tuple[int, str]] = {}
     for number, field, _ in answer["showings"]:
         places.setdefault(number, (field, "near" if field in confirmed else "read"))
-    for one in answer["damaged"]:
+    for one in answer["unread"]:
         places.setdefault(one["number"], (one["field"], "neighbours"))
     for number, (field, how) in sorted(places.items()):
         yield unit, number, field, frame_of(field, begin), how

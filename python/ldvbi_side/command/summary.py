@@ -1,6 +1,5 @@
 """A side at a glance: whether it is whole, and what to look at first, in at most MOST_LINES lines."""
 
-from collections import Counter
 from typing import Any, Callable, Iterable, Iterator, List
 
 from ldvbi.codes import LINES
@@ -9,13 +8,14 @@ from ..judge.lines import words_of
 from ..judge.readings import Answer
 from ..judge.whole import UNITS, counted, other_file
 
-MOST_LINES = 24
+MOST_LINES = 26
 MOST_LISTED = 4  # places in a line
 
 
 def summary(answer: Answer, plot_command: Callable[[int, int], str]) -> Iterator[str]:
     """The lines of the summary. `plot_command` makes the command that draws a line, of its field and its number."""
-    yield "whole: " + ("yes" if answer["whole"] else "no: " + "; ".join(one["text"] for one in answer["reasons"]))
+    reasons = "; ".join(one["text"] for one in answer["reasons"])
+    yield "whole: " + answer["whole"] + (": " + reasons if reasons else "")
     cut = answer["cutField"]
     film = ", film (2 and 3 fields a picture)" if answer["pace"] == "film" else ""
     yield "system: %s, %s%s" % (answer["system"], _FORMATS[answer["format"]], film)
@@ -77,7 +77,9 @@ def largest_first(ones: Iterable[Answer], size: Callable[[Answer], int]) -> List
 def _number_lines(answer):
     unit = answer["unit"]
     yield "%s: %d, from %s to %s" % ((UNITS[unit],) + tuple(answer["numbers"].values()))
-    yield "missing: " + _missing_text(answer["missing"], unit)
+    yield "lost: " + _missing_text(answer, "lost")
+    undecided = _missing_text(answer, "undecided")
+    yield "unread: " + _missing_text(answer, "unread") + ("" if undecided == "none" else ", undecided: " + undecided)
     if answer["leftOut"]:
         yield "left out by the disc's clock: %d" % sum(one["count"] for one in answer["leftOut"])
     lost = largest_first(answer["lost"], lambda one: one["fields"] or 1)
@@ -106,15 +108,11 @@ def _order_text(answer):
         listed(len(speeds), ("%(numbers)s numbers a picture in fields %(first)d to %(last)d" % one for one in speeds)))
 
 
-def _missing_text(missing, unit):
-    counts = Counter()
-    for one in missing:
-        counts[one["why"]] += one["count"]
-    whys = ", ".join("%s %d" % (why, counts[why]) for why in ("damaged", "lost", "undecided") if counts[why])
-    places = listed(sum(counts.values()), (
-        "%s after field %d" % (named(unit, one["first"], one["last"]), one["after"])
-        for one in largest_first(missing, lambda one: one["count"])))
-    return places.replace("(", "(%s: " % whys, 1)
+def _missing_text(answer, why):
+    ones = [one for one in answer["missing"] if one["why"] == why]
+    return listed(sum(one["count"] for one in ones), (
+        "%s after field %d" % (named(answer["unit"], one["first"], one["last"]), one["after"])
+        for one in largest_first(ones, lambda one: one["count"])))
 
 
 def _doubt_lines(answer):
@@ -131,6 +129,15 @@ def _doubt_lines(answer):
                                               "none" if one["taken"] is None else one["taken"]) for one in conflicts))
     for one in answer["secondRows"]:
         yield "a second row of numbers, not taken: %(first)s to %(last)s in fields %(field)d to %(lastField)d" % one
+    if answer["judged"]:
+        yield _judged_text(answer["judged"])
+
+
+def _judged_text(judged):
+    first = judged["first"]
+    where = " (field %(field)d: %(judge)s and %(package)s)" % first if first else ""
+    return "judged by the library, too: %s alike, %d believed by it alone, %d here alone, %d differ%s" % (
+        counted(judged["both"], "field"), judged["judgeAlone"], judged["packageAlone"], judged["differ"], where)
 
 
 def _part_lines(answer):

@@ -6,7 +6,7 @@ from ..judge.whole import other_file
 from ..side import Side
 from . import bands, curve
 from .axis import LEFT, WIDTH, Axis
-from .marks import LANES, Mark, counts_of, fields_text, lanes_of, marks_of
+from .marks import LANES, PALE, Mark, counts_of, fields_text, lanes_of, marks_of
 from .svg import Svg, shortened, text_width
 
 # The drawing's own measures, in pixels; those of its axis are in axis.py
@@ -18,6 +18,7 @@ STOPS_TOP, STOPS_HEIGHT = 224, 12
 CURVE_TOP, CURVE_HEIGHT = 248, 240
 LANES_TOP, LANE_STEP, LANE_HEIGHT = 502, 18, 12
 MOST_UPRIGHTS = 60  # of a lane, or of chapters: with more of them the curve couldn't be seen
+BREAKING = ("lost", "undecided", "lost fields", "jumps")  # lanes whose marks are where the curve breaks
 END_COLOUR, CHAPTER_COLOURS = "#94a3b8", ("#e0e7ff", "#c7d2fe")
 
 
@@ -135,10 +136,10 @@ def _draw_lanes(svg, axis, answer):
         y = LANES_TOP + LANE_STEP * place
         count, colour = counts[lane], LANES[lane]
         svg.text(LEFT - 10, y + 11, "%s: %d" % (lane, count), text_anchor="end", class_="count",
-                 fill=colour if count else "#64748b", font_weight="bold" if count else None)
+                 fill=colour if count and lane not in PALE else "#64748b", font_weight="bold" if count else None)
         svg.box(LEFT, y, WIDTH, LANE_HEIGHT, "#f8fafc")
         joined = list(_joined(axis, marks[lane]))
-        has_uprights = lane in ("missing", "lost fields", "jumps") and len(joined) <= MOST_UPRIGHTS
+        has_uprights = lane in BREAKING and len(joined) <= MOST_UPRIGHTS
         for begin, end, (first, last, text) in joined:
             fields = "%d-%d" % (first, last)
             if has_uprights:

@@ -3,11 +3,13 @@
 import html
 import json
 import os
+from collections import Counter
 from html.parser import HTMLParser
 from typing import Iterable
 from urllib.parse import quote
 
-from ..judge.whole import counted
+from ..judge.answer import VERSION
+from ..judge.whole import NO, OPEN, YES, counted
 from .page import MARK, STYLE
 
 
@@ -33,8 +35,8 @@ class _Head(HTMLParser):
 
 
 def index_of(path: str, pages: Iterable[str]) -> str:
-    """The text of an index that is written to `path`: a row for each of these pages, those that aren't whole first. A
-    ValueError where one is no page of a side."""
+    """The text of an index that is written to `path`: a row for each of these pages, those that aren't whole first, and
+    then those of which that can't be told. A ValueError where one is no page of a side, or has another form."""
     rows = []
     for page in pages:
         head = _Head()
@@ -42,21 +44,26 @@ def index_of(path: str, pages: Iterable[str]) -> str:
             head.feed(file.read())
         if head.said is None:
             raise ValueError("%s is no page that --html wrote" % page)
+        if head.said.get("version") != VERSION:
+            raise ValueError("%s is a page of another version: write it again" % page)
         link = quote(os.path.relpath(page, os.path.dirname(os.path.abspath(path))).replace(os.sep, "/"))
         rows.append((head.said, link, head.title))
-    rows.sort(key=lambda row: row[0]["whole"])
-    whole = sum(said["whole"] for said, _, _ in rows)
-    columns = "".join("<th>%s</th>" % name for name in ("side", "whole", "fields", "numbers", "why not"))
+    rows.sort(key=lambda row: (NO, OPEN, YES).index(row[0]["whole"]))
+    counts = Counter(said["whole"] for said, _, _ in rows)
+    columns = "".join("<th>%s</th>" % name for name in ("side", "whole", "fields", "numbers", "lost", "why"))
+    whole = "%s: %d whole, %d not whole, %d open" % (
+        counted(len(rows), "side"), counts[YES], counts[NO], counts[OPEN])
     return ('<!DOCTYPE html>\n<html lang="en"><head><meta charset="utf-8"><title>LaserDisc sides</title>\n'
             '<meta name="viewport" content="width=device-width, initial-scale=1">\n<style>%s</style></head><body>\n'
-            '<h1>%s, %d whole</h1>\n<div class="wide"><table><thead><tr>%s</tr></thead>\n<tbody>%s</tbody></table>'
-            "</div></body></html>\n" % (STYLE, counted(len(rows), "side"), whole, columns, "\n".join(map(_row, rows))))
+            '<h1>%s</h1>\n<div class="wide"><table><thead><tr>%s</tr></thead>\n<tbody>%s</tbody></table>'
+            "</div></body></html>\n" % (STYLE, whole, columns, "\n".join(map(_row, rows))))
 
 
 def _row(row):
     said, link, title = row
     numbers = said["numbers"]
     span = "%(count)d, %(least)s to %(greatest)s" % numbers if numbers["count"] else "none"
-    cells = ("yes" if said["whole"] else "no", said["fields"], span, "; ".join(one["text"] for one in said["reasons"]))
+    reasons = "; ".join(one["text"] for one in said["reasons"])
+    cells = (said["whole"], said["fields"], span, said["lost"], reasons)
     return '<tr><td><a href="%s">%s</a></td>%s</tr>' % (
         html.escape(link), html.escape(title), "".join("<td>%s</td>" % html.escape(str(cell)) for cell in cells))

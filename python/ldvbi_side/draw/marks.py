@@ -4,10 +4,13 @@ a lane of the drawing."""
 from typing import Any, Dict, List, NamedTuple
 
 from ..judge.readings import Answer
+from ..judge.whole import counted_by
 
 # The lanes with their colours, and those that few sides have
 LANES = {
-    "missing": "#dc2626",
+    "lost": "#dc2626",
+    "unread": "#fca5a5",
+    "undecided": "#d97706",
     "lost fields": "#ea580c",
     "jumps": "#0f766e",
     "swapped fields": "#7c3aed",
@@ -17,11 +20,12 @@ LANES = {
     "doubtful": "#be185d",
     "stray codes": "#64748b",
 }
-_RARE = ("swapped fields", "other speeds")
+_RARE = ("undecided", "swapped fields", "other speeds")
+PALE = ("unread",)  # of these the colour is too light for text
 _MISSING = {
-    "damaged": "fields are there for it, and none shows it",
     "lost": "no field is there for it",
-    "undecided": "lost or damaged, or left out by the disc's clock",
+    "unread": "fields are there for it, and none shows it",
+    "undecided": "lost or unread, or left out by the disc's clock",
 }
 _LOST = {
     "number": "by the numbers",
@@ -63,7 +67,7 @@ def fields_text(first: int, last: int) -> str:
 def marks_of(answer: Answer) -> Dict[str, List[Mark]]:
     """The marks of each lane, by field."""
     found = {
-        "missing": [_missing(one) for one in answer["missing"]],
+        **{why: [_missing(one) for one in answer["missing"] if one["why"] == why] for why in _MISSING},
         "lost fields": [_lost(one) for one in answer["lost"]],
         "jumps": [_jump(one) for one in answer["breaks"] if one["kind"] != "lost"],
         "swapped fields": [Mark(one["field"], one["field"] + 1, "fields %d and %d are swapped: %s" % (
@@ -89,7 +93,7 @@ def lanes_of(marks: Dict[str, List[Mark]]) -> List[str]:
 def counts_of(answer: Answer) -> Dict[str, int]:
     """How many there are of each lane, as the summary counts them."""
     counts = {lane: len(marks) for lane, marks in marks_of(answer).items()}
-    counts["missing"] = sum(one["count"] for one in answer["missing"])
+    counts.update((why, counted_by(answer, why)) for why in _MISSING)
     counts["lost fields"] = sum(one["fields"] or 1 for one in answer["lost"])
     return counts
 
@@ -104,10 +108,10 @@ def doubt_text(one: Answer) -> str:
 
 
 def _missing(one):
-    is_there = one["why"] == "damaged"
+    is_there = one["why"] == "unread"
     first, last = (one["after"] + 1, one["before"] - 1) if is_there else (one["before"], one["before"])
-    return Mark(first, max(first, last), "missing: %s, after field %d, before field %d: %s" % (
-        span(one["first"], one["last"]), one["after"], one["before"], _MISSING[one["why"]]))
+    return Mark(first, max(first, last), "%s: %s, after field %d, before field %d: %s" % (
+        one["why"], span(one["first"], one["last"]), one["after"], one["before"], _MISSING[one["why"]]))
 
 
 def _lost(one):

@@ -7,23 +7,26 @@ from typing import Callable, Iterable, Optional
 
 from ldvbi.codes import LINES
 from ..judge.readings import Answer
+from ..judge.whole import NO, OPEN, YES, counted, counted_by, lost_fields_text
 from ..side import Side
 from .bands import SHOWN
 from .drawing import drawing_of
 
 MOST_PLOTS = 200
+CLASSES = {YES: "yes", NO: "no", OPEN: "open"}
 # What a page says of itself to the index, in its head
 MARK = "ldvbi-side"
 STYLE = """body{font:16px/1.5 sans-serif;color:#1e293b;margin:0 auto;max-width:1200px;padding:0 16px}
 h1{font-size:1.5em;overflow-wrap:anywhere}table{border-collapse:collapse}th,td{padding:2px 10px;text-align:left}
-th{border-bottom:1px solid #64748b}.yes,.no{padding:8px 16px;border-left:6px solid}.yes{border-color:#15803d}
-.no{border-color:#b91c1c}.wide{overflow-x:auto}dt{font-weight:bold}dd{margin:0 0 6px 16px;overflow-wrap:anywhere}
+th{border-bottom:1px solid #64748b}.yes,.no,.open{padding:8px 16px;border-left:6px solid}.yes{border-color:#15803d}
+.no{border-color:#b91c1c}.open{border-color:#d97706}.wide{overflow-x:auto}dt{font-weight:bold}
+dd{margin:0 0 6px 16px;overflow-wrap:anywhere}
 summary{cursor:pointer;padding:4px 0}details svg{max-width:100%;height:auto}
 """ + ".recovered{color:%s}" % SHOWN["recovered"]
 # The lists of the answer, and how a page names them
 LISTS = {
-    "missing": "missing", "leftOut": "left out by the disc's clock", "damaged": "damaged", "lost": "lost fields",
-    "breaks": "breaks", "stills": "stills", "repeated": "shown again",
+    "missing": "numbers lost, undecided or unread", "lost": "lost fields", "unread": "unread, and their fields",
+    "leftOut": "left out by the disc's clock", "breaks": "breaks", "stills": "stills", "repeated": "shown again",
     "swapped": "swapped fields", "speeds": "other speeds", "doubtful": "doubtful, set aside",
     "conflicts": "lines 17 and 18 differ", "chapterConflicts": "chapters of lines 17 and 18 differ",
     "secondRows": "second rows of numbers", "chapters": "chapters", "stops": "picture stops", "leadIn": "lead-in",
@@ -57,21 +60,32 @@ def _escaped(value):
 
 
 def _head(title, answer):
-    said = {name: answer[name] for name in ("whole", "reasons", "system", "format", "unit", "fields", "numbers")}
+    said = {name: answer[name] for name in (
+        "version", "whole", "reasons", "system", "format", "unit", "fields", "numbers")}
+    said["lost"] = _lost_text(answer)
     return ('<!DOCTYPE html>\n<html lang="en"><head><meta charset="utf-8"><title>%s</title>\n'
             '<meta name="viewport" content="width=device-width, initial-scale=1">\n<meta name="%s" content="%s">\n'
             "<style>%s</style></head><body>" % (_escaped(title), MARK, _escaped(json.dumps(said)), STYLE))
 
 
+def _lost_text(answer):
+    """How many numbers and fields are lost for sure."""
+    count = counted_by(answer, "lost")
+    texts = [counted(count, answer["unit"]) if count else "", lost_fields_text(answer)]
+    return ", ".join(filter(None, texts)) or "none"
+
+
 def _verdict(answer):
-    if answer["whole"]:
-        return '<p class="yes">whole: yes</p>'
-    return '<div class="no">whole: no<ul>%s</ul></div>' % "".join(
-        "<li>%s</li>" % _escaped(one["text"]) for one in answer["reasons"])
+    reasons = "".join("<li>%s</li>" % _escaped(one["text"]) for one in answer["reasons"])
+    return '<div class="%s">whole: %s%s</div>' % (
+        CLASSES[answer["whole"]], _escaped(answer["whole"]), "<ul>%s</ul>" % reasons if reasons else "")
 
 
 def _fold(name, ones):
-    """A list of the answer in full, behind its name and how many rows it has."""
+    """A list of the answer in full, behind its name and how many rows it has; of the numbers that no field shows those
+    that are lost stand first."""
+    if name == "missing":
+        ones = sorted(ones, key=lambda one: ("lost", "undecided", "unread").index(one["why"]))
     title = "%s: %d" % (LISTS.get(name, name), len(ones))
     if not ones:
         return "<p>%s</p>" % _escaped(title)

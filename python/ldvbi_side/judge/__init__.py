@@ -2,8 +2,9 @@
 data goes through the modules in one direction. None imports one that stands behind it here, or changes what another
 made. Read them in this order:
 
-readings, paces, chain, believed, doubts, order, times, numbers, clock, places, confirmed, missing, parts, lines, whole,
-answer
+readings, paces, chain, believed, doubts, order, times, numbers, clock, places, confirmed, missing, parts, lines,
+judged, ends, whole, answer
 
 Up to `numbers` the words become believed numbers. `clock`, `places` and `confirmed` say what lies between these, and
-the others what is missing, which other parts the disc has, what the lines show, and whether the side is whole."""
+the others what is missing, which other parts the disc has, what the lines show, what the library's judge says, and
+whether the side is whole."""

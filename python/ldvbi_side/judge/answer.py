@@ -10,6 +10,7 @@ from ldvbi import Kind
 from ldvbi.collector import paused
 from .confirmed import with_confirmed
 from .doubts import Doubts, read_in
+from .judged import judged_of
 from .lines import bad_lines_of, levels_of, rates_of
 from .missing import lost_fields, missing_of, repeated_of
 from .numbers import numbers_of
@@ -17,9 +18,9 @@ from .order import pairs_of
 from .parts import chapters_of, ends_of, status_of, stops_of, users_of
 from .places import Places, places_of
 from .readings import Answer, Codes, Fields, codes_of
-from .whole import reasons_of
+from .whole import reasons_of, whole_of
 
-VERSION = 1  # of the answer's form
+VERSION = 2  # of the answer's form
 
 
 @paused()
@@ -38,9 +39,9 @@ def analyse(fields: Fields) -> Answer:
     answer.update(_of_parts(codes, places, doubts, begin))
     bad, rates = bad_lines_of(fields), rates_of(fields)
     answer.update({"badLines": bad, "lines": rates, "levels": levels_of(rates, bad, len(fields.words)),
-                   "metadataFields": fields.expected})
+                   "metadataFields": fields.expected, "judged": judged_of(numbers, fields.judge)})
     reasons = reasons_of(answer, fields.is_strict)
-    answer.update({"whole": not reasons, "reasons": reasons})
+    answer.update({"whole": whole_of(reasons), "reasons": reasons})
     return answer
 
 
@@ -60,8 +61,8 @@ def _of_numbers(places: Places, doubts: Doubts) -> Answer:
                     "greatest": text_of(max(numbers)) if numbers else None},
         "showings": [[text_of(number), first, last] for number, first, last in places.showings],
         "completed": sorted(places.numbers.completed), "confirmed": places.confirmed,
-        "damaged": [{"number": text_of(number), "field": field, "read": read.get(field)}
-                    for number, field in places.due],
+        "unread": [{"number": text_of(number), "field": field, "read": read.get(field)}
+                   for number, field in places.due],
         "breaks": [dict(one, **{"from": text_of(one["from"]), "to": text_of(one["to"])}) for one in places.breaks],
         "stills": [dict(one, number=text_of(one["number"])) for one in places.stills],
         "repeated": repeated_of(places)}

@@ -47,6 +47,7 @@ def _first_fields(showings):
 
 def _stretch(stretch, unit):
     first, last, why, fields = stretch
+    why = "unread" if why == "damaged" else why  # what is damaged is the line: its field is there, and wasn't read
     return {"first": unit.text_of(first), "last": unit.text_of(last), "count": last - first + 1, "why": why,
             "after": fields[0], "before": fields[1]}
 

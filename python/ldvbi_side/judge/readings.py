@@ -12,6 +12,9 @@ Values = Dict[Any, Lines]  # what a field says by codes of one kind, each value 
 ByField = Dict[int, Values]
 # Of a field, and the first and the last of some of its lines, the word that is nearer to them than any other, or None
 NearestWord = Callable[[int, int, int], Optional[int]]
+# Of what is counted, `pictures` or `times`, and of the pace, `video` or `film`, the numbers that the library's judge
+# believes, by field
+Judge = Callable[[str, str], Dict[int, int]]
 
 
 class Fields(NamedTuple):
@@ -20,7 +23,8 @@ class Fields(NamedTuple):
     of its own. `cut` is the document's `cutField`. `first` says of each field whether it
     is the first one of its frame (`isFirstField` of ld-decode's metadata), or is None where that isn't known.
     `expected` is the number of fields that the metadata has, or None; `is_strict` says that a side without lead-in or
-    lead-out isn't whole. `nearest_word` finds the nearest words of lines where their samples are at hand."""
+    lead-out, or with an unread number, isn't whole. `nearest_word` finds the nearest words of lines where their samples
+    are at hand, and `judge` asks the library's judge where that is."""
     system: str
     words: List[Tuple[int, int, int]]
     passes: List[Tuple[int, int, int]]
@@ -30,6 +34,7 @@ class Fields(NamedTuple):
     expected: Optional[int] = None
     is_strict: bool = False
     nearest_word: Optional[NearestWord] = None
+    judge: Optional[Judge] = None
 
 
 class Reading(NamedTuple):

@@ -1,28 +1,41 @@
-"""Whether a capture is whole, and if not, why: the reasons in order of weight, by the answer's other members alone."""
+"""Whether a capture is whole: `yes`, `no`, or `can't tell`, of which the last two have reasons in order of weight. They
+are found by the answer's other members alone."""
 
 import bisect
 from collections import Counter
 from typing import List
 
+from .ends import begin_of, end_of
 from .lines import words_of
 from .readings import Answer
 
+YES, NO, OPEN = "yes", "no", "can't tell"
 UNITS = {"picture": "pictures", "time": "times", "minute": "minutes"}
-# The numbers with which a disc may begin
-_FIRST = {"picture": (0, 1), "time": ("0:00:00.00", "0:00:00.01"), "minute": ("0:00",)}
 _OTHER = {"cav": "CLV", "clv": "CAV"}
 NEAR = 2  # fields from one code of the other format to the next, where they aren't wrong words by chance
-SHARE = 10  # numbers to one that is set aside, at most, where a side isn't whole
+SHARE = 10  # numbers to one that is set aside, at most, where what was read shows whether a side is whole
 
 
 def reasons_of(answer: Answer, is_strict: bool = False) -> List[Answer]:
-    """Why a side with this answer isn't whole, in order of weight: `why` is a word for programs, `text` says it. There
-    is none where it is whole. Without lead-in or lead-out a side is whole nevertheless, unless `is_strict`."""
-    found = [_no_numbers(answer), _lost(answer), _jumps(answer), _speed(answer), _missing(answer), _swapped(answer),
-             _begin(answer)]
-    found += _ends(answer) if is_strict else []
-    found += [_joined(answer), _other_format(answer), _lines(answer), _doubtful(answer), _fewer(answer), _cut(answer)]
-    return [{"why": one[0], "text": one[1]} for one in found if one]
+    """Why a side with this answer isn't whole, or why that can't be told, in order of weight: `why` is a word for
+    programs, `text` says it, and `whole` is what the reason alone would make of the side. Numbers that weren't read
+    while their fields are there are no reason, nor is it that there is no lead-in or no lead-out, unless `is_strict`.
+    """
+    begin = begin_of(answer, is_strict)
+    known = [_lost(answer), _jumps(answer), _speed(answer), _missing(answer), _swapped(answer),
+             begin and begin.lacks and ("begins", "begins at %(least)s, ends at %(greatest)s" % answer["numbers"])]
+    known += [_unread(answer), *_ends(answer)] if is_strict else []
+    known += [_joined(answer), _other_format(answer), _fewer(answer), _cut(answer)]
+    open_ = [_no_numbers(answer), _undecided(answer), _unread_at(begin and begin.unread), _unread_at(end_of(answer)),
+             _judged(answer), _lines(answer), _doubtful(answer)]
+    return [{"why": one[0], "whole": whole, "text": one[1]}
+            for whole, found in ((NO, known), (OPEN, open_)) for one in found if one]
+
+
+def whole_of(reasons: List[Answer]) -> str:
+    """Whether a side with these reasons is whole: what is known to be lacking outweighs what isn't known."""
+    said = {one["whole"] for one in reasons}
+    return NO if NO in said else OPEN if OPEN in said else YES
 
 
 def other_file(answer: Answer) -> bool:
@@ -36,16 +49,23 @@ def counted(count: int, name: str) -> str:
     return "%d %s%s" % (count, name, "" if count == 1 else "s")
 
 
-def _no_numbers(answer):
-    return None if answer["numbers"]["count"] else ("numbers", "no picture number and no time")
+def counted_by(answer: Answer, why: str) -> int:
+    """How many numbers that no field shows are `lost`, `unread` or `undecided`."""
+    return sum(one["count"] for one in answer["missing"] if one["why"] == why)
 
+
+def lost_fields_text(answer: Answer) -> str:
+    """How many fields are lost for sure; nothing where none is."""
+    lost = [one for one in answer["lost"] if one["by"] != "undecided"]
+    more = " or more" if any(one["fields"] is None for one in lost) else ""
+    return counted(sum(one["fields"] or 1 for one in lost), "field") + more if lost else ""
+
+
+# ---- What is known not to be in the capture, or not as the disc has it
 
 def _lost(answer):
-    if not answer["lost"]:
-        return None
-    more = " or more" if any(one["fields"] is None for one in answer["lost"]) else ""
-    count = sum(one["fields"] or 1 for one in answer["lost"])
-    return "lost", "%s%s lost" % (counted(count, "field"), more)
+    text = lost_fields_text(answer)
+    return ("lost", text + " lost") if text else None
 
 
 def _jumps(answer):
@@ -62,8 +82,13 @@ def _jumps(answer):
 
 
 def _missing(answer):
-    count = sum(one["count"] for one in answer["missing"])
-    return ("missing", "%s missing" % counted(count, answer["unit"])) if count else None
+    count = counted_by(answer, "lost")
+    return ("missing", "%s lost" % counted(count, answer["unit"])) if count else None
+
+
+def _unread(answer):
+    count = counted_by(answer, "unread")
+    return ("unread", "%s unread" % counted(count, answer["unit"])) if count else None
 
 
 def _speed(answer):
@@ -77,13 +102,6 @@ def _speed(answer):
 def _swapped(answer):
     count = len(answer["swapped"])
     return ("swapped", "%s of fields swapped" % counted(count, "pair")) if count else None
-
-
-def _begin(answer):
-    numbers = answer["numbers"]
-    if not numbers["count"] or numbers["least"] in _FIRST[answer["unit"]]:
-        return None
-    return "begins", "begins at %(least)s, ends at %(greatest)s" % numbers
 
 
 def _ends(answer):
@@ -114,6 +132,39 @@ def _other_format(answer):
         _OTHER[answer["format"]], counted(len(near), "field"), min(near))) if near else None
 
 
+def _fewer(answer):
+    expected = answer["metadataFields"]
+    if expected is None or expected <= answer["fields"]:
+        return None
+    return "metadata", "%s of %d that the metadata has" % (counted(answer["fields"], "field"), expected)
+
+
+def _cut(answer):
+    cut = answer["cutField"]
+    return ("cut", "field %d is cut" % cut["seqNo"]) if cut else None
+
+
+# ---- What leaves it open
+
+def _no_numbers(answer):
+    return None if answer["numbers"]["count"] else ("numbers", "no picture number and no time")
+
+
+def _undecided(answer):
+    count = counted_by(answer, "undecided")
+    return ("undecided", "%s undecided" % counted(count, answer["unit"])) if count else None
+
+
+def _unread_at(fields):
+    """A stretch at an end of the side, given by its first and its last field."""
+    return fields and ("ends", "no number in fields %d to %d" % fields)
+
+
+def _judged(answer):
+    count = answer["judged"]["differ"] if answer["judged"] else 0
+    return ("judged", "the library's judge has another number in %s" % counted(count, "field")) if count else None
+
+
 def _lines(answer):
     """A line without any code, beside one that shows some."""
     unknown = Counter(str(one["line"]) for one in answer["unknown"])
@@ -133,15 +184,3 @@ def _doubtful(answer):
     if not doubtful or SHARE * len(doubtful) < shown:
         return None
     return "doubtful", "numbers set aside in %d of %s" % (len(doubtful), counted(shown, "field"))
-
-
-def _fewer(answer):
-    expected = answer["metadataFields"]
-    if expected is None or expected <= answer["fields"]:
-        return None
-    return "metadata", "%s of %d that the metadata has" % (counted(answer["fields"], "field"), expected)
-
-
-def _cut(answer):
-    cut = answer["cutField"]
-    return ("cut", "field %d is cut" % cut["seqNo"]) if cut else None
