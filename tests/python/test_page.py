@@ -156,7 +156,7 @@ class Indexes(unittest.TestCase):
                 with open(names[-1], "w", encoding="utf-8") as file:
                     file.write(page(one, title=title))
             read = Page(index_of(os.path.join(folder, "index.html"), names))
-            self.assertEqual(read.texts["h1"], ["3 sides: 1 whole, 1 not whole, 1 open"])
+            self.assertEqual(read.texts["h1"], ["3 sides, whole: 1 yes, 1 no, 1 can't tell"])
             self.assertEqual(read.texts["a"], ["other", "none", "one & two.tbc"])
             self.assertEqual([known["href"] for tag, known in read.tags if tag == "a"],
                              ["other%20%231.html", "none%20%231.html", "one%20%26%20two.tbc%20%231.html"])

@@ -51,8 +51,8 @@ def index_of(path: str, pages: Iterable[str]) -> str:
     rows.sort(key=lambda row: (NO, OPEN, YES).index(row[0]["whole"]))
     counts = Counter(said["whole"] for said, _, _ in rows)
     columns = "".join("<th>%s</th>" % name for name in ("side", "whole", "fields", "numbers", "lost", "why"))
-    whole = "%s: %d whole, %d not whole, %d open" % (
-        counted(len(rows), "side"), counts[YES], counts[NO], counts[OPEN])
+    whole = "%s, whole: %s" % (counted(len(rows), "side"), ", ".join(
+        "%d %s" % (counts[one], html.escape(one)) for one in (YES, NO, OPEN)))
     return ('<!DOCTYPE html>\n<html lang="en"><head><meta charset="utf-8"><title>LaserDisc sides</title>\n'
             '<meta name="viewport" content="width=device-width, initial-scale=1">\n<style>%s</style></head><body>\n'
             '<h1>%s</h1>\n<div class="wide"><table><thead><tr>%s</tr></thead>\n<tbody>%s</tbody></table>'
