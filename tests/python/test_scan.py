@@ -14,9 +14,25 @@ HEAD = ["side", "whole", "lost", "unread", "format", "from", "to", "fields", "wh
 
 
 class Tables(Scans):
+    """A folder of twelve sides, which are read one after the other, and side by side."""
+
     def setUp(self):
         super().setUp()
         self.add_twelve()
+
+    def test_twelve_sides(self):
+        table = self.scan("--csv", "-j", "1", "--html", "one", "a", "b")
+        known = self.scan("--json", "-j", "4", "--html", "four", "b", "a")
+        self.check_csv(*table)
+        self.check_json(*known)
+        self.check_pages({one["side"]: one["page"] for one in json.loads(known[1])["sides"]})
+        # those that have a page aren't read again
+        self.check_text(*self.scan("--html", "four", "a", "b"))
+        names = sorted(os.listdir(self.path("one")))
+        self.assertEqual(len(names), 10)  # of twelve sides three have a fault; and the index
+        self.assertEqual(sorted(os.listdir(self.path("four"))), names)
+        for name in names:
+            self.assertEqual(self.read("one/" + name), self.read("four/" + name), name)
 
     def check_rows(self, rows):
         self.assertEqual([row[0] for row in rows], list(ROWS))
@@ -27,15 +43,13 @@ class Tables(Scans):
                 self.assertEqual(found[-1] == "", found[0] == "yes")
                 self.assertEqual("two sides joined" in found[-1], name == "a/joined.tbc")
 
-    def test_twelve_sides(self):
-        status, text, said = self.scan("--csv", "a", "b")
+    def check_csv(self, status, text, said):
         self.assertEqual((status, said), (2, ""))
         head, *rows = csv.reader(io.StringIO(text))
         self.assertEqual(head, HEAD)
         self.check_rows(rows)
 
-    def test_json(self):
-        status, text, said = self.scan("--json", "b", "a")
+    def check_json(self, status, text, said):
         known = json.loads(text)
         self.assertEqual((status, said, known["version"], len(known)), (2, "", 1, 2))
         self.check_rows([[
@@ -43,12 +57,11 @@ class Tables(Scans):
             *("" if one[name] is None else str(one[name]) for name in HEAD[2:-1]),
             "; ".join(one["reasons"]) if one["fault"] is None else one["fault"]] for one in known["sides"]])
         lost = known["sides"][list(ROWS).index("a/lost.tbc")]
-        self.assertEqual(lost, {
+        self.assertEqual(dict(lost, page=None), {
             "side": "a/lost.tbc", "whole": "no", "lost": 2, "unread": 0, "format": "cav", "from": 1, "to": 30,
             "fields": 56, "reasons": ["4 fields lost", "2 pictures lost"], "fault": None, "page": None})
 
-    def test_a_table_to_read(self):
-        status, text, said = self.scan("a", "b")
+    def check_text(self, status, text, said):
         self.assertEqual((status, said), (2, ""))
         lines = text.split("\n")
         self.assertEqual(len(lines), 14)
@@ -62,29 +75,16 @@ class Tables(Scans):
                 "it is compressed (gzip): unpack it first"):
             self.assertIn(line, lines)
 
-    def test_as_many_at_a_time_as_are_asked_for(self):
-        """One after the other or side by side: the same rows in the same order, and the same pages."""
-        found = [self.scan("--csv", "-j", count, "--html", "pages" + count, "b", "a") for count in ("1", "4")]
-        self.assertEqual(found[0], found[1])
-        names = sorted(os.listdir(self.path("pages1")))
-        self.assertEqual(len(names), 10)  # of twelve sides three have a fault; and the index
-        self.assertEqual(sorted(os.listdir(self.path("pages4"))), names)
-        for name in names:
-            with self.subTest(name):
-                self.assertEqual(self.read("pages1/" + name), self.read("pages4/" + name))
-
-    def test_pages_and_their_index(self):
-        status, text, said = self.scan("--json", "--html", "pages", "a", "b")
-        self.assertEqual((status, said), (2, ""))
-        pages = {one["side"]: one["page"] for one in json.loads(text)["sides"]}
+    def check_pages(self, pages):
+        """The pages of these sides, and their index."""
         self.assertEqual([name for name, page in pages.items() if page is None],
                          [name for name, row in ROWS.items() if row[0] == "fault"])
-        self.assertEqual(sorted(os.listdir(self.path("pages"))),
+        self.assertEqual(sorted(os.listdir(self.path("four"))),
                          sorted([os.path.basename(page) for page in pages.values() if page] + ["index.html"]))
         for name, page in pages.items():
             if page:
                 self.assertIn("<title>%s</title>" % os.path.basename(name), self.read(page))
-        index = self.read("pages/index.html")
+        index = self.read("four/index.html")
         self.assertIn("<h1>12 sides, whole: 4 yes, 3 no, 2 can&#x27;t tell, 3 faults</h1>", index)
         self.assertIn("<tr><td>b/packed.tbc</td><td>fault</td><td></td><td></td><td></td>"
                       "<td>it is compressed (gzip): unpack it first</td></tr>", index)
@@ -160,10 +160,7 @@ class Pages(Scans):
         self.assertNotEqual(one, other)
         self.assertIn("30, from 1 to 30", self.read(one))
         self.assertIn("20, from 1 to 20", self.read(other))
-        os.chdir(self.path("a"))  # a side has one page, however it is named
-        self.addCleanup(os.chdir, TOP)
-        self.assertEqual(self.page("../" + os.path.basename(self.folder) + "/a/side.tbc"
-                                   if False else self.path("a/side.tbc")), one)
+        self.assertEqual(self.page("b/../a/side.tbc"), one)  # a side has one page, however it is named
 
     def test_a_page_that_is_newer(self):
         """The side isn't read again, but keeps its row: what is in its file now isn't looked at."""

@@ -11,6 +11,7 @@ from typing import Any, Callable, Dict, Iterator, List, NamedTuple, Optional, Se
 GRACE = 5  # seconds in which a process that is to end may remove what it began to write
 
 Job = Callable[[Any, Callable[[Any], None]], None]
+After = Callable[[Any, int], None]
 
 
 class Ended(NamedTuple):
@@ -21,11 +22,12 @@ class Ended(NamedTuple):
 class SideBySide:
     """Runs a job once for each task, at most `most` at a time, in a `with` block, at whose end none runs any longer.
     The job gets its task and a function that sends a message to this process. Job, tasks and messages have to be what
-    `pickle` takes. A loop yields each message with its task's index, and `Ended` behind those of a task."""
+    `pickle` takes. A loop yields each message with its task's index, and `Ended` behind those of a task. When a process
+    has ended, however that was, `after` is called here with its task and its number."""
 
-    def __init__(self, job: Job, tasks: Sequence[Any], most: int) -> None:
-        self._job = job
-        self._tasks = list(enumerate(tasks))[::-1]
+    def __init__(self, job: Job, tasks: Sequence[Any], most: int, after: After) -> None:
+        self._job, self._after = job, after
+        self._tasks, self._started = tasks, 0
         self._most = most
         self._running: Dict[Connection, Tuple[int, Any]] = {}
 
@@ -34,19 +36,21 @@ class SideBySide:
 
     def __exit__(self, kind: Optional[Type[BaseException]], error: Optional[BaseException],
                  trace: Optional[TracebackType]) -> None:
-        left = [process for _, process in self._running.values()]
-        for process in left:
+        left = self._running.values()
+        for _, process in left:
             process.terminate()
-        for process in left:
+        for index, process in left:
             process.join(GRACE)
             if process.is_alive():
                 process.kill()
                 process.join()
+            self._after(self._tasks[index], process.pid)
 
     def __iter__(self) -> Iterator[Tuple[int, Any]]:
-        while self._tasks or self._running:
-            while self._tasks and len(self._running) < self._most:
-                self._start(*self._tasks.pop())
+        while self._started < len(self._tasks) or self._running:
+            while self._started < len(self._tasks) and len(self._running) < self._most:
+                self._start(self._started)
+                self._started += 1
             ready: List[Any] = wait(list(self._running))
             for connection in ready:
                 index, process = self._running[connection]
@@ -56,15 +60,16 @@ class SideBySide:
                     process.join()
                     del self._running[connection]
                     connection.close()
+                    self._after(self._tasks[index], process.pid)
                     message = Ended(process.exitcode)
                 yield index, message
 
-    def _start(self, index, task):
+    def _start(self, index):
         # A new process, as it is no copy of this one, has none of its threads and locks.
         context = multiprocessing.get_context("spawn")
         ours, theirs = context.Pipe(duplex=False)
         with _without_interrupts():
-            process = context.Process(target=_run, args=(self._job, task, theirs), daemon=True)
+            process = context.Process(target=_run, args=(self._job, self._tasks[index], theirs), daemon=True)
             process.start()
             self._running[ours] = index, process
         theirs.close()

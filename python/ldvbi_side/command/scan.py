@@ -19,7 +19,7 @@ from ..draw.page import said_of
 from ..judge.readings import Answer
 from ..judge.whole import YES
 from .folders import files_of, page_name, sides_in
-from .outputs import refuse_inputs, whole_file
+from .outputs import drop_part, refuse_inputs, whole_file
 from .processes import Ended, SideBySide
 from .progress import SidesProgress, heard_by
 from .rows import Csv, Json, Text, fault_row, row_of
@@ -75,7 +75,7 @@ def scan(words: List[str], read: Read) -> int:
     table = Csv() if options.csv else Json() if options.json else Text([side.path for side in sides])
     rows = []
     tasks = [(sides[place].path, pages[place]) for place in left]
-    with SideBySide(functools.partial(_read_side, read), tasks, options.jobs) as messages, \
+    with SideBySide(functools.partial(_read_side, read), tasks, options.jobs, _drop_page) as messages, \
             SidesProgress([_size(path) for path, _ in tasks]) as progress:
         for row, notes in _in_order(itertools.chain(kept.items(), _results(messages, progress, sides, left))):
             progress.clear()
@@ -168,6 +168,12 @@ def _read_side(read, task, tell):
     except Exception as error:  # of this side alone: the others go on
         row = fault_row(path, "%s: %s" % (type(error).__name__, error))
     tell((row, [line.partition(": ")[2] for line in notes.getvalue().splitlines()]))
+
+
+def _drop_page(task, process):
+    """Removes what a process, which has ended, left of an unfinished page."""
+    if task[1]:
+        drop_part(task[1], process)
 
 
 def _refuse_others(path):
