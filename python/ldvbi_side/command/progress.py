@@ -96,7 +96,7 @@ class SidesProgress:
 
     def _show(self):
         now = time.monotonic()
-        if not self._is_shown or now < self._last + PAUSE:
+        if not self._is_shown or not self._sizes or now < self._last + PAUSE:
             return
         self._last = now
         done = sum(size * part for size, part in zip(self._sizes, self._parts)) / (sum(self._sizes) or 1)
