@@ -207,7 +207,7 @@ manual|share/completions/_ldvbi|/commands:#help/d
 manual|share/completions/_ldvbi-side|s/white, 0 to 65535/white, 1 to 65535/
 manual|share/completions/ldvbi.bash|s/ --max-fields --help'/ --help'; [ "${COMP_WORDS[1]}" = show ] \&\& answers="--max-fields $answers"/
 manual|share/completions/ldvbi.bash|s/\[ "$COMP_CWORD" = 2 \] &&/:;/
-manual|share/man/ldvbi-side.1|s/at most 24 lines/at most 30 lines/
+manual|share/man/ldvbi-side.1|s/at most 26 lines/at most 30 lines/
 manual|share/completions/ldvbi-side.bash|s/--svg/--svgs/
 plots|out|change 170|change 171
 plots|hangs

@@ -33,7 +33,7 @@ status=0
 bounded "$(with_jsonschema)" "$tests/validate_parts.py" "$schema" places answers/*.json < empty > said 2> err ||
     status=$?
 cat said >> err
-check 'what may stand at each place, and what may not' [ "$status $(cat said)" = '0 225 places, 3832 documents' ]
+check 'what may stand at each place, and what may not' [ "$status $(cat said)" = '0 225 places, 3833 documents' ]
 # The document with recovered words, and what it may not be
 recovered=$top/share/schema/ldvbi-recovered.schema.json
 signal NTSC 1 << 'WORDS' | ntsc_samples > worn.tbc

@@ -136,6 +136,16 @@ class Ends(unittest.TestCase):
         self.assertEqual(said([BAD] * 5 + film(range(3, 40)), "NTSC"), "yes")
         self.assertEqual(said([BAD] * 4 + film(range(3, 40)), "NTSC"), "no: begins at 3, ends at 39")
 
+    def test_the_clock_may_leave_out_first_times(self):
+        """Two numbers a minute at most, so of three times before the first one one is sure to have its fields."""
+        rows = times(range(4, 40), 30)
+        self.assertEqual([said([BAD] * count + rows, "NTSC") for count in (6, 5, 2, 1)], [
+            "yes", "can't tell: no number in fields 1 to 5", "can't tell: no number in fields 1 to 2",
+            "no: begins at 0:00:00.04, ends at 0:00:01.09"])
+        rows = ["- 87FFFF %s" % minutes(0, minute) for minute in (1, 2) for _ in range(3600)]
+        self.assertEqual([said([BAD] * count + rows, "NTSC") for count in (3592, 3591)], [
+            "can't tell: no number in fields 1 to 3592", "no: begins at 0:01, ends at 0:02"])
+
     def test_first_minutes_that_were_not_read(self):
         rows = ["- 87FFFF %s" % minutes(0, minute) for minute in (1, 2) for _ in range(3000)]
         self.assertEqual(said([BAD] * 2999 + rows), "no: begins at 0:01, ends at 0:02")
@@ -177,6 +187,20 @@ class NotTold(unittest.TestCase):
         """Four fields are there for pictures 10 to 13, and four are lost."""
         rows = pictures(range(1, 10)) + [BAD] * 4 + pictures(range(14, 31))
         self.assertEqual(said(rows), "no: 4 fields lost; 4 pictures undecided")
+
+    def test_fields_of_film_that_may_be_swapped(self):
+        """Even pictures have 3 fields; the first two of picture 20 are written in each other's place."""
+        rows = film(range(1, 41), 0)
+        place = rows.index("- F00020 F00020")
+        rows[place:place + 2] = rows[place + 1], rows[place]
+        self.assertEqual(said(rows, "NTSC"), "can't tell: fields %d and %d may be swapped" % (place + 1, place + 2))
+        again = film(range(1, 81), 0)
+        for number in (20, 60):
+            place = again.index("- F000%d F000%d" % (number, number))
+            again[place:place + 2] = again[place + 1], again[place]
+        self.assertEqual(said(again, "NTSC"), "can't tell: 2 pairs of fields may be swapped")
+        # where the film is cut once it goes on in another way
+        self.assertEqual(said(film(range(1, 21), 0) + film(range(21, 41), 1), "NTSC"), "yes")
 
     def test_a_line_without_codes(self):
         rows = ["- - %s" % row.split(" ")[2] for row in pictures(range(1, 31))]
@@ -239,23 +263,28 @@ class Judged(unittest.TestCase):
 
 class Order(unittest.TestCase):
     def test_the_order_of_all(self):
-        rows = pictures(range(11, 41)) + [LEAD_IN] * 2 + pictures(range(1, 10)) + times(range(5))
-        for field in (2, 4, 6, 8, 10):
-            rows[field] = "- F70000 F70000"
-        del rows[39]
-        known = analyse(plain(rows)._replace(expected=999, is_strict=True, cut={"seqNo": len(rows) + 1, "bytes": 1}))
-        self.assertEqual([one["why"] for one in known["reasons"]], [
-            "lost", "jumps", "missing", "unread", "lead-out", "joined", "format", "metadata", "cut", "doubtful"])
-        self.assertEqual({one["whole"] for one in known["reasons"][:-1]}, {"no"})
-        self.assertEqual([known["reasons"][-1]["whole"], known["whole"]], ["can't tell", "no"])
-        known["numbers"].update(least=11, greatest=40)
+        rows = film(range(1, 41), 0)
+        rows[47:49] = rows[48], rows[47]  # the first fields of picture 20
+        known = answer(rows, "NTSC")
+        self.assertEqual([one["why"] for one in known["reasons"]], ["order"])
+        place = {"after": 9, "before": 10}
+        known.update(
+            lost=[dict(place, fields=2, by="number")], breaks=[dict(place, kind="back")], swapped=[{"field": 9}],
+            speeds=[{"first": 9, "last": 49}], leadIn=[{"first": 40, "last": 40}],
+            missing=[dict(place, count=1, why=why) for why in ("undecided", "unread", "lost")],
+            stray=[{"field": field, "why": "format"} for field in (9, 10)], metadataFields=999, fields=500,
+            cutField={"seqNo": 501}, judged={"differ": 1},
+            doubtful=[{"field": field, "kind": "picture"} for field in range(9, 50, 3)])
+        known["numbers"]["least"] = 11
         known["lines"]["18"].update(pass1=0, pass2=0)
-        known["judged"] = {"differ": 1}
-        known["fields"] = 999
-        known["missing"][0]["why"] = "undecided"
-        whys = [one["why"] for one in reasons_of(known, True)]
-        self.assertEqual(whys, ["lost", "jumps", "begins", "unread", "lead-out", "joined", "format", "cut",
-                                "undecided", "ends", "judged", "line", "doubtful"])
+        reasons = reasons_of(known, True)
+        no = ["lost", "jumps", "speed", "missing", "swapped", "begins", "unread", "lead-out", "joined", "format",
+              "metadata", "cut"]
+        self.assertEqual([one["why"] for one in reasons if one["whole"] == "no"], no)
+        self.assertEqual([one["why"] for one in reasons][len(no):],
+                         ["undecided", "ends", "order", "judged", "line", "doubtful"])
+        known["leadIn"] = []
+        self.assertEqual([one["why"] for one in reasons_of(known, True)][7:9], ["lead-in", "lead-out"])
 
     def test_what_is_lacking_outweighs_what_is_not_known(self):
         no, unknown = {"whole": "no"}, {"whole": "can't tell"}

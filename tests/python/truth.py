@@ -146,7 +146,7 @@ class Reasons:
             "joined": self._joined(), "format": self._format(), "metadata": False, "cut": False,
             "swapped": bool(truth.swaps), "speed": bool(truth.speeds)}
         self.open = {"numbers": not truth.read, "line": False, "doubtful": self._doubtful(), "judged": False,
-                     "ends": False, "undecided": None}
+                     "ends": False, "undecided": None, "order": None}
 
     def _begins(self):
         """Of the numbers before the least that can be read, from the disc's first one on, the capture lacks some."""

@@ -9,11 +9,12 @@ from .readings import Answer
 # The numbers with which a disc may begin
 FIRST = {"picture": (0, 1), "time": ("0:00:00.00", "0:00:00.01"), "minute": ("0:00",)}
 LONGEST = 100  # fields without a number at an end that may be a scratch
+LEFT_OUT = 2  # numbers that the clock of an NTSC disc leaves out in a minute, at most
 
 
 class Begin(NamedTuple):
     """How a side begins whose first number isn't the disc's: whether it lacks fields for the numbers before that, or
-    else the first and the last of more fields without a number than a scratch has."""
+    else the first and the last of the fields there, where that can't be told."""
     lacks: bool
     unread: Optional[Tuple[int, int]] = None
 
@@ -26,9 +27,11 @@ def begin_of(answer: Answer, is_strict: bool = False) -> Optional[Begin]:
         return None
     number, field, _ = answer["showings"][0]
     last = max((one["last"] for one in answer["leadIn"] if one["last"] < field), default=0)
-    if is_strict or number != least or field - 1 - last < _fields_before(number, answer):
+    fewest, most = _fields_before(number, answer)
+    if is_strict or number != least or field - 1 - last < fewest:
         return Begin(True)
-    return Begin(False, (last + 1, field - 1)) if field - 1 - last > LONGEST else None
+    is_open = field - 1 - last < most or field - 1 - last > LONGEST
+    return Begin(False, (last + 1, field - 1)) if is_open else None
 
 
 def end_of(answer: Answer) -> Optional[Tuple[int, int]]:
@@ -42,12 +45,16 @@ def end_of(answer: Answer) -> Optional[Tuple[int, int]]:
 
 
 def _fields_before(number, answer):
-    """How many fields a disc has before this number, from the last one on with which it may begin."""
-    rate = RATES[answer["system"]]
-    count = ordinal_of(number, rate) - ordinal_of(FIRST[answer["unit"]][-1], rate)
-    if answer["unit"] == "minute":
-        return 120 * rate * count
-    return 5 * count // 2 if answer["pace"] == "film" else 2 * count
+    """How many fields a disc has before this number, from the last one on with which it may begin, at least and at
+    most: on NTSC the clock may leave out times."""
+    rate, unit = RATES[answer["system"]], answer["unit"]
+    count = ordinal_of(number, rate) - ordinal_of(FIRST[unit][-1], rate)
+    if unit == "picture":
+        fields = 5 * count // 2 if answer["pace"] == "film" else 2 * count
+        return fields, fields
+    times = 60 * rate * count if unit == "minute" else count
+    left_out = LEFT_OUT * (times // (60 * rate) + 1) if answer["system"] == "NTSC" else 0
+    return 2 * (times - left_out), 2 * times
 
 
 def ordinal_of(number: Any, rate: int) -> int:

@@ -2,7 +2,7 @@
 are found by the answer's other members alone."""
 
 import bisect
-from collections import Counter
+from collections import Counter, defaultdict
 from typing import List
 
 from .ends import begin_of, end_of
@@ -27,7 +27,7 @@ def reasons_of(answer: Answer, is_strict: bool = False) -> List[Answer]:
     known += [_unread(answer), *_ends(answer)] if is_strict else []
     known += [_joined(answer), _other_format(answer), _fewer(answer), _cut(answer)]
     open_ = [_no_numbers(answer), _undecided(answer), _unread_at(begin and begin.unread), _unread_at(end_of(answer)),
-             _judged(answer), _lines(answer), _doubtful(answer)]
+             _order(answer), _judged(answer), _lines(answer), _doubtful(answer)]
     return [{"why": one[0], "whole": whole, "text": one[1]}
             for whole, found in ((NO, known), (OPEN, open_)) for one in found if one]
 
@@ -158,6 +158,26 @@ def _undecided(answer):
 def _unread_at(fields):
     """A stretch at an end of the side, given by its first and its last field."""
     return fields and ("ends", "no number in fields %d to %d" % fields)
+
+
+def _order(answer):
+    """On film a number one field before or behind its place, while those around it go on as before. Either two fields
+    are swapped there, or the film is cut twice within three pictures. Two pictures of film have five fields, so each
+    even number is compared with even ones, and each odd one with odd ones."""
+    if answer["pace"] != "film":
+        return None
+    begins, known = [one["before"] for one in answer["breaks"]], {one["field"] for one in answer["swapped"]}
+    rows = defaultdict(list)
+    for number, field, _ in answer["showings"]:
+        rows[bisect.bisect(begins, field), number % 2].append((field, 2 * field - 5 * number))
+    pairs = {field - (here > before) for row in rows.values()
+             for (_, before), (field, here), (_, after) in zip(row, row[1:], row[2:])
+             if before == after and abs(here - before) == 2} - known
+    if not pairs:
+        return None
+    first = min(pairs)
+    text = "fields %d and %d" % (first, first + 1) if len(pairs) == 1 else "%d pairs of fields" % len(pairs)
+    return "order", text + " may be swapped"
 
 
 def _judged(answer):
