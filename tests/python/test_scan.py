@@ -67,7 +67,8 @@ class Tables(Scans):
         self.assertEqual(len(lines), 14)
         for line in (
                 "side                whole         lost  unread   format        from          to   fields  why",
-                "a/cut.tbc           no               0       0      cav           1          30       60  field 61 is cut",
+                "a/cut.tbc           no               0       0      cav           1          30       60  "
+                "field 61 is cut",
                 "b/minutes.vbi.json  yes              0       0      clv        0:00        0:02     9000",
                 "b/no codes.tbc      can't tell       0       0  neither           -           -       60  "
                 "no picture number and no time",
@@ -204,7 +205,8 @@ class Pages(Scans):
         self.add("side.tbc", WHOLE)
         page = self.page()
         whole = self.read(page)
-        for text in ("", "<html><head></head><body></body></html>", whole.replace("&quot;version&quot;: ", "&quot;v&quot;: "),
+        for text in ("", "<html><head></head><body></body></html>",
+                     whole.replace("&quot;version&quot;: ", "&quot;v&quot;: "),
                      whole.replace("&quot;counts&quot;", "&quot;other&quot;")):
             self.write(page, text.encode())
             self.page()
