@@ -1,6 +1,8 @@
 """How scans end whose processes don't: killed, interrupted, or without a reader; and what a terminal shows of them."""
 
+import contextlib
 import functools
+import io
 import os
 import pty
 import signal
@@ -11,6 +13,7 @@ from unittest import mock
 
 from ldvbi_side.command import processes
 from ldvbi_side.command.processes import Ended, SideBySide
+from ldvbi_side.command.scan import scan
 from scanned import COMMAND, DEADLINE, LEAD_IN, WHOLE, Scans
 from streams import NTSC, line_with
 
@@ -63,6 +66,28 @@ class Ends(Scans):
         for one in of_it:
             self.assertNotIn(b"spawn_main", command_of(one))
         return text.decode()
+
+
+def fails(path, page):
+    """Reads no side: what it raises isn't what a file is to blame for."""
+    raise KeyError("a fault of the program")
+
+
+def leaves(path, page):
+    """Ends its process."""
+    os._exit(3)
+
+
+class Failing(Scans):
+    def test_faults_that_nobody_thought_of(self):
+        self.add("1.tbc", WHOLE)
+        self.add("2.tbc", WHOLE)
+        for read, text in ((fails, "KeyError: 'a fault of the program'"), (leaves, "its process ended with status 3")):
+            printed = io.StringIO()
+            with contextlib.redirect_stdout(printed):
+                self.assertEqual(scan(["--csv", self.folder], read), 2)
+            self.assertEqual(printed.getvalue().split("\n")[1:], [
+                "%s/%d.tbc,fault,,,,,,,%s" % (self.folder, number, text) for number in (1, 2)] + [""])
 
 
 class Killed(Ends):
