@@ -50,6 +50,7 @@ python_side|python/ldvbi/classes.py|s/Kind.lead_in, "lead-in"/Kind.lead_in, "lea
 python_side|python/ldvbi_side/command/tables.py|s/"field", "frame", /"frame", "field", /
 side_schema|share/schema/ldvbi-side.schema.json|s/"unread", "breaks"/"breaks"/
 side_schema|share/schema/ldvbi-side.schema.json|s/"enum": \[1820, 2270\]/"type": "integer"/
+side_schema|share/schema/ldvbi-scan.schema.json|s/"fault": {"type": "null"}/"fault": {}/
 side_schema|share/schema/ldvbi-recovered.schema.json|s/{"const": 3}\]},$/{"enum": [2, 3]}]},/
 side_schema|tests/python/answers.py|/yield "clock"/d
 side_schema|tests/validate_parts.py|s/self.validator.is_valid(document)/True/
@@ -216,6 +217,8 @@ manual|share/completions/ldvbi.bash|s/ --max-fields --help'/ --help'; [ "${COMP_
 manual|share/completions/ldvbi.bash|s/\[ "$COMP_CWORD" = 2 \] &&/:;/
 manual|share/man/ldvbi-side.1|s/at most 26 lines/at most 30 lines/
 manual|share/completions/ldvbi-side.bash|s/--svg/--svgs/
+manual|share/completions/ldvbi-side.bash|s/--html --again/--html/
+manual|share/man/ldvbi-side.1|s/^.Fl -again$/.Fl -anew/
 plots|out|change 170|change 171
 plots|hangs
 plots|contrib/plot_line.py|s/(pass 2)/(pass 3)/

@@ -13,13 +13,14 @@ _ldvbi_side() {
 
     case $before in
         --system) answers='NTSC PAL' ;;
-        --black | --white | --seek) return ;;
+        --black | --white | --seek | --jobs | -j) return ;;
         --meta | --svg | --html | --map | --into | --output | -o) compopt -o default ;;
         *)
             case $word in
                 -*)
                     answers='--help --meta --system --black --white --no-recover --csv --json --bad-lines --seek'
                     answers="$answers --summary --document --recovered --strict --output --svg --html --map --into"
+                    [ "${COMP_WORDS[1]}" != scan ] || answers='--help --jobs --csv --json --html --again'
                     ;;
                 *) compopt -o default ;;
             esac

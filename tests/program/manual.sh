@@ -165,7 +165,16 @@ same 'the statuses of the page of ldvbi-side'
 grep -o '^ *-[^ ].*' side.help | sed 's/^ *//; s/   .*//' | grep -o -e '--[a-z-]*' | sort |
     paste -s -d ' ' > side.options
 check 'ldvbi-side has options' grep -q -e '--summary' side.options
+# The options of its command scan
+COLUMNS=500 PYTHONDONTWRITEBYTECODE=1 bounded "$side" scan --help < empty > scan.help 2> err
+grep -o '^ *-[^ ].*' scan.help | sed 's/^ *//; s/   .*//' | grep -o -e '--[a-z-]*' | sort > scan.options
+grep -v -e '--help' scan.options > help.found
+section DESCRIPTION | sed -n '/^     scan prints/,$p' | grep -o -e '--[a-z-]*' | sort -u > page.found
+same 'the options of scan'
 cat > offers << END
+ldvbi-side scan --|$(paste -s -d ' ' scan.options)
+ldvbi-side scan --j|--jobs --json
+ldvbi-side scan -j |
 ldvbi-side --|$(cat side.options)
 ldvbi-side side.tbc --s|--seek --strict --summary --svg --system
 ldvbi-side --system |NTSC PAL

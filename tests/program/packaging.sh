@@ -55,6 +55,7 @@ END
     (cd tree && git ls-files 'docs/*.md' 'docs/pictures/*.svg' examples | sed 's/^/usr\/share\/doc\/ldvbi\//')
     cat << 'END'
 usr/share/ldvbi/ldvbi-recovered.schema.json
+usr/share/ldvbi/ldvbi-scan.schema.json
 usr/share/ldvbi/ldvbi-side.schema.json
 usr/share/ldvbi/ldvbi.jq
 usr/share/ldvbi/ldvbi.schema.json

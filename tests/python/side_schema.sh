@@ -1,7 +1,7 @@
 #!/bin/sh
 # Validates the answers of the command's --json for sides of every kind by share/schema/ldvbi-side.schema.json, and what
 # is made of them by a table of what may stand at each place (side_schema.txt). Then its documents with recovered words
-# by share/schema/ldvbi-recovered.schema.json.
+# by share/schema/ldvbi-recovered.schema.json, and the table of scan --json by share/schema/ldvbi-scan.schema.json.
 # usage: sh tests/python/side_schema.sh PROGRAM
 
 # shellcheck source=tests/helpers.sh
@@ -75,4 +75,54 @@ END
 status=0
 validates "$recovered" broken/*.json > said 2> err || status=$?
 check 'all else is refused' [ "$status $(grep -c '^refused ' said)" = '0 16' ]
+
+# The table of many sides, the first two of which weren't read, and what it may not be
+scan=$top/share/schema/ldvbi-scan.schema.json
+mkdir tables wrong
+side_of "$ntsc" << 'WORDS'
+- F00001 F00001
+- 800DDD 800DDD
+- F00002 F00002
+- 800DDD 800DDD
+WORDS
+echo '{"videoParameters":{"system":"NTSC","black16bIre":16384,"white16bIre":51200}}' > side.tbc.json
+cp side.tbc.json worn.tbc.json
+told scan --json --html pages side.tbc worn.tbc absent.tbc absent.vbi.json
+check 'the status of the table' [ "$status $(bounded jq -c '[.sides[].fault != null]' out < empty)" = \
+    '2 [true,true,false,false]' ]
+cp out tables/pages.json
+told scan --json side.tbc
+cp out tables/one.json
+status=0
+validates "$scan" tables/*.json > said 2> err || status=$?
+check 'tables are valid' [ "$status $(grep -c '^valid ' said)" = '0 2' ]
+while read -r number change; do
+    bounded jq "$change" tables/pages.json < empty > "wrong/$number.json"
+done << 'END'
+1 .version = 2
+2 .more = 1
+3 .sides = {}
+4 .sides[2].more = 1
+5 del(.sides[2].page)
+6 .sides[2].side = null
+7 .sides[2].whole = "maybe"
+8 .sides[2].whole = null
+9 .sides[2].lost = -1
+10 .sides[2].unread = 0.5
+11 .sides[2].format = "CAV"
+12 .sides[2].from = "1"
+13 .sides[2].to = -1
+14 .sides[2].fields = null
+15 .sides[2].reasons = "x"
+16 .sides[2].fault = "x"
+17 .sides[0].fields = 0
+18 .sides[0].whole = "no"
+19 .sides[0].fault = null
+20 .sides[0].page = "x"
+21 .sides[0].reasons = ["x"]
+22 del(.sides[0].lost)
+END
+status=0
+validates "$scan" wrong/*.json > said 2> err || status=$?
+check 'what is no table is refused' [ "$status $(grep -c '^refused ' said)" = '0 22' ]
 finish

@@ -4,7 +4,7 @@ import io
 import unittest
 from unittest import mock
 
-from ldvbi_side.command.progress import Progress
+from ldvbi_side.command.progress import Progress, SidesProgress, heard_by
 
 
 class Terminal(io.StringIO):
@@ -56,6 +56,53 @@ class Messages(unittest.TestCase):
             with Progress(10):
                 raise KeyboardInterrupt
         self.assertTrue(errors.getvalue().endswith("\r\x1b[K"))
+
+    def test_one_who_listens_in_its_place(self):
+        heard, errors = [], Terminal()
+        with mock.patch("sys.stderr", errors):
+            with heard_by(lambda *one: heard.append(one)), Progress(3) as progress:
+                self.assertEqual(list(progress.over("abc")), ["a", "b", "c"])
+            self.assertEqual((heard, errors.getvalue()), ([(0, 3), (3, 3)], ""))
+            with Progress(3):
+                pass
+        self.assertEqual(errors.getvalue(), "\r0 of 3 fields, 0 %\x1b[K\r\x1b[K")
+
+
+class Sides(unittest.TestCase):
+    def run_over(self, sizes, parts, errors):
+        """What is written to standard error while these parts of sides are reached, one each second."""
+        clock = mock.Mock(return_value=100.0)
+        with mock.patch("time.monotonic", clock), mock.patch("sys.stderr", errors), SidesProgress(sizes) as progress:
+            for part in parts:
+                if part is None:
+                    progress.clear()
+                else:
+                    clock.return_value += 1
+                    progress.reached(*part)
+        return [text.replace("\x1b[K", "") for text in errors.getvalue().split("\r")[1:]]
+
+    def test_a_line_for_all(self):
+        """Of the fields of three sides the first has a half, and the others a quarter each."""
+        self.assertEqual(
+            self.run_over([200, 100, 100], [(0, 0.5), (1, 1), None, (0, 0.6), (0, 1), (2, 1)], Terminal()),
+            ["0 of 3 sides, 0 %", "0 of 3 sides, 25 %, 0:03 left", "1 of 3 sides, 50 %, 0:02 left", "",
+             "1 of 3 sides, 55 %, 0:02 left", "2 of 3 sides, 75 %, 0:01 left", "3 of 3 sides, 100 %", ""])
+
+    def test_few_messages_a_second(self):
+        with mock.patch("time.monotonic", return_value=100.0), mock.patch("sys.stderr", Terminal()) as errors:
+            with SidesProgress([1]) as progress:
+                for _ in range(9):
+                    progress.reached(0, 0.5)
+                self.assertEqual(errors.getvalue(), "\r0 of 1 sides, 0 %\x1b[K")
+                progress.clear()
+                progress.reached(0, 0.5)
+        self.assertTrue(errors.getvalue().endswith("\r\x1b[K\r0 of 1 sides, 50 %, 0:00 left\x1b[K\r\x1b[K"))
+
+    def test_silent(self):
+        self.assertEqual(self.run_over([1], [(0, 0.5), None, (0, 1)], io.StringIO()), [])
+
+    def test_nothing_to_read(self):
+        self.assertEqual(self.run_over([], [], Terminal()), [""])
 
 
 if __name__ == "__main__":

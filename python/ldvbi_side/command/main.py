@@ -14,6 +14,7 @@ from ldvbi.metadata import beside, read_metadata, settings_of
 from ldvbi.stream import cut_of
 from ..draw.plot import plot_command
 from ..seek import seek, text_of, wanted_of
+from ..judge.readings import Answer
 from ..judge.whole import NO, OPEN, YES
 from ..side import Side, side_of_document, side_of_stream
 from .compare import compare, comparison_text
@@ -30,7 +31,8 @@ DESCRIPTION = """Reads a side from a TBC file, or from a document that `ldvbi ex
 mean. A file is taken for a document if its name ends with .json or its text begins as a document does. Statuses: 0
 done, 1 a side that isn't whole (--summary) or nothing found (--seek), 2 a fault or a refused command line, 3 done and
 the last field is cut, 4 it can't be told whether the side is whole (--summary), 130 ended by Ctrl-C. The words `compare
-SIDE SIDE` compare two sides; `index FILE PAGE..` writes a file that links pages of --html."""
+SIDE SIDE` compare two sides; `index FILE PAGE..` writes a file that links pages of --html; `scan PATH..` prints a table
+of the sides in folders."""
 COMPARISON = """Compares two captures of one side by their numbers. It says which numbers only one of them has, and
 which of those that both have one of them shows better: by more lines, or by lines of pass 1 instead of others."""
 STATUSES = {YES: 0, NO: 1, OPEN: 4}  # of a side, by whether it is whole
@@ -261,6 +263,21 @@ def _index(words):
     return 0
 
 
+def _scan(words):
+    """Prints a row for each of many sides."""
+    from .scan import scan
+    return scan(words, answer_of)
+
+
+def answer_of(path: str, page: Optional[str]) -> Answer:
+    """The answer for a side, which is read with what lies beside it; its page is written where one is named."""
+    options = _options([*(["--html", page] if page else []), "--", path])
+    source, metadata = _source(options)
+    side = _loaded(source, metadata, options)
+    _write_files(side, options, not isinstance(source, Side))
+    return side.answer
+
+
 def _run(options):
     """What the options ask for. The answer is the exit status."""
     inputs = [0 if options.side == "-" else options.side, options.meta]
@@ -309,7 +326,7 @@ def _answer(options):
 def main(words: Optional[List[str]] = None) -> int:
     words = sys.argv[1:] if words is None else words
     try:
-        of_many = {"compare": _compare, "index": _index}.get(words[0] if words else "")
+        of_many = {"compare": _compare, "index": _index, "scan": _scan}.get(words[0] if words else "")
         status = of_many(words[1:]) if of_many else _run(_options(words))
         sys.stdout.flush()
         return status

@@ -72,6 +72,13 @@ def _rename(part, target):
     os.replace(part, target)
 
 
+def drop_part(path: str, process: int) -> None:
+    """Removes what a process, which has ended, left of a file that it was to write to this path: nothing, if it could
+    see to that itself."""
+    with contextlib.suppress(FileNotFoundError):
+        os.unlink("%s.%d.part" % (os.path.realpath(path), process))
+
+
 def refuse_inputs(outputs: Iterable[Place], inputs: Iterable[Place]) -> None:
     """Raises a ValueError where a file that is to be written is also read, or is written twice, whatever its names are.
     An output or an input is a path, the number of an open file, or None."""

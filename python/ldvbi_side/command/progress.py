@@ -1,11 +1,24 @@
-"""How far a run over the fields of a TBC file is, on standard error where that is a terminal."""
+"""How far a run over the fields of a TBC file is, or over many sides, on standard error where that is a terminal."""
 
+import contextlib
 import sys
 import time
-from typing import Iterable, Iterator, TypeVar
+from typing import Callable, Iterable, Iterator, List, Optional, Sequence, TypeVar
 
 PAUSE = 0.2  # seconds between two messages
 Item = TypeVar("Item")
+Listener = Callable[[int, int], None]
+_listeners: List[Listener] = []
+
+
+@contextlib.contextmanager
+def heard_by(listener: Listener) -> Iterator[None]:
+    """Has a function get what `Progress` would show, in its place: how many fields are read, of how many."""
+    _listeners.append(listener)
+    try:
+        yield
+    finally:
+        _listeners.pop()
 
 
 class Progress:
@@ -14,7 +27,8 @@ class Progress:
 
     def __init__(self, fields: int, is_wanted: bool = True) -> None:
         self._fields = fields
-        self._is_shown = bool(is_wanted and sys.stderr and sys.stderr.isatty())
+        self._listener: Optional[Listener] = _listeners[-1] if _listeners else None
+        self._is_shown = self._listener is not None or is_wanted and _is_terminal()
         self._begin = self._last = time.monotonic()
 
     def __enter__(self) -> "Progress":
@@ -38,16 +52,68 @@ class Progress:
 
     def _show(self, done):
         self._last = time.monotonic()
+        if self._listener:
+            self._listener(done, self._fields)
+            return
         text = "%d of %d fields, %d %%" % (done, self._fields, 100 * done // self._fields if self._fields else 100)
         if 0 < done < self._fields:
             text += ", %s left" % _clock_text((self._last - self._begin) * (self._fields - done) / done)
         self._write(text)
 
     def _write(self, text):
+        if self._is_shown and not self._listener:
+            _show_line(text)
+
+
+class SidesProgress:
+    """Messages of how many of some sides are done, what part of all their fields is, and the time left at this pace;
+    nothing where standard error is no terminal. `sizes` says how large the sides are beside each other. The line is
+    empty again at the end of the `with` block."""
+
+    def __init__(self, sizes: Sequence[float]) -> None:
+        self._sizes, self._parts = sizes, [0.0] * len(sizes)
+        self._is_shown = _is_terminal()
+        self._begin = time.monotonic()
+        self._last = self._begin - PAUSE
+
+    def __enter__(self) -> "SidesProgress":
+        self._show()
+        return self
+
+    def __exit__(self, *_: object) -> None:
+        self.clear()
+
+    def reached(self, side: int, part: float) -> None:
+        """Of a side, by its index, such a part is done; of one that is done 1."""
+        self._parts[side] = part
+        self._show()
+
+    def clear(self) -> None:
+        """Empties the line, for a text that comes in its place. It is shown again with the next message."""
         if self._is_shown:
-            # What an older message has to the right of this one is emptied.
-            sys.stderr.write("\r%s\x1b[K" % text)
-            sys.stderr.flush()
+            _show_line("")
+            self._last = self._begin - PAUSE
+
+    def _show(self):
+        now = time.monotonic()
+        if not self._is_shown or not self._sizes or now < self._last + PAUSE:
+            return
+        self._last = now
+        done = sum(size * part for size, part in zip(self._sizes, self._parts)) / (sum(self._sizes) or 1)
+        text = "%d of %d sides, %d %%" % (sum(part == 1 for part in self._parts), len(self._parts), 100 * done)
+        if 0 < done < 1:
+            text += ", %s left" % _clock_text((now - self._begin) * (1 - done) / done)
+        _show_line(text)
+
+
+def _is_terminal():
+    return bool(sys.stderr and sys.stderr.isatty())
+
+
+def _show_line(text):
+    # What an older message has to the right of this one is emptied.
+    sys.stderr.write("\r%s\x1b[K" % text)
+    sys.stderr.flush()
 
 
 def _clock_text(seconds):

@@ -5,12 +5,15 @@ import json
 import os
 from collections import Counter
 from html.parser import HTMLParser
-from typing import Iterable
+from typing import Iterable, Sequence, Tuple
 from urllib.parse import quote
 
 from ..judge.answer import VERSION
+from ..judge.readings import Answer
 from ..judge.whole import NO, OPEN, YES, counted
 from .page import MARK, STYLE
+
+PART = 65536  # characters of a page that are read at once
 
 
 class _Head(HTMLParser):
@@ -18,12 +21,13 @@ class _Head(HTMLParser):
 
     def __init__(self):
         super().__init__()
-        self.title, self.said, self._is_title = "", None, False
+        self.title, self.said, self.is_read, self._is_title = "", None, False, False
 
     def handle_starttag(self, tag, attrs):
         known = dict(attrs)
         if tag == "meta" and known.get("name") == MARK:
             self.said = json.loads(known["content"])
+        self.is_read = self.is_read or tag == "body"
         # a drawing on the page has titles, too
         self._is_title = tag == "title" and not self.title
 
@@ -34,29 +38,48 @@ class _Head(HTMLParser):
         self.title += data if self._is_title else ""
 
 
-def index_of(path: str, pages: Iterable[str]) -> str:
+def head_of(page: str) -> Tuple[str, Answer]:
+    """The title of a page, and what it says of itself. Of its body, which may be long, little is read. A ValueError
+    where it is no page of a side, or has another form."""
+    head = _Head()
+    with open(page, encoding="utf-8") as file:
+        while not head.is_read:
+            part = file.read(PART)
+            if not part:
+                break
+            head.feed(part)
+    if head.said is None:
+        raise ValueError("%s is no page that --html wrote" % page)
+    if head.said.get("version") != VERSION:
+        raise ValueError("%s is a page of another version: write it again" % page)
+    return head.title, head.said
+
+
+def index_of(path: str, pages: Iterable[str], faults: Sequence[Tuple[str, str]] = ()) -> str:
     """The text of an index that is written to `path`: a row for each of these pages, those that aren't whole first, and
-    then those of which that can't be told. A ValueError where one is no page of a side, or has another form."""
+    then those of which that can't be told. Before them stand the sides that have a fault instead of a page, as pairs of
+    a title and a text."""
     rows = []
     for page in pages:
-        head = _Head()
-        with open(page, encoding="utf-8") as file:
-            head.feed(file.read())
-        if head.said is None:
-            raise ValueError("%s is no page that --html wrote" % page)
-        if head.said.get("version") != VERSION:
-            raise ValueError("%s is a page of another version: write it again" % page)
+        title, said = head_of(page)
         link = quote(os.path.relpath(page, os.path.dirname(os.path.abspath(path))).replace(os.sep, "/"))
-        rows.append((head.said, link, head.title))
+        rows.append((said, link, title))
     rows.sort(key=lambda row: (NO, OPEN, YES).index(row[0]["whole"]))
     counts = Counter(said["whole"] for said, _, _ in rows)
     columns = "".join("<th>%s</th>" % name for name in ("side", "whole", "fields", "numbers", "lost", "why"))
-    whole = "%s, whole: %s" % (counted(len(rows), "side"), ", ".join(
+    whole = "%s, whole: %s" % (counted(len(rows) + len(faults), "side"), ", ".join(
         "%d %s" % (counts[one], html.escape(one)) for one in (YES, NO, OPEN)))
+    if faults:
+        whole += ", %s" % counted(len(faults), "fault")
     return ('<!DOCTYPE html>\n<html lang="en"><head><meta charset="utf-8"><title>LaserDisc sides</title>\n'
             '<meta name="viewport" content="width=device-width, initial-scale=1">\n<style>%s</style></head><body>\n'
             '<h1>%s</h1>\n<div class="wide"><table><thead><tr>%s</tr></thead>\n<tbody>%s</tbody></table>'
-            "</div></body></html>\n" % (STYLE, whole, columns, "\n".join(map(_row, rows))))
+            "</div></body></html>\n" % (STYLE, whole, columns, "\n".join([*map(_fault_row, faults), *map(_row, rows)])))
+
+
+def _fault_row(fault):
+    title, text = map(html.escape, fault)
+    return "<tr><td>%s</td><td>fault</td><td></td><td></td><td></td><td>%s</td></tr>" % (title, text)
 
 
 def _row(row):

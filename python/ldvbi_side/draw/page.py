@@ -59,13 +59,17 @@ def _escaped(value):
     return html.escape(str(value))
 
 
-def _head(title, answer):
+def said_of(answer: Answer) -> Answer:
+    """What a page says of itself: the members of the answer that a row for its side has."""
     said = {name: answer[name] for name in (
         "version", "whole", "reasons", "system", "format", "unit", "fields", "numbers")}
-    said["lost"] = _lost_text(answer)
+    return dict(said, lost=_lost_text(answer), counts={why: counted_by(answer, why) for why in ("lost", "unread")})
+
+
+def _head(title, answer):
     return ('<!DOCTYPE html>\n<html lang="en"><head><meta charset="utf-8"><title>%s</title>\n'
             '<meta name="viewport" content="width=device-width, initial-scale=1">\n<meta name="%s" content="%s">\n'
-            "<style>%s</style></head><body>" % (_escaped(title), MARK, _escaped(json.dumps(said)), STYLE))
+            "<style>%s</style></head><body>" % (_escaped(title), MARK, _escaped(json.dumps(said_of(answer))), STYLE))
 
 
 def _lost_text(answer):

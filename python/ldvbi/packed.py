@@ -1,0 +1,13 @@
+"""Compressed files, which aren't video, by their first bytes."""
+
+import re
+from typing import Optional
+
+# What of the header has one value alone is looked at, too: the first two bytes of gzip may be a sample.
+_BEGINS = {"gzip": re.compile(rb"\x1f\x8b\x08[\x00-\x1f]"), "zstd": re.compile(rb"\x28\xb5\x2f\xfd"),
+           "FLAC": re.compile(rb"fLaC[\x00\x80]\x00\x00\x22")}
+
+
+def packed_as(begin: bytes) -> Optional[str]:
+    """The form of a compressed file that begins with these bytes, 8 or more; None where it is none."""
+    return next((name for name, pattern in _BEGINS.items() if pattern.match(begin)), None)

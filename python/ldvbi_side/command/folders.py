@@ -1,0 +1,58 @@
+"""Which files of folders are sides, and how the pages of sides are named."""
+
+import hashlib
+import os
+from typing import Dict, Iterable, List, NamedTuple, Optional
+
+TBC, DOCUMENT = ".tbc", ".vbi.json"
+# A compressed TBC file is a side that can't be read.
+_PACKED = tuple(TBC + end for end in (".gz", ".zst", ".flac"))
+
+
+class Found(NamedTuple):
+    """A side by the path of its TBC file or document; `fault` says why a folder wasn't gone through, else it is None.
+    """
+    path: str
+    fault: Optional[str] = None
+
+
+def sides_in(paths: Iterable[str]) -> List[Found]:
+    """The sides of these files and folders in the order of their names, each once. Folders are gone through whole;
+    links to folders are not followed."""
+    found: List[Found] = []
+    for path in paths:
+        found += _sides_below(path) if os.path.isdir(path) else [Found(path)]
+    known: Dict[str, Found] = {}
+    for one in sorted(found, key=lambda one: one.path.split(os.sep)):
+        known.setdefault(os.path.realpath(one.path), one)
+    return list(known.values())
+
+
+def _sides_below(folder):
+    found = []
+    for place, _, names in os.walk(folder, onerror=lambda error: found.append(Found(error.filename, error.strerror))):
+        found += [Found(os.path.join(place, name)) for name in names if _is_side(name, names)]
+    return found
+
+
+def _is_side(name, beside):
+    """Whether a file is a side that has no other file among these: of a side the TBC file says most."""
+    if name.endswith(TBC):
+        return True
+    for end in (DOCUMENT, *_PACKED):
+        if name.endswith(end):
+            return name[:-len(end)] + TBC not in beside
+    return False
+
+
+def page_name(path: str) -> str:
+    """The name of a side's page: that of its file, and eight digits that are made of its folder, so that two sides of
+    one name have two pages."""
+    folder = os.path.realpath(os.path.dirname(path))
+    digits = hashlib.sha256(os.fsencode(folder)).hexdigest()[:8]
+    return "%s-%s.html" % (os.path.basename(path), digits)
+
+
+def files_of(path: str) -> List[str]:
+    """The files that a side is read from, by its path: those that are there."""
+    return [name for name in (path, path + ".json", path + ".db") if name == path or os.path.exists(name)]

@@ -1,0 +1,92 @@
+"""The table of `scan`: a row for each side, as text, as CSV or as JSON."""
+
+import csv
+import io
+import json
+import sys
+from typing import Any, Dict, List, Optional, Sequence
+
+VERSION = 1  # of the form of the JSON
+COLUMNS = ("side", "whole", "lost", "unread", "format", "from", "to", "fields", "why")
+FAULT = "fault"  # in the column `whole`, of a side that wasn't read
+_WIDTHS = (10, 6, 6, 7, 10, 10, 7)  # of the columns between the first and the last
+Row = Dict[str, Any]
+
+
+def row_of(path: str, said: Dict[str, Any], page: Optional[str]) -> Row:
+    """The row of a side of which its page says this; `page` is None where none is written."""
+    numbers, counts = said["numbers"], said["counts"]
+    return {"side": path, "whole": said["whole"], "lost": counts["lost"], "unread": counts["unread"],
+            "format": said["format"], "from": numbers["least"], "to": numbers["greatest"], "fields": said["fields"],
+            "reasons": [one["text"] for one in said["reasons"]], "fault": None, "page": page}
+
+
+def fault_row(path: str, fault: str) -> Row:
+    """The row of a side that wasn't read, and why."""
+    return {**dict.fromkeys(COLUMNS[:-1]), "side": path, "reasons": [], "fault": " ".join(fault.split()), "page": None}
+
+
+def _cells(row):
+    """The cells of a row, None where there is nothing to say."""
+    whole = FAULT if row["fault"] is not None else row["whole"]
+    why = row["fault"] if row["fault"] is not None else "; ".join(row["reasons"])
+    return [row["side"], whole, *(row[column] for column in COLUMNS[2:-1]), why]
+
+
+class Table:
+    """What prints rows."""
+
+    def add(self, row: Row) -> None:
+        """Prints a row, or keeps it for the end."""
+
+    def end(self) -> None:
+        """Prints what stands behind all rows."""
+
+
+class Text(Table):
+    """Rows in columns for a reader. The first one is as wide as the longest of these names, of all sides to come."""
+
+    def __init__(self, names: Sequence[str]) -> None:
+        self._width = max(len(name) for name in [*names, COLUMNS[0]])
+        self._print(COLUMNS)
+
+    def add(self, row: Row) -> None:
+        self._print(["-" if cell is None else _printable(str(cell)) for cell in _cells(row)])
+
+    def _print(self, cells):
+        first, second, *others = cells
+        texts = [first.ljust(self._width), second.ljust(_WIDTHS[0])]
+        texts += [text.rjust(width) for text, width in zip(others, _WIDTHS[1:])]
+        print("  ".join(texts + [cells[-1]]).rstrip(), flush=True)
+
+
+def _printable(text):
+    """A text for a terminal: a name may have a line end in it, or what is no text."""
+    return "".join(one if one.isprintable() else "?" for one in text)
+
+
+class Csv(Table):
+    """Rows for scripts."""
+
+    def __init__(self) -> None:
+        if isinstance(sys.stdout, io.TextIOWrapper):
+            sys.stdout.reconfigure(errors="surrogateescape")  # a name that is no text is printed as it is
+        self._table = csv.writer(sys.stdout, lineterminator="\n")
+        self._table.writerow(COLUMNS)
+
+    def add(self, row: Row) -> None:
+        self._table.writerow(_cells(row))
+        sys.stdout.flush()
+
+
+class Json(Table):
+    """All rows in one object, at the end."""
+
+    def __init__(self) -> None:
+        self._rows: List[Row] = []
+
+    def add(self, row: Row) -> None:
+        self._rows.append(row)
+
+    def end(self) -> None:
+        print(json.dumps({"version": VERSION, "sides": self._rows}))

@@ -1,0 +1,113 @@
+"""A folder of sides of every kind for the tests of `scan`, and runs of the command."""
+
+import gzip
+import json
+import os
+import sqlite3
+import subprocess
+import sys
+import tempfile
+import unittest
+
+from ldvbi import System
+from ldvbi.document import RECORD, head_of, tail_of
+from streams import NTSC, write_stream
+
+COMMAND = [sys.executable, "-m", "ldvbi_side", "scan"]
+DEADLINE = 120  # seconds
+LEAD_IN, LEAD_OUT, BLANK = [0, 0x88FFFF, 0x88FFFF], [0, 0x80EEEE, 0x80EEEE], [0, 0, 0]
+# Of each side of `twelve` its row without its name: whole, lost, unread, format, from, to, fields, and how `why` begins
+ROWS = {
+    "a/broken.vbi.json": ("fault", "", "", "", "", "", "", "not JSON: "),
+    "a/cut.tbc": ("no", "0", "0", "cav", "1", "30", "60", "field 61 is cut"),
+    "a/database.tbc": ("yes", "0", "0", "cav", "1", "30", "60", ""),
+    "a/joined.tbc": ("no", "0", "0", "cav", "1", "30", "128", ""),
+    "a/levels.tbc": ("can't tell", "0", "0", "neither", "", "", "60", "no picture number and no time"),
+    "a/lost.tbc": ("no", "2", "0", "cav", "1", "30", "56", "4 fields lost; 2 pictures lost"),
+    "b/minutes.vbi.json": ("yes", "0", "0", "clv", "0:00", "0:02", "9000", ""),
+    "b/missing.tbc": ("fault", "", "", "", "", "", "", "no missing.tbc.json and no missing.tbc.db beside it"),
+    "b/no codes.tbc": ("can't tell", "0", "0", "neither", "", "", "60", "no picture number and no time"),
+    "b/packed.tbc": ("fault", "", "", "", "", "", "", "it is compressed (gzip): unpack it first"),
+    "b/unread.tbc": ("yes", "0", "1", "cav", "1", "30", "60", ""),
+    "b/whole.tbc": ("yes", "0", "0", "cav", "1", "30", "60", ""),
+}
+
+
+def fields_of(numbers):
+    """The words of two fields for each of these pictures: its number, and chapter 0. Of None the first one is blank."""
+    rows = []
+    for number in numbers:
+        word = 0 if number is None else 0xF00000 | int(str(number), 16)
+        rows += [[0, word, word], [0, 0x800DDD, 0x800DDD]]
+    return rows
+
+
+WHOLE = fields_of(range(1, 31))
+
+
+def write_minutes(path, count):
+    """The document of a PAL side that has so many minutes from 0 on, and no other numbers."""
+    with open(path, "w", encoding="ascii") as file:
+        file.write(head_of(2, System.PAL, 16384, 54016))
+        rows = []
+        for field in range(3000 * count):
+            words = (0x87FFFF, 0xF0DD00 | int(str(field // 3000), 16)) if field % 2 == 0 else (0x87FFFF, 0x800DDD)
+            rows.append(RECORD % (field + 1, 0, *words, "blank", "word", "word", 0, 1, 1))
+        file.write(",\n".join(rows) + tail_of(None))
+
+
+class Scans(unittest.TestCase):
+    """A folder of its own for each test, in which the command runs."""
+
+    def setUp(self):
+        folder = tempfile.TemporaryDirectory()
+        self.addCleanup(folder.cleanup)
+        self.folder = os.path.realpath(folder.name)
+        self.maxDiff = None
+
+    def path(self, name):
+        return os.path.join(self.folder, name)
+
+    def write(self, name, data):
+        with open(self.path(name), "wb") as file:
+            file.write(data)
+
+    def read(self, name):
+        with open(self.path(name), encoding="utf-8") as file:
+            return file.read()
+
+    def add_metadata(self, name, **more):
+        self.write(name, json.dumps({"videoParameters": {
+            "system": "NTSC", "black16bIre": 16384, "white16bIre": 51200, **more}}).encode())
+
+    def add(self, name, fields, rest=0, setup=NTSC):
+        """A TBC file with its metadata beside it, in a folder that is made."""
+        os.makedirs(os.path.dirname(self.path(name)) or self.folder, exist_ok=True)
+        write_stream(self.path(name), setup, fields, rest)
+        self.add_metadata(name + ".json")
+
+    def add_twelve(self):
+        self.add("a/cut.tbc", WHOLE, 12345)
+        self.add("a/joined.tbc", [LEAD_IN] * 2 + WHOLE + [LEAD_OUT] * 2 + [LEAD_IN] * 2 + WHOLE + [LEAD_OUT] * 2)
+        self.add("a/levels.tbc", WHOLE, setup=("NTSC", 16384, 30000))  # white is less than the middle of the metadata's
+        self.add("a/lost.tbc", fields_of([*range(1, 12), *range(14, 31)]))
+        self.add("b/no codes.tbc", [BLANK] * 60)
+        self.add("b/unread.tbc", fields_of([*range(1, 12), None, *range(13, 31)]))
+        self.add("b/whole.tbc", WHOLE)
+        write_stream(self.path("b/missing.tbc"), NTSC, WHOLE)
+        write_minutes(self.path("b/minutes.vbi.json"), 3)
+        self.write("a/broken.vbi.json", b'{"version":2,"videoParameters":{')
+        self.write("b/packed.tbc", gzip.compress(b"video"))
+        self.add_metadata("b/packed.tbc.json")
+        write_stream(self.path("a/database.tbc"), NTSC, WHOLE)
+        database = sqlite3.connect(self.path("a/database.tbc.db"))
+        database.execute("CREATE TABLE capture (system TEXT, black_16b_ire INTEGER, white_16b_ire INTEGER)")
+        database.execute("INSERT INTO capture VALUES ('NTSC', 16384, 51200)")
+        database.commit()
+        database.close()
+
+    def scan(self, *words):
+        """The status of a run in the folder, and what it writes to standard output and standard error."""
+        run = subprocess.run([*COMMAND, *words], cwd=self.folder, stdin=subprocess.DEVNULL, stdout=subprocess.PIPE,
+                             stderr=subprocess.PIPE, timeout=DEADLINE, check=False)
+        return run.returncode, run.stdout.decode("utf-8", "surrogateescape"), run.stderr.decode()

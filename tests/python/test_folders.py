@@ -1,0 +1,88 @@
+"""Which files of folders are sides, in which order, and what is compressed."""
+
+import gzip
+import os
+import tempfile
+import unittest
+from unittest import mock
+
+from ldvbi.packed import packed_as
+from ldvbi_side.command.folders import Found, files_of, page_name, sides_in
+
+
+class Folders(unittest.TestCase):
+    def setUp(self):
+        folder = tempfile.TemporaryDirectory()
+        self.addCleanup(folder.cleanup)
+        self.addCleanup(os.chdir, os.getcwd())
+        os.chdir(folder.name)
+
+    def add(self, *names):
+        for name in names:
+            os.makedirs(os.path.dirname(name) or ".", exist_ok=True)
+            with open(name, "wb"):
+                pass
+
+    def names(self, *paths):
+        found = sides_in(paths)
+        self.assertEqual({one.fault for one in found}, {None} if found else set())
+        return [one.path for one in found]
+
+    def test_order(self):
+        self.add("d/b.tbc", "d/a/z.tbc", "d/a.tbc", "d/c/a.tbc", "c.tbc")
+        self.assertEqual(self.names("d", "c.tbc"), ["c.tbc", "d/a/z.tbc", "d/a.tbc", "d/b.tbc", "d/c/a.tbc"])
+
+    def test_what_is_a_side(self):
+        self.add("d/a.tbc", "d/a.tbc.json", "d/a.tbc.db", "d/a.json", "d/a.efm", "d/a.html", "d/b.vbi.json", "d/tbc")
+        os.mkdir("d/folder.tbc")
+        self.assertEqual(self.names("d"), ["d/a.tbc", "d/b.vbi.json"])
+        # what is named is taken for a side, whatever its name is
+        self.assertEqual(self.names("d/a.json", "d/tbc", "absent"), ["absent", "d/a.json", "d/tbc"])
+
+    def test_one_row_a_side(self):
+        self.add("d/a.tbc", "d/a.vbi.json", "d/a.tbc.gz", "d/b.tbc.gz", "d/c.tbc.zst", "d/d.tbc.flac", "d/e.vbi.json",
+                 "d/e/e.tbc", "d/f.gz")
+        self.assertEqual(self.names("d"), ["d/a.tbc", "d/b.tbc.gz", "d/c.tbc.zst", "d/d.tbc.flac", "d/e/e.tbc",
+                                           "d/e.vbi.json"])
+        self.assertEqual(self.names("d/a.vbi.json", "d/a.tbc"), ["d/a.tbc", "d/a.vbi.json"])
+        self.assertEqual(self.names("d/a.tbc", "d", "./d/a.tbc", os.path.abspath("d/a.tbc"))[:2],
+                         [os.path.abspath("d/a.tbc"), "d/b.tbc.gz"])
+
+    def test_links(self):
+        self.add("d/a.tbc", "d/e/b.tbc")
+        os.symlink("../d", "d/e/again")
+        os.symlink("a.tbc", "d/c.tbc")
+        os.symlink("d", "l")
+        self.assertEqual(self.names("d"), ["d/a.tbc", "d/e/b.tbc"])
+        self.assertEqual(self.names("l"), ["l/a.tbc", "l/e/b.tbc"])
+
+    def test_a_folder_that_is_not_read(self):
+        self.add("d/a.tbc", "d/e/b.tbc")
+        with mock.patch("os.scandir", side_effect=PermissionError(13, "Permission denied", "d")):
+            self.assertEqual(sides_in(["d"]), [Found("d", "Permission denied")])
+
+    def test_names_of_pages(self):
+        names = {page_name(path) for path in ("d/a.tbc", "d/b.tbc", "e/a.tbc", "d/a.vbi.json", "a.tbc")}
+        self.assertEqual(len(names), 5)
+        for name in names:
+            self.assertRegex(name, r"^[ab]\.(tbc|vbi\.json)-[0-9a-f]{8}\.html$")
+        self.assertEqual(page_name("d/a.tbc"), page_name(os.path.abspath("d/../d/a.tbc")))
+
+    def test_files(self):
+        self.add("a.tbc", "a.tbc.db")
+        self.assertEqual(files_of("a.tbc"), ["a.tbc", "a.tbc.db"])
+        self.assertEqual(files_of("b.tbc"), ["b.tbc"])
+
+
+class Packed(unittest.TestCase):
+    def test_forms(self):
+        for begin, name in ((gzip.compress(b""), "gzip"), (b"\x1f\x8b\x08\x08" + bytes(8), "gzip"),
+                            (b"\x28\xb5\x2f\xfd" + bytes(8), "zstd"), (b"fLaC\x00\x00\x00\x22", "FLAC"),
+                            (b"fLaC\x80\x00\x00\x22\x10", "FLAC"), (b"", None), (bytes(64), None),
+                            (b"\x1f\x8b\x09\x00" + bytes(8), None), (b"\x1f\x8b\x08\x40" + bytes(8), None),
+                            (b"fLaC" + bytes(8), None), (b"\x00" + gzip.compress(b""), None)):
+            self.assertEqual(packed_as(begin), name, begin)
+
+
+if __name__ == "__main__":
+    unittest.main()
