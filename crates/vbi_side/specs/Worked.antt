@@ -41,6 +41,11 @@ abbrev pub still_of : ℕ → List Sightings
 still_of zero = []
 still_of (suc pictures) = field_of 5 2 0 0 ∷ blank ∷ still_of pictures
 
+-- pictures 0, 1 and 2 of film, each with its number on both lines
+abbrev pub film_side : List Sightings
+film_side =
+    field_of 0 2 0 2 ∷ blank ∷ field_of 1 2 1 2 ∷ blank ∷ blank ∷ field_of 2 2 2 2 ∷ []
+
 -- the same beside a code that stands there in place of a number
 abbrev pub instead_of : ℕ → ℕ → ℕ → ℕ → Sightings
 instead_of first weight second other = record {
