@@ -1,5 +1,5 @@
--- Worked fields, by the words of their lines. Worked sides: of video with wrong readings of weight 9 and 10 around field
--- 4, of two numbers that lie far apart, and of a still.
+-- Worked fields, by the words of their lines. Worked sides: of video with wrong readings of weight 9 and 10 around
+-- field 4, of two numbers that lie far apart, of a still, and of film.
 use Rattle.std.specs.Prelude.{ℕ, zero, suc, ◌-◌, ◌==◌, if◌then◌else◌, List, [], ◌∷◌, ◌++◌, replicate, Some, None}
 use Rattle.vbi_words.specs.declared.system.System.{System}
 use Rattle.vbi_side.specs.declared.lines.Counted.{Counted}

@@ -259,8 +259,8 @@ pub fn worked_lines()
 {}
 
 /// When two numbers fit, or are of one still, at each edge: number 100 in field 10, and the fields in which another one
-/// fits it. Others count within 24 fields, a weight of 10 is enough, and a still loses 4 of it. Between numbers at most 8
-/// fields apart others may be a field off.
+/// fits it. Others count within 24 fields, a weight of 10 is enough, and a still loses 4 of it. Between numbers at most
+/// 8 fields apart others may be a field off.
 pub fn worked_fits()
     ensures video { map (λ j. fits Video 10 100 j 101) (11 ∷ 12 ∷ 13 ∷ []) ≡ false ∷ true ∷ false ∷ [] }
     ensures video_back { map (λ j. fits Video 10 100 j 96) (1 ∷ 2 ∷ 3 ∷ []) ≡ false ∷ true ∷ false ∷ [] }
