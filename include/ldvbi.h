@@ -317,7 +317,7 @@ uint32_t ldvbi_format(uint32_t first, uint32_t second, uint32_t third, uint32_t 
  * behind it, and the misread words of lines 17 and 18 there weigh less than 10, a believed number is the one that was
  * recorded. Of times line 16 counts too, and twice, since both lines' numbers stand on it. Where the field has no
  * number on the disc, a believed one fits one that was recorded and read near it. If the player stood still at a
- * picture of video, the same holds as long as the misread numbers weigh less than 6.
+ * picture of video, the same holds as long as those words weigh less than 6, and the pace is that of video.
  *
  * A number is due in a field of which none is believed where those of two believed fields, one before it and one
  * behind, count to it: both lie whole pictures away, and at most LDVBI_REACH fields. No believed number between the two

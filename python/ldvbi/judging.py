@@ -41,10 +41,10 @@ def judge(readings: Any, system: AnySystem, counted: Union[Counted, str] = Count
     or bytes or an array as the library writes them (`Stream.packed`). `counted` and `pace` are a `Counted` and a
     `Pace`, or their names.
 
-    If the disc ran on around a field at the pace that is judged by, and the misread words there weigh less than 10 (one
-    read in pass 1 weighs 2, in pass 2 or 3 it weighs 1, and line 16 of a time counts twice), a believed number is the
-    one that was recorded, if the field has one. Minutes without their seconds and lost fields are not judged here:
-    `ldvbi-side` judges them."""
+    If the disc ran on around a field at the pace that is judged by, and the misread words of lines 17 and 18 there
+    weigh less than 10, a believed number is the one that was recorded, if the field has one. A word of pass 1 weighs 2,
+    one of pass 2 or 3 weighs 1; of times line 16 counts too, and twice. Minutes without their seconds and lost
+    fields are not judged here: `ldvbi-side` judges them."""
     call = later_call("ldvbi_judge")
     asked = system_number(system), counted_number(counted), pace_number(pace)
     check(call(*asked, None, 0, None, 0, None, 0))  # of no field the library tests these alone

@@ -39,15 +39,20 @@ class Seek(unittest.TestCase):
                                  (printed + "\n", said, int(printed == "not found")))
 
     def test_misread_pictures(self):
-        """On both lines picture 100 reads 79999, and picture 151 reads 5."""
-        shown = {100: 79999, 151: 5}
-        self.drawn(NTSC, ["- {0} {0}".format(picture(shown.get(number, number))) for number in range(1, 201)])
+        """On line 17 alone picture 100 reads 79999, and picture 151 reads 5. On both lines picture 170 reads 78888, in
+        place of which no other number is due."""
+        rows = ["- {0} {0}".format(picture(number)) for number in range(1, 201)]
+        rows[99], rows[150], rows[169] = "- F79999 -", "- F00005 -", "- F78888 F78888"
+        self.drawn(NTSC, rows)
         self.check(NTSC, (100, "field 199", ""), (151, "field 301", ""), (79999, "not found", ""), (5, "field 9", ""),
-                   (1, "field 1", ""), (200, "field 399", ""), (201, "not found", ""), (0, "not found", ""))
+                   (1, "field 1", ""), (200, "field 399", ""), (201, "not found", ""), (0, "not found", ""),
+                   (170, "not found", ""), (78888, "not found", ""))
 
     def test_a_misread_first(self):
-        """Picture 5 reads 12, and picture 12 is found in its own field."""
-        self.drawn(NTSC, ["- {0} {0}".format(picture(12 if number == 5 else number)) for number in range(1, 21)])
+        """Picture 5 reads 12 on line 18 alone, and picture 12 is found in its own field."""
+        rows = ["- {0} {0}".format(picture(number)) for number in range(1, 21)]
+        rows[4] = "- - F00012"
+        self.drawn(NTSC, rows)
         self.check(NTSC, (5, "field 9", ""), (12, "field 23", ""))
 
     def test_misread_times(self):

@@ -1,6 +1,6 @@
 -- Counting the fields of which a number is believed.
-use Rattle.std.proofs.Common.{◌≡◌, ℕ, zero, suc, ◌+◌, ◌*◌, List, length, refl, ap, sym, ◌∙◌, subst, add-one, inl, inr}
-use Rattle.std.specs.Prelude.{Option, Some, None, ◌↔◌, is_some, true, false, nat_lt, if◌then◌else◌}
+use Rattle.std.proofs.Common.{◌≡◌, ℕ, zero, suc, ◌+◌, List, length, refl, ap, sym, ◌∙◌, subst, add-one, inl, inr}
+use Rattle.std.specs.Prelude.{Option, Some, None, ◌↔◌, is_some, true, false}
 use Rattle.vbi_words.specs.declared.system.System.{System}
 use Rattle.vbi_words.specs.declared.system.System.TheVariants.{Ntsc, Pal}
 use Rattle.vbi_side.specs.declared.lines.Counted.{Counted}

@@ -1,5 +1,5 @@
 -- What was misread weighs in numbers no more than in words.
-use Rattle.std.proofs.Common.{◌≡◌, ◌≢◌, ℕ, zero, suc, ◌+◌, ◌*◌, ◌-◌, ◌≤◌, Bool, true, false, List}
+use Rattle.std.proofs.Common.{◌≡◌, ◌≢◌, ℕ, zero, suc, ◌+◌, ◌*◌, ◌-◌, ◌<◌, ◌≤◌, Bool, true, false, List}
 use Rattle.std.proofs.Common.{refl, arith, ap, sym, ◌∙◌}
 use Rattle.std.proofs.Common.{subst, inl, inr, map, min}
 use Rattle.std.specs.Prelude.{Option, Some, None, option_map, slice_get, ◌⊎◌, not, nat_le, if◌then◌else◌}
@@ -15,12 +15,16 @@ use Rattle.vbi_side.specs.declared.lines.Counted.{Counted}
 use Rattle.vbi_side.specs.declared.lines.Counted.TheVariants.{Pictures, Times}
 use Rattle.vbi_side.specs.declared.lines.Shown.{Shown}
 use Rattle.vbi_side.specs.declared.pace.Pace.{Pace}
+use Rattle.vbi_side.specs.declared.pace.Pace.TheVariants.{Video}
+use Rattle.vbi_side.specs.Sightings.{Shows}
+use Rattle.vbi_side.specs.Paces.{fits}
 use Rattle.vbi_side.specs.Lines.{pass_weight, code_in, number_from, sighting_from, sighting_of}
-use Rattle.vbi_side.specs.Beliefs.{reach, sighting_weight, field_weight, weight_at, weight_below, Believed}
-use Rattle.vbi_side.specs.Truth.{is_recorded, wrong_weight}
+use Rattle.vbi_side.specs.Beliefs.{reach, enough, field_most, sighting_weight, field_weight, weight_at}
+use Rattle.vbi_side.specs.Beliefs.{weight_below, Believed}
+use Rattle.vbi_side.specs.Truth.{IsNear, RunsOn, StandsStill, is_recorded, wrong_weight}
 use Rattle.vbi_side.specs.Misread.{Lines, Words, numbers_in, is_misread, line_weight, misread_in}
 use Rattle.vbi_side.specs.Misread.{misread_at, misread_below, misread_weight, number_of, AreTold, IsRead}
-use Rattle.vbi_side.proofs.Truth.{sound}
+use Rattle.vbi_side.proofs.Truth.{sound, on_the_disc, sound_still}
 
 -- ---- one number
 
@@ -255,3 +259,22 @@ sound_read system counted pace lines disc recorded i m n read b =
       read.has,
       omega (arith, read.few, wrong_misread system counted lines disc recorded i read.told),
     ) b
+
+-- whether the field has a number or not
+pub near_read : (system : System) (counted : Counted) (pace : Pace) (lines : List Lines) (disc : ℕ → Words)
+    (recorded : ℕ → Option ℕ) (i n : ℕ) → AreTold system counted disc recorded → RunsOn pace recorded i
+    → misread_weight counted lines disc i < enough → Believed pace (map (numbers_in system counted) lines) i n
+    → (j m : ℕ) × IsNear i j × (recorded j ≡ Some m)
+    × Shows (slice_get (map (numbers_in system counted) lines) j) m × (fits pace i n j m ≡ true)
+near_read system counted pace lines disc recorded i n told runs few b =
+    on_the_disc pace recorded (map (numbers_in system counted) lines) i n runs
+    (omega (arith, few, wrong_misread system counted lines disc recorded i told)) b
+
+-- where the player stood still
+pub still_read : (system : System) (counted : Counted) (lines : List Lines) (disc : ℕ → Words)
+    (recorded : ℕ → Option ℕ) (i m n : ℕ) → AreTold system counted disc recorded → StandsStill recorded i m
+    → misread_weight counted lines disc i + field_most < enough
+    → Believed Video (map (numbers_in system counted) lines) i n → n ≡ m
+still_read system counted lines disc recorded i m n told still few b =
+    sound_still recorded (map (numbers_in system counted) lines) i m n
+    (still, omega (arith, few, wrong_misread system counted lines disc recorded i told)) b

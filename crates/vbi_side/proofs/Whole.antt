@@ -1,7 +1,7 @@
 -- The pace of a disc that is read whole is found.
-use Rattle.std.proofs.Common.{◌≡◌, ◌≢◌, ℕ, zero, suc, ◌+◌, ◌*◌, ◌-◌, ◌%◌, ◌<◌, ◌≤◌, Bool, true, false, List, length}
+use Rattle.std.proofs.Common.{◌≡◌, ◌≢◌, ℕ, zero, suc, ◌+◌, ◌*◌, ◌-◌, ◌<◌, ◌≤◌, Bool, true, false, List, length}
 use Rattle.std.proofs.Common.{refl, arith, ap, sym, ◌∙◌, subst, inl, inr}
-use Rattle.std.specs.Prelude.{Option, Some, None, slice_get, ◌⊎◌, nat_lt, not, ◌&&◌, ◌==◌, if◌then◌else◌}
+use Rattle.std.specs.Prelude.{Option, Some, None, slice_get, ◌⊎◌, nat_lt, not, ◌&&◌, ◌==◌}
 use Rattle.std.proofs.Math.Dec.{eqb}
 use Rattle.std.proofs.lemmas.Bool.{eqb-true, ltb-true, lt-ltb}
 use Rattle.std.proofs.lemmas.Bool.Decides.{eqb_tells}
@@ -14,12 +14,12 @@ use Rattle.vbi_side.specs.declared.sighting.Sightings.{Sightings}
 use Rattle.vbi_side.specs.declared.pace.Pace.{Pace}
 use Rattle.vbi_side.specs.declared.pace.Pace.TheVariants.{Video, Film}
 use Rattle.vbi_side.specs.Sightings.{Shows}
-use Rattle.vbi_side.specs.Paces.{fits, stays}
-use Rattle.vbi_side.specs.Beliefs.{reach, enough, field_most, window_weight, weight_at, support_of, Believed}
-use Rattle.vbi_side.specs.Found.{IsCount, pace_by, IsMore, IsFound}
-use Rattle.vbi_side.specs.Truth.{IsNear, RunsOn, is_recorded, wrong_weight}
+use Rattle.vbi_side.specs.Paces.{fits}
+use Rattle.vbi_side.specs.Beliefs.{reach, field_most, window_weight, weight_at, Believed}
+use Rattle.vbi_side.specs.Found.{IsCount, pace_by, IsFound}
+use Rattle.vbi_side.specs.Truth.{IsNear, is_recorded, wrong_weight}
 use Rattle.vbi_side.specs.Whole.{IsWhole, TakesTurns}
-use Rattle.vbi_side.proofs.Truth.{both, and_so, recorded_is, wrong_or_right, film_fits, complete, wrong_still}
+use Rattle.vbi_side.proofs.Truth.{both, and_so, recorded_is, wrong_or_right, complete, wrong_still}
 use Rattle.vbi_side.proofs.Weights.{weight_below-split, once, spread, weight_at-passes}
 
 -- ---- counts

@@ -1,10 +1,13 @@
 -- The worked sides, computed.
-use Rattle.std.proofs.Common.{◌≡◌, ◌<◌, refl, arith, subst, sym, inl, inr}
-use Rattle.vbi_side.specs.declared.pace.Pace.TheVariants.{Video}
-use Rattle.vbi_side.specs.Beliefs.{weight_below, support_of, Believed}
-use Rattle.vbi_side.specs.Truth.{IsSound, wrong_weight, video_disc}
-use Rattle.vbi_side.specs.Worked.{wrong_by_9, wrong_by_10}
-use Rattle.vbi_side.proofs.Discs.{video_runs}
+use Rattle.std.proofs.Common.{◌≡◌, ℕ, zero, suc, ◌<◌, ◌≤◌, refl, arith, ap, subst, sym, inl, inr}
+use Rattle.std.specs.Prelude.{Some, slice_get}
+use Rattle.vbi_side.specs.declared.pace.Pace.TheVariants.{Video, Film}
+use Rattle.vbi_side.specs.Sightings.{Shows}
+use Rattle.vbi_side.specs.Beliefs.{enough, weight_below, support_of, Believed}
+use Rattle.vbi_side.specs.Truth.{IsSound, wrong_weight, video_disc, film_disc}
+use Rattle.vbi_side.specs.Whole.{IsWhole}
+use Rattle.vbi_side.specs.Worked.{wrong_by_9, wrong_by_10, field_of, blank, film_side}
+use Rattle.vbi_side.proofs.Discs.{video_runs, film_runs}
 
 pub nine : wrong_weight video_disc wrong_by_9 4 ≡ 9
 unfolding weight_below
@@ -49,3 +52,47 @@ wrong = record {
     | inr h ↦ absurd (apart (sym h.1))
   ];
 }
+
+-- ---- a capture of film that is read whole
+
+film_support : (support_of Film film_side 0 0 ≡ 12) × (support_of Film film_side 2 1 ≡ 12)
+    × (support_of Film film_side 5 2 ≡ 12)
+unfolding weight_below
+film_support = (refl, refl, refl)
+
+-- a field shows the number that both of its lines have
+shown_is : (m n weight : ℕ) → Shows (Some (field_of m weight m weight)) n → m ≡ n
+shown_is m n weight shown = elim shown [
+  | inl h ↦ h.1
+  | inr h ↦ h.1
+]
+
+none_shown : (n : ℕ) → Shows (Some blank) n → ⊥
+none_shown n shown = elim shown [
+  | inl h ↦ absurd (omega (arith, h.0))
+  | inr h ↦ absurd (omega (arith, h.0))
+]
+
+film_right : (i n : ℕ) → Shows (slice_get film_side i) n → film_disc i ≡ Some n
+film_right zero n shown = ap Some (shown_is 0 n 2 shown)
+film_right (suc zero) n shown = absurd (none_shown n shown)
+film_right (suc (suc zero)) n shown = ap Some (shown_is 1 n 2 shown)
+film_right (suc (suc (suc zero))) n shown = absurd (none_shown n shown)
+film_right (suc (suc (suc (suc zero)))) n shown = absurd (none_shown n shown)
+film_right (suc (suc (suc (suc (suc zero))))) n shown = ap Some (shown_is 2 n 2 shown)
+film_right (suc (suc (suc (suc (suc (suc k)))))) n shown = absurd shown
+
+film_much : (i n : ℕ) → Shows (slice_get film_side i) n → enough ≤ support_of Film film_side i n
+film_much zero n shown =
+    subst (λ k. enough ≤ support_of Film film_side 0 k) (shown_is 0 n 2 shown) (omega (arith, film_support.0))
+film_much (suc zero) n shown = absurd (none_shown n shown)
+film_much (suc (suc zero)) n shown =
+    subst (λ k. enough ≤ support_of Film film_side 2 k) (shown_is 1 n 2 shown) (omega (arith, film_support.1))
+film_much (suc (suc (suc zero))) n shown = absurd (none_shown n shown)
+film_much (suc (suc (suc (suc zero)))) n shown = absurd (none_shown n shown)
+film_much (suc (suc (suc (suc (suc zero))))) n shown =
+    subst (λ k. enough ≤ support_of Film film_side 5 k) (shown_is 2 n 2 shown) (omega (arith, film_support.2))
+film_much (suc (suc (suc (suc (suc (suc k)))))) n shown = absurd shown
+
+pub whole_film : IsWhole Film film_disc film_side
+whole_film = record { runs = film_runs; right = film_right; much = film_much }

@@ -1,5 +1,5 @@
--- Worked fields, by the words of their lines. Worked sides: of video with wrong readings of weight 9 and 10 around field
--- 4, of two numbers that lie far apart, and of a still.
+-- Worked fields, by the words of their lines. Worked sides: of video with wrong readings of weight 9 and 10 around
+-- field 4, of two numbers that lie far apart, of a still, and of film.
 use Rattle.std.specs.Prelude.{ℕ, zero, suc, ◌-◌, ◌==◌, if◌then◌else◌, List, [], ◌∷◌, ◌++◌, replicate, Some, None}
 use Rattle.vbi_words.specs.declared.system.System.{System}
 use Rattle.vbi_side.specs.declared.lines.Counted.{Counted}
@@ -40,6 +40,11 @@ apart_by distance = field_of 0 2 0 0 ∷ replicate (distance - 1) blank ++ field
 abbrev pub still_of : ℕ → List Sightings
 still_of zero = []
 still_of (suc pictures) = field_of 5 2 0 0 ∷ blank ∷ still_of pictures
+
+-- pictures 0, 1 and 2 of film, each with its number on both lines
+abbrev pub film_side : List Sightings
+film_side =
+    field_of 0 2 0 2 ∷ blank ∷ field_of 1 2 1 2 ∷ blank ∷ blank ∷ field_of 2 2 2 2 ∷ []
 
 -- the same beside a code that stands there in place of a number
 abbrev pub instead_of : ℕ → ℕ → ℕ → ℕ → Sightings

@@ -23,10 +23,10 @@ ghost use Rattle.vbi_side.specs.Due.{slack_of, Due};
 ghost use Rattle.vbi_side.specs.Found.{pace_by, IsFound};
 ghost use Rattle.vbi_side.specs.Numbers.{IsAnswer, IsKnown};
 ghost use Rattle.vbi_side.specs.Truth.{IsNear, AreEven, RunsOn, IsRegular, IsSound, IsSoundStill, wrong_weight};
-ghost use Rattle.vbi_side.specs.Truth.{video_disc, film_disc};
+ghost use Rattle.vbi_side.specs.Truth.{StandsStill, video_disc, film_disc};
 ghost use Rattle.vbi_side.specs.Misread.{Lines, Words, numbers_in, misread_weight, AreTold, IsRead};
 ghost use Rattle.vbi_side.specs.Whole.{IsWhole, TakesTurns};
-ghost use Rattle.vbi_side.specs.Worked.{wrong_by_9, wrong_by_10, apart_by, still_of};
+ghost use Rattle.vbi_side.specs.Worked.{wrong_by_9, wrong_by_10, apart_by, still_of, film_side};
 ghost use Rattle.vbi_side.specs.Worked.{field_of, instead_of, shown_in, told_by};
 
 /// Where the disc ran on around a field that has a number and what was misread there weighs less than enough, a
@@ -82,6 +82,11 @@ pub fn discs_run()
     ensures film { (i : ℕ) → RunsOn Film film_disc i }
     ensures film_regular { (i : ℕ) → IsRegular Film film_disc i }
     ensures film_turns { TakesTurns film_disc }
+{}
+
+/// A capture of film that is read whole: three pictures with their numbers on both lines.
+pub fn worked_capture()
+    ensures { IsWhole Film film_disc film_side }
 {}
 
 /// The premise of `sound` can be met, and it is sharp. With wrong readings of weight 9 around a field its number is
@@ -172,7 +177,8 @@ pub fn same_words()
 
 /// What was misread around a field weighs in numbers no more than in words, line 16 of a time counting for both lines
 /// beside it. So where the disc ran on around a field and the misread words of lines 16, 17 and 18 weigh less than
-/// enough, a believed number is the one that the words on the disc tell.
+/// enough, a believed number is the one that the words on the disc tell; in a field without one it fits one that was
+/// recorded near it and read; and so of a still, where they weigh 4 less.
 pub fn misread_words()
     ensures weight { (system : System) (counted : Counted) (lines : List Lines) (disc : ℕ → Words)
         (recorded : ℕ → Option ℕ) (i : ℕ) → AreTold system counted disc recorded
@@ -180,6 +186,15 @@ pub fn misread_words()
     ensures sound { (system : System) (counted : Counted) (pace : Pace) (lines : List Lines) (disc : ℕ → Words)
         (recorded : ℕ → Option ℕ) (i m n : ℕ) → IsRead system counted pace lines disc recorded i m
         → Believed pace (map (numbers_in system counted) lines) i n → n ≡ m }
+    ensures near { (system : System) (counted : Counted) (pace : Pace) (lines : List Lines) (disc : ℕ → Words)
+        (recorded : ℕ → Option ℕ) (i n : ℕ) → AreTold system counted disc recorded → RunsOn pace recorded i
+        → misread_weight counted lines disc i < enough → Believed pace (map (numbers_in system counted) lines) i n
+        → (j m : ℕ) × IsNear i j × (recorded j ≡ Some m)
+        × Shows (slice_get (map (numbers_in system counted) lines) j) m × (fits pace i n j m ≡ true) }
+    ensures still { (system : System) (counted : Counted) (lines : List Lines) (disc : ℕ → Words)
+        (recorded : ℕ → Option ℕ) (i m n : ℕ) → AreTold system counted disc recorded → StandsStill recorded i m
+        → misread_weight counted lines disc i + field_most < enough
+        → Believed Video (map (numbers_in system counted) lines) i n → n ≡ m }
 {}
 
 /// The numbers that fields show by the words of their lines 16, 17 and 18, written down by hand; 0 stands for no word.
@@ -244,8 +259,8 @@ pub fn worked_lines()
 {}
 
 /// When two numbers fit, or are of one still, at each edge: number 100 in field 10, and the fields in which another one
-/// fits it. Others count within 24 fields, a weight of 10 is enough, and a still loses 4 of it. Between numbers at most 8
-/// fields apart others may be a field off.
+/// fits it. Others count within 24 fields, a weight of 10 is enough, and a still loses 4 of it. Between numbers at most
+/// 8 fields apart others may be a field off.
 pub fn worked_fits()
     ensures video { map (λ j. fits Video 10 100 j 101) (11 ∷ 12 ∷ 13 ∷ []) ≡ false ∷ true ∷ false ∷ [] }
     ensures video_back { map (λ j. fits Video 10 100 j 96) (1 ∷ 2 ∷ 3 ∷ []) ≡ false ∷ true ∷ false ∷ [] }

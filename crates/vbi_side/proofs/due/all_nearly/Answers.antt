@@ -18,7 +18,8 @@ returns-then-not-nearly c =
           a.here.field a.here.number f nothing (omega (arith, c.requires.within, c.loop-field-test.true))
           (omega (arith, c.loop-field.auto.field)) c.loop-field-test.true
           (c.is_believed.ensures.0 c.if-is_believed.true)
-          (subst (λ s. nearly a.pace s a.here.field a.here.number f (get_or a.numbers.now f nothing).number ≡ false) c.slack_of-slack.ensures.value
+          (subst (λ s. nearly a.pace s a.here.field a.here.number f (get_or a.numbers.now f nothing).number ≡ false)
+          c.slack_of-slack.ensures.value
           (sym is ∙ c.if-not-nearly.true)) all),
     )
 

@@ -3,8 +3,8 @@ use Rattle.std.specs.Prelude.{unwrap_or}
 use Rattle.vbi_side.specs.Nearest.{AllNearly}
 use Rattle.vbi_side.specs.Due.{slack_of, IsLeft}
 use Rattle.vbi_side.specs.Numbers.{IsMarked}
-use Rattle.vbi_side.proofs.Around.{no_before, no_behind, nothing_there, none_some, left_counts, left_nearly, nearest_leave}
-use Rattle.vbi_side.proofs.Around.{not_both}
+use Rattle.vbi_side.proofs.Around.{no_before, no_behind, nothing_there, none_some, left_counts, left_nearly}
+use Rattle.vbi_side.proofs.Around.{nearest_leave, not_both}
 use Rattle.vbi_side.proofs.due.left_around.Goals as goal
 
 pub returns-in_err-before : goal.returns-in_err-before

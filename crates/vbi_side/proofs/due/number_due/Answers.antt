@@ -1,6 +1,6 @@
 use Rattle.std.proofs.Common.{arith, refl}
-use Rattle.vbi_side.proofs.Around.{left_due, marked_at, state_at, instead_at, code_at, twice_at, lines_at, nothing_there}
-use Rattle.vbi_side.proofs.Around.{not_both}
+use Rattle.vbi_side.proofs.Around.{left_due, marked_at, state_at, instead_at, code_at, twice_at, lines_at}
+use Rattle.vbi_side.proofs.Around.{nothing_there, not_both}
 use Rattle.vbi_side.proofs.due.number_due.Goals.{then-is_believed-via-then-is_believed}
 use Rattle.vbi_side.proofs.due.number_due.Goals.{then-is_believed-via-else-is_believed+then-shows_instead}
 use Rattle.vbi_side.proofs.due.number_due.Goals.{then-is_believed-via-else-is_believed+else-shows_instead+then-shows_twice}
