@@ -1,7 +1,8 @@
 """The command `ldvbi-side`: its options, and what each of them writes of the judge's answer. Read in this order:
 
-summary, tables, map, compare, recovered, progress, outputs, main
+summary, tables, map, outputs, join, compare, recovered, progress, main
 
-The first four make the texts of `--summary`, of `--csv` and `--bad-lines`, of `--map` and of `compare`; each is a
-function from a side or its answer to rows or lines. `recovered` writes the document of `--recovered`. `progress` writes
-to the terminal, `outputs` to files. `main` has the options, and joins it all."""
+`summary`, `tables`, `map`, `join` and `compare` make the texts of `--summary`, of `--csv` and `--bad-lines`, of `--map`,
+of `join` and of `compare`; each is a function from a side or its answer to rows or lines. `outputs` writes to files,
+`progress` to the terminal. `recovered` writes the document of `--recovered`. `main` has the options, and joins it
+all."""

@@ -16,6 +16,7 @@ from ..draw.plot import plot_command
 from ..seek import seek, text_of, wanted_of
 from ..side import Side, side_of_document, side_of_stream
 from .compare import compare, comparison_text
+from .join import run_join
 from .map import COLUMNS as MAP_COLUMNS, map_rows
 from .outputs import drop_standard_output, refuse_inputs, whole_file
 from .progress import Progress
@@ -27,7 +28,8 @@ NAME = "ldvbi-side"
 DESCRIPTION = """Reads a side from a TBC file, or from a document that `ldvbi extract` wrote, and says what its words
 mean. A file is taken for a document if its name ends with .json or its text begins as a document does. Statuses: 0
 done, 1 a fault, 2 the command line was refused, 3 done and the last field is cut, 130 ended by Ctrl-C. The words
-`compare SIDE SIDE` compare two sides; `index FILE PAGE..` writes a file that links pages of --html."""
+`compare SIDE SIDE` compare two sides, and `join SIDE SIDE..` joins captures of one; `index FILE PAGE..` writes a file
+that links pages of --html."""
 COMPARISON = """Compares two captures of one side by their numbers. It says which numbers only one of them has, and
 which of those that both have one of them shows better: by more lines, or by lines of pass 1 instead of others."""
 LEVELS = "the sample of %s, from 0 to 65535; black is below white"
@@ -192,6 +194,17 @@ def _options(words):
     return options
 
 
+def _side_at(path):
+    """The side of a document, or of a TBC file with its metadata beside it."""
+    options = _options(["--", path])
+    return _loaded(*_source(options), options)
+
+
+def _join(words):
+    """Prints what captures have together."""
+    return run_join(NAME, words, _side_at)
+
+
 def _compare(words):
     """Prints what two sides have of each other's numbers."""
     parser = argparse.ArgumentParser(prog=NAME + " compare", description=COMPARISON)
@@ -199,11 +212,7 @@ def _compare(words):
     parser.add_argument("--json", action="store_true", help="print all stretches, as JSON")
     options = parser.parse_args(words)
     refuse_inputs([1], options.sides)
-    sides = []
-    for path in options.sides:
-        settings = _options(["--", path])
-        sides.append(_loaded(*_source(settings), settings))
-    found = compare(*sides)
+    found = compare(*map(_side_at, options.sides))
     print(json.dumps(found) if options.json else "\n".join(comparison_text(found, options.sides)))
     return 0
 
@@ -266,7 +275,7 @@ def _answer(options):
 def main(words: Optional[List[str]] = None) -> int:
     words = sys.argv[1:] if words is None else words
     try:
-        of_many = {"compare": _compare, "index": _index}.get(words[0] if words else "")
+        of_many = {"compare": _compare, "join": _join, "index": _index}.get(words[0] if words else "")
         status = of_many(words[1:]) if of_many else _run(_options(words))
         sys.stdout.flush()
         return status
