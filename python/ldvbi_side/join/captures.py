@@ -17,10 +17,11 @@ READ, NEAR, NEIGHBOURS = "read", "near", "neighbours"
 
 
 class Place(NamedTuple):
-    """Where a capture has a number: the first field that shows it, or in which it is due, and its last field. `how` is
-    as the map of a side has it. `is_whole` says that no field of its picture is known to be lost. `lines` are the lines of the first field on which the number was read, or 0 where it is
-    the nearest word of these, or -1 where it is only due; `sure` are those of pass 1. `bad` are the bad lines of the
-    fields nearby."""
+    """Where a capture has a number: the first field that shows it, or in which it is due, and its last sure field. `how`
+    is as the map of a side has it. `is_whole` is false where a field of its picture may be
+    another's or be lost: right before a break, or within a still. `lines` are the lines
+    of the first field on which the number was read, or 0 where it is the nearest word of these, or -1 where it is only
+    due; `sure` are those of pass 1. `bad` are the bad lines of the fields nearby."""
     number: int
     field: int
     last: int
@@ -80,14 +81,17 @@ def capture_of(side: Side, name: str) -> Capture:
              for number, field, last in answer["showings"]]
     found += [(one["field"], one["field"], ordinal_of(one["number"], rate), NEIGHBOURS) for one in answer[DUE]]
     found.sort()
-    bad = _bad_before(answer)
+    bad, is_of_two = _bad_before(answer), answer["pace"] in ("video", "film")
+    torn = {field for one in answer["lost"] + answer["breaks"] for field in range(one["after"], one["before"])}
     doubtful = {(one["field"], one["line"]) for one in answer["doubtful"] + answer["stray"]}
     places = []
     for (field, last, number, how), after in itertools.zip_longest(found, found[1:]):
         lines, sure = _read_on(side, field, doubtful) if how == READ else (0 if how == NEAR else -1, 0)
         near = bad[min(field + NEARBY, answer["fields"])] - bad[max(field - NEARBY - 1, 0)]
-        last = _last_of(answer, number, (field, last), after)
-        is_whole = last > field or answer["pace"] in ("both", "minute")
+        is_torn = field in torn or is_of_two and after is not None and after[2] == number
+        if not (is_of_two and is_torn):
+            last = _last_of(answer, number, (field, last), after)
+        is_whole = not is_torn and (last > field or not is_of_two)
         places.append(Place(number, field, last, how, is_whole, lines, sure, near))
     first: Dict[int, Place] = {}
     for place in places:
