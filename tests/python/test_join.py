@@ -188,9 +188,9 @@ class Disagreements(unittest.TestCase):
         one = pictures([*range(1, 51), *range(151, 171), *range(71, 101)])
         found, text = self.found(one, disc(100))
         self.assertEqual(found["disagreements"], [{"why": "detour", "between": [
-            {"capture": "a", "first": 151, "last": 170, "field": 101, "lastField": 139},
+            {"capture": "a", "first": 151, "last": 170, "field": 101, "lastField": 140},
             {"capture": "b", "first": 51, "last": 70, "field": 101, "lastField": 140}]}])
-        self.assertEqual(text, "disagreements: 1 (pictures 151 to 170 in fields 101 to 139 of a, where b has pictures 51 to "
+        self.assertEqual(text, "disagreements: 1 (pictures 151 to 170 in fields 101 to 140 of a, where b has pictures 51 to "
                          "70 in fields 101 to 140)")
 
     def test_numbers_of_a_detour_are_taken_elsewhere(self):
@@ -299,7 +299,7 @@ class Page(unittest.TestCase):
         self.assertEqual(self.boxes("taken-from-here"), [
             ("1-19", "1 to 19: taken from fields 1 to 38 of a", 150, 190),
             ("24-96", "24 to 96: taken from fields 41 to 186 of a", 380, 730),
-            ("20-21", "20 to 21: taken from fields 37 to 39 of b", 340, 20),
+            ("20-21", "20 to 21: taken from fields 37 to 40 of b", 340, 20),
             ("23-23", "23: taken from fields 41 to 42 of b", 370, 10)])
         self.assertEqual(self.boxes("in-another-capture-alone"), [
             ("21-21", "21: not in a, but in b", 350, 10), ("23-23", "23: not in a, but in b", 370, 10),
@@ -324,7 +324,7 @@ class Page(unittest.TestCase):
         self.found = joined(one, disc(100))
         self.assertEqual([box[:2] for box in self.boxes("disagreement")], [
             ("51-70", "51 to 70: in fields 101 to 140 of b, and a otherwise"),
-            ("151-170", "151 to 170: in fields 101 to 139 of a, and b otherwise")])
+            ("151-170", "151 to 170: in fields 101 to 140 of a, and b otherwise")])
 
     def test_page(self):
         for text in joined_text(self.found):

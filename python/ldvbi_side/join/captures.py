@@ -17,11 +17,11 @@ READ, NEAR, NEIGHBOURS = "read", "near", "neighbours"
 
 
 class Place(NamedTuple):
-    """Where a capture has a number: the first field that shows it, or in which it is due, and its last sure field. `how`
-    is as the map of a side has it. `is_whole` is false where a field of its picture may be
-    another's or be lost: right before a break, or within a still. `lines` are the lines
-    of the first field on which the number was read, or 0 where it is the nearest word of these, or -1 where it is only
-    due; `sure` are those of pass 1. `bad` are the bad lines of the fields nearby."""
+    """Where a capture has a number: the first field that shows it, or in which it is due, and its last field. `how` is
+    as the map of a side has it. `is_whole` is false where a field of its picture may be lost, or be another's: right
+    before a break, or within a still. `lines` are the lines of the first field on which the number was read, or 0 where
+    it is the nearest word of these, or -1 where it is only due; `sure` are those of pass 1. `bad` are the bad lines of
+    the fields nearby."""
     number: int
     field: int
     last: int
@@ -89,8 +89,7 @@ def capture_of(side: Side, name: str) -> Capture:
         lines, sure = _read_on(side, field, doubtful) if how == READ else (0 if how == NEAR else -1, 0)
         near = bad[min(field + NEARBY, answer["fields"])] - bad[max(field - NEARBY - 1, 0)]
         is_torn = field in torn or is_of_two and after is not None and after[2] == number
-        if not (is_of_two and is_torn):
-            last = _last_of(answer, number, (field, last), after)
+        last = _last_of(answer, number, (field, last), after, is_torn)
         is_whole = not is_torn and (last > field or not is_of_two)
         places.append(Place(number, field, last, how, is_whole, lines, sure, near))
     first: Dict[int, Place] = {}
@@ -115,15 +114,15 @@ def _read_on(side, field, doubtful):
     return len(passes), passes.count(1)
 
 
-def _last_of(answer, number, fields, after):
+def _last_of(answer, number, fields, after, is_torn):
     """The last field of a number that is shown in these fields, by the number that comes after it, if one does. A
-    picture has two fields, or three on film where the next number says so. Where both fields have the number, it is the
-    last one that shows it."""
+    picture has two fields, or three on film where the next number says so and there is no break. Where both fields have
+    the number, it is the last one that shows it."""
     field, last = fields
     pace = answer["pace"]
     if pace == "minute":
         return after[0] - 1 if after and after[2] == number + 1 else last
-    if after and after[0] - field <= (3 if pace == "film" else 2):
+    if after and after[0] - field <= (3 if pace == "film" and not is_torn else 2):
         return after[0] - 1
     return last if pace == "both" else min(field + 1, answer["fields"])
 
