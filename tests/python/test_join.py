@@ -126,7 +126,8 @@ class Stretches(unittest.TestCase):
 
     def test_minutes(self):
         rows = ["- 87FFFF %s" % minutes(0, minute) for minute in (58, 59) for _ in range(3000)]
-        self.assertEqual(self.ranges(rows[3000:], rows), [("0:58", "0:58", "b", 1, 3000), ("0:59", "0:59", "a", 1, 3000)])
+        self.assertEqual(self.ranges(rows[3000:], rows), [
+            ("0:58", "0:58", "b", 1, 3000), ("0:59", "0:59", "a", 1, 3000)])
 
     def test_the_clock(self):
         """Of an NTSC disc whose clock leaves out numbers none is missing, and they are in no stretch's way."""
@@ -190,8 +191,8 @@ class Disagreements(unittest.TestCase):
         self.assertEqual(found["disagreements"], [{"why": "detour", "between": [
             {"capture": "a", "first": 151, "last": 170, "field": 101, "lastField": 140},
             {"capture": "b", "first": 51, "last": 70, "field": 101, "lastField": 140}]}])
-        self.assertEqual(text, "disagreements: 1 (pictures 151 to 170 in fields 101 to 140 of a, where b has pictures 51 to "
-                         "70 in fields 101 to 140)")
+        self.assertEqual(text, "disagreements: 1 (pictures 151 to 170 in fields 101 to 140 of a, where b has pictures "
+                         "51 to 70 in fields 101 to 140)")
 
     def test_numbers_of_a_detour_are_taken_elsewhere(self):
         one = pictures([*range(1, 51), *range(151, 171), *range(71, 101)])
@@ -211,8 +212,8 @@ class Disagreements(unittest.TestCase):
             {"capture": "a", "first": "0:00:00.07", "last": "0:00:00.07", "field": 13, "lastField": 15},
             {"capture": "b", "first": "0:00:00.07", "last": "0:00:00.07", "field": 15, "lastField": 16}]})
         _, text = self.found(one, times(range(10), 30), system="NTSC")
-        self.assertEqual(text, "disagreements: 1 (time 0:00:00.07 left out by the clock in fields 13 to 15 of a, and in "
-                         "fields 15 to 16 of b)")
+        self.assertEqual(text, "disagreements: 1 (time 0:00:00.07 left out by the clock in fields 13 to 15 of a, and "
+                         "in fields 15 to 16 of b)")
 
     def test_a_distance(self):
         """A capture has lost every fifth field of 30 pictures of film, which looks like a stretch of video."""
@@ -222,8 +223,8 @@ class Disagreements(unittest.TestCase):
         self.assertEqual(found["disagreements"], [{"why": "distance", "between": [
             {"capture": "a", "first": 64, "last": 120, "field": 157, "lastField": 285},
             {"capture": "b", "first": 64, "last": 120, "field": 159, "lastField": 300}]}])
-        self.assertEqual(text, "disagreements: 1 (pictures 64 to 120 in fields 157 to 285 of a and fields 159 to 300 of b, "
-                         "further from those before them in one than in the other)")
+        self.assertEqual(text, "disagreements: 1 (pictures 64 to 120 in fields 157 to 285 of a and fields 159 to 300 "
+                         "of b, further from those before them in one than in the other)")
 
     def test_a_distance_up_to_a_loss(self):
         one = film(range(1, 61)) + pictures(range(61, 91)) + film(range(91, 121))
@@ -276,8 +277,8 @@ class Refused(unittest.TestCase):
 
     def test_programme_status(self):
         one, other = times(range(40)), [row.replace("8BA000", "8DC0A1") for row in times(range(40))]
-        self.refused("a and b differ in the programme status of 40 of 40 numbers (at 0:00:00.00 it is 8BA000 and 8DC0A1): "
-                     "two discs?", side(one), side(other))
+        self.refused("a and b differ in the programme status of 40 of 40 numbers (at 0:00:00.00 it is 8BA000 and "
+                     "8DC0A1): two discs?", side(one), side(other))
         mixed = other[:40] + one[40:]
         self.assertEqual(len(join([capture_of(side(one), "a"), capture_of(side(mixed), "b")])["captures"]), 2)
 

@@ -19,7 +19,8 @@ class Joins(Runs):
 
     def test_text(self):
         self.assertEqual(self.run_command("join", "side.vbi.json", "other.tbc"), (
-            0, b"together: pictures 0 to 15, none lost\nside.vbi.json: has 12, lacks 4 (pictures 12 to 15 in other.tbc)\n"
+            0, b"together: pictures 0 to 15, none lost\n"
+            b"side.vbi.json: has 12, lacks 4 (pictures 12 to 15 in other.tbc)\n"
             b"other.tbc: has 10, lacks 6 (pictures 0 to 3 in side.vbi.json, pictures 8 to 9 in side.vbi.json)\n"
             b"lacking in all: none\ndisagreements: none\n", ""))
 
@@ -35,9 +36,10 @@ class Joins(Runs):
 
     def test_json(self):
         found = json.loads(self.printed("--json"))
-        self.assertEqual(list(found), ["version", "system", "format", "unit", "captures", "numbers", "missing", "leftOut",
-                                       "lacks", "disagreements", "taken", "ranges"])
-        self.assertEqual([found[name] for name in ("version", "system", "format", "unit")], [1, "NTSC", "cav", "picture"])
+        self.assertEqual(list(found), ["version", "system", "format", "unit", "captures", "numbers", "missing",
+                                       "leftOut", "lacks", "disagreements", "taken", "ranges"])
+        self.assertEqual([found[name] for name in ("version", "system", "format", "unit")],
+                         [1, "NTSC", "cav", "picture"])
         self.assertEqual(found["captures"][1], {
             "name": "other.tbc", "fields": 10, "numbers": {"count": 10, "least": 4, "greatest": 15}})
         self.assertEqual(found["taken"][12], [12, "other.tbc", 7, 4, "read"])

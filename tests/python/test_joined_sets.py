@@ -1,5 +1,5 @@
-"""Random sets of captures, each of one drawn disc with losses, jumps and damage of its own: what is joined of them beside
-the truth."""
+"""Random sets of captures, each of one drawn disc with losses, jumps and damage of its own: what is joined of them
+beside the truth."""
 
 import json
 import unittest

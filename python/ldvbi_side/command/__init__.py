@@ -2,7 +2,7 @@
 
 summary, tables, map, outputs, join, compare, recovered, progress, main
 
-`summary`, `tables`, `map`, `join` and `compare` make the texts of `--summary`, of `--csv` and `--bad-lines`, of `--map`,
-of `join` and of `compare`; each is a function from a side or its answer to rows or lines. `outputs` writes to files,
-`progress` to the terminal. `recovered` writes the document of `--recovered`. `main` has the options, and joins it
-all."""
+`summary`, `tables`, `map`, `join` and `compare` make the texts of `--summary`, of `--csv` and `--bad-lines`, of `--map`
+and of the two commands with these names; each is a function from a side or an answer to rows or lines. `outputs` writes
+to files, `progress` to the terminal. `recovered` writes the document of `--recovered`. `main` has the options, and
+brings it all together."""

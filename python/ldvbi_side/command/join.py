@@ -1,4 +1,4 @@
-"""The command `join`: what several captures of one disc's side have together, and which one to take each number from."""
+"""The command `join`: what several captures of one disc's side have together, and which to take each number from."""
 
 import argparse
 import csv
@@ -51,8 +51,8 @@ def _parser(program):
     output.add_argument("--ranges", action="store_true", help="print the same in stretches of numbers that one "
                         "capture has in fields that follow each other")
     output.add_argument("--json", action="store_true", help="print all that they have together, as JSON")
-    parser.add_argument("--html", metavar="FILE", help="write a page into this file on which the captures are bars, one "
-                        "above the other; print only what another option asks for")
+    parser.add_argument("--html", metavar="FILE", help="write a page into this file on which the captures are bars, "
+                        "one above the other; print only what another option asks for")
     return parser
 
 
@@ -118,8 +118,8 @@ def _count(stretches):
 _DISAGREE = {
     "detour": "%(numbers)s in %(fields)s of %(name)s, where %(other)s has %(otherNumbers)s in %(otherFields)s",
     "clock": "%(numbers)s left out by the clock in %(fields)s of %(name)s, and in %(otherFields)s of %(other)s",
-    "distance": "%(numbers)s in %(fields)s of %(name)s and %(otherFields)s of %(other)s, further from those before them in "
-                "one than in the other",
+    "distance": "%(numbers)s in %(fields)s of %(name)s and %(otherFields)s of %(other)s, further from those before "
+                "them in one than in the other",
 }
 
 

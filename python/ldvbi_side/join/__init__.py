@@ -1,5 +1,5 @@
-"""Several captures of one disc's side, and what they have together. Plain data comes out, and no file is read here. Read
-in this order:
+"""Several captures of one disc's side, and what they have together. Plain data comes out, and no file is read here.
+Read in this order:
 
 captures, others, disagreements, taken, joined
 

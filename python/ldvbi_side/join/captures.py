@@ -75,28 +75,47 @@ def ordinal_of(number: Any, rate: int) -> int:
 
 def capture_of(side: Side, name: str) -> Capture:
     """The capture that a side is."""
-    answer, rate = side.answer, RATES[side.system.name]
-    confirmed = frozenset(answer["confirmed"])
-    found = [(field, last, ordinal_of(number, rate), NEAR if field in confirmed else READ)
-             for number, field, last in answer["showings"]]
-    found += [(one["field"], one["field"], ordinal_of(one["number"], rate), NEIGHBOURS) for one in answer[DUE]]
-    found.sort()
-    bad, is_of_two = _bad_before(answer), answer["pace"] in ("video", "film")
-    torn = {field for one in answer["lost"] + answer["breaks"] for field in range(one["after"], one["before"])}
-    doubtful = {(one["field"], one["line"]) for one in answer["doubtful"] + answer["stray"]}
-    places = []
-    for (field, last, number, how), after in itertools.zip_longest(found, found[1:]):
-        lines, sure = _read_on(side, field, doubtful) if how == READ else (0 if how == NEAR else -1, 0)
-        near = bad[min(field + NEARBY, answer["fields"])] - bad[max(field - NEARBY - 1, 0)]
-        is_torn = field in torn or is_of_two and after is not None and after[2] == number
-        last = _last_of(answer, number, (field, last), after, is_torn)
-        is_whole = not is_torn and (last > field or not is_of_two)
-        places.append(Place(number, field, last, how, is_whole, lines, sure, near))
+    places = list(_places(side))
     first: Dict[int, Place] = {}
     for place in places:
         first.setdefault(place.number, place)
-    return Capture(name, answer, places, first, {
-        "chapter": _chapters(answer, first), "programme status": _status(side, first)})
+    return Capture(name, side.answer, places, first, {
+        "chapter": _chapters(side.answer, first), "programme status": _status(side, first)})
+
+
+# ---- Places
+
+class _Shown(NamedTuple):
+    """A number as the answer has it, with the first and the last field that show it."""
+    field: int
+    last: int
+    number: int
+    how: str
+
+
+def _shown(answer):
+    """What a side shows, and what is due in it, by field."""
+    rate, confirmed = RATES[answer["system"]], frozenset(answer["confirmed"])
+    found = [_Shown(field, last, ordinal_of(number, rate), NEAR if field in confirmed else READ)
+             for number, field, last in answer["showings"]]
+    found += [_Shown(one["field"], one["field"], ordinal_of(one["number"], rate), NEIGHBOURS) for one in answer[DUE]]
+    return sorted(found)
+
+
+def _places(side):
+    answer = side.answer
+    bad = _bad_before(answer)
+    doubtful = {(one["field"], one["line"]) for one in answer["doubtful"] + answer["stray"]}
+    is_of_two = answer["pace"] in ("video", "film")
+    before_break = {field for one in answer["lost"] + answer["breaks"] for field in range(one["after"], one["before"])}
+    shown = _shown(answer)
+    for one, after in itertools.zip_longest(shown, shown[1:]):
+        is_torn = one.field in before_break or is_of_two and after is not None and after.number == one.number
+        last = _last_of(answer, one, after, is_torn)
+        is_whole = not is_torn and (last > one.field or not is_of_two)
+        lines, sure = {NEAR: (0, 0), NEIGHBOURS: (-1, 0)}.get(one.how) or _read_on(side, one.field, doubtful)
+        nearby = bad[min(one.field + NEARBY, answer["fields"])] - bad[max(one.field - NEARBY - 1, 0)]
+        yield Place(one.number, one.field, last, one.how, is_whole, lines, sure, nearby)
 
 
 def _bad_before(answer):
@@ -114,17 +133,16 @@ def _read_on(side, field, doubtful):
     return len(passes), passes.count(1)
 
 
-def _last_of(answer, number, fields, after, is_torn):
-    """The last field of a number that is shown in these fields, by the number that comes after it, if one does. A
-    picture has two fields, or three on film where the next number says so and there is no break. Where both fields have
-    the number, it is the last one that shows it."""
-    field, last = fields
+def _last_of(answer, one, after, is_torn):
+    """The last field of a number, by the one that comes after it, if one does. A picture has two fields, or three on
+    film where the next number says so and there is no break. Where both fields have the number, it is the last one that
+    shows it."""
     pace = answer["pace"]
     if pace == "minute":
-        return after[0] - 1 if after and after[2] == number + 1 else last
-    if after and after[0] - field <= (3 if pace == "film" and not is_torn else 2):
-        return after[0] - 1
-    return last if pace == "both" else min(field + 1, answer["fields"])
+        return after.field - 1 if after and after.number == one.number + 1 else one.last
+    if after and after.field - one.field <= (3 if pace == "film" and not is_torn else 2):
+        return after.field - 1
+    return one.last if pace == "both" else min(one.field + 1, answer["fields"])
 
 
 # ---- What stands beside the numbers

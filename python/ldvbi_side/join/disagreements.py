@@ -1,5 +1,5 @@
-"""Where two captures disagree about a number. Between two breaks each capture has its numbers at the disc's own pace, so
-two of them can only disagree where one of them says something else of the same fields:
+"""Where two captures disagree about a number. Between two breaks each capture has its numbers at the disc's own pace,
+so two of them can only disagree where one of them says something else of the same fields:
 
 - `detour`: the numbers before and behind some fields leave these for numbers that the other capture has, and other
   numbers were read there;
@@ -104,7 +104,8 @@ def _distances(one: Capture, other: Capture) -> Iterator[Disagreement]:
     disputed: List[int] = []
     for number in sorted(one.first.keys() & other.first.keys()):
         apart = one.first[number].field - other.first[number].field
-        if before is None or any(_is_told(capture.first[before], capture.first[number], told) for capture, told in ones):
+        if before is None or any(_is_told(capture.first[before], capture.first[number], told)
+                                 for capture, told in ones):
             yield from _differing(one, other, disputed)
             disputed, offset = [], apart
         elif disputed or abs(apart - offset) > slack:

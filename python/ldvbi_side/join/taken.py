@@ -14,8 +14,8 @@ class Taken(NamedTuple):
 
 def taken_of(captures: List[Capture], disputed: Set[Tuple[str, int]]) -> List[Taken]:
     """Each number that a capture has, ascending, with the place to take it from. It is the one that was read on more
-    lines; of these the one with more lines of pass 1, then with fewer bad lines nearby, then of the earlier capture, and
-    there the first one. What is disputed, or has lost a field, is only taken where nothing else is."""
+    lines; of these the one with more lines of pass 1, then with fewer bad lines nearby, then of the earlier capture,
+    and there the first one. What is disputed, or has lost a field, is only taken where nothing else is."""
     best: Dict[int, Tuple[Tuple[bool, bool, int, int, int], Taken]] = {}
     for capture in captures:
         for place in capture.places:
