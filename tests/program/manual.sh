@@ -180,6 +180,8 @@ ldvbi-side side.tbc --s|--seek --strict --summary --svg --system
 ldvbi-side --system |NTSC PAL
 ldvbi-side --system=P|PAL
 ldvbi-side --seek |
+ldvbi-side join --|--csv --help --html --json --ranges
+ldvbi-side join a.tbc --r|--ranges
 END
 { cat offers; printf '%s\n' 'ldvbi-side |files' 'ldvbi-side --svg |files' 'ldvbi-side -o s|files'; } > bash.offers
 { cat offers; printf '%s\n' 'ldvbi-side page.t|page.txt' 'ldvbi-side --svg page.t|page.txt'; } > zsh.offers

@@ -17,7 +17,7 @@ for test in "$here"/test_*.py; do
     name=$(basename "$test" .py)
     lines=${LDVBI_LINES:-}
     # these run the same lines millions of times, and no line alone
-    case $name in test_classes | test_judged | test_simulated) lines= ;; esac
+    case $name in test_classes | test_joined_sets | test_judged | test_simulated) lines= ;; esac
     status=0
     (cd "$here" && LDVBI_LINES=$lines && bounded python3 -m unittest "$name") < empty > out 2> err || status=$?
     check "$name" [ "$status $(tail -n 1 err)" = '0 OK' ]

@@ -53,6 +53,19 @@ def simulated(seed, kind=None, wrong=None, count=None):
     kind = kind or KINDS[seed % len(KINDS)]
     wrong = wrong if wrong is not None else rng.choice((0, 0.0001, 0.001, 0.005, 0.02))
     rows = disc(rng, kind, count or rng.randrange(200, 6000 if kind == "clv-ntsc" else 1500))
+    return _captured(rng, kind, rows, wrong)
+
+
+def captures(seed, count):
+    """So many captures of one disc, which is that of this seed."""
+    rng = random.Random("captures %d" % seed)
+    kind = KINDS[seed % len(KINDS)]
+    rows = disc(rng, kind, rng.randrange(150, 450))
+    return [_captured(rng, kind, rows, rng.choice((0, 0.0001, 0.001, 0.005))) for _ in range(count)]
+
+
+def _captured(rng, kind, rows, wrong):
+    """A capture of these fields of a disc."""
     lost_rate = rng.choice((0, 0, 0.0005, 0.002, 0.01))
     order = played(rng, rows, kind, lost_rate)
     lost = dict.fromkeys((16, 17, 18), rng.choice((0, 0.001, 0.02, 0.1, 0.3)))

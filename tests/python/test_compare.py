@@ -40,7 +40,15 @@ class Comparing(unittest.TestCase):
             "pictures: 37 in x.tbc, 39 in y.tbc, 36 in both",
             "in x.tbc alone: 1 (picture 31)", "in y.tbc alone: 3 (pictures 21 to 23)",
             "better in x.tbc: 2 (pictures 5 to 6)", "better in y.tbc: 3 (pictures 2 to 4)",
-            "alike in both: 31 (pictures 7 to 20, pictures 32 to 40, pictures 24 to 30, picture 1)"])
+            "alike in both: 31 (pictures 7 to 20, pictures 32 to 40, pictures 24 to 30, picture 1)",
+            "together: pictures 1 to 40, none lost"])
+
+    def test_what_both_lack(self):
+        one, other = pictures(range(1, 41)), pictures(range(1, 41))
+        del one[20:30], other[28:34]  # pictures 11 to 15, and 15 to 17
+        found = compare(side(one), side(other))
+        self.assertEqual(found["missing"], [{"first": 15, "last": 15, "count": 1, "why": "lost"}])
+        self.assertEqual(list(comparison_text(found, ("x", "y")))[-1], "together: pictures 1 to 40, 1 lost")
 
     def test_times_and_minutes(self):
         found = compare(side(times(range(1490, 1510))), side(times(range(1495, 1520))))

@@ -45,7 +45,8 @@ def imported_by(path):
 def room_of(name):
     """The package of a module, which is given by its name or its path."""
     parts = name.replace(os.sep, "/").replace(".py", "").replace("/", ".").split(".")
-    return ".".join(parts[:2]) if parts[1:2] in (["judge"], ["draw"], ["into"], ["command"]) else parts[0]
+    is_room = parts[1:2] in (["judge"], ["join"], ["draw"], ["into"], ["command"])
+    return ".".join(parts[:2]) if is_room else parts[0]
 
 
 class Package(unittest.TestCase):
@@ -74,7 +75,8 @@ class Package(unittest.TestCase):
 
     def test_no_package_imports_one_above_it(self):
         """`ldvbi` knows nothing of `ldvbi_side`; there each room stands on those before it."""
-        order = ["ldvbi", "ldvbi_side.judge", "ldvbi_side", "ldvbi_side.draw", "ldvbi_side.into", "ldvbi_side.command"]
+        order = ["ldvbi", "ldvbi_side.judge", "ldvbi_side", "ldvbi_side.join", "ldvbi_side.draw", "ldvbi_side.into",
+                 "ldvbi_side.command"]
         found = [(name, imported) for name in modules() for imported in imported_by(name)
                  if order.index(room_of(imported)) > order.index(room_of(name))]
         # the command's entry, which hands over to the room above
@@ -83,7 +85,7 @@ class Package(unittest.TestCase):
 
     def test_each_room_is_read_in_the_order_of_its_imports(self):
         """What the head of a room names, in this order, are its modules, and none imports one that is named later."""
-        for room in ("judge", "draw", "into", "command"):
+        for room in ("judge", "join", "draw", "into", "command"):
             package = "ldvbi_side." + room
             head = importlib.import_module(package).__doc__
             order = re.search(r"\n\n([a-z]+(?:,\s[a-z]+)+)\n\n", head).group(1).replace("\n", " ").split(", ")

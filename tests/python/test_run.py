@@ -186,13 +186,15 @@ class Comparisons(Runs):
             0, b"pictures: 12 in side.vbi.json, 12 in other.tbc, 8 in both\n"
             b"in side.vbi.json alone: 4 (pictures 0 to 3)\nin other.tbc alone: 4 (pictures 12 to 15)\n"
             b"better in side.vbi.json: none\nbetter in other.tbc: none\n"
-            b"alike in both: 8 (pictures 4 to 11)\n", ""))
+            b"alike in both: 8 (pictures 4 to 11)\ntogether: pictures 0 to 15, none lost\n", ""))
         status, text, said = self.run_command("compare", "--json", "other.tbc", "side.vbi.json")
         self.assertEqual((status, said), (0, ""))
         self.assertEqual(json.loads(text), {"version": 1, "unit": "picture", "counts": [12, 12],
                                             "a": [{"first": 12, "last": 15, "count": 4}],
                                             "b": [{"first": 0, "last": 3, "count": 4}], "betterA": [], "betterB": [],
-                                            "same": [{"first": 4, "last": 11, "count": 8}]})
+                                            "same": [{"first": 4, "last": 11, "count": 8}],
+                                            "numbers": {"count": 16, "least": 0, "greatest": 15}, "missing": [],
+                                            "leftOut": []})
 
     def test_refused(self):
         self.refused("[Errno 2] No such file or directory: 'absent'", "compare", "side.vbi.json", "absent")

@@ -3,25 +3,26 @@ that is in both on better lines."""
 
 from typing import Any, Dict, Iterator, List, Sequence
 
-from ldvbi import Kind
 from ldvbi.codes import LINES, code_of
+from ..join.captures import NUMBERS, capture_of
+from ..join.joined import together_of
 from ..judge.ends import ordinal_of
 from ..judge.paces import RATES
 from ..judge.readings import WEIGHTS, Answer
 from ..judge.whole import UNITS
 from ..side import Side
+from .join import together_text
 from .summary import largest_first, listed, named
 
 VERSION = 1  # of the form of what is compared
-_NUMBERS = (Kind.picture, Kind.time, Kind.clv_picture)
 VERDICTS = ("a", "b", "betterA", "betterB", "same")
 
 
 def compare(a: Side, b: Side) -> Answer:
     """What two sides have, as plain data: `counts` of their numbers, and for each verdict its stretches of numbers,
     `{first, last, count}`: `a` and `b` are in that side alone; of those in both `betterA` and `betterB` are shown by
-    more lines there, or by lines of pass 1 for others, and `same` are alike. A ValueError where they can't be of one
-    disc."""
+    more lines there, or by lines of pass 1 for others, and `same` are alike. What the two have together is in
+    `numbers`, `missing` and `leftOut`. A ValueError where they can't be of one disc."""
     kinds = [(side.answer["unit"], side.answer["system"]) for side in (a, b)]
     if None in (kinds[0][0], kinds[1][0]):
         which = "first" if kinds[0][0] is None else "second"
@@ -36,7 +37,8 @@ def compare(a: Side, b: Side) -> Answer:
         _add(found[_verdict(*(one.get(number) for one in known))], number, RATES[system])
     return {"version": VERSION, "unit": unit, "counts": [len(one) for one in known],
             **{verdict: [{"first": first, "last": last, "count": count} for first, last, count, _ in stretches]
-               for verdict, stretches in found.items()}}
+               for verdict, stretches in found.items()},
+            **together_of([capture_of(side, name) for side, name in ((a, "a"), (b, "b"))])}
 
 
 def _weights(side):
@@ -46,7 +48,7 @@ def _weights(side):
     weights = {}
     for number, field, _ in answer["showings"]:
         weight = sum(WEIGHTS[reading.pass_] for line, reading in zip(LINES, side.readings[field - 1])
-                     if reading.word and code_of(reading.word).kind in _NUMBERS and (field, line) not in doubtful)
+                     if reading.word and code_of(reading.word).kind in NUMBERS and (field, line) not in doubtful)
         weights[number] = max(weight, weights.get(number, 0))
     for one in answer["unread"]:
         weights.setdefault(one["number"], 0)
@@ -81,3 +83,4 @@ def comparison_text(found: Answer, names: Sequence[str]) -> Iterator[str]:
         yield "%s: %s" % (text, listed(sum(stretch["count"] for stretch in stretches), (
             named(unit, stretch["first"], stretch["last"])
             for stretch in largest_first(stretches, lambda stretch: stretch["count"]))))
+    yield together_text(found)

@@ -19,6 +19,7 @@ from ..judge.whole import NO, OPEN, YES
 from ..side import Side, side_of_document, side_of_stream
 from .compare import compare, comparison_text
 from .into import Into
+from .join import run_join
 from .map import COLUMNS as MAP_COLUMNS, map_rows
 from .outputs import drop_standard_output, refuse_inputs, whole_file
 from .progress import Progress
@@ -31,8 +32,8 @@ DESCRIPTION = """Reads a side from a TBC file, or from a document that `ldvbi ex
 mean. A file is taken for a document if its name ends with .json or its text begins as a document does. Statuses: 0
 done, 1 a side that isn't whole (--summary) or nothing found (--seek), 2 a fault or a refused command line, 3 done and
 the last field is cut, 4 it can't be told whether the side is whole (--summary), 130 ended by Ctrl-C. The words `compare
-SIDE SIDE` compare two sides; `index FILE PAGE..` writes a file that links pages of --html; `scan PATH..` prints a table
-of the sides in folders."""
+SIDE SIDE` compare two sides, and `join SIDE SIDE..` joins captures of one; `index FILE PAGE..` writes a file that links
+pages of --html; `scan PATH..` prints a table of the sides in folders."""
 COMPARISON = """Compares two captures of one side by their numbers. It says which numbers only one of them has, and
 which of those that both have one of them shows better: by more lines, or by lines of pass 1 instead of others."""
 STATUSES = {YES: 0, NO: 1, OPEN: 4}  # of a side, by whether it is whole
@@ -231,6 +232,17 @@ def _options(words):
     return options
 
 
+def _side_at(path):
+    """The side of a document, or of a TBC file with its metadata beside it."""
+    options = _options(["--", path])
+    return _loaded(*_source(options), options)
+
+
+def _join(words):
+    """Prints what captures have together."""
+    return run_join(NAME, words, _side_at)
+
+
 def _compare(words):
     """Prints what two sides have of each other's numbers."""
     parser = argparse.ArgumentParser(prog=NAME + " compare", description=COMPARISON)
@@ -326,7 +338,7 @@ def _answer(options):
 def main(words: Optional[List[str]] = None) -> int:
     words = sys.argv[1:] if words is None else words
     try:
-        of_many = {"compare": _compare, "index": _index, "scan": _scan}.get(words[0] if words else "")
+        of_many = {"compare": _compare, "join": _join, "index": _index, "scan": _scan}.get(words[0] if words else "")
         status = of_many(words[1:]) if of_many else _run(_options(words))
         sys.stdout.flush()
         return status

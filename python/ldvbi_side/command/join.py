@@ -1,0 +1,138 @@
+"""The command `join`: what several captures of one disc's side have together, and which to take each number from."""
+
+import argparse
+import csv
+import json
+import sys
+from typing import Any, Callable, Dict, Iterator, List, Tuple
+
+from ..draw.marks import fields_text
+from ..join.captures import capture_of
+from ..join.joined import join
+from ..judge.readings import Answer
+from ..side import Side
+from .outputs import refuse_inputs, whole_file
+from .summary import listed, named
+
+DESCRIPTION = """Joins two or more captures of one side by their numbers. It says which numbers they have together,
+which of these each one lacks and who has them, which all lack, and where two of them disagree about a number."""
+TAKEN_COLUMNS = ("number", "source", "field", "frame", "how")
+RANGE_COLUMNS = ("first", "last", "source", "first field", "last field")
+
+
+def run_join(program: str, words: List[str], load: Callable[[str], Side]) -> int:
+    """Prints what the captures that these words name have together. `load` makes the side of a file."""
+    options = _parser(program).parse_args(words)
+    refuse_inputs([1, options.html], options.sides)
+    # one side at a time, so that no more than one is held as a whole
+    joined = join([capture_of(load(path), path) for path in options.sides])
+    if options.html:
+        from ..draw.together import page_of_joined
+        with whole_file(options.html) as file:
+            file.write(page_of_joined(joined, joined_text(joined)))
+    if options.csv:
+        _print_rows(TAKEN_COLUMNS, joined["taken"])
+    elif options.ranges:
+        _print_rows(RANGE_COLUMNS, range_rows(joined))
+    elif options.json:
+        print(json.dumps(joined))
+    elif not options.html:
+        print(*joined_text(joined), sep="\n")
+    return 0
+
+
+def _parser(program):
+    parser = argparse.ArgumentParser(prog=program + " join", description=DESCRIPTION)
+    parser.add_argument("sides", nargs="+", metavar="SIDE", action=_TwoOrMore,
+                        help="a document, or a TBC file with its metadata beside it; two or more of them")
+    output = parser.add_mutually_exclusive_group()
+    output.add_argument("--csv", action="store_true", help="print a row for each number, with the capture to take it "
+                        "from, and its first field and frame there")
+    output.add_argument("--ranges", action="store_true", help="print the same in stretches of numbers that one "
+                        "capture has in fields that follow each other")
+    output.add_argument("--json", action="store_true", help="print all that they have together, as JSON")
+    parser.add_argument("--html", metavar="FILE", help="write a page into this file on which the captures are bars, "
+                        "one above the other; print only what another option asks for")
+    return parser
+
+
+class _TwoOrMore(argparse.Action):
+    """Takes two words or more."""
+
+    def __call__(self, parser, namespace, values, option_string=None):
+        if len(values) < 2:
+            parser.error("two captures or more are joined")
+        setattr(namespace, self.dest, values)
+
+
+def _print_rows(columns, rows):
+    table = csv.writer(sys.stdout, lineterminator="\n")
+    table.writerow(columns)
+    table.writerows(rows)
+
+
+def range_rows(joined: Answer) -> Iterator[Tuple[Any, ...]]:
+    """A row for each stretch that can be taken at once."""
+    for one in joined["ranges"]:
+        yield one["first"], one["last"], one["source"], one["field"], one["lastField"]
+
+
+# ---- As text
+
+def joined_text(joined: Answer) -> Iterator[str]:
+    """What was joined, as lines: lists in the disc's order, four places of each at most."""
+    unit, missing = joined["unit"], joined["missing"]
+    yield together_text(joined)
+    for one in joined["captures"]:
+        lacks = [lack for lack in joined["lacks"] if lack["capture"] == one["name"]]
+        yield "%s: has %d, lacks %s" % (one["name"], one["numbers"]["count"], listed(_count(lacks), (
+            "%s in %s" % (named(unit, lack["first"], lack["last"]), " and ".join(lack["in"])) for lack in lacks)))
+    yield "lacking in all: " + listed(_count(missing), (
+        "%s %s" % (named(unit, one["first"], one["last"]), one["why"]) for one in missing))
+    if joined["leftOut"]:
+        yield "left out by the disc's clock: %d" % _count(joined["leftOut"])
+    found = joined["disagreements"]
+    yield "disagreements: " + listed(len(found), (_disagreement_text(one, unit) for one in found))
+
+
+def together_text(joined: Answer) -> str:
+    """The numbers that captures have together, from the least to the greatest, and how many between these none has."""
+    numbers, counts = joined["numbers"], _counts(joined["missing"])
+    texts = ["%d %s" % (count, why) for why, count in counts.items()] or ["none lost"]
+    return "together: %s, %s" % (named(joined["unit"], numbers["least"], numbers["greatest"]), ", ".join(texts))
+
+
+def _counts(missing: List[Answer]) -> Dict[str, int]:
+    """How many numbers are missing for each reason, of which lost ones stand in front."""
+    counts = {"lost": 0}
+    for one in missing:
+        counts[one["why"]] = counts.get(one["why"], 0) + one["count"]
+    return {why: count for why, count in counts.items() if count}
+
+
+def _count(stretches):
+    return sum(one["count"] for one in stretches)
+
+
+# What two captures say of some numbers, by why they disagree
+_DISAGREE = {
+    "detour": "%(numbers)s in %(fields)s of %(name)s, where %(other)s has %(otherNumbers)s in %(otherFields)s",
+    "clock": "%(numbers)s left out by the clock in %(fields)s of %(name)s, and in %(otherFields)s of %(other)s",
+    "distance": "%(numbers)s in %(fields)s of %(name)s and %(otherFields)s of %(other)s, further from those before "
+                "them in one than in the other",
+}
+
+
+def _disagreement_text(found, unit):
+    one, other = found["between"]
+    return _DISAGREE[found["why"]] % {
+        "name": one["capture"], "numbers": _numbers_of(one, unit), "fields": _fields_of(one),
+        "other": other["capture"], "otherNumbers": _numbers_of(other, unit), "otherFields": _fields_of(other)}
+
+
+def _numbers_of(part, unit):
+    return named(unit, part["first"], part["last"])
+
+
+def _fields_of(part):
+    return fields_text(part["field"], part["lastField"])

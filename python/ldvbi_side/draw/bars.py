@@ -1,0 +1,124 @@
+"""Several captures of one side as bars, one above the other, over the numbers that they have together. A bar says which
+numbers its capture has, and which of these are to be taken from it; below all of them is what none has."""
+
+from typing import Any, Iterable, Iterator, List, Tuple
+
+from ..judge.readings import Answer
+from ..judge.whole import counted
+from .axis import LEFT, WIDTH, Axis
+from .curve import AXES, Scale
+from .marks import fields_text, span
+from .svg import Svg, shortened, text_width
+
+RIGHT = 30
+TITLE_Y, LEGEND_Y, BARS_TOP = 28, 54, 76
+HEIGHT, STEP = 22, 28  # of a bar, and from bar to bar, in pixels
+# What a bar shows, in the order of the legend
+COLOURS = {
+    "taken from here": "#15803d",
+    "here, too": "#bbdfc2",
+    "in another capture alone": "#eab308",
+    "in none": "#dc2626",
+    "disagreement": "#be185d",
+}
+TAKEN, HERE, ELSEWHERE, NOWHERE, DISAGREEMENT = COLOURS
+Stretch = Tuple[int, int, str]  # the first and the last number, and what is said of them
+
+
+class _Numbers:
+    """The numbers along the bars."""
+
+    def __init__(self, joined: Answer) -> None:
+        self.scale = Scale(joined, 0, 0)
+        self.axis = Axis(self.scale.greatest - self.scale.least + 1)
+
+    def place(self, number: Any) -> int:
+        """The place of a number, from 1."""
+        return self.scale.count_of(number) - self.scale.least + 1
+
+    def stretch(self, one: Answer, text: str) -> Stretch:
+        return self.place(one["first"]), self.place(one["last"]), "%s: %s" % (span(one["first"], one["last"]), text)
+
+
+def bars_of(joined: Answer) -> str:
+    """The text of the SVG of what captures have together."""
+    names = [one["name"] for one in joined["captures"]]
+    lanes = len(names) + 2
+    axis_top = BARS_TOP + STEP * lanes + 4
+    svg, numbers = Svg(LEFT + WIDTH + RIGHT, axis_top + 56), _Numbers(joined)
+    svg.text(LEFT, TITLE_Y, "%s together" % counted(len(names), "capture"), class_="title", font_size=17,
+             font_weight="bold")
+    _draw_legend(svg)
+    lacking = [numbers.stretch(one, "in no capture, " + one["why"]) for one in joined["missing"]]
+    for row, name in enumerate(names):
+        _draw_capture(svg, numbers, joined, BARS_TOP + STEP * row, name, lacking)
+    top = BARS_TOP + STEP * len(names)
+    _draw_lane(svg, numbers, top, "in none: %d" % sum(one["count"] for one in joined["missing"]), NOWHERE, lacking)
+    _draw_lane(svg, numbers, top + STEP, "disagreements: %d" % len(joined["disagreements"]), DISAGREEMENT,
+               list(_disagreeing(numbers, joined)))
+    _draw_axis(svg, numbers, axis_top)
+    return svg.render()
+
+
+def _draw_legend(svg):
+    x = LEFT
+    for name, fill in COLOURS.items():
+        svg.box(x, LEGEND_Y - 11, 14, 14, fill)
+        svg.text(x + 20, LEGEND_Y + 1, name)
+        x += int(text_width(name, 13)) + 34
+
+
+def _draw_capture(svg, numbers, joined, y, name, lacking):
+    """The bar of a capture: all numbers, on these what is taken from it, and on top what it hasn't."""
+    svg.text(LEFT - 10, y + HEIGHT / 2 + 5, shortened(name, LEFT - 20, 13), name, text_anchor="end", class_="capture")
+    svg.box(LEFT, y, WIDTH, HEIGHT, COLOURS[HERE])
+    taken = [numbers.stretch(one, "taken from %s of %s" % (fields_text(one["field"], one["lastField"]), name))
+             for one in joined["ranges"] if one["source"] == name]
+    elsewhere = [numbers.stretch(one, "not in %s, but in %s" % (name, " and ".join(one["in"])))
+                 for one in joined["lacks"] if one["capture"] == name]
+    for state, stretches in ((TAKEN, taken), (ELSEWHERE, elsewhere), (NOWHERE, lacking)):
+        _draw_stretches(svg, numbers, y, state, stretches)
+
+
+def _draw_lane(svg, numbers, y, label, state, stretches):
+    svg.text(LEFT - 10, y + HEIGHT / 2 + 5, label, text_anchor="end", class_="count")
+    svg.box(LEFT, y, WIDTH, HEIGHT, "#f8fafc")
+    _draw_stretches(svg, numbers, y, state, stretches)
+
+
+def _draw_stretches(svg, numbers, y, state, stretches):
+    for begin, end, (first, last, text) in _joined(numbers.axis, stretches):
+        svg.box(begin, y, end - begin, HEIGHT, COLOURS[state], text, class_=state.replace(" ", "-").replace(",", ""),
+                data_places="%d-%d" % (first, last))
+
+
+def _joined(axis: Axis, stretches: Iterable[Stretch]) -> Iterator[Tuple[int, int, Stretch]]:
+    """The stretches with their pixels; those that touch are one, of which the first one's text is said."""
+    joined: List[List[Any]] = []
+    for first, last, text in sorted(stretches):
+        begin, end = axis.extent(first, last)
+        if joined and begin < joined[-1][1]:
+            joined[-1][1] = max(joined[-1][1], end)
+            joined[-1][3] = max(joined[-1][3], last)
+            joined[-1][5] += 1
+        else:
+            joined.append([begin, end, first, last, text, 0])
+    for begin, end, first, last, text, more in joined:
+        yield begin, end, (first, last, text + ("; and %d more" % more if more else ""))
+
+
+def _disagreeing(numbers: _Numbers, joined: Answer) -> Iterator[Stretch]:
+    """What both of two captures say where they disagree."""
+    for found in joined["disagreements"]:
+        for one, other in (found["between"], found["between"][::-1]):
+            yield numbers.stretch(one, "in %s of %s, and %s otherwise" % (
+                fields_text(one["field"], one["lastField"]), one["capture"], other["capture"]))
+
+
+def _draw_axis(svg, numbers, top):
+    svg.line(LEFT, top, LEFT + WIDTH, top, "#475569")
+    for count in numbers.scale.ticks():
+        x = numbers.axis.x(count - numbers.scale.least + 1.5)
+        svg.line(x, top, x, top + 5, "#475569")
+        svg.text(x, top + 20, numbers.scale.text_of(count), text_anchor="middle", class_="number-label")
+    svg.text(LEFT + WIDTH / 2, top + 42, AXES[numbers.scale.unit], text_anchor="middle", class_="axis")

@@ -1,0 +1,46 @@
+"""What several captures of one side have together, as one page of HTML that needs nothing else: in words, as bars, and
+in full lists."""
+
+import html
+from typing import Any, Iterable, List
+
+from ..judge.readings import Answer
+from .bars import bars_of
+from .page import STYLE
+
+# The lists of the answer that the page has, and how it names them
+LISTS = {
+    "lacks": "numbers that one capture lacks and another has", "missing": "numbers that no capture has",
+    "leftOut": "numbers that the disc's clock leaves out", "ranges": "what to take from which capture",
+}
+
+
+def page_of_joined(joined: Answer, lines: Iterable[str]) -> str:
+    """The text of the page. `lines` say in words what was joined."""
+    title = ", ".join(one["name"] for one in joined["captures"])
+    parts = ['<!DOCTYPE html>\n<html lang="en"><head><meta charset="utf-8"><title>%s</title>\n'
+             '<meta name="viewport" content="width=device-width, initial-scale=1">\n<style>%s</style></head><body>'
+             % (_escaped(title), STYLE), "<h1>%s</h1>" % _escaped(title)]
+    parts += ["<p>%s</p>" % _escaped(line) for line in lines]
+    parts.append('<div class="wide">%s</div>' % bars_of(joined))
+    for name, text in LISTS.items():
+        parts.append(_fold(name, text, joined[name]))
+    parts.append(_fold("disagreements", "disagreements of two captures", [
+        {"why": found["why"], **part} for found in joined["disagreements"] for part in found["between"]]))
+    return "\n".join(parts + ["</body></html>", ""])
+
+
+def _escaped(value: Any) -> str:
+    return html.escape(", ".join(value) if isinstance(value, list) else str(value))
+
+
+def _fold(name: str, text: str, ones: List[Answer]) -> str:
+    """A list in full, behind its name and how many rows it has."""
+    title = "%s: %d" % (_escaped(text), len(ones))
+    if not ones:
+        return "<p>%s</p>" % title
+    head = "".join("<th>%s</th>" % column for column in ones[0])
+    rows = "\n".join("<tr>%s</tr>" % "".join("<td>%s</td>" % _escaped(value) for value in one.values())
+                     for one in ones)
+    return ('<details id="%s"><summary>%s</summary><div class="wide"><table><thead><tr>%s</tr></thead>\n<tbody>%s'
+            "</tbody></table></div></details>" % (name, title, head, rows))

@@ -1,0 +1,160 @@
+"""One capture: where it has each of its numbers, how well that is read there, and what else its fields say."""
+
+import bisect
+import itertools
+from typing import Any, Dict, List, NamedTuple, Set, Tuple
+
+from ldvbi import Kind
+from ldvbi.codes import LINES, code_of
+from ..judge.ends import ordinal_of
+from ..judge.paces import RATES, Unit
+from ..judge.readings import Answer
+from ..side import Side
+
+NEARBY = 25  # fields before and behind one, in which its bad lines are counted
+NUMBERS = (Kind.picture, Kind.time, Kind.clv_picture)
+DUE = "unread"  # the answer's name of what is due and isn't read: of a list, and of a reason
+READ, NEAR, NEIGHBOURS = "read", "near", "neighbours"
+
+
+class Place(NamedTuple):
+    """Where a capture has a number: the first field that shows it, or in which it is due, and its last field. `how` is
+    as the map of a side has it. `is_whole` is false where a field of its picture may be lost, or be another's: right
+    before a break, or within a still. `lines` are the lines of the first field on which the number was read, or 0 where
+    it is the nearest word of these, or -1 where it is only due; `sure` are those of pass 1. `bad` are the bad lines of
+    the fields nearby."""
+    number: int
+    field: int
+    last: int
+    how: str
+    is_whole: bool
+    lines: int
+    sure: int
+    bad: int
+
+
+class Capture(NamedTuple):
+    """A capture under its name. `places` are in the order of its fields; `first` has the first place of each number.
+    `said` has for each kind of code, by its name, what stands beside which number."""
+    name: str
+    answer: Answer
+    places: List[Place]
+    first: Dict[int, Place]
+    said: Dict[str, Dict[int, Any]]
+
+    def kind(self) -> Tuple[str, str]:
+        """What its numbers count, and its system."""
+        return self.answer["unit"], self.answer["system"]
+
+    def unit(self) -> Unit:
+        return Unit(self.answer["unit"], RATES[self.answer["system"]])
+
+    def ordinal(self, number: Any) -> int:
+        """A number of the answer as a count."""
+        return ordinal_of(number, RATES[self.answer["system"]])
+
+    def numbers_of(self, stretches: List[Answer]) -> Set[int]:
+        """The numbers of some stretches of the answer."""
+        return {number for one in stretches
+                for number in range(self.ordinal(one["first"]), self.ordinal(one["last"]) + 1)}
+
+    def places_in(self, first: int, last: int) -> List[Place]:
+        """The places of these fields."""
+        return [place for place in self.places if first <= place.field <= last]
+
+
+def capture_of(side: Side, name: str) -> Capture:
+    """The capture that a side is."""
+    places = list(_places(side))
+    first: Dict[int, Place] = {}
+    for place in places:
+        first.setdefault(place.number, place)
+    return Capture(name, side.answer, places, first, {
+        "chapter": _chapters(side.answer, first), "programme status": _status(side, first)})
+
+
+# ---- Places
+
+class _Shown(NamedTuple):
+    """A number as the answer has it, with the first and the last field that show it."""
+    field: int
+    last: int
+    number: int
+    how: str
+
+
+def _shown(answer):
+    """What a side shows, and what is due in it, by field."""
+    rate, confirmed = RATES[answer["system"]], frozenset(answer["confirmed"])
+    found = [_Shown(field, last, ordinal_of(number, rate), NEAR if field in confirmed else READ)
+             for number, field, last in answer["showings"]]
+    found += [_Shown(one["field"], one["field"], ordinal_of(one["number"], rate), NEIGHBOURS) for one in answer[DUE]]
+    return sorted(found)
+
+
+def _places(side):
+    answer = side.answer
+    bad = _bad_before(answer)
+    doubtful = {(one["field"], one["line"]) for one in answer["doubtful"] + answer["stray"]}
+    is_of_two = answer["pace"] in ("video", "film")
+    before_break = {field for one in answer["lost"] + answer["breaks"] for field in range(one["after"], one["before"])}
+    shown = _shown(answer)
+    for one, after in itertools.zip_longest(shown, shown[1:]):
+        is_torn = one.field in before_break or is_of_two and after is not None and after.number == one.number
+        last = _last_of(answer, one, after, is_torn)
+        is_whole = not is_torn and (last > one.field or not is_of_two)
+        lines, sure = {NEAR: (0, 0), NEIGHBOURS: (-1, 0)}.get(one.how) or _read_on(side, one.field, doubtful)
+        nearby = bad[min(one.field + NEARBY, answer["fields"])] - bad[max(one.field - NEARBY - 1, 0)]
+        yield Place(one.number, one.field, last, one.how, is_whole, lines, sure, nearby)
+
+
+def _bad_before(answer):
+    """Of each field, from 0 on, how many bad lines there are up to its end."""
+    counts = [0] * (answer["fields"] + 1)
+    for one in answer["badLines"]:
+        counts[one["field"]] += 1
+    return list(itertools.accumulate(counts))
+
+
+def _read_on(side, field, doubtful):
+    """On how many lines of a field its number was read, and on how many of these in pass 1."""
+    passes = [reading.pass_ for line, reading in zip(LINES, side.readings[field - 1])
+              if reading.word and code_of(reading.word).kind in NUMBERS and (field, line) not in doubtful]
+    return len(passes), passes.count(1)
+
+
+def _last_of(answer, one, after, is_torn):
+    """The last field of a number, by the one that comes after it, if one does. A picture has two fields, or three on
+    film where the next number says so and there is no break. Where both fields have the number, it is the last one that
+    shows it."""
+    pace = answer["pace"]
+    if pace == "minute":
+        return after.field - 1 if after and after.number == one.number + 1 else one.last
+    if after and after.field - one.field <= (3 if pace == "film" and not is_torn else 2):
+        return after.field - 1
+    return one.last if pace == "both" else min(one.field + 1, answer["fields"])
+
+
+# ---- What stands beside the numbers
+
+def _chapters(answer, first):
+    """The chapter that each number is in, where its picture has one."""
+    stretches = answer["chapters"]
+    begins = [one["field"] for one in stretches]
+    found = {}
+    for number, place in first.items():
+        at = bisect.bisect(begins, place.last) - 1
+        if at >= 0 and place.field <= stretches[at]["last"]:
+            found[number] = stretches[at]["chapter"]
+    return found
+
+
+def _status(side, first):
+    """The programme status that line 16 has in the fields of each number, as six digits."""
+    found = {}
+    for number, place in first.items():
+        for readings in side.readings[place.field - 1:place.last]:
+            code = code_of(readings.first.word)
+            if code and code.kind in (Kind.cx_on, Kind.cx_off):
+                found[number] = "%06X" % readings.first.word
+    return found

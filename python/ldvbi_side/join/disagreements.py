@@ -1,0 +1,139 @@
+"""Where two captures disagree about a number. Between two breaks each capture has its numbers at the disc's own pace,
+so two of them can only disagree where one of them says something else of the same fields:
+
+- `detour`: the numbers before and behind some fields leave these for numbers that the other capture has, and other
+  numbers were read there;
+- `clock`: one says that the disc's clock leaves out a number, and the other one has it;
+- `distance`: numbers are further from those before them in one capture than in the other one, and neither says why."""
+
+import itertools
+from typing import Iterator, List, NamedTuple, Set, Tuple
+
+from ..judge.paces import Pace
+from .captures import NEIGHBOURS, Capture, Place
+
+DETOUR, CLOCK, DISTANCE = "detour", "clock", "distance"
+
+
+class Part(NamedTuple):
+    """What one capture says: the numbers from the first to the last, and the fields in which they are. Of numbers that
+    it leaves out these are the fields around them."""
+    name: str
+    first: int
+    last: int
+    field: int
+    last_field: int
+
+
+class Disagreement(NamedTuple):
+    """Two captures that disagree, and why they do. The first one is the one that has the detour, or leaves out."""
+    why: str
+    one: Part
+    other: Part
+
+
+def disagreements_of(captures: List[Capture]) -> List[Disagreement]:
+    """Where any two of the captures disagree."""
+    found: List[Disagreement] = []
+    for one, other in itertools.permutations(captures, 2):
+        found += _detours(one, other)
+        found += _left_out(one, other)
+    for one, other in itertools.combinations(captures, 2):
+        found += _distances(one, other)
+    return found
+
+
+def disputed_in(found: List[Disagreement]) -> Set[Tuple[str, int]]:
+    """The captures' names and fields whose numbers belong to another place, by what is around them and by another
+    capture."""
+    return {(one.one.name, field) for one in found if one.why == DETOUR
+            for field in range(one.one.field, one.one.last_field + 1)}
+
+
+def _part(capture, places):
+    """What a capture says in these places, which ascend by field."""
+    numbers = [place.number for place in places]
+    return Part(capture.name, min(numbers), max(numbers), places[0].field, places[-1].last)
+
+
+# ---- Between two breaks
+
+def _detours(one: Capture, other: Capture) -> Iterator[Disagreement]:
+    """Numbers between two breaks of a capture, where those before and behind both breaks fit each other."""
+    if one.answer["pace"] == "minute":
+        return
+    pace = Pace(one.answer["pace"])
+    breaks = one.answer["breaks"]
+    for before, after in zip(breaks, breaks[1:]):
+        number, step = one.ordinal(before["from"]), one.ordinal(after["to"]) - one.ordinal(before["from"])
+        if step < 2 or pace.least_off(after["before"] - before["after"], number, step):
+            continue
+        due = range(number + 1, number + step)
+        inside = one.places_in(before["before"], after["after"])
+        read = [place for place in other.places if place.number in due and place.how != NEIGHBOURS]
+        is_other = any(place.number not in due for place in inside)
+        if read and is_other and not _at_speed(one, before["before"], after["after"]):
+            yield Disagreement(DETOUR, _part(one, inside), _part(other, read))
+
+
+def _at_speed(capture, first, last):
+    return any(one["first"] <= last and first <= one["last"] for one in capture.answer["speeds"])
+
+
+# ---- Numbers that the clock leaves out
+
+def _left_out(one: Capture, other: Capture) -> Iterator[Disagreement]:
+    for stretch in one.answer["leftOut"]:
+        first, last = one.ordinal(stretch["first"]), one.ordinal(stretch["last"])
+        places = [other.first[number] for number in range(first, last + 1) if number in other.first]
+        if places:
+            yield Disagreement(CLOCK, Part(one.name, first, last, stretch["after"], stretch["before"]),
+                               _part(other, sorted(places, key=lambda place: place.field)))
+
+
+# ---- Distances
+
+def _distances(one: Capture, other: Capture) -> Iterator[Disagreement]:
+    """Numbers of both that are further from those before them in one of the captures, up to where either says that its
+    fields don't follow each other. A field more or less may be one that both have of a picture, so it says nothing."""
+    if "minute" in (one.answer["pace"], other.answer["pace"]):
+        return
+    slack = 2 if "both" in (one.answer["pace"], other.answer["pace"]) else 1
+    ones = [(capture, _told_before(capture)) for capture in (one, other)]
+    before, offset = None, 0
+    disputed: List[int] = []
+    for number in sorted(one.first.keys() & other.first.keys()):
+        apart = one.first[number].field - other.first[number].field
+        if before is None or any(_is_told(capture.first[before], capture.first[number], told)
+                                 for capture, told in ones):
+            yield from _differing(one, other, disputed)
+            disputed, offset = [], apart
+        elif disputed or abs(apart - offset) > slack:
+            disputed.append(number)
+        before = number
+    yield from _differing(one, other, disputed)
+
+
+def _differing(one, other, numbers):
+    if numbers:
+        parts = [_part(capture, [capture.first[number] for number in numbers]) for capture in (one, other)]
+        yield Disagreement(DISTANCE, *parts)
+
+
+def _is_told(before: Place, after: Place, told: List[int]) -> bool:
+    """Whether the capture says that the fields of these two places don't follow each other as the disc's."""
+    return after.field < before.field or told[after.field] > told[before.field]
+
+
+def _told_before(capture: Capture) -> List[int]:
+    """Of each field how many before it the capture says something of: a break, a loss, a still, a repetition, another
+    speed, swapped fields, or a number that the clock leaves out."""
+    answer, told = capture.answer, [0] * (capture.answer["fields"] + 2)
+    spans = [(one["after"], one["before"]) for name in ("breaks", "lost", "leftOut") for one in answer[name]]
+    spans += [(one["first"], one["last"] + 1) for name in ("stills", "speeds") for one in answer[name]]
+    spans += [(one["field"], one["lastField"] + 1) for one in answer["repeated"]]
+    spans += [(one["field"] - 1, one["field"] + 2) for one in answer["swapped"]]
+    for first, last in spans:
+        for field in range(max(first, 0) + 1, min(last, answer["fields"] + 1) + 1):
+            told[field] = 1
+    return list(itertools.accumulate(told))

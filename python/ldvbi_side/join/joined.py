@@ -1,0 +1,104 @@
+"""What several captures of one disc's side have together, as plain data; docs/SIDES.md has its members."""
+
+from typing import Any, Callable, Dict, Iterable, List, Set, Tuple
+
+from ..judge.answer import frame_of
+from ..judge.paces import Unit
+from ..judge.readings import Answer
+from .captures import DUE, Capture
+from .disagreements import Disagreement, Part, disagreements_of, disputed_in
+from .others import refuse_other_discs
+from .taken import Taken, follows, stretches_of, taken_of
+
+VERSION = 1  # of the answer's form
+CLOCK, LOST, UNDECIDED = "clock", "lost", "undecided"
+# Why a number is missing that no capture has, the surest first: one that a capture has a field for isn't lost
+WHYS = (CLOCK, DUE, UNDECIDED)
+
+
+def join(captures: List[Capture]) -> Answer:
+    """What these captures have together. A ValueError where two of them can't be of one disc."""
+    refuse_other_discs(captures)
+    unit, found = captures[0].unit(), disagreements_of(captures)
+    taken = taken_of(captures, disputed_in(found))
+    together = together_of(captures)
+    left_out = captures[0].numbers_of(together["leftOut"])
+    return {
+        "version": VERSION, "system": captures[0].answer["system"], "format": captures[0].answer["format"],
+        "unit": unit.name, "captures": [_of_capture(one) for one in captures], **together,
+        "lacks": [one for capture in captures for one in _lacks(capture, captures, taken, left_out)],
+        "disagreements": [_disagreement(one, unit) for one in found],
+        "taken": [[unit.text_of(one.number), one.capture.name, one.place.field, _frame(one), one.place.how]
+                  for one in taken],
+        "ranges": [_range(one, unit) for one in stretches_of(taken, left_out)]}
+
+
+def together_of(captures: List[Capture]) -> Answer:
+    """The numbers that any of these captures has, and those between them that none has."""
+    unit = captures[0].unit()
+    numbers = sorted(set().union(*(capture.first for capture in captures)))
+    whys = _whys_of(captures)
+    lacking = [number for one, other in zip(numbers, numbers[1:]) for number in range(one + 1, other)]
+    missing = [dict(one, why=why)
+               for one, why in _stretches(lacking, lambda number: whys.get(number, LOST), unit, set())]
+    return {
+        "numbers": {"count": len(numbers), "least": unit.text_of(numbers[0]), "greatest": unit.text_of(numbers[-1])},
+        "missing": [one for one in missing if one["why"] != CLOCK],
+        "leftOut": [one for one in missing if one["why"] == CLOCK]}
+
+
+def _whys_of(captures: List[Capture]) -> Dict[int, str]:
+    """Why numbers are missing in some captures, but for those that are lost."""
+    whys: Dict[int, str] = {}
+    for why in reversed(WHYS):
+        for capture in captures:
+            stretches = [one for name in ("missing", "leftOut") for one in capture.answer[name] if one["why"] == why]
+            whys.update(dict.fromkeys(capture.numbers_of(stretches), why))
+    return whys
+
+
+def _stretches(numbers: Iterable[int], said_of: Callable[[int], Any], unit: Unit,
+               left_out: Set[int]) -> List[Tuple[Answer, Any]]:
+    """Ascending numbers in stretches of which the same is said, each with that."""
+    stretches: List[List[Any]] = []
+    for number in numbers:
+        said = said_of(number)
+        if stretches and stretches[-1][3] == said and follows(stretches[-1][1], number, left_out):
+            stretches[-1][1:3] = number, stretches[-1][2] + 1
+        else:
+            stretches.append([number, number, 1, said])
+    return [({"first": unit.text_of(first), "last": unit.text_of(last), "count": count}, said)
+            for first, last, count, said in stretches]
+
+
+def _of_capture(capture):
+    return {"name": capture.name, "fields": capture.answer["fields"], "numbers": {
+        **capture.answer["numbers"], "count": len(capture.first)}}
+
+
+def _lacks(capture, captures, taken, left_out):
+    """The numbers that a capture hasn't, in stretches that the same others have."""
+    lacking = [one.number for one in taken if one.number not in capture.first]
+
+    def having(number):
+        return [other.name for other in captures if number in other.first]
+    return [{"capture": capture.name, **one, "in": names}
+            for one, names in _stretches(lacking, having, capture.unit(), left_out)]
+
+
+def _disagreement(one: Disagreement, unit: Unit) -> Answer:
+    return {"why": one.why, "between": [_part(one.one, unit), _part(one.other, unit)]}
+
+
+def _part(part: Part, unit: Unit) -> Answer:
+    return {"capture": part.name, "first": unit.text_of(part.first), "last": unit.text_of(part.last),
+            "field": part.field, "lastField": part.last_field}
+
+
+def _frame(one: Taken) -> int:
+    return frame_of(one.place.field, one.capture.answer["frameBegin"])
+
+
+def _range(ones: List[Taken], unit: Unit) -> Answer:
+    return {"first": unit.text_of(ones[0].number), "last": unit.text_of(ones[-1].number), "count": len(ones),
+            "source": ones[0].capture.name, "field": ones[0].place.field, "lastField": ones[-1].place.last}

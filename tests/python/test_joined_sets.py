@@ -1,0 +1,114 @@
+"""Random sets of captures, each of one drawn disc with losses, jumps and damage of its own: what is joined of them
+beside the truth."""
+
+import json
+import unittest
+from collections import Counter
+
+from ldvbi_side.join.captures import capture_of
+from ldvbi_side.join.joined import join
+from ldvbi_side.side import side_of_document
+from simulate import captures
+from truth import Truth, number_of
+
+SETS = range(100)
+
+
+class Set:
+    """The captures of a seed, two to four of them, and what they have together. A capture's name is its place."""
+
+    def __init__(self, seed):
+        self.ones = captures(seed, 2 + seed % 3)
+        self.text = "seed %d, %s" % (seed, self.ones[0].kind)
+        self.joined = join([capture_of(side_of_document(json.dumps(one.document).encode()), str(place))
+                            for place, one in enumerate(self.ones)])
+        self.truths = [Truth(one) for one in self.ones]
+
+    def number(self, text):
+        return number_of(text, self.truths[0].rate, self.joined["unit"])
+
+    def numbers_in(self, stretches):
+        return {number for one in stretches
+                for number in range(self.number(one["first"]), self.number(one["last"]) + 1)}
+
+    def numbers_of_fields(self, one):
+        """The numbers that a capture's fields have, read or not."""
+        return set(self.ones[one].numbers)
+
+
+class Sets(unittest.TestCase):
+    @classmethod
+    def setUpClass(cls):
+        cls.sets = [Set(seed) for seed in SETS]
+
+    def test_the_sets_have_what_is_looked_at(self):
+        counts = Counter()
+        for one in self.sets:
+            counts.update(one.ones[0].kind[:3] for _ in one.ones)
+            counts["taken"] += len(one.joined["taken"])
+            counts["due"] += sum(row[4] == "neighbours" for row in one.joined["taken"])
+            counts["lost"] += sum(stretch["count"] for stretch in one.joined["missing"])
+            counts["lacking"] += sum(stretch["count"] for stretch in one.joined["lacks"])
+            counts["alone"] += sum(stretch["count"] for stretch in one.joined["lacks"]
+                                   if len(stretch["in"]) == 1 and len(one.ones) > 2)
+        self.assertEqual((counts["cav"], counts["clv"]), (173, 126))
+        for name, least in (("taken", 25000), ("due", 70), ("lost", 80), ("lacking", 2000), ("alone", 200)):
+            self.assertGreater(counts[name], least, name)
+
+    def test_what_is_taken_is_there(self):
+        """Each number is taken from a field that has it on the disc, and from the frame of that."""
+        for one in self.sets:
+            for number, source, field, frame, _ in one.joined["taken"]:
+                self.assertEqual(one.ones[int(source)].numbers[field - 1], one.number(number), (one.text, field))
+                self.assertEqual(frame, (field + 1) // 2)
+
+    def test_what_a_capture_shows_is_taken(self):
+        """No number that can be read in a capture is missing."""
+        for one in self.sets:
+            taken = {one.number(row[0]) for row in one.joined["taken"]}
+            for truth in one.truths:
+                self.assertLessEqual(truth.read.keys(), taken, one.text)
+
+    def test_what_is_lost_is_in_no_capture(self):
+        for one in self.sets:
+            lost = one.numbers_in(stretch for stretch in one.joined["missing"] if stretch["why"] == "lost")
+            self.assertLessEqual(lost, set(one.ones[0].on_disc), one.text)
+            for place in range(len(one.ones)):
+                self.assertEqual(lost & one.numbers_of_fields(place), set(), one.text)
+            left_out = one.numbers_in(one.joined["leftOut"])
+            self.assertEqual(left_out & set(one.ones[0].on_disc), set(), one.text)
+
+    def test_what_one_lacks_another_has(self):
+        for one in self.sets:
+            taken = {one.number(row[0]) for row in one.joined["taken"]}
+            for stretch in one.joined["lacks"]:
+                numbers = one.numbers_in([stretch]) & taken
+                self.assertEqual(len(numbers), stretch["count"], one.text)
+                for name in stretch["in"]:
+                    self.assertLessEqual(numbers, one.numbers_of_fields(int(name)), one.text)
+
+    def test_stretches_are_as_the_disc_has_them(self):
+        """The fields of a stretch follow each other on the disc, up to that of its last number, and the stretches have
+        each number once. (What comes behind the last number of a capture before a loss may be another one's field.)"""
+        for one in self.sets:
+            rows = [row[0] for row in one.joined["taken"]]
+            field_of = {row[0]: row[2] for row in one.joined["taken"]}
+            counted = 0
+            for stretch in one.joined["ranges"]:
+                self.assertEqual([stretch["first"], stretch["last"]],
+                                 [rows[counted], rows[counted + stretch["count"] - 1]], one.text)
+                counted += stretch["count"]
+                if one.ones[0].kind != "clv-minutes":
+                    last = field_of[stretch["last"]]
+                    self.assertIn(stretch["lastField"] - last, (0, 1, 2))
+                    order = one.ones[int(stretch["source"])].order[stretch["field"] - 1:last]
+                    self.assertEqual(order, list(range(order[0], order[-1] + 1)), (one.text, stretch))
+            self.assertEqual(counted, len(rows))
+
+    def test_captures_of_one_disc_do_not_disagree(self):
+        for one in self.sets:
+            self.assertEqual(one.joined["disagreements"], [], one.text)
+
+
+if __name__ == "__main__":
+    unittest.main()
