@@ -14,7 +14,8 @@ from ldvbi_side.judge.answer import analyse
 from simulate import KINDS, PLAYED
 
 # of each kind of PLAYED how many pictures two sides have
-PICTURES = {"skips": None, "worn": 300, "swapped": 200, "speeds": 1000, "joined": 150, "losses": 600, "restarts": 150}
+PICTURES = {"skips": None, "worn": 300, "swapped": 200, "speeds": 1000, "joined": 150, "losses": 600, "restarts": 150,
+            "loops": 300, "turned": 300, "searched": 500, "sides": 200, "minutes": None}
 
 
 class Beside(unittest.TestCase):
