@@ -16,16 +16,19 @@ from simulate import KINDS, PLAYED
 # of each kind of PLAYED how many pictures two sides have
 PICTURES = {"skips": None, "worn": 300, "swapped": 200, "speeds": 1000, "joined": 150, "losses": 600, "restarts": 150,
             "loops": 300, "turned": 300, "searched": 500, "sides": 200, "minutes": None}
+# The library doesn't judge minutes alone, and promises nothing of a disc that is turned by hand: it isn't regular, so
+# that a number may be due in a field that has the one beside it.
+JUDGED = [kind for kind in PLAYED if kind not in ("minutes", "turned")]
 
 
 class Beside(unittest.TestCase):
-    """Two sides of each kind of KINDS, and of each other kind."""
+    """Two sides of each kind of KINDS, and of each of JUDGED."""
 
     @classmethod
     def setUpClass(cls):
         cls.totals, cls.kinds, cls.told = {"given": Counter(), "found": Counter()}, {}, []
         sides = [(seed, None, None) for seed in range(2000, 2014)]
-        sides += [(seed, kind, PICTURES[kind]) for kind in PLAYED for seed in range(2)]
+        sides += [(seed, kind, PICTURES[kind]) for kind in JUDGED for seed in range(2)]
         for seed, kind, count in sides:
             kind, counts = judged(seed, kind, cls.told.append, count)
             cls.kinds.setdefault(kind, Counter()).update(counts["given"])
@@ -40,7 +43,7 @@ class Beside(unittest.TestCase):
 
     def test_each_kind(self):
         self.assertEqual({kind: counts["sides"] for kind, counts in self.kinds.items()},
-                         dict.fromkeys((*KINDS, *PLAYED), 2))
+                         dict.fromkeys((*KINDS, *JUDGED), 2))
         for kind, counts in self.kinds.items():
             if kind == "clv-minutes":  # which aren't judged
                 self.assertEqual([name for name, count in counts.items() if count], ["sides", "fields"])
