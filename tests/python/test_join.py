@@ -48,6 +48,23 @@ class Taken(unittest.TestCase):
         self.check(disc(f3="- F00002^ F00002"), disc(), 2, "b")
         self.check(disc(f3="- F00002 -"), disc(f3="- - F00002*"), 2, "a")
 
+    def test_pass_1_before_bad_lines(self):
+        self.check(disc(f51="- F00026* F00026"), disc(f61="? F00031 F00031"), 26, "b")
+
+    def test_a_confirmed_number_is_between_those_that_are_read_and_due(self):
+        due, near = side(disc(f7="- - -")), side(disc(f7="- - -"))
+        near.answer["confirmed"] = [7]
+        near.answer["damaged"] = []
+        near.answer["showings"].append([4, 7, 7])
+        captures = [capture_of(one, name) for one, name in ((due, "a"), (near, "b"))]
+        self.assertEqual(taken(join(captures), 4), ["b", 7, 4, "near"])
+        captures.append(capture_of(side(disc(f7="- - F00004*")), "c"))
+        self.assertEqual(taken(join(captures), 4), ["c", 7, 4, "read"])
+
+    def test_bad_lines_of_the_field_25_before(self):
+        found = joined(disc(80, f102="? 800DDD 800DDD"), disc(80))
+        self.assertEqual([one[0] for one in found["taken"] if one[1] == "b"], list(range(39, 65)))  # fields 77 to 127
+
     def test_bad_lines_nearby_are_those_of_25_fields_on_either_side(self):
         bad = disc(80, f101="? F00051 F00051")
         found = joined(bad, disc(80))
@@ -124,6 +141,11 @@ class Stretches(unittest.TestCase):
         rows = [row for number in range(1, 21) for row in ["- %s %s" % (picture(number), picture(number))] * 2]
         self.assertEqual(self.ranges(rows[:20], rows), [(1, 10, "a", 1, 20), (11, 20, "b", 21, 40)])
 
+    def test_the_last_field_of_a_number_on_both_fields(self):
+        rows = [row for number in range(1, 21) for row in ["- %s %s" % (picture(number), picture(number))] * 2]
+        rows[38] = BLANK  # picture 20 is read in its second field alone
+        self.assertEqual(self.ranges(rows + [BLANK] * 4, rows[:2]), [(1, 20, "a", 1, 40)])
+
     def test_minutes(self):
         rows = ["- 87FFFF %s" % minutes(0, minute) for minute in (58, 59) for _ in range(3000)]
         self.assertEqual(self.ranges(rows[3000:], rows), [
@@ -136,6 +158,16 @@ class Stretches(unittest.TestCase):
         self.assertEqual(list(range_rows(found)), [("0:00:00.00", "0:02:29.29", "a", 1, 8990)])
         self.assertEqual((found["missing"], len(found["leftOut"]), found["disagreements"]), ([], 5, []))
         self.assertIn("left out by the disc's clock: 5", joined_text(found))
+        found = joined(rows[38:], rows, system="NTSC")  # from 0:00:00.20 on
+        self.assertEqual(found["lacks"], [
+            {"capture": "a", "first": "0:00:00.00", "last": "0:00:00.19", "count": 19, "in": ["b"]}])
+
+    def test_the_clock_of_a_capture_that_can_decide(self):
+        """A capture that is too short to decide what the clock leaves out goes by the other one."""
+        rows = times([number for number in range(4500) if number % 1000 != 7], 30)
+        for pair in ((rows[:400], rows), (rows, rows[:400])):
+            found = joined(*pair, system="NTSC")
+            self.assertEqual((found["missing"], len(found["leftOut"])), ([], 5))
 
 
 class Missing(unittest.TestCase):
@@ -154,6 +186,11 @@ class Missing(unittest.TestCase):
             found = joined(*pair)
             self.assertEqual(found["missing"], [{"first": 15, "last": 15, "count": 1, "why": "unread"}])
             self.assertEqual(next(joined_text(found)), "together: pictures 1 to 40, 1 unread")
+
+    def test_lost_ones_are_counted_first(self):
+        one = disc(f9="- 800DDD 800DDD")  # picture 5
+        del one[28:30]  # picture 15
+        self.assertEqual(next(joined_text(joined(one, one))), "together: pictures 1 to 40, 1 lost, 1 damaged")
 
     def test_a_number_that_is_due_is_not_missing(self):
         one, other = disc(f29="- - -"), disc()
@@ -193,6 +230,21 @@ class Disagreements(unittest.TestCase):
             {"capture": "b", "first": 51, "last": 70, "field": 101, "lastField": 140}]}])
         self.assertEqual(text, "disagreements: 1 (pictures 151 to 170 in fields 101 to 140 of a, where b has pictures "
                          "51 to 70 in fields 101 to 140)")
+
+    def test_a_detour_of_the_second_capture(self):
+        one = pictures([*range(1, 51), *range(151, 171), *range(71, 101)])
+        found = joined(disc(100), one)["disagreements"]
+        self.assertEqual([[part["capture"] for part in each["between"]] for each in found], [["b", "a"]])
+
+    def test_fields_of_one_picture_are_no_distance(self):
+        """Both fields have the number, and each capture reads another one of the two."""
+        one, other = [], []
+        for number in range(1, 81):
+            row = "- %s %s" % (picture(number), picture(number))
+            pair = [row, row] if number <= 40 else [row, BLANK] if number % 2 else [BLANK, row]
+            one, other = one + pair, other + pair[::-1]
+        found = joined(one, other)
+        self.assertEqual((len(found["taken"]), found["disagreements"]), (80, []))
 
     def test_numbers_of_a_detour_are_taken_elsewhere(self):
         one = pictures([*range(1, 51), *range(151, 171), *range(71, 101)])

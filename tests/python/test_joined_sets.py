@@ -52,7 +52,7 @@ class Sets(unittest.TestCase):
             counts["alone"] += sum(stretch["count"] for stretch in one.joined["lacks"]
                                    if len(stretch["in"]) == 1 and len(one.ones) > 2)
         self.assertEqual((counts["cav"], counts["clv"]), (173, 126))
-        for name, least in (("taken", 25000), ("due", 70), ("lost", 80), ("lacking", 2000), ("alone", 200)):
+        for name, least in (("taken", 25000), ("due", 80), ("lost", 90), ("lacking", 2000), ("alone", 200)):
             self.assertGreater(counts[name], least, name)
 
     def test_what_is_taken_is_there(self):

@@ -126,11 +126,11 @@ def _read_on(side, field, doubtful):
 def _last_of(answer, one, after, is_torn):
     """The last field of a number, by the one that comes after it, if one does. A picture has two fields, or three on
     film where the next number says so and there is no break. Where both fields have the number, it is the last one that
-    shows it."""
+    shows it, or the one before the next number, which may be read in its second field alone."""
     pace = answer["pace"]
     if pace == "minute":
         return after.field - 1 if after and after.number == one.number + 1 else one.last
-    if after and after.field - one.field <= (3 if pace == "film" and not is_torn else 2):
+    if after and after.field - one.field <= (3 if pace in ("film", "both") and not is_torn else 2):
         return after.field - 1
     return one.last if pace == "both" else min(one.field + 1, answer["fields"])
 
