@@ -19,7 +19,7 @@ wrong_bodies=472
 scripts=29
 rust_scripts=15
 # The minutes that README says it takes
-minutes='35 to 65'
+minutes='40 to 80'
 # Memory in kB with which the proofs and the build can run side by side
 memory_of_both=14000000
 

@@ -3,7 +3,7 @@
 # them to an empty folder, which is removed in the end. How many checks a script has stands in scripts.txt, and nowhere
 # else.
 #
-# A run of the program, or of another tool, takes RUN_SECONDS at most (120 where the environment doesn't say): a script
+# A run of the program, or of another tool, takes RUN_SECONDS at most (300 where the environment doesn't say): a script
 # ends at the first that takes longer. Where STOP_AT_FIRST isn't empty it ends at the first check that fails.
 #
 # Where DIFFERENCES names a file, the program is the Rust one. The file has a line for each check that has to fail of
@@ -22,7 +22,7 @@ script=$(basename "$0" .sh)
 # The folder of the library: beside the program, where it is there, else the top
 built=$(dirname "$program")
 [ -e "$built/libldvbi.so.1" ] || built=$top
-seconds=${RUN_SECONDS:-120}
+seconds=${RUN_SECONDS:-300}
 judged=0
 passed=0
 differed=0

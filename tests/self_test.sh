@@ -323,7 +323,7 @@ alteration() {
     esac
     STOP_AT_FIRST=yes
     export STOP_AT_FIRST RUN_SECONDS
-    timeout -k 30 600 sh "$(find "$folder" -name "$2.sh")" "$tried" < empty > "$1/said" 2>&1
+    timeout -k 30 1800 sh "$(find "$folder" -name "$2.sh")" "$tried" < empty > "$1/said" 2>&1
     echo $? > "$1/status"
     [ -e "$1/mark" ] || echo 'nothing was altered' >> "$1/said"
     [ "$(cat "$1/status")" = 1 ] && tail -n 1 "$1/said" | grep -qx "$2: stopped at $why"

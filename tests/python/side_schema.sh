@@ -10,6 +10,8 @@
 . "$here/python_helpers.sh"
 
 schema=$top/share/schema/ldvbi-side.schema.json
+# A run has some thousand documents, and may run beside other scripts on a machine with few processors.
+seconds=$((5 * seconds))
 
 mkdir answers
 status=0
