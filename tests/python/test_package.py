@@ -69,7 +69,8 @@ class Package(unittest.TestCase):
 
     def test_files(self):
         """Each file of python/ belongs to one of the packages that are named, each of which has some."""
-        packages = re.findall(r'"(.*?)"', self.project["packages"])
+        named = re.search(r"^packages = \[(.*?)\]$", text_of("pyproject.toml"), re.MULTILINE | re.DOTALL).group(1)
+        packages = re.findall(r'"(.*?)"', named)
         folders = {os.path.dirname(path).replace(os.sep, ".") for path in modules()}
         self.assertEqual(folders, set(packages))
 
