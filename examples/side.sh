@@ -1,7 +1,8 @@
 #!/bin/sh
 # Draws a capture of a short CAV side on which things went wrong: side.tbc, and side.tbc.json as ld-decode writes it, in
-# the folder where this is run. Of pictures 1 to 52 it has 10 to 13 skipped, 21 standing still, and 30 misread as 79999;
-# ten of its fields have damaged lines. There are stops on lines 16 and 17, and three chapters.
+# the folder where this is run. Of pictures 1 to 52 it has 10 to 13 skipped, 21 standing still, and 30 misread as 79999
+# on line 17, and not read on line 18; ten of its fields have damaged lines. There are stops on lines 16 and 17, and
+# three chapters.
 # usage: sh examples/side.sh [PROGRAM]     (`ldvbi` on the PATH, where no program is named)
 set -eu
 
@@ -20,7 +21,7 @@ ends() {
         case $number in
             7) echo "82CFFF F$digits F$digits" ;;
             17 | 46) echo "82CFFF 82CFFF F$digits" ;;
-            30) echo '- F79999 F79999' ;;
+            30) echo '- F79999 -' ;;
             *) echo "- F$digits F$digits" ;;
         esac
         echo "- 80$((number / 18))DDD 80$((number / 18))DDD"
