@@ -54,7 +54,7 @@ class Taken(unittest.TestCase):
     def test_a_confirmed_number_is_between_those_that_are_read_and_due(self):
         due, near = side(disc(f7="- - -")), side(disc(f7="- - -"))
         near.answer["confirmed"] = [7]
-        near.answer["damaged"] = []
+        near.answer["unread"] = []
         near.answer["showings"].append([4, 7, 7])
         captures = [capture_of(one, name) for one, name in ((due, "a"), (near, "b"))]
         self.assertEqual(taken(join(captures), 4), ["b", 7, 4, "near"])
@@ -190,7 +190,7 @@ class Missing(unittest.TestCase):
     def test_lost_ones_are_counted_first(self):
         one = disc(f9="- 800DDD 800DDD")  # picture 5
         del one[28:30]  # picture 15
-        self.assertEqual(next(joined_text(joined(one, one))), "together: pictures 1 to 40, 1 lost, 1 damaged")
+        self.assertEqual(next(joined_text(joined(one, one))), "together: pictures 1 to 40, 1 lost, 1 unread")
 
     def test_a_number_that_is_due_is_not_missing(self):
         one, other = disc(f29="- - -"), disc()

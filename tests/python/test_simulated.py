@@ -158,12 +158,12 @@ class ByHand(unittest.TestCase):
         self.assertEqual(self.all["wrong found"], self.all["wrong"], self.told)
         self.assertGreater(self.all["wrong"], 40)
         self.assertLessEqual(self.all["right found"], 20, self.told)
-        for name, most in (("numbers", 0), ("damaged numbers", 6), ("lost numbers", 1)):
+        for name, most in (("numbers", 0), ("unread numbers", 6), ("lost numbers", 1)):
             self.assertGreaterEqual(self.all[name + " found"], self.all[name] - most, (name, self.told))
             self.assertGreater(self.all[name], 0, name)
-        # of film that is turned by hand numbers may be called damaged that were never shown; of no other kind
+        # of film that is turned by hand numbers may be called unread that were never shown; of no other kind
         kept = self.all - self.totals["turned"]
-        self.assertEqual(kept["damaged numbers found"], kept["damaged numbers"], self.told)
+        self.assertEqual(kept["unread numbers found"], kept["unread numbers"], self.told)
 
     def test_places(self):
         for name in ("loops", "turned"):
