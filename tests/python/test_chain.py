@@ -24,6 +24,18 @@ class Paces(unittest.TestCase):
         self.assertEqual([pace.off(fields, 7, 5) for fields in (10, 12, 9)], [0, 2, -1])
         self.assertIsNone(pace.off(4, 7, 0))
 
+    def test_least_off(self):
+        """No fields are less off than the least, whatever the variants are: of minutes and chapters it is exact."""
+        for pace in (Pace("video"), Pace("both"), Pace("film"), MinutePace("PAL"), ChapterPace()):
+            variants = range(pace.variants)
+            for number, step, fields in ((7, 1, 1), (7, 1, 6001), (8, 3, 5), (8, -2, 9), (3, 2, 17), (3, 90, 4)):
+                with self.subTest((pace.kind, number, step, fields)):
+                    least = pace.least_off(fields, number, step)
+                    offs = [pace.off(fields, number, step, one, other) for one in variants for other in variants]
+                    self.assertLessEqual(price(least), min(map(price, offs)))
+                    if len(variants) == 1:
+                        self.assertEqual(abs(least or 0), abs(offs[0] or 0))
+
     def test_of_both_fields_the_second_is_one_behind(self):
         pace = Pace("both")
         self.assertEqual([pace.off(1, 7, 0, 0, 1), pace.off(1, 7, 1, 1, 0), pace.off(3, 7, 1, 0, 1)], [0, 0, 0])

@@ -1,8 +1,10 @@
-"""Runs of line 16, and what becomes of numbers that are passed over, each by itself."""
+"""Runs of line 16, what becomes of numbers that are passed over, and loops, each by itself."""
 
 import unittest
 
+from ldvbi_side.judge.believed import no_numbers
 from ldvbi_side.judge.missing import Passed, PassedOver
+from ldvbi_side.judge.order import with_loops
 from ldvbi_side.judge.times import Runs
 
 WHOLE = 1500  # pictures of a minute
@@ -66,6 +68,12 @@ class Fates(unittest.TestCase):
         self.assertEqual([passed.why(number) for number in (39, 40, 60, 61, 80, 81, 100, 101, 200, 201)],
                          ["lost", "unread", "unread", "undecided", "undecided", "lost", "lost", "unshown", "unshown",
                           "lost"])
+
+
+class Loops(unittest.TestCase):
+    def test_without_numbers_nothing_is_shown_again(self):
+        none = no_numbers("PAL")
+        self.assertIs(with_loops(none, []), none)
 
 
 if __name__ == "__main__":

@@ -12,6 +12,7 @@ import unittest
 from unittest import mock
 
 from ldvbi_side.command import processes
+from ldvbi_side.command.folders import Found
 from ldvbi_side.command.processes import Ended, SideBySide
 from ldvbi_side.command.scan import scan
 from scanned import COMMAND, DEADLINE, LEAD_IN, WHOLE, Scans
@@ -88,6 +89,13 @@ class Failing(Scans):
                 self.assertEqual(scan(["--csv", self.folder], read), 2)
             self.assertEqual(printed.getvalue().split("\n")[1:], [
                 "%s/%d.tbc,fault,,,,,,,%s" % (self.folder, number, text) for number in (1, 2)] + [""])
+
+    def test_a_folder_that_is_not_read(self):
+        printed = io.StringIO()
+        with mock.patch("ldvbi_side.command.scan.sides_in", return_value=[Found("d", "Permission denied")]), \
+                contextlib.redirect_stdout(printed):
+            self.assertEqual(scan(["--csv", "d"], fails), 2)
+        self.assertEqual(printed.getvalue().split("\n")[1:], ["d,fault,,,,,,,Permission denied", ""])
 
 
 class Killed(Ends):
