@@ -24,8 +24,9 @@ class Stream:
     where it is the nearest one. ldvbi_recover_rows in ldvbi.h has the rule.
 
     A file is mapped. Only the pages with lines 16, 17 and 18 are read from it, and a loop has the system fetch those of
-    the next fields ahead. Pages that were read are given back at once, so that a long file takes no more memory. If the file is made shorter meanwhile, this process ends by SIGBUS. `close`, or the end of a
-    `with` block, releases the file or buffer. Whoever asks for a field after that gets a ValueError."""
+    the next fields ahead. Pages that were read are given back at once, so that a long file takes no more memory. If the
+    file is made shorter meanwhile, this process ends by SIGBUS. `close`, or the end of a `with` block, releases the
+    file or buffer. Whoever asks for a field after that gets a ValueError."""
 
     def __init__(self, source: Any, system: AnySystem, black: int, white: int, recover: bool = False) -> None:
         self._setup = setup_of(system, black, white)

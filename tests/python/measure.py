@@ -57,8 +57,8 @@ def print_table(totals):
                            for name in SHARES if counts[name])
         print("%s: %d sides; exact: %s; faults %d" % (kind, counts["sides"], exact, counts["faults"]))
         print("    found: %s; %.1f us a field" % (shares, counts["microseconds"] / counts["fields"]))
-        print("    said: yes %(said yes)d, no %(said no)d, can't tell %(said can't tell)d; fields in which the library's "
-              "judge has another number: %(judged otherwise)d" % counts)
+        print("    said: yes %(said yes)d, no %(said no)d, can't tell %(said can't tell)d; fields in which the "
+              "library's judge has another number: %(judged otherwise)d" % counts)
         print("    undecided %(undecided)d, of these unread %(undecided, unread)d and lost %(undecided, lost)d; but "
               "for the clock's numbers inside a loss: missing exact %(missing but for hidden)d, left out exact "
               "%(left out but for hidden)d, lost %(lost and hidden)d more" % counts)

@@ -164,8 +164,8 @@ class Metadata(Runs):
         self.write("side.tbc.json", json.dumps({"videoParameters": {
             "system": "NTSC", "black16bIre": 16384, "white16bIre": 51200, "numberOfSequentialFields": 11}}).encode())
         said = self.run_command("side.tbc", "--json")[2].split("\n")[0]
-        self.assertEqual(said, "ldvbi-side: 12 fields and 7 bytes, side.tbc.json says 11: another system, or another file's "
-                         "metadata?")
+        self.assertEqual(said, "ldvbi-side: 12 fields and 7 bytes, side.tbc.json says 11: another system, or another "
+                         "file's metadata?")
 
     def test_strict(self):
         words = [[0, 0xF00001 + place // 2, 0xF00001 + place // 2] if place % 2 == 0 else [0, 0x800DDD, 0x800DDD]

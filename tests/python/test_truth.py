@@ -231,7 +231,8 @@ class Frozen(unittest.TestCase):
                 self.assertIn(1000 + step, [number for number, _, _ in found["showings"]])
 
     def test_a_wrong_number_between_two_stills(self):
-        for words in ("- %s* %s" % (picture(7), picture(7)), "- %s %s" % (picture(7), picture(9)), "- ? %s" % picture(7)):
+        for words in ("- %s* %s" % (picture(7), picture(7)), "- %s %s" % (picture(7), picture(9)),
+                      "- ? %s" % picture(7)):
             found = answer(pictures([1000] * 20) + [words, BLANK] + pictures([1200] * 20))
             self.assertEqual([number for number, _, _ in found["showings"]], [1000] * 20 + [1200] * 20)
 

@@ -76,7 +76,8 @@ def with_turned(numbers: Numbers, readings: List[Reading]) -> Numbers:
     for one in readings:
         if one.field not in taken and one.weight >= WEIGHTS[1]:
             around = [other for other in numbers.around(one.field) if other]
-            if all(abs(other.number - one.number) <= TURN and abs(other.field - one.field) <= TURNED for other in around):
+            if all(abs(other.number - one.number) <= TURN and abs(other.field - one.field) <= TURNED
+                   for other in around):
                 near.append(one)
     for one, other in zip(numbers.believed, numbers.believed[1:]) if near else ():
         if abs(other.number - one.number) <= TURN and numbers.off(one, other) not in (None, 0):
