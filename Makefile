@@ -19,7 +19,7 @@
 PREFIX ?= /usr/local
 # Debian's is /usr/lib/x86_64-linux-gnu
 LIBDIR ?= $(PREFIX)/lib
-PROGRAM ?= ./ldvbi
+PROGRAM ?= ./$(BUILT)ldvbi
 # The one place of the version; header, library, program and change log are tested against it
 VERSION := 0.1.0
 # The interface of the library, as include/ldvbi.h has it
@@ -31,8 +31,9 @@ COMMANDS := ldvbi ldvbi-side
 MANUALS := $(ROOT)/share/man/man1
 BASH_COMPLETIONS := $(ROOT)/share/bash-completion/completions
 ZSH_COMPLETIONS := $(ROOT)/share/zsh/site-functions
-SCHEMAS := ldvbi.schema.json ldvbi-recovered.schema.json ldvbi-scan.schema.json ldvbi-side.schema.json
-SHARED := $(addprefix share/schema/,$(SCHEMAS)) contrib/ldvbi.jq contrib/plot_line.py
+SCHEMAS := ldvbi.schema.json ldvbi-join.schema.json ldvbi-recovered.schema.json ldvbi-scan.schema.json \
+	ldvbi-side.schema.json
+SHARED := $(addprefix share/schema/,$(SCHEMAS)) contrib/plot_line.py
 DOCUMENTS := $(ROOT)/share/doc/ldvbi
 PYTHON := $(wildcard python/*/*.py python/*/*/*.py)
 # What is installed and packed: what was proved and built here (proved), or what `make rust` leaves in rust/ (rust)

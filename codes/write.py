@@ -62,17 +62,7 @@ def texts_in_c(classes):
     return "".join('    case %s: return "%s";\n' % (constant(one), one.kind) for one in by_number(classes))
 
 
-def lines_in_c(classes):
-    """What stands on each line, as a comment says it."""
-    text = ""
-    for line in sorted({line for one in classes for line in one.lines}):
-        said = "; ".join(one.meaning for one in classes if line in one.lines)
-        text += textwrap.fill(said, WIDTH, initial_indent=" *     line %d     " % line,
-                              subsequent_indent=" *" + " " * 17) + "\n"
-    return text
-
-
-# ---- conditions on a word's digits, in C, jq and Python
+# ---- conditions on a word's digits, in C and Python
 
 def name_of(place):
     return PLACES[place - 1]
@@ -112,45 +102,6 @@ def code_in_c(classes):
         test = "word == 0x" + one.example if is_one_word(one) else " && ".join(conditions(one, digit))
         numbers = [value(number, digit) for number in one.numbers] + ["0", "0"]
         text += "    if (%s)\n        return code_of(%s, %s, %s);\n" % (test, constant(one), *numbers[:2])
-    return text
-
-
-# ---- the module for jq
-
-def code_in_jq(classes):
-    """What a word means, by its six digits."""
-    def digit(place):
-        return "$" + name_of(place)
-    text, word = "", "if"
-    for one in classes[:-1]:
-        test = " and ".join(conditions(one, digit)) + " then"
-        if is_one_word(one):
-            test = ". == %d then  # %s" % (int(one.example, 16), one.example)
-        numbers = ((number.name, value(number, digit)) for number in one.numbers)
-        said = "".join(", %s: %s" % (name, "(%s)" % of if "+" in of else of) for name, of in numbers)
-        text += "      %s %s\n        {kind: \"%s\"%s}\n" % (word, test, one.kind, said)
-        word = "elif"
-    return text
-
-
-def lines_in_jq(classes):
-    """Which kinds count on line 16, and which on lines 17 and 18."""
-    text = ""
-    for name, lines in (("line_16", {16}), ("lines_17_and_18", {17, 18})):
-        count_there = [one for one in classes if lines & {*one.lines, *one.also}]
-        if any(not lines <= {*one.lines, *one.also} for one in count_there):
-            raise SystemExit("write: the module for jq has one list of kinds for lines 17 and 18")
-        kinds = ['. == "%s"' % one.kind for one in count_there]
-        text += "def is_of_%s:\n%s;\n" % (name, wrapped(kinds, "  ", " or ").rstrip("\n"))
-    return text
-
-
-def formats_in_jq(classes):
-    """Whether a list of codes has one of CAV, or one of CLV."""
-    text = ""
-    for disc, before in (("CAV", "  "), ("CLV", "  | ")):
-        kinds = ['.kind == "%s"' % one.kind for one in classes if one.disc == disc]
-        text += "%sany(.[]; %s) as $%s\n" % (before, " or ".join(kinds), disc.lower())
     return text
 
 
@@ -212,9 +163,8 @@ def kinds_of_schema(classes, indent):
 
 # The files with their parts
 PARTS = {
-    "include/ldvbi.h": {"lines": lines_in_c, "kinds": kinds_in_c, "texts": texts_in_c},
+    "include/ldvbi.h": {"kinds": kinds_in_c, "texts": texts_in_c},
     "bench/plain.h": {"code": code_in_c},
-    "contrib/ldvbi.jq": {"code": code_in_jq, "lines": lines_in_jq, "formats": formats_in_jq},
     "python/ldvbi/classes.py": {"kinds": kinds_in_python, "classes": classes_in_python,
                                 "code": code_in_python},
     "share/man/ldvbi.1": {"texts": texts_of_page},

@@ -99,10 +99,12 @@ std::optional<std::uint32_t> number_of(const LdvbiFieldReadings &field, std::uin
     return first ? first : second;
 }
 
+// Whether the disc has a stop there: line 16 or 17 shows it in pass 1, or both show it. One line that was misread in
+// pass 2 freezes nothing.
 bool has_stop(const LdvbiFieldReadings &field) {
-    for (const LdvbiReading &line : field.lines)
-        if (number_of(line, LDVBI_PICTURE_STOP)) return true;
-    return false;
+    std::uint32_t stop;
+    check(ldvbi_judge_stops(&field, 1, &stop, 1));
+    return stop == LDVBI_BELIEVED;
 }
 
 // Readings of fields that follow each other, and the room that their judging needs.
@@ -197,10 +199,18 @@ std::optional<std::size_t> search(std::size_t fields, Numbers &numbers, std::uin
     return std::nullopt;
 }
 
-// Plays on behind a field to the next one with a stop.
-std::optional<std::size_t> play(const Side &side, std::size_t from) {
-    for (std::size_t field = from + 1; field < side.fields(); field++)
-        if (has_stop(side.read(field))) return field;
+// Plays on behind a field to the next one with a stop. The fields of a picture may all have its stop: where it stopped
+// at the first of them, it passes those that follow at once and have no other number.
+std::optional<std::size_t> play(const Side &side, Numbers &pictures, std::size_t from) {
+    bool is_passed = has_stop(side.read(from));
+    for (std::size_t field = from + 1; field < side.fields(); field++) {
+        if (!has_stop(side.read(field))) {
+            is_passed = false;
+            continue;
+        }
+        const auto here = is_passed ? pictures.at(field) : std::nullopt;
+        if (!is_passed || (here && here != pictures.at(from))) return field;
+    }
     return std::nullopt;
 }
 
@@ -222,7 +232,7 @@ int main(int count, char **words) try {
         const std::string command = words[i];
         std::optional<std::size_t> found;
         if (command == "play") {
-            found = play(side, field);
+            found = play(side, pictures, field);
         } else if ((command == "search" || command == "chapter") && i + 1 < count) {
             const std::uint32_t number = parse_number(command, words[++i]);
             found = search(side.fields(), command == "search" ? pictures : chapters, number);

@@ -1,7 +1,8 @@
 /* Finds a picture or a chapter in a TBC file and prints the number of its first field, from 1: a picture of a CAV disc
  * by its number, one of a CLV disc by its time, as 0:59:29.07 for picture 7 of its second, and a chapter by the word
  * `chapter` and its number. Status 0: found; 1: not found; 2: what was asked for can't be read, and standard error says
- * why. It also says where the file ends inside a field.
+ * why; 3: found by the lines alone, since nothing of the whole side is believed, as on a side of a few fields, and
+ * standard error says so. It also says where the file ends inside a field.
  *
  * The library recovers the words of worn lines, and judges the numbers of all fields: a field is found where its number
  * or chapter is believed, or where the believed numbers around it leave no other, and never by a number that was
@@ -216,8 +217,8 @@ static size_t first_shown(const Side *side, const Wanted *wanted, const Room *ro
 
 /* The first field whose number is believed or due, and is the one that is wanted. A side of which no chapter is
  * believed, or no number, neither as a picture's nor as a time, is too short to be judged, or has too few: of that, and
- * of that alone, what the lines say is taken as it is. */
-static uint32_t find(const Side *side, const Wanted *wanted, const Room *room, size_t *found) {
+ * of that alone, what the lines say is taken as it is, and `is_raw` is 1. */
+static uint32_t find(const Side *side, const Wanted *wanted, const Room *room, size_t *found, int *is_raw) {
     int is_judged, is_other_disc = 0;
     uint32_t kind = wanted->number.kind, number, status = read_side(side, room->readings);
     if (status == LDVBI_DONE) status = judge(side, kind, room, &is_judged);
@@ -229,7 +230,8 @@ static uint32_t find(const Side *side, const Wanted *wanted, const Room *room, s
     }
     if (kind != LDVBI_CHAPTER)
         status = judge(side, kind == LDVBI_PICTURE ? LDVBI_TIME : LDVBI_PICTURE, room, &is_other_disc);
-    if (status == LDVBI_DONE && !is_other_disc) *found = first_shown(side, wanted, room);
+    *is_raw = status == LDVBI_DONE && !is_other_disc;
+    if (*is_raw) *found = first_shown(side, wanted, room);
     return status;
 }
 
@@ -243,18 +245,22 @@ static int refuse(const char *why) {
 /* Searches a side that is mapped, and says what was found. Returns the program's status. */
 static int search(const Side *side, const Wanted *wanted) {
     Room room;
+    int is_raw = 0;
     size_t found = side->fields;
     uint32_t status = LDVBI_DONE;
     if (side->fields > 0) { /* of no field there is nothing to allocate */
         int is_allocated = allocate(&room, side->fields);
-        if (is_allocated) status = find(side, wanted, &room, &found);
+        if (is_allocated) status = find(side, wanted, &room, &found, &is_raw);
         release(&room);
         if (!is_allocated) return refuse(strerror(ENOMEM));
     }
     if (status != LDVBI_DONE) return refuse(ldvbi_status_text(status));
     if (found == side->fields) return puts("not found"), 1;
     printf("field %zu\n", found + 1);
-    return 0;
+    if (!is_raw) return 0;
+    fprintf(stderr, "seek: no %s of this side is supported by those around it, so this is what the lines say\n",
+            wanted->number.kind == LDVBI_CHAPTER ? "chapter" : "number");
+    return 3;
 }
 
 int main(int count, char **words) {

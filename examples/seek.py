@@ -1,7 +1,8 @@
 #!/usr/bin/env python3
 """Finds a picture in a TBC file and prints the number of its first field, from 1: that of a CAV disc by its number,
 that of a CLV disc by its time, as 0:59:29.07 for picture 7 of its second. Status 0: found; 1: not found; 2: what was
-asked for can't be read, and standard error says why. It also says where the file ends inside a field.
+asked for can't be read, and standard error says why; 3: found by the lines alone. It also says where the file ends
+inside a field.
 
 Words of worn lines are recovered where no other word is near. A field is found by the number that the fields around it
 support, or leave for it where it shows none: a misread number isn't found. Where no number of the whole side is
@@ -71,16 +72,16 @@ def shows(field, number, seconds):
 
 
 def found_field(side, number, seconds):
-    """The index of the field, from 0, or None."""
+    """The index of the field, from 0, or None, and whether the lines alone say it."""
     counted = ldvbi.Counted.pictures if seconds is None else ldvbi.Counted.times
     numbers = ldvbi.judge(side, side.system, counted)
     if any(one.state == ldvbi.State.believed for one in numbers):
         wanted = judged_number(number, seconds, side.system)
-        return None if wanted is None else ldvbi.first_of(numbers, wanted)
+        return (None if wanted is None else ldvbi.first_of(numbers, wanted)), False
     place = next((place for place, field in enumerate(side) if shows(field, number, seconds)), None)
     if place is not None:
         say("no number of this side is supported by those around it, so this is what the lines say")
-    return place
+    return place, True
 
 
 def main():
@@ -93,9 +94,9 @@ def main():
         if side.cut_bytes:
             say("the last field is cut: field %d has %d of %d bytes"
                 % (len(side) + 1, side.cut_bytes, ldvbi.field_bytes(system)))
-        place = found_field(side, number, seconds)
+        place, is_raw = found_field(side, number, seconds)
     print("not found" if place is None else "field %d" % (place + 1))
-    return 1 if place is None else 0
+    return 1 if place is None else 3 if is_raw else 0
 
 
 if __name__ == "__main__":

@@ -1,9 +1,9 @@
 // Lists the picture stops of a TBC stream on standard input, field by field, as a player would meet them. Status 2: the
 // stream can't be read so, and standard error says why. It also says where the stream ends inside a field.
 //
-// The library recovers the words of worn lines. A picture's number is one that it believes by the fields around it, or
-// that is due between such fields, so the list is printed when the stream has ended; it keeps 52 bytes of each field
-// until then.
+// The library recovers the words of worn lines. A stop is one that it believes by the lines of its field. A picture's
+// number is one that it believes by the fields around it, or that is due between such fields, so the list is printed
+// when the stream has ended; it keeps 52 bytes of each field until then. Who wants no numbers reads on in stops.c.
 //
 //     c++ -std=c++17 -o stops stops.cpp -lldvbi && ./stops NTSC 16384 51200 < side.tbc
 #include <algorithm>
@@ -66,11 +66,11 @@ std::optional<LdvbiCode> find_code(const LdvbiReading &line, std::uint32_t kind)
     return code;
 }
 
-// A stop stands on line 16 or 17; on 18 it is let pass.
+// Whether a player stops at a field: line 16 or 17 shows a stop in pass 1, or both show it.
 bool has_stop(const LdvbiFieldReadings &field) {
-    for (const LdvbiReading &line : field.lines)
-        if (find_code(line, LDVBI_PICTURE_STOP)) return true;
-    return false;
+    std::uint32_t stop;
+    check(ldvbi_judge_stops(&field, 1, &stop, 1));
+    return stop == LDVBI_BELIEVED;
 }
 
 // A picture's number stands on lines 17 and 18. Where the two differ, one was misread.

@@ -1,27 +1,27 @@
-/* ldvbi: the code words of LaserDisc lines (IEC 60857 and IEC 60856), for C99 and C++98 and later.
+/* ldvbi: the code words of LaserDisc lines (IEC 60857 and IEC 60856), for C99 and C++98 and later. A player in short:
  *
- * A LaserDisc has its picture numbers, times, chapters and stops as code words of 24 bits in lines 16, 17 and 18 of
- * each field. The library reads the words of digitised lines, says what they mean, and draws such lines. Programs that
- * show its use are in examples/, which is installed as share/doc/ldvbi/examples.
+ *     size_t bytes = ldvbi_field_bytes(LDVBI_NTSC);
+ *     int file = open("side.tbc", O_RDONLY);
+ *     size_t count = (size_t)lseek(file, 0, SEEK_END) / bytes;
+ *     void *side = mmap(NULL, count * bytes, PROT_READ, MAP_SHARED, file, 0);
+ *     LdvbiFieldReadings *read = calloc(count, sizeof *read);
+ *     LdvbiSightings *seen = calloc(count, sizeof *seen);
+ *     LdvbiNumber *numbers = calloc(count, sizeof *numbers);
+ *     uint32_t *stops = calloc(count, sizeof *stops);
+ *     if (ldvbi_recover_fields(LDVBI_NTSC, 16384, 51200, side, count * bytes, read, count) != LDVBI_DONE) return 2;
+ *     if (ldvbi_judge(LDVBI_NTSC, LDVBI_PICTURES, LDVBI_FIND_PACE, read, count, seen, count, numbers, count)) return 2;
+ *     if (ldvbi_judge_stops(read, count, stops, count) != LDVBI_DONE) return 2;
+ *     size_t field = ldvbi_first_of(numbers, count, 12345);
+ *     printf("picture 12345 is in field %zu of %zu\n", field + 1, count);
+ *     while (field < count && stops[field] != LDVBI_BELIEVED) field++;
+ *     printf("the player stops in field %zu\n", field + 1);
  *
- * Link with -lldvbi, or with libldvbi.a. The proved library needs no other library. Of the C library it uses memcpy and
- * memset at most, and a program without a C library can define these two itself. It runs under Linux on x86-64
- * processors of level v2 (with SSE4.2, from about 2009 on). It has no unwind tables (.eh_frame). No call throws an
- * exception or calls back, so no program needs them, but a debugger that stops inside a call can't show its callers.
+ * Where nothing is found, `field` is `count`. The programs in examples/, which is installed as
+ * share/doc/ldvbi/examples, test what the system answers, too. docs/LIBRARY.md says how to link, which line has which
+ * code, and how frames, lines of other sample rates and mapped files are read; docs/PROMISES.md what is proved.
  *
- * docs/PROMISES.md says what is proved of each call. Only tests show that this header agrees with the library, and that
- * the functions that are defined here are right.
- *
- * Samples have 16 bits, the low byte first, as in ld-decode's TBC files: line after line, field after field. On a
- * little-endian machine, as x86-64 is, an array of uint16_t can be passed as it is. It need not be aligned. Black and
- * white are samples too: black16bIre and white16bIre of the capture's .tbc.json. A sample above the middle of the two
- * is high.
- *
- * Threads: no call allocates, takes a lock, prints, or keeps anything for a later call. So any thread may call at any
- * time, and so may a signal handler. A handler, as one for SIGBUS, may also leave a call by siglongjmp. Later calls
- * work as ever, but what the call was to write may then hold anything.
- *
- * Ownership: the library keeps no pointer. What a call writes is the caller's.
+ * Samples have 16 bits, the low byte first, as in ld-decode's TBC files: line after line, field after field. Black and
+ * white are samples too: black16bIre and white16bIre of the .tbc.json. A sample above the middle of the two is high.
  *
  * Numbers are uint32_t, and all of their 32 bits are tested: 257 is not taken for system 1. C cuts a wider number to
  * 32 bits before the call, so test such a number first. No call tests the following, which the caller has to ensure:
@@ -31,63 +31,8 @@
  *   - Pointers to structs are aligned as their types are. Pointers to samples needn't be.
  *   - What a call writes overlaps nothing else that it is given. During the call no other thread touches what it
  *     writes, and none writes what it reads.
- *
- * ---- Which line has which code, by the standards
- *
- * from codes/classes.txt: lines
- *     line 16     picture stop (CAV); seconds and picture (CLV); programme status, CX on; programme status, CX off;
- *                 users' code
- *     line 17     lead-in; lead-out; picture number (CAV); picture stop (CAV); chapter; CLV mark; hours and minutes
- *                 (CLV)
- *     line 18     lead-in; lead-out; picture number (CAV); chapter; hours and minutes (CLV)
- * to here
- *
- * So line 17 may have a stop or a mark where line 18 has the number. A field may have no number at all: often only one
- * of a picture's two or three fields has its number.
- *
- * To find a field's number, look at lines 17 and 18 for words of the kind that you want, of either pass. One such word,
- * or two that say the same, is the answer. If two say different things, one of them was misread, and there is no
- * answer. Compare what ldvbi_classify says, not the words: each picture and each chapter has two words, since the first
- * bit of its first digit has no meaning (F12345 and F92345 are both picture 12345). A time of a CLV disc is in two
- * places: hours and minutes on lines 17 and 18, seconds and picture on line 16. A stop counts on each of the three
- * lines. It belongs to the picture of its field, else to the latest picture before it.
- *
- * Words are wrong at times, those of pass 2 more often. If you have the fields around, believe a number only where it
- * fits theirs: ldvbi_judge does that for picture numbers and times, ldvbi_judge_chapters for chapters, `ldvbi-side` for
- * all that a side has.
- *
- * Some words, as digits: F and 5 decimal digits is a picture (F00123 is picture 123), 8 and two decimal digits and DDD
- * a chapter (807DDD is chapter 7), 82CFFF a stop, 87FFFF the CLV mark, 88FFFF lead-in, 80EEEE lead-out.
- *
- * Before and behind its word a line has to be low, as sync and colour burst are. More than three high samples in a row
- * there leave it without a word.
- *
- * ---- One row of an interlaced frame
- *
- * Of a frame with all its lines, 525 or 625, line n of the first field, counted from 1, is row 2 * (n - 1), counted
- * from 0, where the first field is the upper one; line n of the second field is the row after it. A row is a line: hand
- * over its address, as (const char *)frame + row * row_bytes, and ldvbi_line_bytes(system). Frames of 480, 486 or 576
- * rows are without some or all of lines 16 to 18.
- *
- * ---- Lines of other sample rates
- *
- * A half cell of a word lasts one microsecond on every disc, so at f MHz an undisturbed half cell has f samples,
- * rounded down or up. Read as NTSC it may have 11 to 18 samples, read as PAL 14 to 22. So lines of NTSC and of PAL
- * discs alike are read as LDVBI_NTSC from 11.5 to 17.7 MHz: at 13.5 MHz a PAL disc's lines too, whose half cells of 13
- * or 14 samples are too short for LDVBI_PAL. A word has 48 half cells, 850 samples at 17.7 MHz, and begins about 10.5
- * microseconds after the line does.
- *   1. Take at most 910 samples. Where a line begins with its sync and has more (some do above 14.2 MHz), leave out its
- *      first 10 microseconds, and take the rest, or the first 910 of it. Where it is active video alone, which begins
- *      when its word does or shortly before, leave out nothing, and take its first 910 samples.
- *   2. Samples of 8 bits: multiply them by 257, and black and white too.
- *   3. Fill up to 910 samples with black, and read them as LDVBI_NTSC.
- * From 13 to 16 MHz, and at ld-decode's own rates, each change of level may also come one sample early or late,
- * whatever the others do. At other rates it may do so only where each half cell keeps its 11 to 18 samples.
- *
- * ---- Files that are mapped
- *
- * If a file is made shorter while it is mapped, whoever then reads a page past its new end gets SIGBUS, which ends the
- * process, inside a call too. For files that others may change, use pread and ldvbi_read_rows, or handle the signal. */
+ * No call allocates, takes a lock, prints, calls back, throws, or keeps a pointer or anything else for a later call. So
+ * any thread may call at any time, and so may a signal handler. */
 #ifndef LDVBI_H
 #define LDVBI_H
 
@@ -108,6 +53,19 @@ extern "C" {
 #define LDVBI_RESULT
 #endif
 
+/* ---- Systems and sizes */
+
+enum LdvbiSystem {
+    LDVBI_NTSC = 1, /* 525 lines; 910 samples to a line, 263 lines to a field */
+    LDVBI_PAL = 2   /* 625 lines; 1135 samples to a line, 313 lines to a field */
+};
+
+/* The samples and the bytes of a line, the lines and the bytes of a field; 0 for any other number of a system. */
+size_t ldvbi_line_samples(uint32_t system);
+size_t ldvbi_line_bytes(uint32_t system);
+size_t ldvbi_lines(uint32_t system);
+size_t ldvbi_field_bytes(uint32_t system);
+
 /* ---- Versions */
 
 /* The version of this header. As a number it has a million for each major, a thousand for each minor. */
@@ -127,19 +85,6 @@ extern "C" {
 /* Of the library that is linked: its interface, and its version as a number. */
 uint32_t ldvbi_abi(void);
 uint32_t ldvbi_version(void);
-
-/* ---- Systems and sizes */
-
-enum LdvbiSystem {
-    LDVBI_NTSC = 1, /* 525 lines; 910 samples to a line, 263 lines to a field */
-    LDVBI_PAL = 2   /* 625 lines; 1135 samples to a line, 313 lines to a field */
-};
-
-/* The samples and the bytes of a line, the lines and the bytes of a field; 0 for any other number of a system. */
-size_t ldvbi_line_samples(uint32_t system);
-size_t ldvbi_line_bytes(uint32_t system);
-size_t ldvbi_lines(uint32_t system);
-size_t ldvbi_field_bytes(uint32_t system);
 
 /* ---- Statuses, in the order in which they are tested. After any other than LDVBI_DONE, all that the call could have
  * written is as it was. */
@@ -388,6 +333,19 @@ LDVBI_RESULT LDVBI_POINTER(7)
 uint32_t ldvbi_find_pace(uint32_t system, uint32_t counted, const LdvbiFieldReadings *readings, size_t count,
                          LdvbiSightings *seen, size_t seen_count, uint32_t *pace);
 
+/* How many fields the answer of one depends on: itself, and 2 * LDVBI_REACH on either side. */
+enum { LDVBI_PART = 97 };
+
+/* Judges the field `field`, counted from 0, of at most LDVBI_PART that follow each other, for a player that jumps about:
+ * it reads the fields around one alone, and has no room to give. This is proved: if the readings have 2 * LDVBI_REACH
+ * fields before it, or begin with the side, and as many behind it, or end with the side, `number` is what ldvbi_judge
+ * answers of it in the whole side at the same pace. `pace` is LDVBI_VIDEO or LDVBI_FILM, as ldvbi_find_pace answers of
+ * the side: a few fields have none of their own. LDVBI_BAD_LENGTH is also for a `field` that isn't below `count`.
+ * LDVBI_BAD_SYSTEM, LDVBI_BAD_LENGTH, LDVBI_BAD_COUNTED, LDVBI_BAD_PACE. */
+LDVBI_RESULT LDVBI_POINTER(7)
+uint32_t ldvbi_judge_field(uint32_t system, uint32_t counted, uint32_t pace, const LdvbiFieldReadings *readings,
+                           size_t count, size_t field, LdvbiNumber *number);
+
 /* ---- Judging chapters
  *
  * The fields around a field decide on its chapter too. A chapter is believed only where the codes that say it, in the
@@ -416,6 +374,22 @@ uint32_t ldvbi_judge_chapters(const LdvbiFieldReadings *readings, size_t count, 
 
 /* The first field, counted from 0, whose number is believed or due and is this one; `count` where there is none. */
 size_t ldvbi_first_of(const LdvbiNumber *numbers, size_t count, uint32_t number);
+
+/* ---- Judging stops
+ *
+ * A disc has a stop on lines 16 and 17. It is believed where one of the two shows it in pass 1, or where both do, in
+ * whatever pass. Other fields have no say, since a stop may stand anywhere on a side.
+ *
+ * This is proved: if the disc has no stop in a field, and one is believed of it, a word of pass 1 was misread on its
+ * lines 16 and 17, or both words were. One line of pass 2 or 3 alone never makes a stop. A stop that the disc has is
+ * believed where one line was read right in pass 1, or both were read right. */
+
+/* Judges the stops of `count` fields, each by itself, so it may be one field alone. `stops` gets of each field
+ * LDVBI_BELIEVED; LDVBI_DOUBTFUL where line 16 or 17 shows a stop that isn't believed; or LDVBI_NOTHING. A player stops
+ * at the first field behind its own of which a stop is believed. Both fields of a picture may have one.
+ * LDVBI_BAD_LENGTH. */
+LDVBI_RESULT
+uint32_t ldvbi_judge_stops(const LdvbiFieldReadings *readings, size_t count, uint32_t *stops, size_t stop_count);
 
 /* ---- Drawing */
 

@@ -51,9 +51,17 @@ SECTIONS = {
         ("crates/vbi_side/src/chapters.rt", ("chapters_shown", "judge_chapters")),
         ("crates/vbi_side/src/chapter_laws.rt", ("chapters_sound",)),
     ]),
+    "field": ("One field from those around it", [
+        ("crates/vbi_side/src/laws.rt", ("same_in_part",)),
+        ("crates/vbi_side/src/answers.rt", ("judge_one",)),
+    ]),
+    "stops": ("The stop that is believed", [
+        ("crates/vbi_side/src/stops.rt", ("judge_stop",)),
+        ("crates/vbi_side/src/stop_laws.rt", ("stops_in_words",)),
+    ]),
 }
 # By the last section that each is for, the marks of the lists of words of the standard library
-WORDS = {"counts": "words of std", "chapters": "further words of std"}
+WORDS = {"counts": "words of std", "stops": "further words of std"}
 
 
 def marked(mark):

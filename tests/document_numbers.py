@@ -84,7 +84,7 @@ def of_documents(geometry):
     gate = of_source("tests/gate.sh", r"^minutes='(\d+) to (\d+)'$")
     return [("docs/PROMISES.md", rf"Of {NUMBER} wrong bodies", [edits]),
             ("README.md", rf"every check[^|\n]*?{NUMBER} to {NUMBER} minutes", gate),
-            ("docs/SIDES.md", rf"`--summary` \|[^\n]*\| {NUMBER} \w+ it is whole, {NUMBER} where it isn't, {NUMBER} where "
+            ("docs/SIDES.md", rf"`--summary`, or no option \|[^\n]*\| {NUMBER} \w+ it is whole, {NUMBER} where it isn't, {NUMBER} where "
              "that can't be told \\|", whole),
             ("docs/SIDES.md", rf"`--json` \|[^\n]*\| {NUMBER} \w+ the last field is cut, else {NUMBER} \|", [cut, 0]),
             ] + [("docs/SIGNAL.md", pattern, numbers) for pattern, numbers in glitches(geometry)]

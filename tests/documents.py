@@ -8,8 +8,8 @@ names   the functions, clauses, definitions and fields that PROMISES.md names ar
         and files in the prose of DECISIONS.md and SIGNAL.md, and in the pages for callers
 faults  the fault texts of FORMATS.md are those of the source, in its order, and those of the manual page among them
 causes  the names of causes in FORMATS.md, SIGNAL.md and the manual page are those of the source
-sizes   the sizes in README.md, FORMATS.md, RECIPES.md, SIGNAL.md, ldvbi.h and the manual page are those of the source,
-        each in its sentence
+sizes   the sizes in README.md, FORMATS.md, LIBRARY.md, RECIPES.md, SIGNAL.md, ldvbi.h and the manual page are those of
+        the source, each in its sentence
 rules   the numbers in the rules of SIDES.md are those of the Python package, each in its sentence
 numbers other numbers and columns are those of their source (document_numbers.py): wrong bodies, the gate's time,
         glitches and blur, statuses and columns of `ldvbi-side`
@@ -243,6 +243,8 @@ SENTENCES = {
     HEADER: [
         "525 lines; {width_of n} samples to a line, {height_of n} lines to a field",
         "625 lines; {width_of p} samples to a line, {height_of p} lines to a field",
+    ],
+    "docs/LIBRARY.md": [
         "may have {half_min n} to {half_max n} samples, read as PAL {half_min p} to {half_max p}.",
         "1. Take at most {width_of n} samples.",
         "and take the rest, or the first {width_of n} of it.",

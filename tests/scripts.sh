@@ -5,13 +5,17 @@
 # say). Nothing is run where the library isn't built, where this folder or one below it has a script that the table
 # doesn't name, or where a script that is to be run isn't there or has the name of another.
 #
-# With --as-built, what needs the library is left out where that isn't built, and so is what the whole gate alone runs.
-# With --rust, what is about the Rust program and its library is run on these (`make rust`), and the checks that
-# rust/differences.txt names have to fail. With names, those scripts are run and no others.
+# With --as-built, what needs a library is left out where none is built, beside the program or by `make lib`, and so is
+# what the whole gate alone runs.
+# With --rust, what is about the Rust program and its library alone is run on these (`make rust`). Of the program in
+# rust/ the checks that rust/differences.txt names have to fail. With names, those scripts are run and no others.
 # usage: sh tests/scripts.sh PROGRAM [--as-built | --rust | NAME..]
 set -eu
+# What `make check` was given isn't meant for the makes that scripts run.
+unset MAKEFLAGS MFLAGS MAKEOVERRIDES FROM PROGRAM
 
 here=$(cd "$(dirname "$0")" && pwd)
+top=$(dirname "$here")
 program=$(cd "$(dirname "$1")" && pwd)/$(basename "$1")
 shift
 work=$(mktemp -d)
@@ -41,7 +45,8 @@ path_of() {
 # is_named FILE: whether the table has it, as a script that is run somewhere or as what isn't run by itself
 is_named() {
     awk -v file="$1" '
-        $1 ".sh" == file && $3 ~ /^(everywhere|library|python|whole|rust)$/ || $1 == file && $3 == "helper" { named = 1 }
+        $1 ".sh" == file && $3 ~ /^(everywhere|library|proved|python|whole|rust)$/ { named = 1 }
+        $1 == file && $3 == "helper" { named = 1 }
         END { exit !named }' "$here/scripts.txt"
 }
 
@@ -75,21 +80,26 @@ while read -r path; do
     is_named "$(basename "$path")" || fault "scripts.txt doesn't name $(basename "$path")"
 done < "$work/found"
 library=
-[ ! -e "$here/../libldvbi.so.1" ] || library=yes
+proved=
+[ ! -e "$(dirname "$program")/libldvbi.so.1" ] || library=yes
+[ ! -e "$top/libldvbi.so.1" ] || library=yes proved=yes
+if [ "$(dirname "$program")" = "$top/rust" ] || [ "${1:-}" = --rust ]; then
+    DIFFERENCES=$top/rust/differences.txt
+    export DIFFERENCES
+fi
 case ${1:-} in
     '')
-        [ "$library" ] || fault 'the library is not built'
-        rows everywhere library > "$work/first"
+        [ "$proved" ] || fault 'the library is not built'
+        rows everywhere library proved > "$work/first"
         rows whole > "$work/then"
         ;;
     --as-built)
-        rows everywhere ${library:+library} > "$work/first"
+        rows everywhere ${library:+library} ${proved:+proved} > "$work/first"
         : > "$work/then"
-        [ "$library" ] || echo "scripts: left out, since the library isn't built: $(rows library | paste -s -d ' ')"
+        [ "$library" ] || echo "scripts: left out, since no library is built: $(rows library | paste -s -d ' ')"
+        [ "$proved" ] || echo "scripts: left out, since \`make lib\` wasn't run: $(rows proved | paste -s -d ' ')"
         ;;
     --rust)
-        DIFFERENCES=$here/../rust/differences.txt
-        export DIFFERENCES
         awk '!/^#/ && $NF == "rust" { print $1 }' "$here/scripts.txt" > "$work/first"
         : > "$work/then"
         ;;

@@ -111,14 +111,20 @@ done << 'END'
 3 of 3 checks as wanted and more
 END
 
-# Without the library
+# Without the library at the top: one beside the program serves what needs any
 rm tree/libldvbi.so.1
 scripts '' ./ldvbi
 check 'without the library there is no whole gate' fails_with 'the library is not built'
 check 'and nothing is run' [ ! -s ran ]
 scripts '' ./ldvbi --as-built
 check 'as built, without the library' passes 1 first
-check 'it says what is left out' grep -qx "scripts: left out, since the library isn't built: second" out
+check 'it says what is left out' grep -qx "scripts: left out, since no library is built: second" out
+cp tree/ldvbi tree/rust
+: > tree/rust/libldvbi.so.1
+scripts '' rust/ldvbi --as-built
+check 'as built, the library beside the program' passes 2 first second
+check 'what is known to differ is named to them' [ "$(grep -c ' differences.txt$' ran)" = 2 ]
+rm tree/rust/*
 status=0
 (cd tree && SAYS=first CHECKS='1 of 1 checks as wanted, 1 left out' bounded sh tests/scripts.sh ./ldvbi --as-built) \
     < empty > out 2> err || status=$?

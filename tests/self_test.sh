@@ -18,11 +18,15 @@ library|include/ldvbi.h|s/LDVBI_HOLD = 4/LDVBI_HOLD = 5/
 library|tests/library/library_numbers.c|s/(105) . 106..110/(106) . 106..110/
 library|tests/library/library_paces.c|s/100..119 . 121? . 121/100..119 . 120? . 121/
 library|tests/library/library_chapters.c|s/{"7\*4 7~\*2", "7\*6"}/{"7*4 7~*2", "7*5 7?"}/
+library|tests/library/library_stops.c|s/(STOP, 3, STOP, 3, 0, 0), LDVBI_BELIEVED/(STOP, 3, STOP, 3, 0, 0), LDVBI_DOUBTFUL/
 library|tests/library/library_sightings.c|s/SEEN(1079999, 2, 1079999, 2, 0)/SEEN(1079999, 2, 1079999, 1, 0)/
 library|tests/library/library_worn.c|s/.noise = 0.3}, 1000, 1000/.noise = 0.5}, 1000, 1000/
 examples|tests/library/examples.sh|s/^SECAM 16384 51200$/NTSC 16384 51200/
 examples|examples/seek.py|s/<= 79999/<= 80000/
 examples|examples/seek.c|s/BLOCK = 64/BLOCK = 63/
+examples|examples/pixels.c|s/858 : 864/920 : 864/
+examples|examples/player.cpp|s/stop == LDVBI_BELIEVED/stop != LDVBI_NOTHING/
+examples|examples/stops.c|s/stop == LDVBI_BELIEVED/stop == LDVBI_DOUBTFUL/
 staged|Makefile|s/-m 755 $(BUILT)libldvbi.so/-m 700 $(BUILT)libldvbi.so/
 misread|include/ldvbi.h|s/LDVBI_DUE = 3/LDVBI_DUE = 4/
 misread|examples/seek.c|s/if (is_judged) {/if (!is_judged) {/
@@ -36,12 +40,18 @@ header|include/ldvbi.h|s/^#define LDVBI_H$/#define LDVBI_H_/
 header|tests/library/header.sh|s/^ldvbi_classify(0xF12345, NULL)$/ldvbi_classify(0xF12345, code)/
 header|include/ldvbi.h|/^LDVBI_RESULT$/{N;s/.*\n\(uint32_t ldvbi_judge\)/\1/}
 header|include/ldvbi.h|s/^LDVBI_RESULT LDVBI_POINTER(4)$/LDVBI_RESULT/
+header|include/ldvbi.h|s/stops.field. != LDVBI_BELIEVED/stops[field] != LDVBI_DOUBTFUL/
 python|python/ldvbi_side/judge/answer.py|s/^def analyse(/def analyze(/
 python|tests/python/python.sh|s/\$3 == "python"/$1 == "side_schema"/
 python_unit|python/ldvbi_side/judge/missing.py|s/"lost", ends/"last", ends/
 python_unit|python/ldvbi_side/judge/confirmed.py|s/seconds % 60, part/seconds, part/
 python_unit|python/ldvbi/judging.py|s/in (State.believed, State.due)/in (State.believed,)/
 python_unit|python/ldvbi_side/judge/chain.py|s/^import operator$/import operator, ldvbi_side.draw.svg/
+python_unit|python/ldvbi_side/join/captures.py|s/one.field - NEARBY - 1/one.field - NEARBY/
+python_unit|python/ldvbi_side/join/joined.py|s/for why in reversed(WHYS)/for why in WHYS/
+python_unit|python/ldvbi_side/into/field.py|s/before if "\\n" in before else gap/gap/
+python_unit|python/ldvbi_side/command/into.py|s/\[path + end for end in BESIDE\]/[]/
+python_unit|python/ldvbi_side/command/into.py|s/"utf-8", newline=""/"utf-8"/
 python_unit|tests/python/judged_truth.py|s/^REACH, ENOUGH, FIELD_MOST = 24,/REACH, ENOUGH, FIELD_MOST = 23,/
 python_unit|tests/python/test_cav.py|s/"after": 39, "before": 42/"after": 38, "before": 42/
 python_side|out|"vbiPass"|"vbiPaSS"
@@ -51,17 +61,15 @@ python_side|python/ldvbi_side/command/tables.py|s/"field", "frame", /"frame", "f
 side_schema|share/schema/ldvbi-side.schema.json|s/"unread", "breaks"/"breaks"/
 side_schema|share/schema/ldvbi-side.schema.json|s/"enum": \[1820, 2270\]/"type": "integer"/
 side_schema|share/schema/ldvbi-scan.schema.json|s/"fault": {"type": "null"}/"fault": {}/
+side_schema|share/schema/ldvbi-join.schema.json|s/"why": {"const": "clock"}/"why": {"type": "string"}/
 side_schema|share/schema/ldvbi-recovered.schema.json|s/{"const": 3}\]},$/{"enum": [2, 3]}]},/
 side_schema|tests/python/answers.py|/yield "clock"/d
+side_schema|tests/validate_parts.py|s/value if has_fixed_items(.*)) else value/value/
 side_schema|tests/validate_parts.py|s/self.validator.is_valid(document)/True/
 drawing|out|"blank"|"plank"
 drawing|hangs
 drawing|python/ldvbi_side/draw/marks.py|s/"%s: %s, after field/"%s: %s, behind field/
 drawing|docs/pictures/clv.svg|s/class="run"/class="ran"/
-jq_and_python|out|"vbiPass"|"vbiPaSS"
-jq_and_python|hangs
-jq_and_python|contrib/ldvbi.jq|s/lines: \[16, /lines: [15, /
-jq_and_python|python/ldvbi/classes.py|s/"chapter", ("number",), (17, 18)/"chapter", ("number",), (18,)/
 packaging|out|0.1.0|0.1.1
 packaging|Makefile|/install.*MANUALS/d
 packaging|Makefile|s/exit \$\$status/exit 1/
@@ -72,10 +80,9 @@ packaging|Makefile|s/scripts.sh $(PROGRAM)/scripts.sh .\/ldvbi/
 packaging|Makefile|s/rm -f $(COMMANDS:%=$(ROOT)\/bin\/%) /rm -f $(ROOT)\/bin\/* /
 packaging|Makefile|s/ --exclude=.cargo//
 packaging|tests/tools.sh|s/ jq:jq//
-jq_module|out|chapter 0|chapter 1
-jq_module|hangs
-jq_module|contrib/ldvbi.jq|s/kind: "chapter"/kind: "chaptre"/
-jq_module|codes/classes.txt|s/^words     8, x, d, DDD/words     8, d, d, DDD/
+classes|out|chapter 0|chapter 1
+classes|hangs
+classes|codes/classes.txt|s/^words     8, x, d, DDD/words     8, d, d, DDD/
 docs|out|picture stop|picture step
 docs|hangs
 docs|README.md|s/^field 65, frame 33/field 66, frame 33/
@@ -270,7 +277,7 @@ wheel|82CFFF
 END
 # Each row: a script that isn't about the Rust program alone, and the line before a table of it. A table is what a loop
 # reads that makes a check of each row.
-awk '$3 ~ /^(everywhere|library)$/ { print $1 }' "$tests/scripts.txt" | while read -r name; do
+awk '$3 ~ /^(everywhere|library|proved)$/ { print $1 }' "$tests/scripts.txt" | while read -r name; do
     awk -v name="$name" '
         FILENAME == "unturned" { unturned[$0]; next }
         begin && !(name "|" $0 in unturned) { print name "|" begin }
@@ -397,7 +404,8 @@ cp not_seen err
 check 'each table with two rows turned is seen' [ ! -s not_seen ]
 check 'there are tables to turn' [ "$(wc -l < turns)" -ge 14 ]
 
-awk '$3 ~ /^(everywhere|library|python|whole)$/ && $1 != "self_test" { print $1 }' "$tests/scripts.txt" | sort > listed
+awk '$3 ~ /^(everywhere|library|proved|python|whole)$/ && $1 != "self_test" { print $1 }' "$tests/scripts.txt" |
+    sort > listed
 cut -d '|' -f 1 alterations | sort -u > altered_scripts
 status=none
 check 'each script is tried' cmp listed altered_scripts

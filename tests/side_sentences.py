@@ -12,6 +12,7 @@ ORDINALS = "no first second third fourth fifth sixth seventh eighth ninth tenth"
 def sentences_of():
     """Returns the sentences. The package is that of this repository."""
     sys.path.insert(0, os.path.join(TOP, "python"))
+    from ldvbi_side import levels
     from ldvbi_side.command import summary
     from ldvbi_side.draw import page
     from ldvbi_side.judge import answer, believed, chain, clock, ends, lines, missing
@@ -49,6 +50,9 @@ def sentences_of():
         f"stands on all its fields, {pal_minute:,} on PAL and {least:,} to {most:,} on NTSC.",
         f"and at least {sparse.LEAST}, are as many pictures behind",
         f"show words of their own in less than one of {lines.FEW} lines,",
+        f"reads lines 17 and 18 of {levels.FIELDS} fields again,",
+        f"Where one of {levels.FEW} lines or more is read so,",
+        f"as `--white 30000` (levels are rounded to {levels.STEP:,}).",
         f"the least number is greater than {max(ends.FIRST['picture'])}, on CLV",
         f"more than {ends.LONGEST} fields before the first number, or behind the last one, show none",
         f"codes of the other format stand {whole.NEAR} fields from each other or less;",
@@ -56,5 +60,5 @@ def sentences_of():
         f"The members of `--json`, version {answer.VERSION}.",
         f"| `version`, `system`, `fields`, `cutField` | {answer.VERSION}; ",
         f"no clock shows it: minute 60, picture {pal} of PAL or {ntsc} of NTSC",
-        f"It prints the {CARDINALS[summary.MOST_LISTED]} largest stretches of each kind",
+        f"It prints the first {CARDINALS[summary.MOST_LISTED]} stretches of each kind",
     ]

@@ -33,11 +33,20 @@ def read_table(path):
     return {place: words for place, words in table.items() if place.startswith(".")}
 
 
-def shortened(value):
-    """Returns a document with three items at most in each list, which is looked at in less time."""
+def has_fixed_items(words):
+    """Whether the row of a list says how many items it has."""
+    return words[1:] == ["items"]
+
+
+def shortened(value, table, place=""):
+    """Returns a document with three items at most in each list, which is looked at in less time. Those whose row says
+    how many they have keep all."""
     if isinstance(value, dict):
-        return {name: shortened(one) for name, one in value.items()}
-    return [shortened(one) for one in value[:3]] if isinstance(value, list) else value
+        return {name: shortened(one, table, "%s.%s" % (place, name)) for name, one in value.items()}
+    if isinstance(value, list):
+        items = value if has_fixed_items(table.get(place, [])) else value[:3]
+        return [shortened(one, table, place + "[]") for one in items]
+    return value
 
 
 def is_in(value, values):
@@ -94,7 +103,7 @@ class Places:
             for name in value:
                 self.look_at(document, value[name], path + (name,), "%s.%s" % (place, name))
         elif isinstance(value, list):
-            has_places = self.table.get(place, [])[1:] == ["items"]
+            has_places = has_fixed_items(self.table.get(place, []))
             for index, item in enumerate(value):
                 self.look_at(document, item, path + (index,), "%s[%s]" % (place, index if has_places else ""))
 
@@ -104,7 +113,7 @@ class Places:
             self.faults.append(place + " has no row")
         words = self.table.get(place, [])
         if isinstance(value, list):
-            is_fixed = words[1:] == ["items"]
+            is_fixed = has_fixed_items(words)
             self.change_items(document, path, place, value, int(words[0]) if is_fixed else None)
             words = [] if is_fixed else ["[]"]
         allowed, refused = values_of(words)
@@ -134,7 +143,7 @@ def main():
         places = Places(json.load(file), read_table(sys.argv[2]))
     for path in sorted(sys.argv[3:], key=os.path.getsize):
         with open(path, encoding="ascii") as file:
-            document = shortened(json.load(file))
+            document = shortened(json.load(file), places.table)
         places.expect(document, True, path, "with short lists")
         places.look_at(document, document)
     tried = {place for place, _ in places.tried}

@@ -31,7 +31,7 @@ mean is the business of the package `ldvbi_side`, which stands on this one: noth
 
 
 from .classes import Code, Format, Kind, classify, format_of
-from .judging import Number, State, find_pace, first_of, judge, judge_chapters
+from .judging import Number, State, find_pace, first_of, judge, judge_chapters, judge_field, judge_stops
 from .library import Counted, Pace, System
 from .near import Near, nearest
 from .readings import (PACKED_FIELD, Cause, FieldReadings, Reading, draw_line, field_bytes, line_bytes, read_field,
@@ -40,6 +40,7 @@ from .stream import BLOCK, Stream, fields
 
 __all__ = ["System", "Cause", "Kind", "Format", "Counted", "Pace", "State", "Reading", "FieldReadings", "Code",
            "Number", "Near", "Stream", "line_bytes", "field_bytes", "read_line", "read_rows", "read_field", "fields",
-           "classify", "format_of", "judge", "find_pace", "judge_chapters", "first_of", "nearest", "draw_line"]
+           "classify", "format_of", "judge", "judge_field", "find_pace", "judge_chapters", "judge_stops", "first_of",
+           "nearest", "draw_line"]
 
 __version__ = "0.1.0"

@@ -7,7 +7,7 @@ from .classes import CLASSES, Code, Kind, classify
 
 LINES = (16, 17, 18)
 
-# The names of a kind and of its numbers, as `ldvbi show` and contrib/ldvbi.jq have them
+# The names of a kind and of its numbers, as `ldvbi show` has them
 KINDS = {one.kind: (one.text, *one.numbers) for one in CLASSES}
 
 # The lines on which IEC 60857 (NTSC) and IEC 60856 (PAL) put each kind. A picture stop and a CLV mark may stand on line

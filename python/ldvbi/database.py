@@ -35,7 +35,9 @@ def opened(path: str) -> Iterator[sqlite3.Connection]:
     try:
         with contextlib.closing(sqlite3.connect(address, uri=True)) as database:
             yield database
-    except (sqlite3.Error, ValueError) as error:
+    except sqlite3.Error as error:
+        raise ValueError("%s: SQLite can't read it: %s" % (path, error)) from None
+    except ValueError as error:
         raise ValueError("%s: %s" % (path, error)) from None
 
 

@@ -62,15 +62,28 @@ def read_document(data: bytes) -> Document:
                     Levels(levels["black16bIre"], levels["white16bIre"]))
 
 
+class _NoNumber(ValueError):
+    """A name in a number's place, which Python's json takes for one."""
+
+
 def _no_number(name):
-    raise ValueError("%s is no number" % name)
+    raise _NoNumber(name)
 
 
 def _parsed(data):
     try:
         return json.loads(data.decode("utf-8"), parse_constant=_no_number)
-    except (ValueError, RecursionError) as error:
-        raise ValueError("not JSON: %s" % error) from None
+    except UnicodeDecodeError as error:
+        fault = "byte %d is not UTF-8" % (error.start + 1)
+    except json.JSONDecodeError as error:
+        fault = "line %d is wrong from column %d on" % (error.lineno, error.colno)
+    except _NoNumber as error:
+        fault = "%s is no number" % error
+    except RecursionError:
+        fault = "it is nested too deep"
+    except ValueError:
+        fault = "a number is too long"
+    raise ValueError("not JSON: " + fault)
 
 
 def _is_number(value, least, most):

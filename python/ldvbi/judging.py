@@ -1,4 +1,5 @@
-"""Which number or chapter of its disc each field shows, judged by the fields around it: the library's judge."""
+"""Which number or chapter of its disc each field shows, judged by the fields around it, and which stops are to be
+believed: the library's judge."""
 
 import ctypes
 import enum
@@ -30,8 +31,10 @@ class Number(NamedTuple):
 
 
 _PACKED_NUMBER = struct.Struct("=II")  # LdvbiNumber
+_PACKED_STATE = struct.Struct("=I")
 _SIGHTINGS_BYTES = 20  # of LdvbiSightings
 _STATES = dict(enumerate(State))
+PART = 97  # the most fields on which the answer of one depends: 48 before it, and 48 behind it
 
 
 def judge(readings: Any, system: AnySystem, counted: Union[Counted, str] = Counted.pictures,
@@ -51,6 +54,20 @@ def judge(readings: Any, system: AnySystem, counted: Union[Counted, str] = Count
     return _judged(readings, lambda *arrays: call(*asked, *arrays))
 
 
+def judge_field(readings: Any, field: int, system: AnySystem, counted: Union[Counted, str] = Counted.pictures,
+                pace: Union[Pace, str] = Pace.video) -> Number:
+    """The `Number` of one field, counted from 0, of at most 97 readings, which are as for `judge`. If they have 48
+    fields before it, or begin with the side, and 48 behind it, or end with the side, it is what `judge` answers of it
+    in the whole side at the same pace, which is `video` or `film` (`find_pace`)."""
+    call = later_call("ldvbi_judge_field")
+    packed, count = _packed(readings)
+    number = ctypes.create_string_buffer(_PACKED_NUMBER.size)
+    if not 0 <= field < count <= PART:
+        raise ValueError("field %d of %d, which may be %d at most" % (field, count, PART))
+    check(call(system_number(system), counted_number(counted), pace_number(pace), packed, count, field, number))
+    return _number_of(*_PACKED_NUMBER.unpack(number))
+
+
 def judge_chapters(readings: Any) -> List[Number]:
     """The chapter of each field as a `Number`, in a list: `number` is the chapter, from 0 to 79, and `state` is never
     `due`. Most fields have no code of a chapter: these have `nothing`, and are of the chapter that was believed last.
@@ -63,14 +80,32 @@ def judge_chapters(readings: Any) -> List[Number]:
     return _judged(readings, later_call("ldvbi_judge_chapters"))
 
 
+def judge_stops(readings: Any) -> List[State]:
+    """Whether each field has a picture stop, as a list of `State`, which is `believed`, `doubtful` or `nothing`:
+    believed is a stop that line 16 or 17 shows in pass 1, or that both show, doubtful any other of these lines. Each
+    field is judged by itself. `readings` are as for `judge`.
+
+    If the disc has no stop in a field of which one is believed, a word of pass 1 was misread on its lines 16 and 17, or
+    both words were. A stop that the disc has is believed where one of the two was read right in pass 1, or both were
+    read right."""
+    call = later_call("ldvbi_judge_stops")
+    packed, count = _packed(readings)
+    stops = ctypes.create_string_buffer(_PACKED_STATE.size * count)
+    check(call(packed, count, stops, count))
+    return [_STATES.get(state, state) for state, in _PACKED_STATE.iter_unpack(stops)]
+
+
 def _judged(readings: Any, call: Callable[..., int]) -> List[Number]:
     """What a call answers of each field, which takes the readings, and room for what is seen and for the answers."""
     packed, count = _packed(readings)
     seen = ctypes.create_string_buffer(_SIGHTINGS_BYTES * count)
     numbers = ctypes.create_string_buffer(_PACKED_NUMBER.size * count)
     check(call(packed, count, seen, count, numbers, count))
-    return [Number(number if state else None, _STATES.get(state, state))
-            for number, state in _PACKED_NUMBER.iter_unpack(numbers)]
+    return [_number_of(number, state) for number, state in _PACKED_NUMBER.iter_unpack(numbers)]
+
+
+def _number_of(number, state):
+    return Number(number if state else None, _STATES.get(state, state))
 
 
 def find_pace(readings: Any, system: AnySystem, counted: Union[Counted, str] = Counted.pictures) -> Pace:

@@ -16,6 +16,7 @@ _TEXTS = {BAD_SYSTEM: _NO_SYSTEM, BAD_WORD: "number is no code word",
           BAD_COUNTED: "neither pictures nor times are counted",
           BAD_PACE: "pace is neither that of video nor of film, nor to be found"}
 _MOST = 0xFFFFFFFF
+_MAKE = "`make lib` or `make rust` builds"
 
 
 class System(enum.IntEnum):
@@ -47,10 +48,11 @@ def _library_file():
     package = os.path.dirname(os.path.abspath(__file__))  # where a wheel has it
     here = os.path.dirname(package)
     name = "libldvbi.so.%d" % ABI
-    above = os.path.join(here, os.pardir)
+    above = os.path.join(here, os.pardir)  # the top of the repository, where `make lib` puts it; `make rust` in rust/
     # as installed, the package is in PREFIX/share/ldvbi/python
     installed = os.path.join(above, os.pardir, os.pardir, "lib")
-    places = [os.path.join(folder, name) for folder in (package, here, above, installed)]
+    folders = (package, here, above, os.path.join(above, "rust"), installed)
+    places = [os.path.join(folder, name) for folder in folders]
     return os.environ.get("LDVBI_LIBRARY") or next((place for place in places if os.path.exists(place)), name)
 
 
@@ -68,8 +70,10 @@ _ARGUMENTS = {
 # Those of the calls that an older library may lack, and what it can't do then
 _LATER = {
     "ldvbi_judge": ("judge numbers", [_NUMBER] * 3 + [_MEMORY, _SIZE] * 3),
+    "ldvbi_judge_field": ("judge one field", [_NUMBER] * 3 + [_MEMORY, _SIZE, _SIZE, _MEMORY]),
     "ldvbi_find_pace": ("find paces", [_NUMBER] * 2 + [_MEMORY, _SIZE] * 2 + [_MEMORY]),
     "ldvbi_judge_chapters": ("judge chapters", [_MEMORY, _SIZE] * 3),
+    "ldvbi_judge_stops": ("judge stops", [_MEMORY, _SIZE] * 2),
     "ldvbi_nearest": ("find nearest words", _SETUP + [_MEMORY, _SIZE, _MEMORY]),
     "ldvbi_recover_rows": ("recover words", _SETUP + [_MEMORY, _SIZE, _MEMORY]),
     "ldvbi_recover_fields": ("recover words", _SETUP + [_MEMORY, _SIZE, _MEMORY, _SIZE]),
@@ -91,11 +95,11 @@ def library() -> ctypes.CDLL:
         for name, types in _ARGUMENTS.items():
             _declared(calls, name, types)
     except (OSError, AttributeError) as error:
-        raise OSError("no library to read samples with (%s): `make lib` builds it, LDVBI_LIBRARY names its file"
-                      % error) from None
+        raise OSError("no library to read samples with (%s): %s it, LDVBI_LIBRARY names its file"
+                      % (error, _MAKE)) from None
     if calls.ldvbi_abi() != ABI:
-        raise OSError("%s has the interface %d, not %d: `make lib` builds the one that fits, LDVBI_LIBRARY names its "
-                      "file" % (file, calls.ldvbi_abi(), ABI))
+        raise OSError("%s has the interface %d, not %d: %s the one that fits, LDVBI_LIBRARY names its file"
+                      % (file, calls.ldvbi_abi(), ABI, _MAKE))
     return calls
 
 
@@ -108,8 +112,8 @@ def later_call(name: str) -> Any:
     try:
         return _declared(calls, name, types)
     except AttributeError:
-        raise OSError("%s is too old to %s, it has no %s: `make lib` builds a later one, LDVBI_LIBRARY names its file"
-                      % (calls._name, purpose, name)) from None
+        raise OSError("%s is too old to %s, it has no %s: %s a later one, LDVBI_LIBRARY names its file"
+                      % (calls._name, purpose, name, _MAKE)) from None
 
 
 # ---- Arguments and refusals

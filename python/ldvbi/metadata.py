@@ -9,6 +9,7 @@ from typing import Any, BinaryIO, Callable, Dict, Iterator, List, NamedTuple, Op
 
 from .collector import paused
 from .library import System
+from .packed import refuse_packed
 from .readings import size_of
 from .scanner import NotJson, Scanner
 
@@ -45,11 +46,14 @@ def is_database(begin: bytes) -> bool:
 
 @paused()
 def read_metadata(path: str, on_field: Optional[OnField] = None) -> Metadata:
-    """The `Metadata` of a file, which is read once, since it may be a pipe. A database of another form is a ValueError;
-    a text that isn't metadata has none of the three. `on_field` is called with each field of a text as it is read."""
+    """The `Metadata` of a file, which is read once, since it may be a pipe. A database of another form is a ValueError,
+    and so is a compressed file; a text that isn't metadata has none of the three. `on_field` is called with each field
+    of a text as it is read."""
     with open(path, "rb") as file:
+        begin = file.peek(16)
+        refuse_packed(path, begin)
         # A pipe begins with less, perhaps, and is no database.
-        if is_database(file.peek(16)):
+        if is_database(begin):
             from .database import first_of_database, parameters_of_database  # the smallest Pythons have no sqlite3
             found = _Found(parameters_of_database(path), first_of_database(path))
         else:

@@ -11,3 +11,10 @@ _BEGINS = {"gzip": re.compile(rb"\x1f\x8b\x08[\x00-\x1f]"), "zstd": re.compile(r
 def packed_as(begin: bytes) -> Optional[str]:
     """The form of a compressed file that begins with these bytes, 8 or more; None where it is none."""
     return next((name for name, pattern in _BEGINS.items() if pattern.match(begin)), None)
+
+
+def refuse_packed(path: str, begin: bytes) -> None:
+    """Raises a ValueError that names the file where it begins with these bytes, 8 or more, and is compressed."""
+    packed = packed_as(begin)
+    if packed:
+        raise ValueError("%s: it is compressed (%s): unpack it first" % (path, packed))

@@ -85,14 +85,29 @@ class Stream:
         for block in self.packed(begin, end):
             yield from unpacked(block)
 
+    @property
+    def size(self) -> int:
+        """The bytes of the stream, a cut last field with them."""
+        return self._open_samples().length
+
     def rows(self, index: int) -> bytes:
         """The samples of lines 16, 17 and 18 of a field, counted from 0, as `read_rows` takes them."""
+        return self.rows_as(self.system, range(self._count)[index])
+
+    def rows_as(self, system: System, field: int) -> bytes:
+        """The same of a whole field, if the stream were one of this system."""
+        line, size = line_bytes(system), field_bytes(system)
+        samples = self._open_samples()
+        if not 0 <= field < samples.length // size:
+            raise IndexError("field %d of a stream of %d fields" % (field, samples.length // size))
+        rows = ctypes.string_at(samples.address + field * size + 15 * line, 3 * line)
+        self._give_back(field * size, (field + 1) * size)
+        return rows
+
+    def _open_samples(self) -> Samples:
         if self._samples is None:
             raise ValueError("the stream is closed")
-        line, field = line_bytes(self.system), range(self._count)[index]
-        rows = ctypes.string_at(self._samples.address + field * self._size + 15 * line, 3 * line)
-        self._give_back(field, field + 1)
-        return rows
+        return self._samples
 
     def packed(self, begin: int, end: int) -> Iterator[Any]:
         """Yields the readings of the fields from `begin` to `end` in blocks, as the library writes them: of each field
@@ -104,19 +119,17 @@ class Stream:
             yield self._packed_block(first, last - first)
 
     def _packed_block(self, first: int, count: int) -> Any:
-        if self._samples is None:
-            raise ValueError("the stream is closed")
         out = ctypes.create_string_buffer(PACKED_FIELD.size * count)
-        address = self._samples.address + first * self._size
+        address = self._open_samples().address + first * self._size
         self._setup.check(self._read(*self._setup, address, count * self._size, out, count))
-        self._give_back(first, first + count)
+        self._give_back(first * self._size, (first + count) * self._size)
         return out
 
     def _give_back(self, begin: int, end: int) -> None:
-        """Has the system take back the pages of these fields, which were read."""
+        """Has the system take back the pages of these bytes, which were read."""
         if self._file is not None and _GIVE_BACK is not None:
-            first = begin * self._size // mmap.PAGESIZE * mmap.PAGESIZE
-            self._file.madvise(_GIVE_BACK, first, end * self._size - first)
+            first = begin // mmap.PAGESIZE * mmap.PAGESIZE
+            self._file.madvise(_GIVE_BACK, first, end - first)
 
     def _fetch(self, begin: int, end: int) -> None:
         """Has the system fetch the pages of lines 16, 17 and 18 of these fields, of all of them at once."""

@@ -29,9 +29,9 @@ def wanted_of(text: str) -> Wanted:
 
 def seek(answer: Answer, wanted: Wanted) -> Optional[Dict[str, Any]]:
     """The first field of what is wanted on a side with this answer, as a dict of `field`, `frame`, `read` and `other`;
-    None where it isn't there. `read` is false where the number wasn't read in that field, but is due there by its
-    neighbours; `other` is what was read there instead, or None. A number that was set aside is never answered with. Of
-    a part of a time the first field that has any of it counts."""
+    None where it isn't there. `read` is false where the number wasn't read in that field, but is due there by the
+    numbers around it; `other` is what was read there instead, or None. A number that was set aside is never answered
+    with. Of a part of a time the first field that has any of it counts."""
     if wanted.kind == "chapter":
         found = [(one["field"], True, None) for one in answer["chapters"] if one["chapter"] == wanted.numbers[0]]
     else:
@@ -73,4 +73,4 @@ def text_of(found: Optional[Dict[str, Any]]) -> str:
         return text
     other = "no number was read there" if found["other"] is None else (
         "another number was read there: %s" % found["other"])
-    return text + ", by its neighbours: " + other
+    return text + ", by the numbers around it: " + other

@@ -11,6 +11,7 @@ from ldvbi.readings import Cut, Levels, cause_text
 from ldvbi.stream import cut_of
 from .judge.answer import analyse
 from .judge.readings import Answer, Fields, Judge
+from .levels import tried_on
 from .near import nearest_word_in
 from .seek import seek, wanted_of
 
@@ -54,8 +55,9 @@ class Side:
             causes.append((cause_text(one), cause_text(two), cause_text(three)))
         cut = self.cut and {"seqNo": self.cut.field, "bytes": self.cut.bytes}
         nearest_word = functools.partial(nearest_word_in, self.samples) if self.samples else None
+        try_levels = functools.partial(tried_on, self.samples) if self.samples else None
         return Fields(self.system.name, words, passes, causes, cut, self.first, self.expected, self.is_strict,
-                      nearest_word, self.judge)
+                      nearest_word, self.judge, try_levels)
 
     @functools.cached_property
     def answer(self) -> Answer:
@@ -64,7 +66,7 @@ class Side:
 
     def codes(self) -> Iterator[Dict[str, Any]]:
         """For each field its number, its format, the codes of lines 16, 17 and 18, and those that stand on a line of
-        their kind, each with its lines: `codes` of contrib/ldvbi.jq."""
+        their kind, each with its lines."""
         for number, readings in self.numbered():
             words = [line.word for line in readings]
             yield {"seqNo": number, "format": format_of(*words).name, "codes": [code(word) for word in words],

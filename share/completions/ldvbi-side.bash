@@ -18,8 +18,8 @@ _ldvbi_side() {
         *)
             case $word in
                 -*)
-                    answers='--help --meta --system --black --white --no-recover --csv --json --bad-lines --seek'
-                    answers="$answers --summary --document --recovered --strict --output --svg --html --map --into"
+                    answers='--help --version --meta --system --black --white --no-recover --csv --json --bad-lines'
+                    answers="$answers --seek --summary --document --recovered --strict --output --svg --html --map --into"
                     [ "${COMP_WORDS[1]}" != scan ] || answers='--help --jobs --csv --json --html --again'
                     [ "${COMP_WORDS[1]}" != join ] || answers='--help --csv --ranges --json --html'
                     ;;

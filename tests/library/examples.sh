@@ -32,6 +32,15 @@ prints_and_says() {
     prints 0 "$text" "$@" && cmp -s err wanted_line
 }
 
+# finds_in_lines TEXT COMMAND..: checks that a command finds this by the lines alone, with status 3, and says so
+finds_in_lines() {
+    text=$1
+    shift
+    printf '%s: no number of this side is supported by those around it, so this is what the lines say\n' \
+        "$(basename "${seek##* }")" > wanted_line
+    prints 3 "$text" "$@" && cmp -s err wanted_line
+}
+
 # tail_of_stops COUNT: what stops says of the beginning of stops.tbc that has so many stops
 tail_of_stops() {
     [ "$1" -lt 1 ] || echo 'field 5 picture 3'
@@ -96,20 +105,22 @@ cp out few.tbc
 # The examples, of which those in C and C++ are linked with the shared library
 check 'seek is built' does $cc -std=c99 $strict -o seek "$top/examples/seek.c" $linked
 check 'stops is built' does $cxx -std=c++17 $strict -o stops "$top/examples/stops.cpp" $linked
+check 'stops.c is built' does $cc -std=c99 $strict -o stops_alone "$top/examples/stops.c" $linked
+check 'pixels is built' does $cc -std=c99 $strict -o pixels "$top/examples/pixels.c" $linked
 check 'player is built' does $cxx -std=c++17 $strict -o player "$top/examples/player.cpp" $linked
 for seek in ./seek "python3 $top/examples/seek.py"; do
     check "$seek: a CAV disc" prints 0 'field 7' $seek cav.tbc $on_cav 3
     check "$seek: no such picture" prints 1 'not found' $seek cav.tbc $on_cav 5
-    check "$seek: a CLV disc" prints 0 'field 7' $seek clv.tbc $on_clv 0:01:00.00
-    check "$seek: a time without zeros" prints 0 'field 7' $seek clv.tbc $on_clv 0:1:0.0
+    check "$seek: a CLV disc" finds_in_lines 'field 7' $seek clv.tbc $on_clv 0:01:00.00
+    check "$seek: a time without zeros" finds_in_lines 'field 7' $seek clv.tbc $on_clv 0:1:0.0
     check "$seek: no such time" prints 1 'not found' $seek clv.tbc $on_clv 0:02:00.00
     check "$seek: the number on line 18 alone" prints 0 'field 5' $seek stops.tbc $on_cav 3
     check "$seek: the number on line 17 alone" prints 0 'field 7' $seek stops.tbc $on_cav 4
     check "$seek: lines 17 and 18 differ, the one" prints 1 'not found' $seek few.tbc $on_cav 2
     check "$seek: lines 17 and 18 differ, the other" prints 1 'not found' $seek few.tbc $on_cav 7
-    check "$seek: a mark on line 17" prints 0 'field 1' $seek marks.tbc $on_clv 0:00:00.00
+    check "$seek: a mark on line 17" finds_in_lines 'field 1' $seek marks.tbc $on_clv 0:00:00.00
     check "$seek: minutes that differ" prints 1 'not found' $seek marks.tbc $on_clv 0:00:00.02
-    check "$seek: hours" prints 0 'field 5' $seek marks.tbc $on_clv 1:09:00.03
+    check "$seek: hours" finds_in_lines 'field 5' $seek marks.tbc $on_clv 1:09:00.03
     check "$seek: no field" prints 1 'not found' $seek empty.tbc $on_cav 3
     check "$seek: the greatest picture" prints 1 'not found' $seek cav.tbc $on_cav 79999
     check "$seek: the greatest time" prints 1 'not found' $seek clv.tbc $on_clv 9:59:59.99
@@ -198,11 +209,10 @@ check 'stops: a CAV disc' prints 0 'field 7 picture 3
 field 8
 2 stops' sh -c './stops NTSC 16384 51200 < cav.tbc'
 check 'stops: a CLV disc' prints 0 '0 stops' sh -c './stops PAL 16384 54016 < clv.tbc'
-check 'stops: a stop on line 17 or 18' prints 0 'field 5 picture 3
+check 'stops: a stop on line 16, on both, and on line 18, where it is none' prints 0 'field 5 picture 3
 field 8
 field 9 picture 5
-field 11
-4 stops' sh -c './stops NTSC 16384 51200 < stops.tbc'
+3 stops' sh -c './stops NTSC 16384 51200 < stops.tbc'
 check 'stops: lines 17 and 18 differ' prints 0 'field 1
 field 2 picture 3
 2 stops' sh -c "printf '82CFFF F00002 F00007\n82CFFF F00003 F00003\n' | '$program' draw $ntsc - |
@@ -218,8 +228,7 @@ check 'player: the last chapter' prints 0 'chapter: field 10' ./player stops.tbc
 check 'player: lines 17 and 18 differ' prints 1 'search: not found' ./player few.tbc $on_cav search 2
 check 'player: no chapter' prints 1 'chapter: not found' ./player stops.tbc $on_cav chapter 3
 check 'player: no stop ahead' prints 1 'search: field 9 picture 5
-play: field 11
-play: not found' ./player stops.tbc $on_cav search 5 play play
+play: not found' ./player stops.tbc $on_cav search 5 play
 check 'player: a CLV disc' prints 1 'search: not found' ./player clv.tbc $on_clv search 3
 run_inheriting draw $ntsc - << 'WORDS'
 - F00001 F00001
@@ -231,20 +240,50 @@ WORDS
 cp out misread.tbc
 check 'player: a number that was misread leads nobody astray' prints 0 'search: field 4 picture 4
 search: field 5 picture 5' ./player misread.tbc $on_cav search 4 search 5
-# A worn side: on lines 16, 17 and 18 each sample has noise, whose deviation is half the way from black to white. No
+# Both fields of pictures 3 and 5 have the stop, and line 16 of picture 2 has one in pass 2, since a run in it is black
+run_inheriting draw $ntsc - << 'WORDS'
+- F00001 F00001
+- 800DDD 800DDD
+82CFFF F00002 F00002
+- 800DDD 800DDD
+82CFFF 82CFFF F00003
+82CFFF 82CFFF 800DDD
+- F00004 F00004
+- 800DDD 800DDD
+82CFFF 82CFFF F00005
+82CFFF 82CFFF 800DDD
+- F00006 F00006
+WORDS
+cp out once.tbc
+printf '\000\100\000\100' | dd of=once.tbc bs=1 seek=$((2 * 478660 + 15 * 1820 + 2 * 170)) conv=notrunc 2> dd.err
+run extract $ntsc once.tbc
+check 'one stop is of pass 2' [ "$(jq -c '[.fields[2] | .vbi.vbiData[0], .vbiPass[0]]' out)" = '[8572927,2]' ]
+check 'player: it stops once at a picture, and at none for a line of pass 2' prints 1 'play: field 5 picture 3
+play: field 9 picture 5
+play: not found' ./player once.tbc $on_cav play play play
+check 'stops: each field of a picture' prints 0 'field 5 picture 3
+field 6
+field 9 picture 5
+field 10
+4 stops' sh -c "./stops $on_cav < once.tbc"
+# A worn side: on lines 16, 17 and 18 each sample has noise, whose deviation is 0.45 of the way from black to white. No
 # line shows its word, so whoever finds a picture, a chapter or a stop has recovered the words.
+# Stops stand on lines 16 and 17, and one, of picture 6, on line 16 alone, which isn't enough for a recovered one. The
+# seed is one with which each of the others is recovered on both lines; with another seed one of them may stay in doubt.
 awk 'BEGIN { for (picture = 1; picture <= 24; picture++) {
     chapter = picture < 13 ? 0 : 1
-    printf "%s F%05d F%05d\n", picture % 9 == 2 ? "82CFFF" : "-", picture, picture
+    number = sprintf("F%05d", picture)
+    is_stop = picture % 9 == 2
+    print is_stop || picture == 6 ? "82CFFF" : "-", is_stop ? "82CFFF" : number, number
     printf "- 80%dDDD 80%dDDD\n", chapter, chapter
 } }' | bounded "$program" draw $ntsc - > clean.tbc
 bounded python3 - clean.tbc worn.tbc << 'END'
 import array, random, sys
-chance = random.Random(60857)
+chance = random.Random(60856)
 with open(sys.argv[1], "rb") as clean, open(sys.argv[2], "wb") as worn:
     while field := bytearray(clean.read(2 * 910 * 263)):
         samples = array.array("H", field[2 * 910 * 15:2 * 910 * 18])
-        noisy = (min(max(round(chance.gauss(sample, (51200 - 16384) / 2)), 0), 65535) for sample in samples)
+        noisy = (min(max(round(chance.gauss(sample, 0.45 * (51200 - 16384))), 0), 65535) for sample in samples)
         field[2 * 910 * 15:2 * 910 * 18] = array.array("H", noisy).tobytes()
         worn.write(field)
 END
@@ -307,6 +346,92 @@ check 'seek.py: a number in a cut field' refuses_with 1 python3 "$top/examples/s
 said_line "player: $cut"
 check 'player: a stop in a cut field' refuses_with 1 ./player part.tbc $on_cav play
 check 'player: a number in a cut field' refuses_with 1 ./player part.tbc $on_cav search 3
+
+# Lines at 13.5 MHz, drawn here by the standards alone: cells of two microseconds that change in their middle, upwards
+# for a one, with edges of a quarter of a half cell and a little noise. Each word begins at another part of a pixel.
+cat > pixels.py << 'END'
+import random, sys
+BEFORE = {"NTSC": 122, "PAL": 132}  # pixels of a line before those of active video
+chance = random.Random(60856)
+
+def level(word, time):
+    """From 0 to 1, this many half cells behind the word's begin."""
+    halves = [half for bit in format(word, "024b") for half in ((0, 1) if bit == "1" else (1, 0))]
+    at = lambda place: halves[place] if 0 <= place < 48 else 0
+    here, part = int(time // 1), time % 1
+    if part < 0.125:
+        return at(here - 1) + (at(here) - at(here - 1)) * (part / 0.25 + 0.5)
+    if part > 0.875:
+        return at(here) + (at(here + 1) - at(here)) * ((part - 0.875) / 0.25)
+    return at(here)
+
+def pixels(system, half_cell, word):
+    begin = 10.5 + chance.uniform(-0.25, 0.25)
+    for place in range(720):
+        here = level(word, ((BEFORE[system] + place) / 13.5 - begin) / half_cell) if word else 0
+        yield round(16 + 219 * here + chance.uniform(-12, 12)) % 256 if here else 16
+
+for row in sys.stdin:
+    for word in row.split()[:3]:
+        sys.stdout.buffer.write(bytes(pixels(sys.argv[1], float(sys.argv[2]), 0 if word == "-" else int(word, 16))))
+END
+cat > pixels.txt << 'END'
+- F00001 F00001
+- - -
+82CFFF 82CFFF F00003 stop
+82CFFF F00004 F00004 stop
+- F79999 82CFFF
+8AE712 87FFFF F0DD09
+8BA0A1 807DDD 807DDD
+- 88FFFF 88FFFF
+AAAAAA 800000 FFFFFF
+END
+# As the disc has them, and nearly as short as the library takes them, where samples that lie too far apart read nothing
+for half_cell in 1 0.82; do
+    for system in NTSC PAL; do
+        bounded python3 pixels.py $system $half_cell < pixels.txt > lines.y8
+        check "pixels: lines of $system at 13.5 MHz, half cells of $half_cell microseconds" \
+            prints 0 "$(cat pixels.txt)" sh -c "./pixels $system 16 235 < lines.y8"
+    done
+done
+check 'pixels: no line' [ -z "$(bounded ./pixels NTSC 16 235 < empty 2>&1)" ]
+head -c 2159 lines.y8 > part.y8
+check 'pixels: a field that is cut' refuses 'pixels: the last field is cut' sh -c './pixels PAL 16 235 < part.y8'
+while read -r system black white; do
+    check "pixels: $system $black $white" refuses_in_a_line pixels ./pixels $system $black $white
+done << 'WORDS'
+NTSC 51200 16384
+SECAM 16 235
+NTSC 235 16
+NTSC 16 16
+NTSC 16 256
+NTSC -1 235
+NTSC 16 x
+NTSC 16
+WORDS
+
+# The stops alone, in C, as soon as each is read
+check 'stops.c: a CAV disc' prints 0 'field 7
+field 8
+2 stops' sh -c './stops_alone NTSC 16384 51200 < cav.tbc'
+check 'stops.c: stops on lines 16 and 17' prints 0 'field 5
+field 8
+field 9
+3 stops' sh -c './stops_alone NTSC 16384 51200 < stops.tbc'
+check 'stops.c: a field that is cut' prints_and_says 'field 5
+1 stops' 'stops: the last field is cut: field 6 has 1 of 478660 bytes' \
+    sh -c "head -c $((478660 * 5 + 1)) stops.tbc | ./stops_alone $on_cav"
+check 'stops.c: no field' prints 0 '0 stops' sh -c "./stops_alone $on_cav < empty"
+while read -r system black white; do
+    check "stops.c: $system $black $white" refuses_in_a_line stops ./stops_alone $system $black $white
+done << 'WORDS'
+NTSC 51200 16384
+SECAM 16384 51200
+NTSC 16384 81920
+NTSC 16384 4294967297
+NTSC -1 51200
+NTSC 16384
+WORDS
 
 # How each is called
 player_usage='player: usage: player FILE NTSC|PAL BLACK WHITE search N|chapter N|play ..'

@@ -47,6 +47,31 @@ status=0
 bounded $cc -o program main.c one.o two.o "$built/libldvbi.a" < empty > out 2> err || status=$?
 check 'the header in two parts of a program' ended 0 empty empty
 
+# The quick start at the head of the header is a program, which finds a picture, and the stop behind it
+{
+    for name in fcntl.h ldvbi.h stdio.h stdlib.h sys/mman.h unistd.h; do
+        echo "#include <$name>"
+    done
+    echo 'int main(void) {'
+    sed -n '1,/^ \* Where nothing/s/^ \*     //p' "$top/include/ldvbi.h"
+    echo 'return 0; }'
+} > quick.c
+check 'the quick start has at most 15 lines' [ "$(wc -l < quick.c)" -le 23 ]
+status=0
+bounded $cc -std=c99 -D_DEFAULT_SOURCE -Wall -Wextra -Wpedantic -Wconversion -Werror -I"$top/include" -o quick quick.c \
+    "$built/libldvbi.a" < empty > out 2> err || status=$?
+check 'the quick start is built' ended 0 empty empty
+awk 'BEGIN { for (picture = 12340; picture < 12352; picture++) {
+    stop = picture == 12341 || picture == 12348 ? "82CFFF" : "-"
+    printf "%s %s F%d\n- 800DDD 800DDD\n", stop, stop == "-" ? "F" picture : stop, picture
+} }' | bounded "$program" draw $ntsc - > side.tbc
+printf '%s\n' 'picture 12345 is in field 11 of 24' 'the player stops in field 17' > wanted
+status=0
+bounded ./quick < empty > out 2> err || status=$?
+check 'the quick start finds a picture and a stop' ended 0 wanted empty
+check 'the first declaration stands before line 60' \
+    [ "$(grep -n '^enum\|^[a-z].*);$' "$top/include/ldvbi.h" | head -n 1 | cut -d : -f 1)" -lt 60 ]
+
 # called_as STATEMENT: makes a file in which a call stands as this statement. What it reads can't be written.
 called_as() {
     taken='const void *samples, void *drawn, LdvbiReading *reading, LdvbiFieldReadings *readings, LdvbiCode *code,
@@ -84,8 +109,11 @@ ldvbi_judge(1, 1, 1, read, 9, seen, 9, numbers, 9)
 ldvbi_judge(1, 1, 1, NULL, 0, NULL, 0, NULL, 0)
 ldvbi_find_pace(1, 1, read, 9, seen, 9, format)
 ldvbi_find_pace(1, 1, NULL, 0, NULL, 0, format)
+ldvbi_judge_field(1, 1, 1, read, 9, 4, numbers)
 ldvbi_judge_chapters(read, 9, seen, 9, numbers, 9)
 ldvbi_judge_chapters(NULL, 0, NULL, 0, NULL, 0)
+ldvbi_judge_stops(read, 9, format, 9)
+ldvbi_judge_stops(NULL, 0, NULL, 0)
 END
 while read -r call; do
     called_as "return $call"
@@ -99,5 +127,6 @@ ldvbi_recover_rows(1, 1, 2, samples, 5460, NULL)
 ldvbi_classify(0xF12345, NULL)
 ldvbi_format(0, 0xF12345, 0, NULL)
 ldvbi_find_pace(1, 1, read, 9, seen, 9, NULL)
+ldvbi_judge_field(1, 1, 1, read, 9, 4, NULL)
 END
 finish

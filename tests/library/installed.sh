@@ -126,7 +126,7 @@ head -c 12345 cav.tbc > beginning.tbc
 on_cav='NTSC 16384 51200'
 examples=usr/share/doc/ldvbi/examples
 found_there=-Wl,-rpath,$work/usr/lib
-for name in seek.c stops.cpp player.cpp; do
+for name in seek.c pixels.c stops.c stops.cpp player.cpp; do
     command="$cc -std=c99"
     [ "${name#*.}" = c ] || command="${CXX:-c++} -std=c++17"
     check "$name is built" does sh -c \

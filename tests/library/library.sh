@@ -56,7 +56,7 @@ for part in fields lines recovered; do
         -o library_$part "$here/library_$part.c" "$built/libldvbi.a"
     check "the tests of $part" prints 0 '0 wrong' ./library_$part
 done
-for part in near sightings numbers paces chapters; do
+for part in near sightings numbers paces chapters stops; do
     check "the tests of $part are built" does $cc -std=c99 $strict -Wno-unused-function \
         -fsanitize=address,undefined -I"$top/include" -o library_$part "$here/library_$part.c" "$built/libldvbi.a"
     check "the tests of $part" prints 0 '0 wrong' ./library_$part

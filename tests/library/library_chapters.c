@@ -9,7 +9,7 @@
        7*5          five such fields
    Its answers:
        .  7  7?     nothing, believed, doubtful; .20 and 7*5 as above */
-#include "library.h"
+#include "arrays.h"
 #include <ctype.h>
 
 enum { MOST = 120 };
@@ -188,27 +188,15 @@ static const Row rows[] = {
     {"5*30 4*30", "5*10 5?*20 4?*20 4*10"},
 };
 
-/* Judges in arrays that end where no page follows and hold these bytes before. What is read stays as it is. */
+/* Judges in arrays that hold these bytes before. What is read stays as it is. */
 static void judge_over(Capture *capture, uint8_t before)
 {
-    static uint8_t *readings, *seen, *chapters;
-    size_t count = capture->count, of_readings = count * sizeof *capture->readings;
+    size_t count = capture->count;
+    Arrays arrays = arrays_of(capture->readings, count, MOST, before);
 
-    if (readings == NULL) {
-        readings = guarded(MOST * sizeof(LdvbiFieldReadings)) + MOST * sizeof(LdvbiFieldReadings);
-        seen = guarded(MOST * sizeof(LdvbiSightings)) + MOST * sizeof(LdvbiSightings);
-        chapters = guarded(MOST * sizeof(LdvbiNumber)) + MOST * sizeof(LdvbiNumber);
-    }
-    LdvbiFieldReadings *fields = (LdvbiFieldReadings *)(void *)readings - count;
-    LdvbiSightings *room = (LdvbiSightings *)(void *)seen - count;
-    LdvbiNumber *answers = (LdvbiNumber *)(void *)chapters - count;
-
-    memcpy(fields, capture->readings, of_readings);
-    memset(room, before, count * sizeof *room);
-    memset(answers, before, count * sizeof *answers);
-    CHECK(ldvbi_judge_chapters(fields, count, room, count, answers, count) == LDVBI_DONE);
-    CHECK(memcmp(fields, capture->readings, of_readings) == 0);
-    memcpy(capture->chapters, answers, count * sizeof *answers);
+    CHECK(ldvbi_judge_chapters(arrays.readings, count, arrays.seen, count, arrays.answers, count) == LDVBI_DONE);
+    CHECK(memcmp(arrays.readings, capture->readings, count * sizeof *arrays.readings) == 0);
+    memcpy(capture->chapters, arrays.answers, count * sizeof *arrays.answers);
 }
 
 static void test_row(const Row *row, uint8_t before)

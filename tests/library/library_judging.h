@@ -11,7 +11,7 @@
    Its answers:
        .  .7                nothing
        100  100?  (100)     believed, doubtful, due; 100..104 as above, and 100..104? and (100..104) likewise */
-#include "library.h"
+#include "arrays.h"
 #include <ctype.h>
 
 enum { MOST = 2000 };
@@ -198,38 +198,45 @@ static size_t read_answers(const char *text, LdvbiNumber *answers)
 
 /* ---- The judging */
 
-/* Judges a side in arrays that end where no page follows and hold these bytes before. What is read stays as it is. */
+/* Judges a side in arrays that hold these bytes before. What is read stays as it is. */
 static void judge_over(Side *side, uint32_t pace, uint8_t before)
 {
-    static uint8_t *readings, *seen, *numbers;
-    size_t count = side->count, of_readings = count * sizeof *side->readings;
+    size_t count = side->count;
+    Arrays arrays = arrays_of(side->readings, count, MOST, before);
 
-    if (readings == NULL) {
-        readings = guarded(MOST * sizeof(LdvbiFieldReadings)) + MOST * sizeof(LdvbiFieldReadings);
-        seen = guarded(MOST * sizeof(LdvbiSightings)) + MOST * sizeof(LdvbiSightings);
-        numbers = guarded(MOST * sizeof(LdvbiNumber)) + MOST * sizeof(LdvbiNumber);
-    }
-    LdvbiFieldReadings *of_side = (LdvbiFieldReadings *)(void *)readings - count;
-    LdvbiSightings *seen_of_side = (LdvbiSightings *)(void *)seen - count;
-    LdvbiNumber *answers = (LdvbiNumber *)(void *)numbers - count;
-
-    memcpy(of_side, side->readings, of_readings);
-    memset(seen_of_side, before, count * sizeof *seen_of_side);
-    memset(answers, before, count * sizeof *answers);
-    CHECK(ldvbi_judge(side->system, side->counted, pace, of_side, count, seen_of_side, count, answers, count) ==
-          LDVBI_DONE);
-    CHECK(memcmp(of_side, side->readings, of_readings) == 0);
-    memcpy(side->numbers, answers, count * sizeof *answers);
+    CHECK(ldvbi_judge(side->system, side->counted, pace, arrays.readings, count, arrays.seen, count, arrays.answers,
+                      count) == LDVBI_DONE);
+    CHECK(memcmp(arrays.readings, side->readings, count * sizeof *arrays.readings) == 0);
+    memcpy(side->numbers, arrays.answers, count * sizeof *arrays.answers);
 }
 
 typedef struct {
     const char *side, *answers;
 } Row;
 
+/* Judges each field from the part around it that its answer depends on, in an array that ends where no page follows. */
+static void judge_parts(const Side *side, uint32_t pace, LdvbiNumber *numbers)
+{
+    static LdvbiFieldReadings *part;
+
+    if (part == NULL)
+        part = (LdvbiFieldReadings *)(void *)guarded(LDVBI_PART * sizeof *part);
+    for (size_t i = 0; i < side->count; i++) {
+        size_t begin = i < 2 * LDVBI_REACH ? 0 : i - 2 * LDVBI_REACH, left = side->count - begin;
+        size_t count = left < LDVBI_PART ? left : LDVBI_PART;
+        LdvbiFieldReadings *readings = part + LDVBI_PART - count;
+
+        memcpy(readings, side->readings + begin, count * sizeof *readings);
+        CHECK(ldvbi_judge_field(side->system, side->counted, pace, readings, count, i - begin, &numbers[i]) ==
+              LDVBI_DONE);
+        CHECK(memcmp(readings, side->readings + begin, count * sizeof *readings) == 0);
+    }
+}
+
 static void test_rows(const char *name, uint32_t system, uint32_t counted, uint32_t pace, const Row *rows, size_t count)
 {
     static Side side;
-    LdvbiNumber wanted[MOST];
+    LdvbiNumber wanted[MOST], numbers[MOST];
     static const uint8_t before[] = {0xAA, 0x00, 0xFF, 0x01};
 
     side.system = system;
@@ -237,6 +244,10 @@ static void test_rows(const char *name, uint32_t system, uint32_t counted, uint3
     for (size_t i = 0; i < count; i++) {
         read_side(rows[i].side, &side);
         need(read_answers(rows[i].answers, wanted) == side.count, rows[i].answers);
+        if (pace != LDVBI_FIND_PACE) {
+            judge_parts(&side, pace, numbers);
+            CHECK(memcmp(numbers, wanted, side.count * sizeof *wanted) == 0);
+        }
         for (size_t j = 0; j < sizeof before; j++) {
             judge_over(&side, pace, before[j]);
             if (memcmp(side.numbers, wanted, side.count * sizeof *wanted) == 0)

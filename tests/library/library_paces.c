@@ -119,6 +119,44 @@ static const Row goes_on[] = {
     {"100..104 .23 116 . 117= .23 129=", "100..104 . (105..116) . 117 .23 129?"},
 };
 
+/* What one field needs on either side: the last of the two above is answered otherwise without its last field, or with
+   a part that begins a field later, where 100 and 101 alone are left of the numbers before it. */
+static void test_parts(void)
+{
+    static Side side;
+    LdvbiNumber number;
+
+    side.system = LDVBI_NTSC;
+    side.counted = LDVBI_PICTURES;
+    read_side(goes_on[1].side, &side);
+    CHECK(ldvbi_judge_field(LDVBI_NTSC, LDVBI_PICTURES, LDVBI_VIDEO, side.readings, 59, 10, &number) == LDVBI_DONE);
+    CHECK(number.number == 105 && number.state == LDVBI_DUE);
+    CHECK(ldvbi_judge_field(LDVBI_NTSC, LDVBI_PICTURES, LDVBI_VIDEO, side.readings, 58, 10, &number) == LDVBI_DONE);
+    CHECK(number.number == 0 && number.state == LDVBI_NOTHING);
+}
+
+static void test_refused_fields(void)
+{
+    static const uint32_t cut_off[] = {0, 3, 4, 257, 65537, UINT32_MAX};
+    static LdvbiFieldReadings readings[LDVBI_PART + 1];
+    LdvbiNumber number = {7, 7};
+
+    for (size_t i = 0; i < sizeof cut_off / sizeof *cut_off; i++) {
+        uint32_t bad = cut_off[i];
+
+        CHECK(ldvbi_judge_field(bad, bad, bad, readings, 0, 0, &number) == LDVBI_BAD_SYSTEM);
+        CHECK(ldvbi_judge_field(LDVBI_PAL, bad, bad, readings, 0, 0, &number) == LDVBI_BAD_LENGTH);
+        CHECK(ldvbi_judge_field(LDVBI_PAL, bad, bad, readings, 5, 5, &number) == LDVBI_BAD_LENGTH);
+        CHECK(ldvbi_judge_field(LDVBI_PAL, bad, bad, readings, 5, SIZE_MAX, &number) == LDVBI_BAD_LENGTH);
+        CHECK(ldvbi_judge_field(LDVBI_PAL, bad, bad, readings, LDVBI_PART + 1, 5, &number) == LDVBI_BAD_LENGTH);
+        CHECK(ldvbi_judge_field(LDVBI_PAL, bad, bad, readings, LDVBI_PART, 96, &number) == LDVBI_BAD_COUNTED);
+        CHECK(ldvbi_judge_field(LDVBI_PAL, LDVBI_TIMES, bad, readings, 5, 4, &number) == LDVBI_BAD_PACE);
+    }
+    CHECK(number.number == 7 && number.state == 7);
+    CHECK(ldvbi_judge_field(LDVBI_PAL, LDVBI_TIMES, LDVBI_FILM, readings, LDVBI_PART, 96, &number) == LDVBI_DONE);
+    CHECK(number.number == 0 && number.state == LDVBI_NOTHING);
+}
+
 static void test_refusals(void)
 {
     static const uint32_t cut_off[] = {0, 3, 4, 257, 65537, UINT32_MAX};
@@ -157,6 +195,8 @@ int main(void)
     FIND(never, LDVBI_PAL, LDVBI_TIMES);
     TEST(times_at_film, LDVBI_NTSC, LDVBI_TIMES, LDVBI_FILM);
     TEST(goes_on, LDVBI_NTSC, LDVBI_PICTURES, LDVBI_VIDEO);
+    test_parts();
+    test_refused_fields();
     test_refusals();
     printf("%d wrong\n", wrong);
     return wrong != 0;

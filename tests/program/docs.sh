@@ -20,7 +20,7 @@ PATH=$work/bin:$PATH
 PYTHONDONTWRITEBYTECODE=1
 export PATH PYTHONDONTWRITEBYTECODE
 library=
-[ ! -e "$top/libldvbi.so.1" ] || library=libldvbi.so.1
+[ ! -e "$built/libldvbi.so.1" ] || library=libldvbi.so.1
 
 # Cuts a document into files: NAME.NUMBER.sh or .bash, and NAME.NUMBER.text for what is printed. Prints each file that
 # is to be run, with its mark. What is said on standard error is a fault of the document.

@@ -42,11 +42,18 @@ options_of_page() {
         END { print option "|" text }' | tr -s ' ' | sed 's/^ //' | sort > page.options
 }
 
+# commands_of_help: the commands of the help with what they do, a row each; an older clap has that in a row of its own
+commands_of_help() {
+    output_of --help | sed -n '/^Commands:/,/^$/p' | awk '
+        /^  [a-z]/ { if (row) print row; row = $0; next }
+        { row = row " " $0 }
+        END { print row }' | tr -s ' '
+}
+
 # Commands with what they do
 page_of ldvbi.1
 section DESCRIPTION | grep -E '^     (line|extract|show|draw) ' | sed 's/[.].*//' | tr -s ' ' > page.found
-output_of --help | sed -n '/^Commands:/,/^$/p' | grep -E '^  (line|extract|show|draw) ' | sed 's/^/ /' | tr -s ' ' \
-    > help.found
+commands_of_help | grep -E '^ (line|extract|show|draw) ' | sed 's/ *$//' > help.found
 same 'the commands of the page'
 
 # Options: the page's, and those of each command, with their values and the numbers in their descriptions
@@ -102,8 +109,7 @@ output_of --help | sed -n '/^Exit status:/,$s/^  / /p' | tr -s ' ' > help.found
 same 'the statuses of the page'
 
 # Completions: what is offered behind each of these command lines. Behind a command these are the options of its help.
-output_of --help | sed -n '/^Commands:/,/^$/s/^  \([a-z]*\) .*/\1/p' | grep -vx help | sort |
-    paste -s -d ' ' > help.found
+commands_of_help | sed -n 's/^ \([a-z][a-z]*\) .*/\1/p' | grep -vx help | sort | paste -s -d ' ' > help.found
 echo "$commands" > page.found
 same 'the commands that are completed'
 cat > offers << END

@@ -54,10 +54,10 @@ usr/share/doc/ldvbi/README.md
 END
     (cd tree && git ls-files 'docs/*.md' 'docs/pictures/*.svg' examples | sed 's/^/usr\/share\/doc\/ldvbi\//')
     cat << 'END'
+usr/share/ldvbi/ldvbi-join.schema.json
 usr/share/ldvbi/ldvbi-recovered.schema.json
 usr/share/ldvbi/ldvbi-scan.schema.json
 usr/share/ldvbi/ldvbi-side.schema.json
-usr/share/ldvbi/ldvbi.jq
 usr/share/ldvbi/ldvbi.schema.json
 usr/share/ldvbi/plot_line.py
 END
@@ -75,7 +75,7 @@ cat > others << 'END'
 usr/bin/ldvbi-other
 usr/share/bash-completion/completions/ldvbi-other
 usr/share/doc/ldvbi-other/README.md
-usr/share/ldvbi-other/ldvbi.jq
+usr/share/ldvbi-other/plot_line.py
 usr/share/man/man1/ldvbi-other.1
 usr/share/zsh/site-functions/_ldvbi-other
 END
@@ -90,8 +90,6 @@ check 'it can be run' [ -x usr/bin/ldvbi ]
 status=0
 PYTHONDONTWRITEBYTECODE=1 bounded usr/bin/ldvbi-side --help < empty > out 2> err || status=$?
 check 'ldvbi-side finds its module where it is installed' [ "$status $(head -c 18 out)" = '0 usage: ldvbi-side ' ]
-check 'the module is found where it is installed' \
-    [ "$(jq -nc -L usr/share/ldvbi 'include "ldvbi"; 8572927 | code')" = '{"kind":"picture stop"}' ]
 made uninstall PREFIX="$work/usr"
 check 'make uninstall' [ $status = 0 ]
 find usr -type f | sort > found
@@ -293,7 +291,7 @@ check 'the program is built anew after a change of a source' is_due ldvbi crates
 # shellcheck disable=SC2046,SC2086
 check 'the library is built anew after a change of a source' is_due libldvbi.a crates.txt $(sources_of $library_crates)
 check 'the shared library is built anew after the library' is_due libldvbi.so libldvbi.a
-for file in README.md Makefile contrib/ldvbi.jq include/ldvbi.h tests/gate.sh; do
+for file in README.md Makefile contrib/plot_line.py include/ldvbi.h tests/gate.sh; do
     changed $file
     check "the program isn't built anew after a change of $file" is_current ldvbi
     check "the library isn't built anew after a change of $file" is_current lib
@@ -329,6 +327,9 @@ judge 'make check of a program' 0 wanted_text ''
 made check
 printf '%s\n' tools 'scripts ./ldvbi --as-built' > wanted_text
 judge 'make check of the program that is built here' 0 wanted_text ''
+made check FROM=rust
+printf '%s\n' tools 'scripts ./rust/ldvbi --as-built' > wanted_text
+judge 'make check of the program of make rust' 0 wanted_text ''
 echo 'exit 1' >> tree/tests/scripts.sh
 made check
 check 'make check of a program that fails' [ "$status $(wc -l < out)" = '2 2' ]

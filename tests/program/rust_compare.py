@@ -261,6 +261,10 @@ def compare_judge(call, choose):
                At(20 * count), size(count + off), room=28 * count + 16)
     yield call("ldvbi_find_pace", number(system), number(counted), readings, size(count), At(4), size(count + off), ...,
                room=20 * count + 64)
+    few = choose.choice([count, 97, 97, 98])
+    part = readings[:24 * few]
+    yield call("ldvbi_judge_field", number(system), number(counted), number(pace), part, size(len(part) // 24),
+               size(choose.randrange(few + 1)), ..., room=8)
     numbers = b"".join(struct.pack("<II", choose.randrange(4), choose.randrange(6)) for _ in range(count))
     yield call("ldvbi_first_of", numbers, size(count), number(choose.randrange(4)))
 
@@ -280,6 +284,16 @@ def compare_chapters(call, choose):
     off = (choose.random() < 0.05) * choose.randrange(3)
     yield call("ldvbi_judge_chapters", bytes(readings), size(count), ..., size(count), At(20 * count),
                size(count + off), room=28 * count + 16)
+
+
+def compare_stops(call, choose):
+    """The stops of fields judged, on lines of which many have one."""
+    size, count = ctypes.c_size_t, choose.choice([0, 1, 9, 60])
+    words = [0, 0x82CFFF, 0x82CFFF, 0x87FFFF, choose.randrange(2 ** 32)]
+    readings = b"".join(struct.pack("<BBHI", choose.randrange(5), choose.choice([1, 2, 3, 255]), 0, choose.choice(words))
+                        for _ in range(3 * count))
+    off = (choose.random() < 0.05) * choose.randrange(3)
+    yield call("ldvbi_judge_stops", readings, size(count), ..., size(count + off), room=4 * count + 16)
 
 
 def compare_near(call, choose):
@@ -346,6 +360,7 @@ def compare_library(paths, choose, count):
             yield call("ldvbi_read_fields", *first, field * 2, size(2 * len(field)), ..., size(count_of), room=72)
         yield from compare_judge(call, choose)
         yield from compare_chapters(call, choose)
+        yield from compare_stops(call, choose)
         if choose.random() < 0.2:
             yield from compare_near(call, choose)
     yield call("ldvbi_read_fields", number(1), number(1), number(2), None, size(0), None, size(0))

@@ -102,7 +102,7 @@ count jumps: 1
 count stills: 1
 count shown again: 2
 count doubtful: 6
-count stray codes: 1
+count out of place: 1
 END
 shows 'a disc with faults: the disc' << 'END'
 lead-in 1-2 150-180 = lead-in: fields 1 to 2
@@ -127,7 +127,7 @@ jumps 55-55 960-975 = back from 26 in field 53 to 24 in field 55
 stills 19-23 420-495 = 11 stands still in fields 19 to 23
 shown-again 21-23 450-495 = 11 again in fields 21 to 23; first shown in field 19
 shown-again 55-59 960-1035 = 24 to 26 again in fields 55 to 59; first shown in field 49
-stray-codes 12-12 315-330 = stray: clv in field 12, line 17, pass 1: a code of the other format
+out-of-place 12-12 315-330 = out of place: clv in field 12, line 17: a code of the other format
 END
 shows 'a disc with faults: what crosses the curve' << 'END'
 upright 15-15 360-375 = lost: 7 to 8, after field 13, before field 15: no field is there for it
@@ -136,12 +136,12 @@ upright 55-55 960-975 = back from 26 in field 53 to 24 in field 55
 END
 # two lines say each of these numbers, and one mark is drawn
 shows 'a disc with faults: doubtful numbers' << 'END'
-doubtful 35-35 660-675 = doubtful: picture 79999 in field 35, line 17, pass 1: the numbers around it fit each other (16 in field 33, 18 in field 37); and 1 more up to field 35
-doubtful 41-41 750-765 = doubtful: picture 0 in field 41, line 17, pass 1: the numbers around it fit each other (19 in field 39, 21 in field 43); and 1 more up to field 41
-doubtful 47-47 840-855 = doubtful: picture 5 in field 47, line 17, pass 1: the numbers around it fit each other (22 in field 45, 24 in field 49); and 1 more up to field 47
-doubt 35 M667.5 243.0 = doubtful: picture 79999 in field 35, line 17, pass 1: the numbers around it fit each other (16 in field 33, 18 in field 37)
-doubt 41 M757.5 493.0 = doubtful: picture 0 in field 41, line 17, pass 1: the numbers around it fit each other (19 in field 39, 21 in field 43)
-doubt 47 ring 848 448 = doubtful: picture 5 in field 47, line 17, pass 1: the numbers around it fit each other (22 in field 45, 24 in field 49)
+doubtful 35-35 660-675 = doubtful: picture 79999 in field 35, line 17: the numbers around it fit each other (16 in field 33, 18 in field 37); and 1 more up to field 35
+doubtful 41-41 750-765 = doubtful: picture 0 in field 41, line 17: the numbers around it fit each other (19 in field 39, 21 in field 43); and 1 more up to field 41
+doubtful 47-47 840-855 = doubtful: picture 5 in field 47, line 17: the numbers around it fit each other (22 in field 45, 24 in field 49); and 1 more up to field 47
+doubt 35 M667.5 243.0 = doubtful: picture 79999 in field 35, line 17: the numbers around it fit each other (16 in field 33, 18 in field 37)
+doubt 41 M757.5 493.0 = doubtful: picture 0 in field 41, line 17: the numbers around it fit each other (19 in field 39, 21 in field 43)
+doubt 47 ring 848 448 = doubtful: picture 5 in field 47, line 17: the numbers around it fit each other (22 in field 45, 24 in field 49)
 END
 # 27 numbers on 240 pixels: the believed ones alone make the scale
 shows 'a disc with faults: the curve' << 'END'
@@ -202,15 +202,15 @@ axis 36 368 time
 lost 33-33 918-942 = lost: 1:00:00.06 to 1:00:00.08, after field 31, before field 33: no field is there for it
 unread 24-26 702-774 = unread: 1:00:00.02, after field 23, before field 27: fields are there for it, and none shows it
 lost-fields 33-33 918-942 = lost: 6 fields between fields 31 and 33, by the numbers
-doubtful 9-9 342-366 = doubtful: time 0:58 in field 9, line 18, pass 1: the numbers around it fit each other (0:59:59.18 in field 7, 0:59:59.20 in field 11)
-doubtful 13-13 438-462 = doubtful: time 9:59 in field 13, line 18, pass 1: the numbers around it fit each other (0:59:59.20 in field 11, 0:59:59.22 in field 15)
-doubtful 17-17 534-558 = doubtful: time F0DD61 in field 17, line 18, pass 1: no clock shows it
-doubtful 25-25 726-750 = doubtful: clv picture 8AE025 in field 25, line 16, pass 1: no clock shows it
+doubtful 9-9 342-366 = doubtful: time 0:58 in field 9, line 18: the numbers around it fit each other (0:59:59.18 in field 7, 0:59:59.20 in field 11)
+doubtful 13-13 438-462 = doubtful: time 9:59 in field 13, line 18: the numbers around it fit each other (0:59:59.20 in field 11, 0:59:59.22 in field 15)
+doubtful 17-17 534-558 = doubtful: time F0DD61 in field 17, line 18: no clock shows it
+doubtful 25-25 726-750 = doubtful: clv picture 8AE025 in field 25, line 16: no clock shows it
 run 1-23 12 162 483 690 368 = 0:59:59.15 to 1:00:00.01 in fields 1 to 23
 run 27-31 3 786 347 882 326 = 1:00:00.03 to 1:00:00.05 in fields 27 to 31
 run 33-39 4 930 284 1074 253 = 1:00:00.09 to 1:00:00.12 in fields 33 to 39
-doubt 9 M354.0 493.0 = doubtful: time 0:58 in field 9, line 18, pass 1: the numbers around it fit each other (0:59:59.18 in field 7, 0:59:59.20 in field 11)
-doubt 13 M450.0 243.0 = doubtful: time 9:59 in field 13, line 18, pass 1: the numbers around it fit each other (0:59:59.20 in field 11, 0:59:59.22 in field 15)
+doubt 9 M354.0 493.0 = doubtful: time 0:58 in field 9, line 18: the numbers around it fit each other (0:59:59.18 in field 7, 0:59:59.20 in field 11)
+doubt 13 M450.0 243.0 = doubtful: time 9:59 in field 13, line 18: the numbers around it fit each other (0:59:59.20 in field 11, 0:59:59.22 in field 15)
 axis 630 692 field
 END
 
@@ -281,7 +281,7 @@ title 150 28 <&>.tbc = <&>.tbc
 system NTSC, CAV, 2 fields
 line-16 1-1 150-630 word 28 = line 16, field 1: word
 line-16 2-2 630-1110 unfinished 28 = line 16, field 2: unfinished
-line-17 1-1 150-630 word of pass 2 28 = line 17, field 1: word of pass 2
+line-17 1-1 150-630 read only after smoothing 28 = line 17, field 1: read only after smoothing
 line-17 2-2 630-1110 change 28 = line 17, field 2: change 170
 line-18 1-1 150-630 blank 28 = line 18, field 1: blank
 line-18 2-2 630-1110 hold 28 = line 18, field 2: hold 200
@@ -291,7 +291,7 @@ END
 lacks 'each cause' run upright number-label
 drawn '<&>.tbc' $ntsc
 shows 'a recovered word' << 'END'
-line-17 1-1 150-630 word of pass 2 28 = line 17, field 1: word of pass 2
+line-17 1-1 150-630 read only after smoothing 28 = line 17, field 1: read only after smoothing
 line-17 2-2 630-1110 recovered 28 = line 17, field 2: recovered, change 170
 END
 side_of "$ntsc" < faulty_words

@@ -76,7 +76,7 @@ cav_csv='field,frame,format,picture,chapter,time,stop,doubt,status,users,unknown
 10,5,neither,,1,,,,,,
 11,6,neither,,,,,,,,'
 side_of "$ntsc" < cav_words
-tells 'fields of a document' 0 "$cav_csv" side.vbi.json
+tells 'fields of a document' 0 "$cav_csv" side.vbi.json --csv
 tells 'fields of a TBC file' 0 "$cav_csv" side.tbc $ntsc --csv
 for source in side.vbi.json "side.tbc $ntsc"; do
     tells "a picture of $source" 0 'field 7, frame 4' $source --seek 3
@@ -129,7 +129,7 @@ tells 'times of a TBC file' 0 'field,frame,format,picture,chapter,time,stop,doub
 5,3,clv,,,0:01:00.00,,,,,
 6,3,clv,,1,,,,cx on 0A1,,
 7,4,clv,,,0:01:00.01,,,,,
-8,4,clv,,1,,,,cx on 0A1,,' side.tbc $pal
+8,4,clv,,1,,,,cx on 0A1,,' side.tbc $pal --csv
 tells 'a time of a TBC file' 0 'field 3, frame 2' side.tbc $pal --seek 0:00:59.24
 
 # Each cause, and a word of the second reading, in a stream that is cut
@@ -153,7 +153,8 @@ for source in side.vbi.json "side.tbc $ntsc" "side.tbc $ntsc --no-recover"; do
     sed -i 's/,[8-F][0-9A-F]*,39500,/,ANY,39500,/' out
     cp none.rows wanted_text
     [ "$source" != "side.tbc $ntsc" ] || cp near.rows wanted_text
-    judge "the bad lines of $source" 3 wanted_text 'ldvbi-side: the last field is cut: field 3 has 5 of 478660 bytes'
+    judge "the bad lines of $source" 3 wanted_text \
+        "ldvbi-side: ${source%% *}: the last field is cut: field 3 has 5 of 478660 bytes"
     told $source --json
     bounded jq -c '[.stops[0].lines, .badLines[1].offset, .cutField, .lines["17"].pass2, .format]' out < empty > found
     echo '[[16,17],507780,{"seqNo":3,"bytes":5},1,"cav"]' > wanted_text
@@ -167,7 +168,7 @@ check 'the offset is that of the line' [ "$(cat found)" = unfinished ]
 side_of "$ntsc" < cav_words
 told side.vbi.json --system PAL
 judge 'refused: --system of a document' 2 empty \
-    'ldvbi-side: a document has its system and levels; they are options of a TBC file'
+    'ldvbi-side: side.vbi.json: a document has its system and levels; they are options of a TBC file'
 for wrong in '--seek x' '--seek -1' '--csv --seek 1' '--system SECAM' '--black 1.0'; do
     told side.tbc $wrong
     check "refused: $wrong" [ $status = 2 ]

@@ -14,7 +14,7 @@ from ldvbi.document import RECORD, head_of, tail_of
 from streams import NTSC, write_stream
 
 COMMAND = [sys.executable, "-m", "ldvbi_side", "scan"]
-DEADLINE = 120  # seconds
+DEADLINE = 300  # seconds: for what hangs, not for what is slow
 LEAD_IN, LEAD_OUT, BLANK = [0, 0x88FFFF, 0x88FFFF], [0, 0x80EEEE, 0x80EEEE], [0, 0, 0]
 # Of each side of `twelve` its row without its name: whole, lost, unread, format, from, to, fields, and how `why` begins
 ROWS = {
@@ -25,7 +25,7 @@ ROWS = {
     "a/levels.tbc": ("can't tell", "0", "0", "neither", "", "", "60", "no picture number and no time"),
     "a/lost.tbc": ("no", "2", "0", "cav", "1", "30", "56", "4 fields lost; 2 pictures lost"),
     "b/minutes.vbi.json": ("yes", "0", "0", "clv", "0:00", "0:02", "9000", ""),
-    "b/missing.tbc": ("fault", "", "", "", "", "", "", "no missing.tbc.json and no missing.tbc.db beside it"),
+    "b/missing.tbc": ("fault", "", "", "", "", "", "", "no missing.tbc.json or missing.tbc.db beside it"),
     "b/no codes.tbc": ("can't tell", "0", "0", "neither", "", "", "60", "no picture number and no time"),
     "b/packed.tbc": ("fault", "", "", "", "", "", "", "it is compressed (gzip): unpack it first"),
     "b/unread.tbc": ("yes", "0", "1", "cav", "1", "30", "60", ""),
@@ -107,7 +107,11 @@ class Scans(unittest.TestCase):
         database.close()
 
     def scan(self, *words):
-        """The status of a run in the folder, and what it writes to standard output and standard error."""
-        run = subprocess.run([*COMMAND, *words], cwd=self.folder, stdin=subprocess.DEVNULL, stdout=subprocess.PIPE,
+        """The status of a scan in the folder, and what it writes to standard output and standard error."""
+        return self.run_words("scan", *words)
+
+    def run_words(self, *words):
+        """The same of any words."""
+        run = subprocess.run([*COMMAND[:-1], *words], cwd=self.folder, stdin=subprocess.DEVNULL, stdout=subprocess.PIPE,
                              stderr=subprocess.PIPE, timeout=DEADLINE, check=False)
         return run.returncode, run.stdout.decode("utf-8", "surrogateescape"), run.stderr.decode()

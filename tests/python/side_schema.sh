@@ -1,7 +1,8 @@
 #!/bin/sh
 # Validates the answers of the command's --json for sides of every kind by share/schema/ldvbi-side.schema.json, and what
 # is made of them by a table of what may stand at each place (side_schema.txt). Then its documents with recovered words
-# by share/schema/ldvbi-recovered.schema.json, and the table of scan --json by share/schema/ldvbi-scan.schema.json.
+# by share/schema/ldvbi-recovered.schema.json, the table of scan --json by share/schema/ldvbi-scan.schema.json, and what
+# join --json prints by share/schema/ldvbi-join.schema.json and join_schema.txt.
 # usage: sh tests/python/side_schema.sh PROGRAM
 
 # shellcheck source=tests/helpers.sh
@@ -13,12 +14,12 @@ schema=$top/share/schema/ldvbi-side.schema.json
 # A run has some thousand documents, and may run beside other scripts on a machine with few processors.
 seconds=$((5 * seconds))
 
-mkdir answers
+mkdir answers together
 status=0
-bounded python3 "$here/answers.py" answers < empty 2> err || status=$?
-check 'there are 27 answers' [ "$status $(find answers -name '*.json' | wc -l)" = '0 27' ]
+bounded python3 "$here/answers.py" answers together < empty 2> err || status=$?
+check 'there are 28 answers' [ "$status $(find answers -name '*.json' | wc -l)" = '0 28' ]
 validates "$schema" answers/*.json > said 2> err || status=$?
-check 'all of them are valid' [ "$status $(grep -c '^valid ' said)" = '0 27' ]
+check 'all of them are valid' [ "$status $(grep -c '^valid ' said)" = '0 28' ]
 # each list of the schema has an item in one of them, so that its form was looked at
 bounded jq -s -r '[.[] | to_entries[] | select(.value | type == "array" and length > 0) | .key] | unique[]' \
     answers/*.json < empty > full
@@ -35,7 +36,7 @@ status=0
 bounded "$(with_jsonschema)" "$tests/validate_parts.py" "$schema" places answers/*.json < empty > said 2> err ||
     status=$?
 cat said >> err
-check 'what may stand at each place, and what may not' [ "$status $(cat said)" = '0 225 places, 3833 documents' ]
+check 'what may stand at each place, and what may not' [ "$status $(cat said)" = '0 235 places, 3950 documents' ]
 # The document with recovered words, and what it may not be
 recovered=$top/share/schema/ldvbi-recovered.schema.json
 signal NTSC 1 << 'WORDS' | ntsc_samples > worn.tbc
@@ -127,4 +128,24 @@ END
 status=0
 validates "$scan" wrong/*.json > said 2> err || status=$?
 check 'what is no table is refused' [ "$status $(grep -c '^refused ' said)" = '0 22' ]
+
+# What captures have together
+join=$top/share/schema/ldvbi-join.schema.json
+bounded jq -s -r '[.[] | to_entries[] | select(.value | type == "array" and length > 0) | .key] | unique[]' \
+    together/*.json < empty > full
+bounded jq -r '.properties | to_entries[] | select(.value.type == "array") | .key' "$join" < empty | sort > lists
+check 'each list of join has an item somewhere' cmp full lists
+printf '%s\n' '- F00004 F00004' '- 800DDD 800DDD' > words
+output_of draw $ntsc words > other.tbc
+cp side.tbc.json other.tbc.json
+told join side.tbc other.tbc --json
+cp out together/printed.json
+status=0
+validates "$join" together/*.json > said 2> err || status=$?
+check 'what captures have together is valid' [ "$status $(grep -c '^valid ' said)" = '0 5' ]
+status=0
+bounded "$(with_jsonschema)" "$tests/validate_parts.py" "$join" "$here/join_schema.txt" together/*.json < empty > said \
+    2> err || status=$?
+cat said >> err
+check 'what may stand at each place of it' [ "$status $(cat said)" = '0 68 places, 1220 documents' ]
 finish

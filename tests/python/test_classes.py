@@ -72,9 +72,10 @@ class Classes(unittest.TestCase):
 
     def test_each_word_beside_the_library(self):
         with tempfile.TemporaryDirectory() as folder:
-            program = os.path.join(folder, "all_codes")
+            program, library = os.path.join(folder, "all_codes"), os.environ["LDVBI_LIBRARY"]
             subprocess.run([os.environ.get("CC", "cc"), "-std=c99", "-O2", "-o", program, "-I" + TOP + "/include",
-                            TOP + "/tests/python/all_codes.c", TOP + "/libldvbi.a"], check=True)
+                            TOP + "/tests/python/all_codes.c", library, "-Wl,-rpath," + os.path.dirname(library)],
+                           check=True)
             # Where the lines that run are recorded, these calls would take minutes, and show no new line.
             self.addCleanup(sys.settrace, sys.gettrace())
             sys.settrace(None)

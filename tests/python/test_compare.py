@@ -40,7 +40,7 @@ class Comparing(unittest.TestCase):
             "pictures: 37 in x.tbc, 39 in y.tbc, 36 in both",
             "in x.tbc alone: 1 (picture 31)", "in y.tbc alone: 3 (pictures 21 to 23)",
             "better in x.tbc: 2 (pictures 5 to 6)", "better in y.tbc: 3 (pictures 2 to 4)",
-            "alike in both: 31 (pictures 7 to 20, pictures 32 to 40, pictures 24 to 30, picture 1)",
+            "alike in both: 31 (picture 1, pictures 7 to 20, pictures 24 to 30, pictures 32 to 40)",
             "together: pictures 1 to 40, none lost"])
 
     def test_what_both_lack(self):
@@ -87,13 +87,13 @@ class Comparing(unittest.TestCase):
 
     def test_refused(self):
         cav, clv = side(pictures(range(1, 31))), side(times(range(30)))
-        for one, other, text in ((cav, clv, "the sides have pictures of PAL and times of PAL: two discs?"),
+        for one, other, text in ((cav, clv, "x.tbc has pictures of PAL, y.tbc has times of PAL: two discs?"),
                                  (side(pictures(range(1, 31)), "NTSC"), cav,
-                                  "the sides have pictures of NTSC and pictures of PAL: two discs?"),
-                                 (side([BLANK]), cav, "the first side has no numbers to compare"),
-                                 (cav, side([]), "the second side has no numbers to compare")):
+                                  "x.tbc has pictures of NTSC, y.tbc has pictures of PAL: two discs?"),
+                                 (side([BLANK]), cav, "x.tbc has no numbers to compare"),
+                                 (cav, side([]), "y.tbc has no numbers to compare")):
             with self.assertRaises(ValueError) as caught:
-                compare(one, other)
+                compare(one, other, ["x.tbc", "y.tbc"])
             self.assertEqual(str(caught.exception), text)
 
 

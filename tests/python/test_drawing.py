@@ -48,7 +48,7 @@ class Marks(unittest.TestCase):
         for why, first, last, text in (
                 ("unread", 10, 12, "fields are there for it, and none shows it"),
                 ("lost", 13, 13, "no field is there for it"),
-                ("undecided", 13, 13, "lost or unread, or left out by the disc's clock")):
+                ("undecided", 13, 13, "lost or unread, or skipped by the disc itself")):
             self.check(why, "missing", missing(why), first, last, why + ": 5" + place + text)
         self.check("lost", "missing", missing("lost", 3), 13, 13, "lost: 5 to 7" + place + "no field is there for it")
 
@@ -57,7 +57,7 @@ class Marks(unittest.TestCase):
                 ("number", 1, "lost: 1 field between fields 9 and 10, by the numbers"),
                 ("both", 3, "lost: 3 fields between fields 9 and 10, by the numbers and by isFirstField"),
                 ("parity", None, "lost: one or more fields between fields 9 and 10, by isFirstField"),
-                ("undecided", 2, "lost: 2 fields between fields 9 and 10, or the disc's clock leaves out a number")):
+                ("undecided", 2, "lost: 2 fields between fields 9 and 10, or a number was skipped by the disc itself")):
             self.check("lost fields", "lost", lost(by, fields), 10, 10, text)
 
     def test_jumps(self):
@@ -68,7 +68,7 @@ class Marks(unittest.TestCase):
         self.assertEqual(marks_of(answer_with(breaks=[dict(one, kind="lost")]))["jumps"], [])
 
     def test_doubtful(self):
-        begin = "doubtful: picture 79999 in field 7, line 18, pass 2: "
+        begin = "doubtful: picture 79999 in field 7, line 18, read only after smoothing: "
         for why, text in (("neighbours", "the numbers around it fit each other"),
                           ("alone", "there is a break, or the end of the side, here too"),
                           ("lines", "lines 17 and 18 differ"),
@@ -76,14 +76,19 @@ class Marks(unittest.TestCase):
                           ("chapter", "it doesn't fit the chapters around it")):
             self.check("doubtful", "doubtful", doubt(why), 7, 7, begin + text)
         self.check("doubtful", "doubtful", doubt("clock", number=None, kind="time", word="F0DD75"), 7, 7,
-                   "doubtful: time F0DD75 in field 7, line 18, pass 2: no clock shows it")
+                   "doubtful: time F0DD75 in field 7, line 18, read only after smoothing: no clock shows it")
+        self.check("doubtful", "doubtful", doubt("lines", **{"pass": 1}), 7, 7,
+                   "doubtful: picture 79999 in field 7, line 18: lines 17 and 18 differ")
+        self.check("doubtful", "doubtful", doubt("lines", **{"pass": 3}), 7, 7,
+                   "doubtful: picture 79999 in field 7, line 18, recovered: lines 17 and 18 differ")
         self.check("doubtful", "doubtful", doubt("lines", before={"field": 5, "number": 3}), 7, 7,
                    begin + "lines 17 and 18 differ (3 in field 5)")
 
     def test_stray(self):
         for why, text in (("line", "no disc has it on this line"), ("format", "a code of the other format"),
-                          ("place", "it stands between two numbers that fit each other")):
-            self.check("stray codes", "stray", stray(why), 7, 7, "stray: clv in field 7, line 16, pass 1: " + text)
+                          ("place", "it stands between two numbers that fit each other"),
+                          ("unsure", "line 16 or 17 has to show it without smoothing, or both")):
+            self.check("out of place", "stray", stray(why), 7, 7, "out of place: clv in field 7, line 16: " + text)
 
     def test_swapped_fields_and_other_speeds(self):
         self.check("swapped fields", "swapped", {"field": 9, "number": 5}, 9, 10, "fields 9 and 10 are swapped: 5")

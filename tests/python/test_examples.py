@@ -35,8 +35,8 @@ class Seek(unittest.TestCase):
                                   *map(str, setup), str(number)], stdout=subprocess.PIPE, stderr=subprocess.PIPE,
                                  universal_newlines=True, check=False)
             with self.subTest(number):
-                self.assertEqual((ran.stdout, ran.stderr, ran.returncode),
-                                 (printed + "\n", said, int(printed == "not found")))
+                status = 1 if printed == "not found" else 3 if "the lines say" in said else 0
+                self.assertEqual((ran.stdout, ran.stderr, ran.returncode), (printed + "\n", said, status))
 
     def test_misread_pictures(self):
         """On line 17 alone picture 100 reads 79999, and picture 151 reads 5. On both lines picture 170 reads 78888, in

@@ -13,7 +13,7 @@ from ldvbi_side.side import side_of_tbc
 from streams import NTSC, PROGRAM, write_stream
 
 LEVELS = ["--system", "NTSC", "--black", "16384", "--white", "51200"]
-DEADLINE = 60  # seconds
+DEADLINE = 300  # seconds: for what hangs, not for what is slow
 
 
 def fields_of(numbers):

@@ -159,7 +159,7 @@ class Documents(unittest.TestCase):
     def test_a_field_that_is_refused_is_named(self):
         with self.assertRaises(ValueError) as caught:
             copied('{"fields":[{"seqNo":1},{"seqNo":3}]}', [WORDS] * 2)
-        self.assertEqual(str(caught.exception), "field 2 of the metadata: its seqNo is 3")
+        self.assertEqual(str(caught.exception), "field 2: its seqNo is 3")
 
 
 if __name__ == "__main__":

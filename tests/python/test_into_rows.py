@@ -136,7 +136,7 @@ class Copies(Databases):
         self.make(trigger="CREATE TRIGGER no BEFORE INSERT ON vbi WHEN new.field_id = 7 "
                           "BEGIN SELECT raise(ABORT, 'no words here'); END")
         os.unlink(self.copy)
-        self.refused("no words here")
+        self.refused("SQLite can't copy it: no words here")
         self.assertEqual(*(self.run_in(path, "SELECT * FROM vbi") for path in (self.path, self.copy)))
 
     def test_other_forms(self):
@@ -153,7 +153,7 @@ class Copies(Databases):
         self.refused("the fields' numbers, field_id, leave some out, or have one twice")
         self.make(form=FORM.replace("capture_notes TEXT", "x").replace("(capture_id INTEGER PRIMARY KEY, system",
                                                                        "(id INTEGER, system"))
-        self.refused("no such column: capture_id")
+        self.refused("SQLite can't copy it: no such column: capture_id")
 
 
 class FirstFields(Databases):

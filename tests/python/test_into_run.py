@@ -13,7 +13,7 @@ import unittest
 
 from streams import NTSC, pictures, worn_line, write_stream
 from test_into_rows import FORM
-from test_run import DEADLINE, LEVELS, SIZE, Runs
+from test_run import DEADLINE, LEVELS, NO_METADATA, SIZE, Runs
 
 PARAMETERS = {"system": "NTSC", "black16bIre": 16384.0, "white16bIre": 51200, "sampleRate": 14318181.818181818}
 MEMORY = 50 << 20  # bytes
@@ -102,7 +102,8 @@ class Words(Copies):
         # a document has the words that it has
         self.run_command("side.vbi.json", "--meta", "side.tbc.json", "--into", "other.json")
         self.assertEqual(self.read("other.json"), self.read("copy.json"))
-        self.refused("--recovered is of a TBC file, and this is a document", "side.vbi.json", "--meta", "side.tbc.json",
+        self.refused("side.vbi.json is a document, and --recovered is of a TBC file",
+                     "side.vbi.json", "--meta", "side.tbc.json",
                      "--into", "other.json", "--recovered")
         self.assertEqual(self.run_command("side.tbc", "--recovered", "--csv")[0], 2)
 
@@ -120,9 +121,9 @@ class Words(Copies):
         os.truncate(self.path("side.tbc"), 11 * SIZE + 7)
         self.write("side.vbi.json", self.extracted("side.tbc"))
         self.metadata(11)
-        said = "ldvbi-side: the last field is cut: field 12 has 7 of 478660 bytes\n"
+        said = "ldvbi-side: %s: the last field is cut: field 12 has 7 of 478660 bytes\n"
         for words in (["side.tbc"], ["side.vbi.json", "--meta", "side.tbc.json"]):
-            self.assertEqual(self.run_command(*words, "--into", "copy.json"), (3, b"", said))
+            self.assertEqual(self.run_command(*words, "--into", "copy.json"), (3, b"", said % words[0]))
             self.assertEqual(len(self.words_of("copy.json")), 11)
 
 
@@ -144,7 +145,7 @@ class Refused(Copies):
 
     def test_a_field_of_another_form(self):
         self.metadata(12, vbi=5)
-        self.refused("field 1 of the metadata: its vbi is no object", "side.tbc", "--into", "copy")
+        self.refused("side.tbc.json: field 1: its vbi is no object", "side.tbc", "--into", "copy")
 
     def test_no_metadata(self):
         for text in (b"", b"{", b"[]"):
@@ -153,9 +154,9 @@ class Refused(Copies):
                 self.refused("side.tbc.json is no metadata with videoParameters", *words, "--into", "copy")
         self.metadata(12, "other")
         os.unlink(self.path("side.tbc.json"))
-        for words in (["side.tbc", *LEVELS], ["side.vbi.json"]):
-            self.refused("%s: no .tbc.json or .tbc.db beside it to copy; give --meta" % words[0],
-                         *words, "--into", "copy")
+        for words, text in ((["side.tbc", *LEVELS], "no side.tbc.json or side.tbc.db beside it"),
+                            (["side.vbi.json"], "no metadata is looked for beside a name that doesn't end with .tbc")):
+            self.refused("%s: %s; give the metadata to copy by --meta" % (words[0], text), *words, "--into", "copy")
         run = subprocess.run(["sh", "-c", 'cat other | "$0" -m ldvbi_side side.vbi.json --meta /dev/stdin --into copy',
                               sys.executable], cwd=self.folder, stdout=subprocess.PIPE, stderr=subprocess.PIPE,
                              timeout=DEADLINE, check=False)
@@ -258,7 +259,7 @@ class Sides(Copies):
         os.unlink(self.path("side.tbc.json"))
         write_stream(self.path("other.tbc"), NTSC, pictures(16)[4:])
         wanted = self.run_command("compare", "side.vbi.json", "side.vbi.json")[1]
-        self.refused("no system given", "compare", "side.tbc", "side.vbi.json")
+        self.refused(NO_METADATA, "compare", "side.tbc", "side.vbi.json")
         self.assertEqual(self.run_command("compare", *LEVELS, "side.tbc", "side.tbc"),
                          (0, wanted.replace(b"side.vbi.json", b"side.tbc"), ""))
         self.assertEqual(self.run_command("compare", "other.tbc", "side.vbi.json", *LEVELS)[1].split(b"\n")[0],
@@ -266,11 +267,11 @@ class Sides(Copies):
         # in place of the metadata's, each by itself
         self.metadata(12)
         self.assertEqual(self.run_command("compare", "side.tbc", "side.vbi.json")[0], 0)
-        self.refused("the first side has no numbers to compare", "compare", "side.tbc", "side.vbi.json",
+        self.refused("side.tbc has no numbers to compare", "compare", "side.tbc", "side.vbi.json",
                      "--black=60000", "--white=60001")
-        self.refused("no white level given", "compare", "other.tbc", "side.tbc", *LEVELS[:-2])
-        self.refused("a document has its system and levels; they are options of a TBC file", "compare", "side.vbi.json",
-                     "side.vbi.json", "--white", "51200")
+        self.refused(NO_METADATA.replace("side.tbc", "other.tbc"), "compare", "other.tbc", "side.tbc", *LEVELS[:-2])
+        self.refused("side.vbi.json: a document has its system and levels; they are options of a TBC file", "compare",
+                     "side.vbi.json", "side.vbi.json", "--white", "51200")
         self.assertEqual(self.run_command("compare", "--system", "SECAM", "side.tbc", "side.tbc")[0], 2)
 
 

@@ -157,7 +157,7 @@ class Stretches(unittest.TestCase):
         found = joined(rows, rows, system="NTSC")
         self.assertEqual(list(range_rows(found)), [("0:00:00.00", "0:02:29.29", "a", 1, 8990)])
         self.assertEqual((found["missing"], len(found["leftOut"]), found["disagreements"]), ([], 5, []))
-        self.assertIn("left out by the disc's clock: 5", joined_text(found))
+        self.assertIn("skipped by the disc itself: 5", joined_text(found))
         found = joined(rows[38:], rows, system="NTSC")  # from 0:00:00.20 on
         self.assertEqual(found["lacks"], [
             {"capture": "a", "first": "0:00:00.00", "last": "0:00:00.19", "count": 19, "in": ["b"]}])
@@ -264,8 +264,8 @@ class Disagreements(unittest.TestCase):
             {"capture": "a", "first": "0:00:00.07", "last": "0:00:00.07", "field": 13, "lastField": 15},
             {"capture": "b", "first": "0:00:00.07", "last": "0:00:00.07", "field": 15, "lastField": 16}]})
         _, text = self.found(one, times(range(10), 30), system="NTSC")
-        self.assertEqual(text, "disagreements: 1 (time 0:00:00.07 left out by the clock in fields 13 to 15 of a, and "
-                         "in fields 15 to 16 of b)")
+        self.assertEqual(text, "disagreements: 1 (time 0:00:00.07 skipped by the disc itself in fields 13 to 15 of a, "
+                         "and shown in fields 15 to 16 of b)")
 
     def test_a_distance(self):
         """A capture has lost every fifth field of 30 pictures of film, which looks like a stretch of video."""

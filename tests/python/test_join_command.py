@@ -5,7 +5,7 @@ import shutil
 import unittest
 
 from streams import NTSC, pictures, write_stream
-from test_run import Runs
+from test_run import NO_METADATA, Runs
 
 
 class Joins(Runs):
@@ -61,7 +61,7 @@ class Joins(Runs):
     def test_refused(self):
         self.refused("other.tbc would be written in the place of an input or of another output",
                      "join", "side.vbi.json", "other.tbc", "--html", "other.tbc")
-        self.refused("no system given", "join", "side.vbi.json", "side.tbc")
+        self.refused(NO_METADATA, "join", "side.vbi.json", "side.tbc")
         write_stream(self.path("empty.tbc"), NTSC, [[0, 0, 0]])
         shutil.copy(self.path("other.tbc.json"), self.path("empty.tbc.json"))
         self.refused("empty.tbc has no numbers to join", "join", "side.vbi.json", "empty.tbc")

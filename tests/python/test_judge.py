@@ -241,6 +241,32 @@ class Refusals(unittest.TestCase):
                 self.assertEqual(reason(ldvbi.find_pace, readings, "PAL"), text)
 
 
+class Parts(unittest.TestCase):
+    def test_each_field_from_its_part(self):
+        """As `judge` answers of the whole side: film, with a field that shows nothing, a misread number, and a due one."""
+        rows = film(range(1, 60))
+        rows[40], rows[60] = BLANK, "- %s %s" % (picture(999), picture(999))
+        readings = side(rows, "NTSC").readings
+        for pace in (Pace.video, Pace.film):
+            whole = ldvbi.judge(readings, "NTSC", pace=pace)
+            for field, number in enumerate(whole):
+                first = max(field - 48, 0)
+                self.assertEqual(ldvbi.judge_field(readings[first:field + 49], field - first, "NTSC", "pictures", pace),
+                                 number, (pace, field))
+        self.assertEqual({one.state for one in whole}, set(State))
+
+    def test_refusals(self):
+        readings = side(pictures(range(60))).readings
+        for count, field, words, text in ((98, 0, (), "field 0 of 98, which may be 97 at most"),
+                                          (5, 5, (), "field 5 of 5, which may be 97 at most"),
+                                          (5, -1, (), "field -1 of 5, which may be 97 at most"),
+                                          (5, 0, ("pictures", "find"), "pace is neither that of video nor of film, nor "
+                                           "to be found"),
+                                          (5, 0, ("chapters",), "neither pictures nor times are counted")):
+            with self.subTest(text):
+                self.assertEqual(reason(ldvbi.judge_field, readings[:count], field, "PAL", *words), text)
+
+
 class First(unittest.TestCase):
     def test_first(self):
         numbers = [NOTHING, Number(5, State.doubtful), Number(5, State.due), Number(6, State.believed),

@@ -257,7 +257,7 @@ class Database(Metadata):
         with open(path, "r+b") as file:
             file.seek(16)
             file.write(b"\xff" * 3000)
-        with self.assertRaisesRegex(ValueError, "^%s: (file is not a database|.*malformed)" % path):
+        with self.assertRaisesRegex(ValueError, "^%s: SQLite can't read it: (file is not a database|.*malformed)" % path):
             settings_of(path)
 
 

@@ -150,6 +150,7 @@ def run(code, **variables):
                           universal_newlines=True, check=False).stdout
 
 
+MAKE = "`make lib` or `make rust` builds"
 READ = """
 import ldvbi
 try:
@@ -157,6 +158,8 @@ try:
 except OSError as error:
     print(error)
 """
+# Where a library is found without a variable, the first of them before the next
+PLACES = ("share/ldvbi/python/ldvbi", "share/ldvbi/python", "share/ldvbi", "share/ldvbi/rust", "lib")
 
 
 class Library(unittest.TestCase):
@@ -182,13 +185,13 @@ class Library(unittest.TestCase):
 
     def test_none(self):
         wanted = "no library to read samples with (%s: cannot open shared object file: No such file or directory): " \
-                 "`make lib` builds it, LDVBI_LIBRARY names its file\n"
-        self.assertEqual(run(READ, LDVBI_LIBRARY="/absent"), wanted % "/absent")
-        self.assertEqual(run(READ, **self.installed()), wanted % "libldvbi.so.1")
+                 "%s it, LDVBI_LIBRARY names its file\n"
+        self.assertEqual(run(READ, LDVBI_LIBRARY="/absent"), wanted % ("/absent", MAKE))
+        self.assertEqual(run(READ, **self.installed()), wanted % ("libldvbi.so.1", MAKE))
 
     def test_another_library(self):
         said = run(READ, LDVBI_LIBRARY="libc.so.6")
-        self.assertRegex(said, r"^no library to read samples with \(.*undefined symbol: ldvbi_abi\): `make lib` builds")
+        self.assertRegex(said, r"^no library to read samples with \(.*undefined symbol: ldvbi_abi\): %s it, " % MAKE)
         self.assertEqual(said.count("\n"), 1)
 
     def other(self, interface, status, cause, more=""):
@@ -220,12 +223,14 @@ class Library(unittest.TestCase):
         file = self.other(1, 0, 1)
         for call, purpose, name in (("ldvbi.judge([], 'NTSC')", "judge numbers", "ldvbi_judge"),
                                     ("ldvbi.find_pace([], 'NTSC')", "find paces", "ldvbi_find_pace"),
+                                    ("ldvbi.judge_field([], 0, 'NTSC')", "judge one field", "ldvbi_judge_field"),
                                     ("ldvbi.judge_chapters([])", "judge chapters", "ldvbi_judge_chapters"),
+                                    ("ldvbi.judge_stops([])", "judge stops", "ldvbi_judge_stops"),
                                     ("ldvbi.nearest(b'', 'NTSC', 1, 2)", "find nearest words", "ldvbi_nearest"),
                                     ("ldvbi.Stream(b'', 'NTSC', 1, 2, True)", "recover words", "ldvbi_recover_fields")):
             code = READ + "\ntry:\n    %s\nexcept OSError as error:\n    print(error)" % call
-            self.assertEqual(run(code, LDVBI_LIBRARY=file), "blank\n%s is too old to %s, it has no %s: `make lib` "
-                             "builds a later one, LDVBI_LIBRARY names its file\n" % (file, purpose, name))
+            self.assertEqual(run(code, LDVBI_LIBRARY=file), "blank\n%s is too old to %s, it has no %s: %s a later one, "
+                             "LDVBI_LIBRARY names its file\n" % (file, purpose, name, MAKE))
 
     def test_states_that_a_later_library_adds(self):
         """They stay numbers, as causes do; a status is a refusal."""
@@ -241,11 +246,11 @@ class Library(unittest.TestCase):
 
     def test_another_interface(self):
         file = self.other(2, 0, 0)
-        self.assertEqual(run(READ, LDVBI_LIBRARY=file), "%s has the interface 2, not 1: `make lib` builds the one that "
-                         "fits, LDVBI_LIBRARY names its file\n" % file)
+        self.assertEqual(run(READ, LDVBI_LIBRARY=file), "%s has the interface 2, not 1: %s the one that fits, "
+                         "LDVBI_LIBRARY names its file\n" % (file, MAKE))
 
     def test_places(self):
-        for place in ("lib", "share/ldvbi", "share/ldvbi/python", "share/ldvbi/python/ldvbi"):
+        for place in PLACES:
             with self.subTest(place):
                 shutil.rmtree(os.path.join(self.folder, "share"), ignore_errors=True)
                 shutil.rmtree(os.path.join(self.folder, "lib"), ignore_errors=True)
@@ -253,18 +258,17 @@ class Library(unittest.TestCase):
 
     def test_the_first_place_counts(self):
         """Each place before those behind it, which have no library that can be loaded; the variable before all."""
-        places = ["share/ldvbi/python/ldvbi", "share/ldvbi/python", "share/ldvbi", "lib"]
-        for count, place in enumerate(places):
+        for count, place in enumerate(PLACES):
             with self.subTest(place):
                 shutil.rmtree(os.path.join(self.folder, "share"), ignore_errors=True)
                 variables = self.installed(place)
-                for other in places[count + 1:]:
+                for other in PLACES[count + 1:]:
                     os.makedirs(os.path.join(self.folder, other), exist_ok=True)
                     with open(os.path.join(self.folder, other, "libldvbi.so.1"), "w", encoding="ascii") as file:
                         file.write("no library")
                 self.assertEqual(run(READ, **variables), "blank\n")
         shutil.rmtree(os.path.join(self.folder, "share"))
-        self.assertIn("(/absent: ", run(READ, **dict(self.installed(*places), LDVBI_LIBRARY="/absent")))
+        self.assertIn("(/absent: ", run(READ, **dict(self.installed(*PLACES), LDVBI_LIBRARY="/absent")))
 
     def test_an_empty_variable_names_none(self):
         variables = self.installed("lib")

@@ -167,9 +167,9 @@ class ReadInstead(unittest.TestCase):
                                             {"number": 7, "field": 13, "read": 44},
                                             {"number": 9, "field": 17, "read": None}])
         self.assertEqual(text_of(seek(found, wanted_of("5"))),
-                         "field 9, frame 5, by its neighbours: another number was read there: 17")
+                         "field 9, frame 5, by the numbers around it: another number was read there: 17")
         self.assertEqual(text_of(seek(found, wanted_of("9"))),
-                         "field 17, frame 9, by its neighbours: no number was read there")
+                         "field 17, frame 9, by the numbers around it: no number was read there")
 
     def test_of_a_time(self):
         rows = times(range(1490, 1510))

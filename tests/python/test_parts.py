@@ -76,10 +76,22 @@ class Stops(unittest.TestCase):
         found = answer(rows)
         self.assertEqual(found["stops"], [
             {"field": 5, "frame": 3, "number": 3, "lines": [16, 17]},
-            {"field": 7, "frame": 4, "number": 4, "lines": [16]}, {"field": 9, "frame": 5, "number": 5, "lines": [18]},
-            {"field": 12, "frame": 6, "number": 6, "lines": [17]}])
-        self.assertEqual(missing(found) + found["doubtful"] + found["stray"], [])
+            {"field": 7, "frame": 4, "number": 4, "lines": [16]}, {"field": 12, "frame": 6, "number": 6, "lines": [17]}])
+        self.assertEqual([(one["field"], one["line"], one["why"]) for one in found["stray"]], [(9, 18, "unsure")])
+        self.assertEqual(missing(found) + found["doubtful"], [])
         self.assertEqual(found["chapters"][0]["last"], 20)
+
+    def test_that_one_line_of_pass_2_or_3_shows_or_two(self):
+        rows = pictures(range(1, 11))
+        for place, row in ((1, "%s* - -"), (3, "- %s^ -"), (5, "%s^ - %s")):
+            rows[place] = row.replace("%s", STOP)
+        for place, row in ((9, "%s* %s* -"), (11, "%s* %s^ -"), (13, "%s^ %s -"), (15, "%s^ %s* %s")):
+            rows[place] = row.replace("%s", STOP)
+        found = answer(rows)
+        self.assertEqual([(one["field"], one["lines"]) for one in found["stops"]],
+                         [(10, [16, 17]), (12, [16, 17]), (14, [16, 17]), (16, [16, 17, 18])])
+        self.assertEqual([(one["field"], one["line"], one["pass"], one["why"]) for one in found["stray"]],
+                         [(2, 16, 2, "unsure"), (4, 17, 3, "unsure"), (6, 16, 3, "unsure"), (6, 18, 1, "unsure")])
 
     def test_the_picture_may_be_due(self):
         rows = pictures(range(1, 11))
@@ -187,7 +199,7 @@ class BadLines(unittest.TestCase):
         """They don't show that the levels are right."""
         rows = ["- %s^ %s^" % (picture(number), picture(number)) for number in range(1, 40)]
         self.assertEqual(answer(rows)["levels"], {"shows": "bad", "words": 0, "bad": 78, "blank": 0, "field": 20,
-                                                  "line": 18})
+                                                  "line": 18, "tried": None})
         self.assertIsNone(answer(rows + pictures(range(40, 43)))["levels"])
 
     def test_a_white_first_field(self):
@@ -200,11 +212,11 @@ class BadLines(unittest.TestCase):
 class Levels(unittest.TestCase):
     def test_a_blank_side(self):
         self.assertEqual(answer([BLANK] * 10)["levels"],
-                         {"shows": "blank", "words": 0, "bad": 0, "blank": 20, "field": 6, "line": 17})
+                         {"shows": "blank", "words": 0, "bad": 0, "blank": 20, "field": 6, "line": 17, "tried": None})
 
     def test_changes_and_holds_throughout(self):
         self.assertEqual(answer(["? ! ?"] * 10)["levels"],
-                         {"shows": "bad", "words": 0, "bad": 20, "blank": 0, "field": 6, "line": 17})
+                         {"shows": "bad", "words": 0, "bad": 20, "blank": 0, "field": 6, "line": 17, "tried": None})
 
     def test_few_words(self):
         rows = ["- ! ?"] * 99 + ["- F00001 F00001"]

@@ -182,7 +182,7 @@ class Terminals(Scans):
             pass  # the other end of a terminal is closed
         os.close(ours)
         text, _ = process.communicate(timeout=DEADLINE)
-        self.assertEqual((process.returncode, text.count(b"\n")), (1, 3))
+        self.assertEqual((process.returncode, text.count(b"\n")), (4, 3))
         lines = shown.decode().split("\r")
         self.assertEqual(lines[1], "0 of 2 sides, 0 %\x1b[K")
         self.assertEqual(lines[-1], "\x1b[K")

@@ -65,7 +65,8 @@ class Seeking(unittest.TestCase):
         rows = times(range(25 * 4138, 25 * 4142))
         rows[100] = "? ? ?"
         known = answer(rows)
-        self.assertEqual(found(known, "1:09"), "field 101, frame 51, by its neighbours: no number was read there")
+        self.assertEqual(found(known, "1:09"),
+                         "field 101, frame 51, by the numbers around it: no number was read there")
         self.assertEqual(found(known, "1:09:00.01"), "field 103, frame 52")
 
     def test_minutes_of_a_side_without_seconds(self):
@@ -80,8 +81,8 @@ class Seeking(unittest.TestCase):
         known = answer(rows)
         self.assertEqual([found(known, text) for text in ("70000", "15", "5", "10")],
                          ["not found", "field 29, frame 15",
-                          "field 9, frame 5, by its neighbours: another number was read there: 15",
-                          "field 19, frame 10, by its neighbours: another number was read there: 70000"])
+                          "field 9, frame 5, by the numbers around it: another number was read there: 15",
+                          "field 19, frame 10, by the numbers around it: another number was read there: 70000"])
 
     def test_of_a_number_that_was_read_later_the_field_in_which_it_was_read(self):
         rows = pictures(list(range(1, 31)) + list(range(11, 51)))
@@ -175,9 +176,9 @@ class Summaries(unittest.TestCase):
             "whole: no: 2 fields lost; 1 picture lost",
             "system: PAL, CAV",
             "fields: 62, cut: none",
-            "line 16: 1 words, 0 of them of pass 2; 1 bad (50.00 %), 60 blank",
-            "line 17: 61 words, 0 of them of pass 2; 1 bad (1.61 %), 0 blank",
-            "line 18: 61 words, 0 of them of pass 2; 1 bad (1.61 %), 0 blank",
+            "line 16: 1 words, 0 of them read only after smoothing; 1 bad (50.00 %), 60 blank",
+            "line 17: 61 words, 0 of them read only after smoothing; 1 bad (1.61 %), 0 blank",
+            "line 18: 61 words, 0 of them read only after smoothing; 1 bad (1.61 %), 0 blank",
             "pictures: 27, from 1 to 30",
             "lost: 1 (picture 22 after field 43)",
             "unread: 2 (pictures 10 to 11 after field 19)",
@@ -193,15 +194,16 @@ class Summaries(unittest.TestCase):
             "lead-in: 2 (fields 1 to 2), lead-out: 2 (fields 61 to 62)",
             "unknown words: none",
             "programme status: none, users' codes: none",
-            "stray codes: none"])
+            "codes out of place: none"])
 
     def test_recovered_words(self):
         rows = pictures(range(1, 31))
         rows[4], rows[6] = "- F00003^ F00003^", "- F00004^ ?"
         found = lines_of(side(rows))
         self.assertEqual(found[0], "whole: yes")
-        self.assertEqual(found[4:6], ["line 17: 60 words, 0 of them of pass 2, 2 recovered; 0 bad (0.00 %), 0 blank",
-                                      "line 18: 59 words, 0 of them of pass 2, 1 recovered; 1 bad (1.67 %), 0 blank"])
+        self.assertEqual(found[4:6], [
+            "line 17: 60 words, 0 of them read only after smoothing, 2 recovered; 0 bad (0.00 %), 0 blank",
+            "line 18: 59 words, 0 of them read only after smoothing, 1 recovered; 1 bad (1.67 %), 0 blank"])
         found = lines_of(side(["- F00003^ F00003^"] * 30))
         self.assertIn("levels: lines 17 and 18 have 0 words of their own, 60 are bad, 0 blank: ", "\n".join(found))
 
@@ -213,21 +215,25 @@ class Summaries(unittest.TestCase):
         for line in ("lost: none", "unread: 5 (picture 2 after field 1, picture 4 after field 5, "
                      "picture 6 after field 9, picture 8 after field 13 and 1 more)",
                      "jumps: 1 (picture 30 to 21 in field 67)", "stills: 1 (picture 10 in fields 19 to 25)",
-                     "shown again: 2 (pictures 21 to 30 in field 67, picture 10 in field 21)"):
+                     "shown again: 2 (picture 10 in field 21, pictures 21 to 30 in field 67)"):
             self.assertIn(line, lines)
 
-    def test_the_largest_stand_first(self):
+    def test_lists_stand_in_the_order_of_the_side(self):
         numbers = [number for number in range(1, 101) if number not in (10, 31, 32, 33, 61, 62)]
         numbers[50:50] = [numbers[49]] * 5
         rows = pictures(numbers + list(range(91, 96)) + list(range(71, 101)))
         rows[6:6] = pictures([3, 3])
         lines = lines_of(side(rows))
-        for line in ("lost: 6 (pictures 31 to 33 after field 61, pictures 61 to 62 after field 125, "
-                     "picture 10 after field 21)",
-                     "lost fields: 12 (6 after field 61, 4 after field 125, 2 after field 21)",
-                     "jumps: 2 (picture 95 to 71 in field 213, picture 100 to 91 in field 203)",
-                     "stills: 2 (picture 54 in fields 103 to 113, picture 3 in fields 5 to 9)"):
+        for line in ("lost: 6 (picture 10 after field 21, pictures 31 to 33 after field 61, "
+                     "pictures 61 to 62 after field 125)",
+                     "lost fields: 12 (2 after field 21, 6 after field 61, 4 after field 125)",
+                     "jumps: 2 (picture 100 to 91 in field 203, picture 95 to 71 in field 213)",
+                     "stills: 2 (picture 3 in fields 5 to 9, picture 54 in fields 103 to 113)"):
             self.assertIn(line, lines)
+        rows = pictures(range(1, 31))
+        rows[1::2] = ["8BA0A1" + rows[1][1:]] + ["8DC0A1" + row[1:] for row in rows[3::2]]
+        self.assertIn("programme status: 30 (CX off 0A1 in 1 field, CX on 0A1 in 29 fields), users' codes: none",
+                      lines_of(side(rows)))
 
     def test_status_users_codes_and_unknown_words(self):
         rows = pictures(range(1, 31))
@@ -251,7 +257,7 @@ class Summaries(unittest.TestCase):
             "whole: can't tell: no picture number and no time",
             "pictures: none", "doubtful, set aside: none", "lines 17 and 18 differ: none", "chapters: none",
             "picture stops: none", "lead-in: 1 (field 1), lead-out: none", "unknown words: none",
-            "programme status: none, users' codes: none", "stray codes: none"])
+            "programme status: none, users' codes: none", "codes out of place: none"])
 
     def test_film_and_clv(self):
         self.assertEqual(lines_of(side(film(range(1, 31)), "NTSC"))[:2],
@@ -261,7 +267,7 @@ class Summaries(unittest.TestCase):
             "system: NTSC, CLV", "times: 4, from 0:00:00.00 to 0:00:00.04", "lost: none",
             "unread: none, undecided: 1 (time 0:00:00.02 after field 3)"])
         left_out = times([number for number in range(6000) if number % 1001 != 400], 30)
-        self.assertIn("left out by the disc's clock: 6", lines_of(side(left_out, "NTSC")))
+        self.assertIn("skipped by the disc itself: 6", lines_of(side(left_out, "NTSC")))
 
     def test_levels(self):
         blank, bad = lines_of(side([BLANK] * 4, "NTSC")), lines_of(side(["- ? !"] * 4))
@@ -304,7 +310,8 @@ class Summaries(unittest.TestCase):
             items = rows[field].split(" ")
             rows[field] = " ".join([items[0], minutes(2, 20), items[2]])
         known = side(rows, "NTSC").answer
-        known["levels"] = {"shows": "bad", "words": 1, "bad": 9, "blank": 1, "field": 1, "line": 17}
+        known["levels"] = {"shows": "bad", "words": 1, "bad": 9, "blank": 1, "field": 1, "line": 17,
+                           "tried": None}
         known["secondRows"] = known["secondRows"] or [{"first": "2:20:00.00", "last": "2:20:01.00", "field": 1,
                                                        "lastField": 9, "count": 9, "weight": 9, "against": 9}]
         known["judged"] = {"both": 9, "judgeAlone": 0, "packageAlone": 0, "differ": 0, "first": None}

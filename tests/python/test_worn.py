@@ -149,8 +149,8 @@ class Documents(Sides):
         ran = subprocess.run([sys.executable, "-m", "ldvbi_side", self.path, "--system", "NTSC", "--black", "16384",
                               "--white", "51200", "--document", "--recovered"], stdout=subprocess.PIPE,
                              stderr=subprocess.PIPE, check=False)
-        self.assertEqual((ran.returncode, ran.stderr),
-                         (3, b"ldvbi-side: the last field is cut: field 1 has 7 of 478660 bytes\n"))
+        self.assertEqual((ran.returncode, ran.stderr.decode()),
+                         (3, "ldvbi-side: %s: the last field is cut: field 1 has 7 of 478660 bytes\n" % self.path))
         self.assertEqual(json.loads(ran.stdout)["cutField"], {"seqNo": 1, "bytes": 7})
 
     def test_refused(self):

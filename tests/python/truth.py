@@ -69,7 +69,7 @@ class Truth:
             kinds.add(kind)
             if kind == Kind.chapter:
                 self.chapters.setdefault(value, field)
-        if Kind.picture_stop in kinds and field not in self.side.other:
+        if Kind.picture_stop in kinds and field not in self.side.other and self._is_told_to_stop(field):
             self.stops.append(field)
         number = self.side.numbers[field - 1]
         if number is None or not kinds & NUMBER_KINDS:
@@ -77,6 +77,13 @@ class Truth:
         if self._is_read(field):
             self.read.setdefault(number, field)
         return True
+
+    def _is_told_to_stop(self, field):
+        """Whether lines 16 and 17 show the disc's stop surely: one of them in pass 1, or both."""
+        record = self.side.document["fields"][field - 1]
+        passes = [of_pass for line, word, of_pass in zip(LINES, record["vbi"]["vbiData"], record["vbiPass"])
+                  if line < 18 and said_by(word)[0] == Kind.picture_stop and (field, line) not in self.misread]
+        return 1 in passes or len(passes) == 2
 
     def _is_read(self, field):
         """Whether a field shows its number: of a time its own minute needn't be read."""

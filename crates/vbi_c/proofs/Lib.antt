@@ -1,2 +1,3 @@
 mod Drawn
 mod Judged
+pub mod PartOfReadings

@@ -9,3 +9,5 @@ pub mod Statuses
 pub mod Words
 pub mod Recovering
 pub mod Chapters
+pub mod OneField
+pub mod Stops

@@ -15,7 +15,7 @@ use vbi_words::{System, Word24};
 
 /// Which pace is asked for.
 #[derive(Clone, Copy)]
-enum Asked {
+pub(crate) enum Asked {
     /// This one.
     Given(Pace),
     /// The one that is found by the numbers that are believed at either.
@@ -25,13 +25,13 @@ enum Asked {
 /// What is to be judged, and how.
 #[derive(Clone, Copy)]
 pub(crate) struct Judging {
-    system: System,
-    counted: Counted,
-    asked: Asked,
+    pub(crate) system: System,
+    pub(crate) counted: Counted,
+    pub(crate) asked: Asked,
 }
 
 /// What is counted, by its number: 1 for pictures, 2 for times.
-fn counted_of(number: u32) -> Option<Counted>
+pub(crate) fn counted_of(number: u32) -> Option<Counted>
     ensures { result ≡ counted_of number }
 {
     match number {
@@ -42,7 +42,7 @@ fn counted_of(number: u32) -> Option<Counted>
 }
 
 /// The pace that is asked for, by its number: 1 for that of video, 2 for that of film, 3 for the one that is found.
-fn asked_of(number: u32) -> Option<Asked>
+pub(crate) fn asked_of(number: u32) -> Option<Asked>
     ensures { result ≡ asked_of number }
 {
     match number {

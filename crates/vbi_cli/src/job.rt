@@ -4,7 +4,6 @@ ghost use Rattle.std.specs.Prelude.{◌≡◌, ◌≢◌, IfOk, IfErr, Err, opti
 ghost use Rattle.vbi_line.specs.Counted.{IsSameDevice};
 ghost use Rattle.vbi_line.specs.Intake as lines;
 ghost use Rattle.vbi_field.specs.Outlet as outlets;
-ghost use Rattle.vbi_field.specs.RowIntake as word_rows;
 ghost use Rattle.vbi_meta.specs.DocumentValue.{IsConfig};
 ghost use Rattle.vbi_cli.specs.Jobs.{Settles, Refuses, Under, Counting, Did, IfMeta, UnlessMeta};
 ghost use Rattle.vbi_cli.specs.Jobs.{IsEndedBy, IsAnsweredBy, IsDrawnBy};
@@ -19,7 +18,7 @@ use crate::one_line::{LineFault, run_line};
 use crate::source::Source;
 use std::alloc::Global;
 use std::io::{Read, Write};
-use vbi_field::{Config, DrawFault, Outlet, RowIntake, RunFault, Summary, draw, extract, show};
+use vbi_field::{Config, DrawFault, Outlet, RunFault, Summary, draw, extract, show};
 use vbi_line::Intake;
 use vbi_meta::{MetaFault, read_meta, settings};
 use vbi_words::{Outcome, System};
@@ -101,28 +100,17 @@ pub fn do_command<R: Read, W: Write>(
     ensures did { Does R.remaining W.contents config.now source.old source.new outlet.old outlet.new result }
 {
     match source {
-        Source::Line(intake) => line_job(config, intake, outlet),
+        Source::Line(intake) => {
+            let outcome = run_line(config, intake, outlet);
+            line_end(config.system(), outcome)
+        }
         Source::Extract(intake) => extract_job(config, intake, outlet),
-        Source::Show(intake) => show_job(config, intake, outlet),
-        Source::Draw(rows) => draw_job(config, rows, outlet),
+        Source::Show(intake) => end_of(show(config, intake, outlet)),
+        Source::Draw(rows) => {
+            let fields = draw(config, rows, outlet);
+            drawing_end(fields)
+        }
     }
-}
-
-/// The command `line`.
-fn line_job<R: Read, W: Write>(
-    config: &Config,
-    intake: &mut Intake<R>,
-    outlet: &mut Outlet<W>,
-) -> Result<Ended, AppFault>
-    requires intake { lines.IsFresh intake.old config.now.system }
-    requires outlet { outlets.IsFresh outlet.old }
-    ensures same_reader { IsSameDevice (lines.counted_of intake.old) (lines.counted_of intake.new) }
-    ensures same_writer { IsSameDevice (outlets.counted_of outlet.old) (outlets.counted_of outlet.new) }
-    ensures did { Does R.remaining W.contents config.now (source.Line intake.old) (source.Line intake.new)
-        outlet.old outlet.new result }
-{
-    let outcome = run_line(config, intake, outlet);
-    line_end(config.system(), outcome)
 }
 
 /// The job's answer to a run over one line.
@@ -140,7 +128,8 @@ fn line_end(system: System, outcome: Result<Outcome, LineFault>) -> Result<Ended
     }
 }
 
-/// The command `extract`.
+/// The command `extract`. It stands by itself, since its document is also known to be read back as the words that the
+/// lines show.
 fn extract_job<R: Read, W: Write>(
     config: &Config,
     intake: &mut Intake<R>,
@@ -155,22 +144,6 @@ fn extract_job<R: Read, W: Write>(
 {
     numbers(config);
     end_of(extract(config, intake, outlet))
-}
-
-/// The command `show`.
-fn show_job<R: Read, W: Write>(
-    config: &Config,
-    intake: &mut Intake<R>,
-    outlet: &mut Outlet<W>,
-) -> Result<Ended, AppFault>
-    requires intake { lines.IsFresh intake.old config.now.system }
-    requires outlet { outlets.IsFresh outlet.old }
-    ensures same_reader { IsSameDevice (lines.counted_of intake.old) (lines.counted_of intake.new) }
-    ensures same_writer { IsSameDevice (outlets.counted_of outlet.old) (outlets.counted_of outlet.new) }
-    ensures did { Does R.remaining W.contents config.now (source.Show intake.old) (source.Show intake.new)
-        outlet.old outlet.new result }
-{
-    end_of(show(config, intake, outlet))
 }
 
 /// What is known of a config's numbers.
@@ -194,23 +167,6 @@ fn end_of(summary: Result<Summary, RunFault>) -> Result<Ended, AppFault>
         Err(RunFault::TooManyFields) => Err(AppFault::TooManyFields),
         Err(RunFault::Failed) => unreachable!("a run never answers it"),
     }
-}
-
-/// The command `draw`.
-fn draw_job<R: Read, W: Write>(
-    config: &Config,
-    rows: &mut RowIntake<R>,
-    outlet: &mut Outlet<W>,
-) -> Result<Ended, AppFault>
-    requires rows { word_rows.IsFresh rows.old }
-    requires outlet { outlets.IsFresh outlet.old }
-    ensures same_reader { IsSameDevice (word_rows.counted_of rows.old) (word_rows.counted_of rows.new) }
-    ensures same_writer { IsSameDevice (outlets.counted_of outlet.old) (outlets.counted_of outlet.new) }
-    ensures did { Does R.remaining W.contents config.now (source.Draw rows.old) (source.Draw rows.new)
-        outlet.old outlet.new result }
-{
-    let fields = draw(config, rows, outlet);
-    drawing_end(fields)
 }
 
 /// The job's answer to a run of drawing.

@@ -21,7 +21,8 @@ use Rattle.vbi_line.specs.declared.intake.Filled.TheVariants.{Full}
 use Rattle.vbi_line.specs.declared.intake.Intake.{Intake}
 use Rattle.vbi_field.specs.ConfigView.{ConfigView, allowed_bytes}
 use Rattle.vbi_field.specs.Extracts.{Runs}
-use Rattle.vbi_field.specs.NextLine.{TakesLine, ReadsLine}
+use Rattle.vbi_line.specs.OneReading.{ReadsLine}
+use Rattle.vbi_field.specs.NextLine.{TakesLine}
 use Rattle.vbi_field.specs.Outlet as outlets
 use Rattle.vbi_field.specs.Progress.{IsProgress, IsLineOf, MovesOneRow, AddsRow}
 use Rattle.vbi_field.specs.Ran.{EndsInside}

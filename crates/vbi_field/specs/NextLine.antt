@@ -1,4 +1,4 @@
--- What a run does with the next line of a reader, and what a line that is held whole is read as.
+-- What a run does with the next line of a reader.
 use Rattle.std.specs.Prelude.{◌≡◌, ℕ, ◌+◌, ◌*◌, ◌<◌, ◌≤◌, Bool, if◌then◌else◌, List, [], length, Option, Some, None}
 use Rattle.std.specs.Prelude.{Result, Ok, Err}
 use Rattle.std.specs.Io.KnownBytes.{Consumes, IsAtEnd}
@@ -48,13 +48,3 @@ module _ {R : Type 0} (remaining : R → Option (List ℕ)) (old new : Intake R)
     pub most : (failures_of (counted_of new)).all ≤ (failures_of (counted_of old)).all + tries * (length bytes + 1)
     pub kept : KeepsPasses (line_of old) (line_of new)
     pub got : Got bytes result
-
--- the line that was held has this reading and each of its samples was looked at once, if it is selected; else there is
--- no reading; it is held no longer
-pub record ReadsLine (levels : Slicing) (is_selected : Bool) (old new : Line) (reading : Option Reading) : Type 0
-  where
-    pub shows : reading ≡ (if is_selected then Some (reading_of old.system (row_levels levels old.held)) else None)
-    pub looked : new.looked ≡ old.looked + (if is_selected then width_of old.system else 0)
-    pub system : new.system ≡ old.system
-    pub held : new.held ≡ []
-    pub cursors : new.cursors ≡ []

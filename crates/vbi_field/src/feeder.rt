@@ -9,7 +9,7 @@
 //! on how they were cut (law `pieces_join`). That is why `take_bytes` stops at the end of a row: then each step takes
 //! one position to the next, whatever the piece.
 //!
-//! Rows that nobody reads are copied too, and `read_held` forgets them. So the bytes of a cut field are one sum
+//! Rows that nobody reads are copied too, and `take_reading` forgets them. So the bytes of a cut field are one sum
 //! wherever the stream ends (`Progress::rest`): whole rows, and what the line holds.
 //!
 //! The outlet is lent to each call, and the feeder doesn't own it: a caller may keep both in one struct. No contract
@@ -28,7 +28,6 @@ ghost use Rattle.vbi_field.specs.Feed.{IsAt, IsFeedFault};
 ghost use Rattle.vbi_line.specs.Counted.{failures_of, NoError, HasCause, IsSameDevice};
 ghost use Rattle.vbi_field.specs.Outlet.{counted_of, written_of, IsFresh, Rises, Wrote, WrotePart};
 ghost use Rattle.vbi_field.specs.FeederState.{IsFeederState, IsStep, position_in};
-ghost use Rattle.vbi_field.specs.NextLine.{ReadsLine};
 
 use crate::config::Config;
 use crate::document::Document;
@@ -38,8 +37,7 @@ use crate::summary::{RunFault, Summary};
 use crate::texts::{Kind, end, put};
 use std::io::Write;
 use std::marker::Model;
-use vbi_line::{LineBuf, read_twice};
-use vbi_words::Reading;
+use vbi_line::{LineBuf, take_reading};
 
 /// Copies bytes over the first ones.
 fn copy_front(to: &mut [u8], from: &[u8])
@@ -63,23 +61,6 @@ fn copy_in(line: &mut LineBuf, bytes: &[u8]) -> usize
     copy_front(room, &bytes[..count]);
     line.commit(count);
     count
-}
-
-/// The reading of the line that is held whole, if it is selected; the line is held no longer.
-fn read_held(line: &mut LineBuf, config: &Config, is_selected: bool) -> Option<Reading>
-    requires full { IsFull line.old }
-    requires system { line.old.system ≡ config.now.system }
-    requires passes { line.old.cursors ≡ [] }
-    requires looked { line.old.looked ≤ 2 ^ 61 }
-    ensures reads { ReadsLine config.now.levels is_selected line.old line.new result }
-{
-    let reading = if is_selected {
-        Some(read_twice(line, config.system(), config.levels()))
-    } else {
-        None
-    };
-    line.clear();
-    reading
 }
 
 /// Takes the first bytes of a piece, up to the end of a row, and writes the record of a field that is whole now. It
@@ -112,7 +93,7 @@ fn take_bytes<W: Write>(
     }
     let count = copy_in(line, bytes);
     if line.is_full() {
-        let reading = read_held(line, config, progress.is_selected());
+        let reading = take_reading(line, config.levels(), progress.is_selected());
         progress.add_row::<Document, W>(config, reading, outlet)?;
     }
     Ok(count)

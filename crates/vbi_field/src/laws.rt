@@ -60,12 +60,14 @@ pub fn drawn_length()
 
 /// The document or the report of the stream that is drawn of a text's rows has an entry for each row, with its words in
 /// the first pass and blank where it has none, and no cut field.
+#[tactic(auto, using(crate::proofs::DrawnDocument::drawn_document))]
 pub fn drawn_document()
     ensures { (t : Kind) (c : ConfigView) (text : List ℕ) (rows : List WordRow) → c.levels.black < c.levels.white
         → AreRows text rows → whole_text t c (draw_out c rows) ≡ drawn_text t c rows }
 {}
 
 /// The bytes fetched are the first of those that the reader had, and all of them where it is at its end.
+#[tactic(auto, using(crate::proofs::RunLaws::first, crate::proofs::RunLaws::whole))]
 pub fn whole_stream()
     ensures first { (all z : List ℕ) (input : Option (List ℕ)) → Consumes (Some all) input z
         → (length z ≤ length all) × (z ≡ take (length z) all) }
@@ -73,12 +75,14 @@ pub fn whole_stream()
 {}
 
 /// The samples looked at are at most those of three rows for each field that begins.
+#[tactic(auto, using(crate::proofs::RunLaws::few))]
 pub fn few_looks()
     ensures { (c : ConfigView) (z : List ℕ) → looks_of c z ≤ 3 * width_of c.system * (fields_of c z + 1) }
 {}
 
 /// A text that a failed writer cut inside the head, an entry or the tail is a first part of the text of the whole
 /// fields, or, where the reader ended, of the whole text.
+#[tactic(auto, using(crate::proofs::RunLaws::first_of_text))]
 pub fn first_of_text()
     ensures { (t : Kind) (c : ConfigView) (input : Option (List ℕ)) (z text : List ℕ) → EndsWithin t c input z text
         → IsFirstOf text (text_before_tail t c z) ⊎ (IsAtEnd input × IsFirstOf text (whole_text t c z)) }
@@ -86,6 +90,7 @@ pub fn first_of_text()
 
 /// A text that a failed writer cut inside the head, an entry or the tail has all that was due before: no byte past the
 /// whole fields was fetched yet, or the reader had ended and the texts of all whole fields were written.
+#[tactic(auto, using(crate::proofs::RunLaws::prompt))]
 pub fn prompt()
     ensures { (t : Kind) (c : ConfigView) (input : Option (List ℕ)) (z text : List ℕ) → EndsWithin t c input z text
         → (rest_of c z ≡ 0) ⊎ (IsAtEnd input × (length (text_before_tail t c z) ≤ length text)) }

@@ -3,12 +3,11 @@ ghost use Rattle.std.specs.Prelude.{◌≡◌, ◌+◌, ◌*◌, ◌^◌, ◌<�
 ghost use Rattle.vbi_words.specs.Geometry.{height_of, line_bytes};
 ghost use Rattle.vbi_line.specs.Counted.{failures_of, IsSameDevice};
 ghost use Rattle.vbi_line.specs.Intake as intakes;
-ghost use Rattle.vbi_line.specs.Intake.{fetched_of, held_of, line_of, IsFresh, KeepsReader};
+ghost use Rattle.vbi_line.specs.Intake.{fetched_of, held_of, line_of, IsFresh};
 ghost use Rattle.vbi_field.specs.Extracts.{Runs};
 ghost use Rattle.vbi_field.specs.Kinds.{document, report};
 ghost use Rattle.vbi_field.specs.Limits.{most_fields};
-ghost use Rattle.vbi_line.specs.Line.{IsFull};
-ghost use Rattle.vbi_field.specs.NextLine.{TakesLine, ReadsLine};
+ghost use Rattle.vbi_field.specs.NextLine.{TakesLine};
 ghost use Rattle.vbi_field.specs.Outlet as outlets;
 
 use crate::config::Config;
@@ -20,7 +19,6 @@ use crate::summary::{RunFault, Summary};
 use crate::texts::{Kind, end, put};
 use std::io::{Read, Write};
 use vbi_line::{Filled, Intake};
-use vbi_words::{Levels, Reading};
 
 /// Fills the line. A fault of the reader names the field and the byte to which the stream has come.
 fn fill_line<R: Read>(
@@ -48,23 +46,6 @@ fn fill_line<R: Read>(
     }
 }
 
-/// The reading of the line that is held whole, if it is selected; the line is held no longer.
-fn read_line<R: Read>(intake: &mut Intake<R>, levels: Levels, is_selected: bool) -> Option<Reading>
-    requires full { IsFull (line_of intake.old) }
-    requires passes { (line_of intake.old).cursors ≡ [] }
-    requires looked { (line_of intake.old).looked ≤ 2 ^ 61 }
-    ensures reads { ReadsLine levels is_selected (line_of intake.old) (line_of intake.new) result }
-    ensures reader { KeepsReader intake.old intake.new }
-{
-    let reading = if is_selected {
-        Some(intake.reading(levels))
-    } else {
-        None
-    };
-    intake.clear_line();
-    reading
-}
-
 /// Writes the text of a stream.
 fn run<K: Kind, R: Read, W: Write>(
     config: &Config,
@@ -83,7 +64,7 @@ fn run<K: Kind, R: Read, W: Write>(
     for row in 0..config.row_limit() {
         match fill_line(config, &progress, intake)? {
             Filled::Full => {
-                let reading = read_line(intake, config.levels(), progress.is_selected());
+                let reading = intake.take_reading(config.levels(), progress.is_selected());
                 progress.add_row::<K, W>(config, reading, outlet)?;
             }
             Filled::Ended(bytes) => {

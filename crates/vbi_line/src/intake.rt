@@ -5,12 +5,12 @@ ghost use Rattle.vbi_words.specs.Geometry.{width_of, line_bytes};
 ghost use Rattle.vbi_words.specs.Levels.{row_levels};
 ghost use Rattle.vbi_line.specs.Line.{IsFull, KeepsBytes, IsCleared};
 ghost use Rattle.vbi_line.specs.OneOutcome.{outcome_of};
-ghost use Rattle.vbi_line.specs.OneReading.{reading_of};
+ghost use Rattle.vbi_line.specs.OneReading.{ReadsLine, reading_of};
 
 use crate::counted::Counted;
 use crate::line::LineBuf;
 use crate::outcome::read_line;
-use crate::reading::read_twice;
+use crate::reading::{read_twice, take_reading};
 use std::error::Error;
 use std::fmt;
 use std::io::Read;
@@ -150,6 +150,17 @@ impl<'a, R: Read> Intake<'a, R> {
     {
         let system = self.line.system();
         read_twice(&mut self.line, system, slicing)
+    }
+
+    /// The reading of the line that is held, if it is selected, as `take_reading` says it; the line is held no longer.
+    pub fn take_reading(&mut self, slicing: Levels, is_selected: bool) -> Option<Reading>
+        requires full { IsFull (line_of self.old) }
+        requires passes { (line_of self.old).cursors ≡ [] }
+        requires looked { (line_of self.old).looked ≤ 2 ^ 61 }
+        ensures reads { ReadsLine slicing is_selected (line_of self.old) (line_of self.new) result }
+        ensures reader { KeepsReader self.old self.new }
+    {
+        take_reading(&mut self.line, slicing, is_selected)
     }
 
     /// Forgets the bytes held and the passes over them. The counts go on.

@@ -12,6 +12,7 @@ ghost use Rattle.vbi_line.specs.OneOutcome.{outcome_of};
 ghost use Rattle.vbi_line.specs.OneReading.{reading_of};
 
 /// A list of levels has exactly one outcome.
+#[tactic(auto, using(crate::proofs::OneOutcome::is_outcome, crate::proofs::OneOutcome::same_outcome))]
 pub fn one_outcome()
     ensures is { (system : System) (levels : List Bool) → IsOutcome system levels (outcome_of system levels) }
     ensures only { (system : System) (levels : List Bool) (outcome : Outcome)

@@ -29,5 +29,5 @@ pub use lanes::slice_lanes;
 pub use line::LineBuf;
 pub use outcome::{read_line, read_packed};
 pub use packed::Packed;
-pub use reading::{read_bytes_twice, read_packed_twice, read_twice};
+pub use reading::{read_bytes_twice, read_packed_twice, read_twice, take_reading};
 pub use tries::RETRIES;

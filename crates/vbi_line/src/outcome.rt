@@ -33,6 +33,7 @@ pub fn read_line(line: &mut LineBuf, system: System, slicing: Levels) -> Outcome
 }
 
 /// The outcome of a line's levels. Columns in it are counted from 0.
+#[tactic(auto, using(crate::proofs::OneOutcome::same_outcome))]
 pub fn read_packed(packed: &Packed, system: System) -> Outcome
     requires { length packed.now ≡ width_of system }
     ensures { result ≡ outcome_of system packed.now }

@@ -7,7 +7,7 @@ ghost use Rattle.vbi_words.specs.Readings.{IsReading};
 ghost use Rattle.vbi_words.specs.Shows.{Shows, ShowsNone};
 ghost use Rattle.vbi_words.specs.Smooth.{smooth_of};
 ghost use Rattle.vbi_line.specs.Line.{IsFull, KeepsBytes};
-ghost use Rattle.vbi_line.specs.OneReading.{reading_of};
+ghost use Rattle.vbi_line.specs.OneReading.{ReadsLine, reading_of};
 
 use crate::decoder::Decoder;
 use crate::in_place::slice_into;
@@ -36,6 +36,23 @@ pub fn read_twice(line: &mut LineBuf, system: System, slicing: Levels) -> Readin
     read_packed_twice(&packed, system)
 }
 
+/// The reading of a line that is held whole, if it is selected; the line is held no longer.
+pub fn take_reading(line: &mut LineBuf, slicing: Levels, is_selected: bool) -> Option<Reading>
+    requires full { IsFull line.old }
+    requires passes { line.old.cursors ≡ [] }
+    requires looked { line.old.looked ≤ 2 ^ 61 }
+    ensures { ReadsLine slicing is_selected line.old line.new result }
+{
+    let system = line.system();
+    let reading = if is_selected {
+        Some(read_twice(line, system, slicing))
+    } else {
+        None
+    };
+    line.clear();
+    reading
+}
+
 /// The reading of a line's bytes, two for each sample, the low one first. Columns in it are counted from 0. Nothing
 /// counts how often a sample is looked at.
 pub fn read_bytes_twice(bytes: &[u8], system: System, slicing: Levels) -> Reading
@@ -49,6 +66,7 @@ pub fn read_bytes_twice(bytes: &[u8], system: System, slicing: Levels) -> Readin
 
 /// The reading of a line's levels. Columns in it are counted from 0. The smoothed levels are read only where the levels
 /// show no word and one of them is high.
+#[tactic(auto, using(crate::proofs::OneReading::only_reading))]
 pub fn read_packed_twice(packed: &Packed, system: System) -> Reading
     requires { length packed.now ≡ width_of system }
     ensures { result ≡ reading_of system packed.now }

@@ -9,4 +9,3 @@ pub mod RecordTexts
 pub mod Refusals
 pub mod ShownLines
 pub mod ValueReads
-pub mod WorkedPlain

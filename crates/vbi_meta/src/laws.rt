@@ -4,9 +4,7 @@ ghost use Rattle.std.specs.Prelude.{ℕ, List, Option};
 ghost use Rattle.vbi_field.specs.ConfigView.{ConfigView};
 ghost use Rattle.vbi_field.specs.Extracts.{ExtractsAll};
 ghost use Rattle.vbi_field.specs.Kinds.{document};
-ghost use Rattle.vbi_meta.specs.Plain.{IsSmall, IsPlainText};
-ghost use Rattle.json.specs.Token.{number};
-ghost use Rattle.std.specs.Prelude.{[], ◌∷◌, codes};
+ghost use Rattle.vbi_meta.specs.Plain.{IsPlainText};
 ghost use Rattle.vbi_field.specs.Texts.{whole_text};
 ghost use Rattle.vbi_field.specs.declared.summary.Summary.{Summary};
 ghost use Rattle.vbi_meta.specs.DocumentValue.{IsConfig, IsOfRun, document_value};
@@ -38,19 +36,4 @@ pub fn plain_document()
     ensures text { (c : ConfigView) (z : List ℕ) → IsOfRun c z → IsPlainText (whole_text document c z) }
     ensures extracted { (c : ConfigView) (input : Option (List ℕ)) (z text : List ℕ) (summary : Summary)
         → IsConfig c → ExtractsAll document c input z text summary → IsPlainText text }
-{}
-
-/// Numbers that are small, and such as aren't: one with a point, an exponent or a sign, and 2 ^ 24. A text that is
-/// plain, and such as aren't: one with a number that isn't small, one with an escape, and one with a byte that isn't
-/// printed.
-pub fn worked_plain()
-    ensures small { IsSmall (number (codes "0")) × IsSmall (number (codes "16777215")) }
-    ensures point { IsSmall (number (codes "1.5")) → ⊥ }
-    ensures exponent { IsSmall (number (codes "1e3")) → ⊥ }
-    ensures sign { IsSmall (number (codes "-1")) → ⊥ }
-    ensures big { IsSmall (number (codes "16777216")) → ⊥ }
-    ensures plain { IsPlainText (codes "[\" ~\"]\n") }
-    ensures numbers { IsPlainText (codes "[1.5]") → ⊥ }
-    ensures escape { IsPlainText (codes "\"\\n\"") → ⊥ }
-    ensures unprinted { (IsPlainText (34 ∷ 127 ∷ 34 ∷ []) → ⊥) × (IsPlainText (34 ∷ 31 ∷ 34 ∷ []) → ⊥) }
 {}

@@ -37,7 +37,7 @@ slack_grows j k b c first last = go (leb_tells k (j + 8))
 
 -- ---- what nearly fits, in numbers
 
-video_nearly : (slack i m j n : ℕ) → nearly Video slack i m j n ≡ true
+pub video_nearly : (slack i m j n : ℕ) → nearly Video slack i m j n ≡ true
     → (j + 2 * m ≤ i + 2 * n + slack) × (i + 2 * n ≤ j + 2 * m + slack)
 video_nearly slack i m j n e =
     let p = both (nat_le (j + 2 * m) (i + 2 * n + slack)) (nat_le (i + 2 * n) (j + 2 * m + slack)) e in
@@ -54,7 +54,7 @@ nearly_more Film slack more i m j n less e = e
 
 -- ---- whole pictures
 
-equal_true : (m n : ℕ) → m ≡ n → (m == n) ≡ true
+pub equal_true : (m n : ℕ) → m ≡ n → (m == n) ≡ true
 equal_true m n e = go (eqb_tells m n)
   where
     go : ((eqb m n ≡ true) × (m ≡ n)) ⊎ ((eqb m n ≡ false) × (m ≢ n)) → (m == n) ≡ true

@@ -39,7 +39,7 @@ film_fits i m j n e =
     (leb-true (2 * j + 5 * m) (2 * i + 5 * n + 2) p.0, leb-true (2 * i + 5 * n) (2 * j + 5 * m + 2) p.1)
 
 -- the fields of a still
-stays_is : (i m j n : ℕ) → stays i m j n ≡ true → (n ≡ m) × AreEven i j
+pub stays_is : (i m j n : ℕ) → stays i m j n ≡ true → (n ≡ m) × AreEven i j
 stays_is i m j n e =
     let p = both (n == m) ((i + j) % 2 == 0) e in (eqb-true n m p.0, eqb-true ((i + j) % 2) 0 p.1)
 

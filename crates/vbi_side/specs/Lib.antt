@@ -13,3 +13,5 @@ pub mod Whole
 pub mod Worked
 pub mod Chapters
 pub mod WorkedChapters
+pub mod Parts
+pub mod Stops

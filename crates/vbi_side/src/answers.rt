@@ -1,15 +1,19 @@
 //! What is answered of each field.
 
-ghost use Rattle.std.specs.Prelude.{◌≡◌, ◌↔◌, ℕ, ◌<◌, length, Some, slice_get, Option};
+ghost use Rattle.std.specs.Prelude.{◌≡◌, ◌↔◌, ℕ, ◌<◌, ◌≤◌, length, Some, slice_get, Option};
 ghost use Rattle.vbi_side.specs.declared.pace.Pace.TheVariants.{Video};
-ghost use Rattle.vbi_side.specs.Numbers.{AreAnswers, AreMarks, IsMark, AreRight, believed, due};
+ghost use Rattle.vbi_side.specs.Numbers.{AreAnswers, AreMarks, IsAnswer, IsMark, AreRight, believed, due};
+ghost use Rattle.vbi_side.specs.Parts.{part_most};
 ghost use Rattle.vbi_side.specs.Truth.{IsRegular, IsSound, IsSoundStill};
 
-use crate::belief::judge_field;
+use crate::belief::{REACH, judge_field};
 use crate::due::number_due;
-use crate::number::Number;
+use crate::number::{NOTHING, Number};
 use crate::pace::Pace;
 use crate::sighting::Sightings;
+
+/// The most fields on which the answer of one depends: itself, and those within twice the reach before and behind.
+pub const PART: usize = 4 * REACH + 1;
 
 /// The believed number of a field, or what it shows in doubt.
 fn marked(fields: &[Sightings], pace: Pace, field: usize) -> Number
@@ -62,4 +66,21 @@ pub fn judge(fields: &[Sightings], pace: Pace, numbers: &mut [Number])
 {
     mark(fields, pace, numbers);
     fill(fields, pace, numbers);
+}
+
+/// The number of one field of a part of a capture: believed, due, in doubt, or none. Where the part has the 48 fields
+/// on either side of this one, or all that the capture has there, it is that of the whole capture (`same_in_part`).
+pub fn judge_one(fields: &[Sightings], pace: Pace, field: usize) -> Number
+    requires few { length fields.now ≤ part_most }
+    requires inside { field < length fields.now }
+    ensures { IsAnswer pace fields.now field result }
+{
+    let nothing = Number {
+        number: 0,
+        state: NOTHING,
+    };
+    let mut all_numbers = [nothing; PART];
+    let numbers = &mut all_numbers[..fields.len()];
+    judge(fields, pace, numbers);
+    numbers[field]
 }

@@ -22,6 +22,7 @@ ghost use Rattle.vbi_side.specs.Beliefs.{reach, enough, field_most, support_of, 
 ghost use Rattle.vbi_side.specs.Due.{slack_of, Due};
 ghost use Rattle.vbi_side.specs.Found.{pace_by, IsFound};
 ghost use Rattle.vbi_side.specs.Numbers.{IsAnswer, IsKnown};
+ghost use Rattle.vbi_side.specs.Parts.{IsPart};
 ghost use Rattle.vbi_side.specs.Truth.{IsNear, AreEven, RunsOn, IsRegular, IsSound, IsSoundStill, wrong_weight};
 ghost use Rattle.vbi_side.specs.Truth.{StandsStill, video_disc, film_disc};
 ghost use Rattle.vbi_side.specs.Misread.{Lines, Words, numbers_in, misread_weight, AreTold, IsRead};
@@ -164,6 +165,13 @@ pub fn only_near()
     ensures due { (pace : Pace) (fields others : List Sightings) (i n : ℕ)
         → ((j : ℕ) → i ≤ j + 48 → j ≤ i + 48 → slice_get fields j ≡ slice_get others j)
         → Due pace fields i n → Due pace others i n }
+{}
+
+/// What is answered of a field is the same from a part of its capture that has the 48 fields before it and the 48 behind
+/// it, or all that the capture has there.
+pub fn same_in_part()
+    ensures { (pace : Pace) (whole part : List Sightings) (first i : ℕ) (answer : Number)
+        → IsPart Sightings whole part first i → IsAnswer pace part i answer ↔ IsAnswer pace whole (first + i) answer }
 {}
 
 /// The number that a line shows is that of the words on it and on line 16: where it is another than what was recorded,

@@ -3,8 +3,8 @@
 //! A line that was misread shows a number like any other. So a number is believed only where sightings of the same
 //! field and of the 24 before it and behind it fit it at the disc's pace and weigh enough together. The definitions are
 //! in `specs/`, and the module `laws` says what holds of them: above all that where less than enough of what was read
-//! around a field is wrong, a believed number is the true one. Chapters are weighed alike (`chapter_laws`). Nothing
-//! allocates or fails.
+//! around a field is wrong, a believed number is the true one. Chapters are weighed alike (`chapter_laws`); a picture
+//! stop is judged by the lines of its own field (`stop_laws`). Nothing allocates or fails.
 #![tactic(auto)]
 
 mod answers;
@@ -19,8 +19,10 @@ mod number;
 mod pace;
 mod seek;
 mod sighting;
+pub mod stop_laws;
+mod stops;
 
-pub use answers::judge;
+pub use answers::{PART, judge, judge_one};
 pub use belief::{ENOUGH, REACH, judge_field, support};
 pub use chapters::{chapters_shown, judge_chapters};
 pub use found::found_pace;
@@ -29,3 +31,4 @@ pub use number::{BELIEVED, DOUBTFUL, DUE, NOTHING, Number};
 pub use pace::Pace;
 pub use seek::first_of;
 pub use sighting::{Sighting, Sightings};
+pub use stops::judge_stop;

@@ -64,6 +64,10 @@ little_spiked = low 1 ++ (high 1 ++ (low 1 ++ (high 2 ++ low 2)))
 abbrev pub little_late : List Bool
 little_late = low 4 ++ (high 1 ++ low 2)
 
+-- 24 ones, each half cell of 11 columns, and five lows
+abbrev pub ones_and_five : List Bool
+ones_and_five = flat_map (λ (cell : Bool). low 11 ++ high 11) (replicate 24 true) ++ low 5
+
 -- ---- drawn rows and fields
 
 -- from this column on, the level up to the first of these columns, then the other level up to the next, and so on

@@ -28,7 +28,7 @@ ghost use Rattle.vbi_words.specs.Formats.{IsFormat, format_of_lines};
 ghost use Rattle.vbi_words.specs.CodeTable.{code_of};
 ghost use Rattle.vbi_words.specs.WorkedLines.{run_of_20, low_cell, long_lows, late_high, ones_of_11};
 ghost use Rattle.vbi_words.specs.WorkedLines.{ones_ending, zeros_behind, low, high};
-ghost use Rattle.vbi_words.specs.WorkedLines.{little_row, little_early, little_spiked, little_late};
+ghost use Rattle.vbi_words.specs.WorkedLines.{little_row, little_early, little_spiked, little_late, ones_and_five};
 ghost use Rattle.vbi_words.specs.WorkedLines.{changing, of_three};
 
 /// A list of levels shows at most one word.
@@ -184,16 +184,20 @@ pub fn worked_runs()
 {}
 
 /// A row whose first change of level lies a column early, one that is blurred there so that columns stand alone, one
-/// whose change lies two columns late and so isn't blurred, and a glitch of three columns: computed on a few columns.
+/// whose change lies two columns late and so isn't blurred, a glitch of three columns, four that are none, and a line
+/// that shows its word without columns to spare: computed on a few columns.
 pub fn worked_tolerance()
     ensures jittered { IsJittered little_row little_early }
     ensures alone { IsBlurred little_row little_spiked × (NoneAlone little_spiked → ⊥) }
     ensures late { IsBlurred little_row little_late → ⊥ }
     ensures glitch { HasGlitches 1 (low 11) (low 4 ++ (high 3 ++ low 4)) }
+    ensures no_glitch { HasGlitches 1 (low 11) (low 4 ++ (high 4 ++ low 3)) → ⊥ }
+    ensures not_amply { ShowsAmply Ntsc ones_and_five 16777215 → ⊥ }
 {}
 
 /// The codes of a dozen words of each class, written down by hand from the table of codes: the ends of each pattern,
 /// some words within it, and some that miss it by one digit. NTSC and PAL have one table.
+#[tactic(auto, unfolding(crate::specs::CodeTable::code_of))]
 pub fn worked_codes()
     ensures single { map code_of (0x88FFFF ∷ 0x80EEEE ∷ 0x82CFFF ∷ 0x87FFFF ∷ [])
         ≡ LeadIn ∷ LeadOut ∷ PictureStop ∷ ClvMark ∷ [] }
@@ -269,6 +273,7 @@ pub fn worked_standing()
 {}
 
 /// The formats of fields by the words of their lines 16, 17 and 18, written down by hand; 0 stands for no word.
+#[tactic(auto, unfolding(crate::specs::CodeTable::code_of, crate::specs::Formats::format_of_lines))]
 pub fn worked_formats()
     ensures cav { map format_of_lines (
         of_three 0x82CFFF 0xF12345 0xF12345 ∷ of_three 0xF00000 0 0 ∷ of_three 0 0xF79999 0 ∷ of_three 0 0 0xF80000
@@ -290,6 +295,7 @@ pub fn worked_formats()
 
 /// The columns in which words are drawn, worked out by hand from the length of a half cell. Each list has the columns
 /// at which the level changes, and the width of a line. The level of 24 ones changes at the end of every half cell.
+#[tactic(auto, unfolding(crate::specs::Drawn::is_drawn_high, crate::specs::Words::lowest_bits))]
 pub fn worked_columns()
     ensures ntsc_ones { map (is_drawn_high Ntsc 0xFFFFFF) (range_with_len 0 910) ≡ changing false 0 (
         164 ∷ 178 ∷ 192 ∷ 207 ∷ 221 ∷ 235 ∷ 250 ∷ 264 ∷ 278 ∷ 293 ∷ 307 ∷ 321 ∷ 336 ∷ 350 ∷ 364 ∷ 379 ∷ 393 ∷ 407 ∷ 422

@@ -71,6 +71,7 @@ impl Word24 {
 
     /// Whether half cell i, counted from 0 to 47, is high. Each bit, the most significant first, has two half cells: a
     /// one is low and then high, a zero is high and then low.
+    #[tactic(auto, using(crate::proofs::Bits::half_even, crate::proofs::Bits::half_odd))]
     pub fn half(self, i: usize) -> bool
         requires { i < 48 }
         ensures { result ≡ slice_index_or (halves_of self) i false }

@@ -12,24 +12,24 @@ from ..judge.readings import WEIGHTS, Answer
 from ..judge.whole import UNITS
 from ..side import Side
 from .join import together_text
-from .summary import largest_first, listed, named
+from .summary import listed, named
 
 VERSION = 1  # of the form of what is compared
 VERDICTS = ("a", "b", "betterA", "betterB", "same")
 
 
-def compare(a: Side, b: Side) -> Answer:
+def compare(a: Side, b: Side, names: Sequence[str] = ("a", "b")) -> Answer:
     """What two sides have, as plain data: `counts` of their numbers, and for each verdict its stretches of numbers,
     `{first, last, count}`: `a` and `b` are in that side alone; of those in both `betterA` and `betterB` are shown by
-    more lines there, or by lines of pass 1 for others, and `same` are alike. What the two have together is in
-    `numbers`, `missing` and `leftOut`. A ValueError where they can't be of one disc."""
+    more lines there, or by lines read without smoothing for others, and `same` are alike. What the two have together is
+    in `numbers`, `missing` and `leftOut`. A ValueError, by these names, where they can't be of one disc."""
     kinds = [(side.answer["unit"], side.answer["system"]) for side in (a, b)]
-    if None in (kinds[0][0], kinds[1][0]):
-        which = "first" if kinds[0][0] is None else "second"
-        raise ValueError("the %s side has no numbers to compare" % which)
+    for name, (unit, _) in zip(names, kinds):
+        if unit is None:
+            raise ValueError("%s has no numbers to compare" % name)
     if kinds[0] != kinds[1]:
-        raise ValueError("the sides have %s of %s and %s of %s: two discs?" % tuple(
-            text for unit, system in kinds for text in (UNITS[unit], system)))
+        raise ValueError("%s has %s of %s, %s has %s of %s: two discs?" % tuple(
+            text for name, (unit, system) in zip(names, kinds) for text in (name, UNITS[unit], system)))
     known = [_weights(side) for side in (a, b)]
     unit, system = kinds[0]
     found: Dict[str, List[List[Any]]] = {verdict: [] for verdict in VERDICTS}
@@ -72,7 +72,7 @@ def _add(stretches, number, rate):
 
 
 def comparison_text(found: Answer, names: Sequence[str]) -> Iterator[str]:
-    """What was found, as lines: the largest stretches first, four of each verdict at most."""
+    """What was found, as lines: stretches by their numbers, four of each verdict at most."""
     unit, (one, other) = found["unit"], found["counts"]
     both = sum(stretch["count"] for verdict in VERDICTS[2:] for stretch in found[verdict])
     yield "%s: %d in %s, %d in %s, %d in both" % (UNITS[unit], one, names[0], other, names[1], both)
@@ -81,6 +81,5 @@ def comparison_text(found: Answer, names: Sequence[str]) -> Iterator[str]:
     for verdict, text in zip(VERDICTS, texts):
         stretches = found[verdict]
         yield "%s: %s" % (text, listed(sum(stretch["count"] for stretch in stretches), (
-            named(unit, stretch["first"], stretch["last"])
-            for stretch in largest_first(stretches, lambda stretch: stretch["count"]))))
+            named(unit, stretch["first"], stretch["last"]) for stretch in stretches)))
     yield together_text(found)

@@ -10,6 +10,7 @@ from ldvbi.metadata import Metadata, is_database
 from ..into.field import Words
 from ..into.text import Places
 from ..side import Side
+from .faults import no_metadata
 from .outputs import refuse_inputs, whole_file, whole_path
 from .progress import Progress
 
@@ -25,10 +26,10 @@ class Into:
         """Writes the copy, with the words of a side that has this name: those of a document, or those that the lines of
         a TBC file show. With `is_recovered` those that are recovered from its worn lines are among them."""
         if metadata is None:
-            raise ValueError("%s: no .tbc.json or .tbc.db beside it to copy; give --meta" % name)
+            raise ValueError("%s: %s; give the metadata to copy by --meta" % (name, no_metadata(name)))
         if isinstance(source, Side):
             if is_recovered:
-                raise ValueError("--recovered is of a TBC file, and this is a document")
+                raise ValueError("%s is a document, and --recovered is of a TBC file" % name)
             self._write(name, len(source.readings), metadata, _words_of_side(source))
         elif is_recovered:
             self._write(name, len(source), metadata, _words_of_stream(source))

@@ -6,7 +6,7 @@ import json
 import sys
 from typing import Any, Callable, Dict, Iterator, List, Tuple
 
-from ..draw.marks import fields_text
+from ..draw.marks import SKIPPED, fields_text
 from ..join.captures import capture_of
 from ..join.joined import join
 from ..judge.readings import Answer
@@ -90,7 +90,7 @@ def joined_text(joined: Answer) -> Iterator[str]:
     yield "lacking in all: " + listed(_count(missing), (
         "%s %s" % (named(unit, one["first"], one["last"]), one["why"]) for one in missing))
     if joined["leftOut"]:
-        yield "left out by the disc's clock: %d" % _count(joined["leftOut"])
+        yield "%s: %d" % (SKIPPED, _count(joined["leftOut"]))
     found = joined["disagreements"]
     yield "disagreements: " + listed(len(found), (_disagreement_text(one, unit) for one in found))
 
@@ -117,7 +117,7 @@ def _count(stretches):
 # What two captures say of some numbers, by why they disagree
 _DISAGREE = {
     "detour": "%(numbers)s in %(fields)s of %(name)s, where %(other)s has %(otherNumbers)s in %(otherFields)s",
-    "clock": "%(numbers)s left out by the clock in %(fields)s of %(name)s, and in %(otherFields)s of %(other)s",
+    "clock": "%(numbers)s " + SKIPPED + " in %(fields)s of %(name)s, and shown in %(otherFields)s of %(other)s",
     "distance": "%(numbers)s in %(fields)s of %(name)s and %(otherFields)s of %(other)s, further from those before "
                 "them in one than in the other",
 }

@@ -8,36 +8,37 @@ import os
 import sys
 from typing import List, Optional
 
-from ldvbi import Stream, System, field_bytes
+from ldvbi import Stream, System, __version__, field_bytes
 from ldvbi.document import is_document, write_document
 from ldvbi.metadata import beside, read_metadata, settings_of
+from ldvbi.packed import refuse_packed
 from ldvbi.stream import cut_of
 from ..draw.plot import plot_command
 from ..seek import seek, text_of, wanted_of
 from ..judge.readings import Answer
-from ..judge.whole import NO, OPEN, YES
 from ..side import Side, side_of_document, side_of_stream
 from .compare import compare, comparison_text
+from .faults import SETTINGS, STANDARD_INPUT, fault_text, naming, no_metadata, refuse_folder
 from .into import Into
 from .join import run_join
 from .map import COLUMNS as MAP_COLUMNS, map_rows
 from .outputs import drop_standard_output, refuse_inputs, whole_file
 from .progress import Progress
 from .recovered import write_recovered
+from .statuses import FAULT, OF_SIDE, of_many
 from .summary import MOST_LINES, summary
 from .tables import BAD_LINE_COLUMNS, FIELD_COLUMNS, bad_line_rows, field_rows
 
 NAME = "ldvbi-side"
 DESCRIPTION = """Reads a side from a TBC file, or from a document that `ldvbi extract` wrote, and says what its words
 mean. A file is taken for a document if its name ends with .json or its text begins as a document does. Statuses: 0
-done, 1 a side that isn't whole (--summary) or nothing found (--seek), 2 a fault or a refused command line, 3 done and
-the last field is cut, 4 it can't be told whether the side is whole (--summary), 130 ended by Ctrl-C. The words `compare
-SIDE SIDE` compare two sides, and `join SIDE SIDE..` joins captures of one; `index FILE PAGE..` writes a file that links
-pages of --html; `scan PATH..` prints a table of the sides in folders."""
+yes: the side is whole, what is sought is found, or all else is done, 1 no: it isn't whole, or nothing is found, 2 a
+fault or a refused command line, 3 done and the last field is cut, 4 it can't be told whether the side is whole, 130
+ended by Ctrl-C. The words `compare SIDE SIDE` compare two sides, and `join SIDE SIDE..` joins captures of one; `index
+FILE PAGE..` writes a file that links pages of --html; `scan PATH..` prints a table of the sides in folders."""
 COMPARISON = """Compares two captures of one side by their numbers. It says which numbers only one of them has, and
-which of those that both have one of them shows better: by more lines, or by lines of pass 1 instead of others."""
-STATUSES = {YES: 0, NO: 1, OPEN: 4}  # of a side, by whether it is whole
-FAULT = 2
+which of those that both have one of them shows better: by more lines, or by lines read without smoothing instead of
+others. Statuses: 0 done, 2 a fault, or sides that can't be of one disc, 3 done and the last field of one is cut."""
 LEVELS = "the sample of %s, from 0 to 65535; black is below white"
 
 
@@ -51,6 +52,7 @@ def _wanted(text):
 def _parser():
     parser = argparse.ArgumentParser(prog=NAME, description=DESCRIPTION)
     parser.add_argument("side", help="the TBC file, or the document; - is standard input, for a document")
+    parser.add_argument("--version", action="version", version="%s %s" % (NAME, __version__))
     parser.add_argument("--meta", metavar="FILE", help="take system and levels of a TBC file from this .tbc.json or "
                         ".tbc.db of ld-decode, and not from the one beside the file. Levels with decimals are rounded "
                         "to the next whole number. The count of fields in it is compared with the side. Its "
@@ -59,7 +61,7 @@ def _parser():
     parser.add_argument("--no-recover", action="store_true", help="leave out the words that are recovered from worn "
                         "lines of a TBC file, those of pass 3")
     output = parser.add_mutually_exclusive_group()
-    output.add_argument("--csv", action="store_true", help="print a row for each field with any word (the default)")
+    output.add_argument("--csv", action="store_true", help="print a row for each field with any word")
     output.add_argument("--json", action="store_true", help="print all that is known of the side, every list in full")
     output.add_argument("--bad-lines", action="store_true", help="print a row for each line that shows no word of "
                         "its own and isn't blank, with its cause, its offset in the TBC file, and the word "
@@ -68,8 +70,8 @@ def _parser():
                         "number, or a CLV time h:mm:ss.pp), of a minute h:mm, of a second h:mm:ss, or of a chapter, as "
                         "'chapter 3'; status 1 if there is none")
     output.add_argument("--summary", action="store_true", help="print in at most %d lines whether the side is whole, "
-                        "and what to look at first; status 0 if it is whole, 1 if it isn't, 4 if that can't be told"
-                        % MOST_LINES)
+                        "and what to look at first (the default); "
+                        "status 0 if it is whole, 1 if it isn't, 4 if that can't be told" % MOST_LINES)
     output.add_argument("--document", action="store_true", help="print the document of the TBC file, byte for byte as "
                         "`ldvbi extract` writes it")
     parser.add_argument("--recovered", action="store_true", help="copy with --into the recovered words, too; print "
@@ -102,27 +104,53 @@ def _settings(options):
     return [options.system, options.black, options.white]
 
 
-def _refuse_settings(options, sources):
-    """Raises a ValueError where system or levels are given, and no source is a TBC file."""
+def _refuse_settings(options, names, sources):
+    """Raises a ValueError where system or levels are given, and none of the sources with these names is a TBC file."""
     is_given = any(value is not None for value in _settings(options))
     if is_given and all(isinstance(source, Side) for source in sources):
-        raise ValueError("a document has its system and levels; they are options of a TBC file")
+        raise ValueError("%s: a document has its system and levels; they are options of a TBC file" % names[0])
+
+
+def _name_of(options):
+    """What messages call the side."""
+    return STANDARD_INPUT if options.side == "-" else options.side
 
 
 def _source(options, on_field=None):
     """The side of the document that the options name, or the stream of the TBC file; and the metadata, or None, whose
     fields `on_field` is told of."""
     is_standard_input = options.side == "-"
-    with open(0 if is_standard_input else options.side, "rb", closefd=not is_standard_input) as file:
-        if is_standard_input or is_document(options.side, file.peek(64)):
+    if not is_standard_input:
+        refuse_folder(options.side)
+    with naming(_name_of(options)), \
+            open(0 if is_standard_input else options.side, "rb", closefd=not is_standard_input) as file:
+        begin = file.peek(64)
+        refuse_packed(_name_of(options), begin)
+        side = None
+        if is_standard_input or is_document(options.side, begin):
             side = side_of_document(file.read())
-            return side, options.meta and read_metadata(options.meta, on_field)
-    metadata = options.meta and read_metadata(options.meta, on_field)
-    settings = settings_of(metadata, *_settings(options))
+    metadata = _metadata(options, on_field)
+    return side or _stream(options, metadata), metadata
+
+
+def _metadata(options, on_field):
+    """The metadata that the options name, or None."""
+    if not options.meta:
+        return None
+    with naming(options.meta):
+        return read_metadata(options.meta, on_field)
+
+
+def _stream(options, metadata):
+    """The stream of the TBC file."""
+    if metadata is None and None in _settings(options):
+        raise ValueError("%s: %s; %s" % (options.side, no_metadata(options.side), SETTINGS))
+    with naming(metadata.path if metadata else options.side):
+        settings = settings_of(metadata, *_settings(options))
     for note in settings.notes:
-        _note(note)
-    stream = Stream(options.side, settings.system, settings.black, settings.white, not options.no_recover)
-    return stream, metadata
+        _note("%s: %s" % (options.side, note))
+    with naming(options.side):
+        return Stream(options.side, settings.system, settings.black, settings.white, not options.no_recover)
 
 
 def _print_document(path, stream):
@@ -145,18 +173,19 @@ def _loaded(source, metadata, options):
     side = _side_of(source)
     side.is_strict = options.strict
     if metadata:
-        _add_fields(side, metadata, isinstance(source, Side))
+        _add_fields(side, _name_of(options), metadata, isinstance(source, Side))
     return side
 
 
-def _add_fields(side, metadata, is_all):
-    """Adds what the metadata has of the fields to the side. `is_all` says that nothing else is wanted of it."""
+def _add_fields(side, name, metadata, is_all):
+    """Adds what the metadata has of the fields to the side, which has this name. `is_all` says that nothing else is
+    wanted of it."""
     count, side.expected = len(side.readings), metadata.fields
     if metadata.fields is not None and metadata.fields != count:
         rest = " and %d bytes" % side.cut.bytes if side.cut else ""
         unused = ", so its isFirstField isn't used" if metadata.first else ""
-        _note("%d fields%s, %s says %d%s: another system, or another file's metadata?" % (
-            count, rest, metadata.path, metadata.fields, unused))
+        _note("%s: %d fields%s, %s says %d%s: another system, or another file's metadata?" % (
+            name, count, rest, metadata.path, metadata.fields, unused))
         return
     side.first = metadata.first
     if is_all and side.first is None:
@@ -173,11 +202,11 @@ def _print_table(columns, rows, file=None):
     table.writerows(rows)
 
 
-def _cut_status(cut, system):
-    """The status of what is printed of all whole fields: 3 where the last field is cut, which is said then."""
+def _cut_status(cut, system, name):
+    """The status of what is printed of all whole fields of a side: 3 where the last one is cut, which is said then."""
     if cut is None:
         return 0
-    _note("the last field is cut: field %d has %d of %d bytes" % (*cut, field_bytes(system)))
+    _note("%s: the last field is cut: field %d has %d of %d bytes" % (name, *cut, field_bytes(system)))
     return 3
 
 
@@ -213,17 +242,23 @@ def _drawn(options):
     return [options.svg, options.map, options.html]
 
 
+def _is_printed(options):
+    """Whether an option says what is printed."""
+    return any([options.csv, options.json, options.bad_lines, options.seek, options.summary, options.document])
+
+
 def _is_judged(options):
     """Whether it is asked what the words mean, or for a document that takes a side, and not for words alone."""
-    return not (options.into or options.document) or any([
-        *_drawn(options), options.csv, options.json, options.bad_lines, options.seek, options.summary,
-        options.document and options.recovered])
+    return any([*_drawn(options), options.csv, options.json, options.bad_lines, options.seek, options.summary,
+                options.document and options.recovered])
 
 
 def _options(words):
     """The options of these words, with the metadata beside the TBC file where they leave something open."""
     parser = _parser()
     options = parser.parse_args(words)
+    if not (_is_printed(options) or any(_files(options))):
+        options.summary = True
     if options.recovered and (not (options.document or options.into) or options.no_recover):
         parser.error("--recovered is of --document or --into, and not with --no-recover")
     is_open = options.into or None in _settings(options)
@@ -240,7 +275,14 @@ def _side_at(path):
 
 def _join(words):
     """Prints what captures have together."""
-    return run_join(NAME, words, _side_at)
+    cuts = []
+
+    def load(path):
+        side = _side_at(path)
+        cuts.append(_cut_status(side.cut, side.system, path))
+        return side
+
+    return of_many([run_join(NAME, words, load), *cuts])
 
 
 def _compare(words):
@@ -255,10 +297,11 @@ def _compare(words):
     given = ["--%s=%s" % pair for pair in zip(("system", "black", "white"), _settings(options)) if pair[1] is not None]
     of_each = [_options([*given, "--", path]) for path in options.sides]
     sources = [_source(one) for one in of_each]
-    _refuse_settings(options, [source for source, _ in sources])
-    found = compare(*(_loaded(*source, one) for source, one in zip(sources, of_each)))
+    _refuse_settings(options, options.sides, [source for source, _ in sources])
+    sides = [_loaded(*source, one) for source, one in zip(sources, of_each)]
+    found = compare(*sides, options.sides)
     print(json.dumps(found) if options.json else "\n".join(comparison_text(found, options.sides)))
-    return 0
+    return of_many(_cut_status(side.cut, side.system, path) for side, path in zip(sides, options.sides))
 
 
 def _index(words):
@@ -304,16 +347,17 @@ def _answer(options):
     """Prints and draws what the options ask for."""
     into = Into(options.into) if options.into else None
     source, metadata = _source(options, into and into.places.add)
-    _refuse_settings(options, [source])
+    _refuse_settings(options, [_name_of(options)], [source])
     if options.document:
         if isinstance(source, Side):
-            raise ValueError("--document is of a TBC file, and this is a document")
+            raise ValueError("%s is a document, and --document is of a TBC file" % _name_of(options))
         if not options.recovered:
             _print_document(options.side, source)
     if into:
         into.write(options.side, source, metadata, options.recovered)
     if not _is_judged(options):
-        return _cut_status(source.cut if isinstance(source, Side) else cut_of(source), source.system)
+        cut = source.cut if isinstance(source, Side) else cut_of(source)
+        return _cut_status(cut, source.system, _name_of(options))
     side = _loaded(source, metadata, options)
     if options.document and options.recovered:
         write_recovered(side, sys.stdout)
@@ -324,27 +368,27 @@ def _answer(options):
         return int(found is None)
     if options.summary:
         print(*summary(side.answer, _plot_command(side, options)), sep="\n")
-        return STATUSES[side.answer["whole"]]
+        return OF_SIDE[side.answer["whole"]]
     if options.json:
         json.dump(side.answer, sys.stdout)
         print()
     elif options.bad_lines:
         _print_table(BAD_LINE_COLUMNS, bad_line_rows(side))
-    elif options.csv or not (options.document or any(_files(options))):
+    elif options.csv:
         _print_table(FIELD_COLUMNS, field_rows(side))
-    return _cut_status(side.cut, side.system)
+    return _cut_status(side.cut, side.system, _name_of(options))
 
 
 def main(words: Optional[List[str]] = None) -> int:
     words = sys.argv[1:] if words is None else words
     try:
-        of_many = {"compare": _compare, "join": _join, "index": _index, "scan": _scan}.get(words[0] if words else "")
-        status = of_many(words[1:]) if of_many else _run(_options(words))
+        command = {"compare": _compare, "join": _join, "index": _index, "scan": _scan}.get(words[0] if words else "")
+        status = command(words[1:]) if command else _run(_options(words))
         sys.stdout.flush()
         return status
     except BrokenPipeError:
         drop_standard_output()
         return FAULT
     except (OSError, ValueError) as error:
-        _note(error)
+        _note(fault_text(error))
         return FAULT

@@ -17,12 +17,12 @@ def whole_file(path: str) -> Iterator[IO[str]]:
     an exception; else nothing is left of it. What is no file, as a pipe or a terminal, is written to as it is."""
     target = os.path.realpath(path)
     if os.path.exists(target) and not os.path.isfile(target):
-        with open(target, "w", encoding="utf-8") as file:
+        with _named_where_written(path), _opened(path, target, "w") as file:
             yield file
         return
     part = _part_of(target)
     try:
-        with open(part, "x", encoding="utf-8") as file:
+        with _named_where_written(path), _opened(path, part, "x") as file:
             yield file
             file.flush()
             # Else the name could come through a loss of power, and the text not.
@@ -46,7 +46,11 @@ def whole_path(path: str, ends: Sequence[str]) -> Iterator[str]:
             raise ValueError("%s is there: %s is in use, or was left unfinished" % (path + end, path))
     folder = _part_of(target)
     try:
-        os.mkdir(folder)
+        try:
+            os.mkdir(folder)
+        except OSError as error:
+            error.filename = path
+            raise
         part = os.path.join(folder, "part")
         yield part
         with open(part, "rb") as file:
@@ -54,6 +58,26 @@ def whole_path(path: str, ends: Sequence[str]) -> Iterator[str]:
         _rename(part, target)
     finally:
         shutil.rmtree(folder, ignore_errors=True)
+
+
+def _opened(path, name, mode):
+    """The file of this name, in the place of the one that was asked for: what goes wrong is said of that."""
+    try:
+        return open(name, mode, encoding="utf-8")
+    except OSError as error:
+        error.filename = path
+        raise
+
+
+@contextlib.contextmanager
+def _named_where_written(path):
+    """Has an error of the block that has no file's name, as that of a full disk, be one of this file."""
+    try:
+        yield
+    except OSError as error:
+        if error.strerror and error.filename is None:
+            error.filename = path
+        raise
 
 
 def _part_of(target):

@@ -13,24 +13,24 @@ from typing import Callable, List, Optional
 
 from ldvbi.document import is_document
 from ldvbi.metadata import beside
-from ldvbi.packed import packed_as
+from ldvbi.packed import refuse_packed
 from ..draw.index import head_of, index_of
 from ..draw.page import said_of
 from ..judge.readings import Answer
-from ..judge.whole import YES
+from .faults import fault_text, no_metadata
 from .folders import files_of, page_name, sides_in
 from .outputs import drop_part, refuse_inputs, whole_file
 from .processes import Ended, SideBySide
 from .progress import SidesProgress, heard_by
 from .rows import Csv, Json, Text, fault_row, row_of
+from .statuses import FAULT, OF_SIDE, of_many
 
 DESCRIPTION = """Prints a table with a row for each side in these files and folders, which are gone through whole: its
 .tbc files, with their metadata beside them, and its .vbi.json documents without a .tbc beside them. Statuses: 0 all
-sides are whole, 1 some aren't, or it can't be told, 2 a fault, of a side or of the command line, 130 ended by
-Ctrl-C."""
+sides are whole, 1 some aren't, 2 a fault, of a side or of the command line, 4 none is known not to be whole, but of
+some it can't be told, 130 ended by Ctrl-C."""
 INDEX = "index.html"
 MOST_JOBS = 4  # where the command line doesn't say
-STATUS_OPEN, STATUS_FAULT = 1, 2
 # About how many bytes of a file there are to a field
 _FIELD_BYTES = {True: 600000, False: 150}  # of a TBC file, of a document
 Read = Callable[[str, Optional[str]], Answer]
@@ -80,13 +80,13 @@ def scan(words: List[str], read: Read) -> int:
         for row, notes in _in_order(itertools.chain(kept.items(), _results(messages, progress, sides, left))):
             progress.clear()
             for note in notes:
-                print("ldvbi-side: %s: %s" % (row["side"], note), file=sys.stderr)
+                print("ldvbi-side: " + note, file=sys.stderr)
             table.add(row)
             rows.append(row)
     table.end()
     if index:
         _write_index(index, rows)
-    return max(map(_status, rows))
+    return of_many(map(_status, rows))
 
 
 def _pages(sides, folder):
@@ -180,19 +180,15 @@ def _refuse_others(path):
     """Raises a ValueError for a file that is neither a document nor a TBC file with its metadata beside it."""
     with open(path, "rb") as file:
         begin = file.read(64)
-    packed = packed_as(begin)
-    if packed:
-        raise ValueError("it is compressed (%s): unpack it first" % packed)
+    refuse_packed(path, begin)
     if not is_document(path, begin) and beside(path) is None:
-        name = os.path.basename(path)
-        raise ValueError("no %s.json and no %s.db beside it" % (name, name))
+        raise ValueError(no_metadata(path))
 
 
 def _fault_text(error, path):
-    """A fault without its number, and without the name of the side, which its row has."""
-    if not isinstance(error, OSError) or not error.strerror:
-        return str(error)
-    return error.strerror if error.filename in (None, path) else "%s: %s" % (error.filename, error.strerror)
+    """A fault without the name of the side, which its row has."""
+    text = fault_text(error)
+    return text[len(path) + 2:] if text.startswith(path + ": ") else text
 
 
 def _size(path):
@@ -212,5 +208,5 @@ def _write_index(index, rows):
 def _status(row):
     """The status of a scan in which this were the only side."""
     if row["fault"] is not None:
-        return STATUS_FAULT
-    return 0 if row["whole"] == YES else STATUS_OPEN
+        return FAULT
+    return OF_SIDE[row["whole"]]

@@ -1,12 +1,14 @@
-"""A side at a glance: whether it is whole, and what to look at first, in at most MOST_LINES lines."""
+"""A side at a glance: whether it is whole, and what to look at first, in at most MOST_LINES lines. Lists stand in the
+order of the disc or the side."""
 
-from typing import Any, Callable, Iterable, Iterator, List
+from typing import Any, Callable, Iterable, Iterator
 
 from ldvbi.codes import LINES
-from ..draw.marks import fields_text
+from ..draw.marks import OUT_OF_PLACE, SKIPPED, fields_text
 from ..judge.lines import words_of
 from ..judge.readings import Answer
 from ..judge.whole import UNITS, counted, other_file
+from ..levels import options_of
 
 MOST_LINES = 26
 MOST_LISTED = 4  # places in a line
@@ -39,13 +41,15 @@ def _line_text(line, rates):
     words, bad = words_of(rates), rates["change"] + rates["hold"] + rates["unfinished"]
     share = 100 * bad / (words + bad) if bad else 0
     recovered = ", %d recovered" % rates["near"] if rates["near"] else ""
-    return "line %d: %d words, %d of them of pass 2%s; %d bad (%.2f %%), %d blank" % (
+    return "line %d: %d words, %d of them read only after smoothing%s; %d bad (%.2f %%), %d blank" % (
         line, words, rates["pass2"], recovered, bad, share, rates["blank"])
 
 
 def _levels_text(answer, plot_command):
     levels = answer["levels"]
-    if other_file(answer):
+    if levels["tried"] and levels["tried"]["best"]:
+        why = _tried_text(levels["tried"])
+    elif other_file(answer):
         why = "perhaps another system, or another file's metadata"
     elif levels["shows"] == "blank":
         why = "black and white may be too high, or the side has no codes"
@@ -54,6 +58,12 @@ def _levels_text(answer, plot_command):
     own = " of their own" if any(answer["lines"][line]["near"] for line in ("17", "18")) else ""
     return "levels: lines 17 and 18 have %d words%s, %d are bad, %d blank: %s. Look at one: %s" % (
         levels["words"], own, levels["bad"], levels["blank"], why, plot_command(levels["field"], levels["line"]))
+
+
+def _tried_text(tried):
+    """What other levels, or the other system, read of some lines."""
+    return "%(read)d of %(lines)d lines read with black %(black)d, white %(white)d; " % tried + "%d with %s" % (
+        tried["best"]["read"], options_of(tried["best"]))
 
 
 def listed(count: int, texts: Iterable[str]) -> str:
@@ -69,11 +79,6 @@ def named(unit: str, first: Any, last: Any) -> str:
     return "%s %s" % (unit, first) if first == last else "%s %s to %s" % (UNITS[unit], first, last)
 
 
-def largest_first(ones: Iterable[Answer], size: Callable[[Answer], int]) -> List[Answer]:
-    """The ones of a list with the largest at the front: where they are as large, as they stand on the side."""
-    return sorted(ones, key=lambda one: -size(one))
-
-
 def _number_lines(answer):
     unit = answer["unit"]
     yield "%s: %d, from %s to %s" % ((UNITS[unit],) + tuple(answer["numbers"].values()))
@@ -81,26 +86,24 @@ def _number_lines(answer):
     undecided = _missing_text(answer, "undecided")
     yield "unread: " + _missing_text(answer, "unread") + ("" if undecided == "none" else ", undecided: " + undecided)
     if answer["leftOut"]:
-        yield "left out by the disc's clock: %d" % sum(one["count"] for one in answer["leftOut"])
-    lost = largest_first(answer["lost"], lambda one: one["fields"] or 1)
+        yield "%s: %d" % (SKIPPED, sum(one["count"] for one in answer["leftOut"]))
+    lost = answer["lost"]
     yield "lost fields: " + listed(sum(one["fields"] or 1 for one in lost), (
         "%s after field %d" % (one["fields"] or "1 or more", one["after"]) for one in lost))
-    jumps = largest_first((one for one in answer["breaks"] if one["kind"] != "lost"), lambda one: one["fields"])
+    jumps = [one for one in answer["breaks"] if one["kind"] != "lost"]
     yield "jumps: " + listed(len(jumps), (
         "%s %s to %s in field %d" % (unit, one["from"], one["to"], one["before"]) for one in jumps))
     if answer["swapped"] or answer["speeds"]:
         yield _order_text(answer)
-    stills = largest_first(answer["stills"], lambda one: one["last"] - one["first"])
-    yield "stills: " + listed(len(stills), (
-        "%s %s in fields %d to %d" % (unit, one["number"], one["first"], one["last"]) for one in stills))
-    repeated = largest_first(answer["repeated"], lambda one: one["lastField"] - one["field"])
-    yield "shown again: " + listed(len(repeated), (
-        "%s in field %d" % (named(unit, one["first"], one["last"]), one["field"]) for one in repeated))
+    yield "stills: " + listed(len(answer["stills"]), (
+        "%s %s in fields %d to %d" % (unit, one["number"], one["first"], one["last"]) for one in answer["stills"]))
+    yield "shown again: " + listed(len(answer["repeated"]), (
+        "%s in field %d" % (named(unit, one["first"], one["last"]), one["field"]) for one in answer["repeated"]))
 
 
 def _order_text(answer):
     """Fields in another order than the disc's: swapped ones, and those that were played at another speed."""
-    speeds = largest_first(answer["speeds"], lambda one: one["last"] - one["first"])
+    speeds = answer["speeds"]
     return "swapped fields: %s, other speeds: %s" % (
         listed(len(answer["swapped"]), (
             "%s in field %d or %d" % (named(answer["unit"], one["number"], one["number"]), one["field"],
@@ -111,8 +114,7 @@ def _order_text(answer):
 def _missing_text(answer, why):
     ones = [one for one in answer["missing"] if one["why"] == why]
     return listed(sum(one["count"] for one in ones), (
-        "%s after field %d" % (named(answer["unit"], one["first"], one["last"]), one["after"])
-        for one in largest_first(ones, lambda one: one["count"])))
+        "%s after field %d" % (named(answer["unit"], one["first"], one["last"]), one["after"]) for one in ones))
 
 
 def _doubt_lines(answer):
@@ -154,11 +156,11 @@ def _part_lines(answer):
     yield "programme status: %s, users' codes: %s" % (
         _words_text(answer["programmeStatus"], lambda one: "CX %s %s" % ("on" if one["cx"] else "off", one["digits"])),
         _words_text(answer["users"], lambda one: "%(digit)d %(digits)s" % one))
-    yield "stray codes: " + listed(len(stray), ("%(kind)s in field %(field)d line %(line)d" % one for one in stray))
+    yield "%s: %s" % (OUT_OF_PLACE, listed(len(stray), (
+        "%(kind)s in field %(field)d line %(line)d" % one for one in stray)))
 
 
 def _words_text(words, text_of):
-    """How many fields have words of a kind, and the most frequent of them."""
+    """How many fields have words of a kind, and the first of them."""
     return listed(sum(one["count"] for one in words), (
-        "%s in %s" % (text_of(one), counted(one["count"], "field"))
-        for one in largest_first(words, lambda one: one["count"])))
+        "%s in %s" % (text_of(one), counted(one["count"], "field")) for one in words))

@@ -14,11 +14,11 @@ SHOWN = {
     "hold": "#9333ea",
     "unfinished": "#ea580c",
     "recovered": "#0891b2",
-    "word of pass 2": "#eab308",
+    "read only after smoothing": "#eab308",
     "word": "#86bf91",
     "blank": "#e2e8f0",
 }
-_OF_PASSES = {2: "word of pass 2", 3: "recovered"}
+_OF_PASSES = {2: "read only after smoothing", 3: "recovered"}
 HEIGHT, STEP = 28, 34  # of a band, and from band to band, in pixels
 LEAST_SHARE = 4  # pixels of a band for what is neither a word of pass 1 nor blank
 

@@ -26,7 +26,7 @@ class _Head(HTMLParser):
     def handle_starttag(self, tag, attrs):
         known = dict(attrs)
         if tag == "meta" and known.get("name") == MARK:
-            self.said = json.loads(known["content"])
+            self.said = _parsed(known.get("content") or "")
         self.is_read = self.is_read or tag == "body"
         # a drawing on the page has titles, too
         self._is_title = tag == "title" and not self.title
@@ -38,11 +38,20 @@ class _Head(HTMLParser):
         self.title += data if self._is_title else ""
 
 
+def _parsed(text):
+    """What a page says of itself, or None where it is no page of a side."""
+    try:
+        said = json.loads(text)
+    except (ValueError, RecursionError):
+        return None
+    return said if isinstance(said, dict) else None
+
+
 def head_of(page: str) -> Tuple[str, Answer]:
     """The title of a page, and what it says of itself. Of its body, which may be long, little is read. A ValueError
     where it is no page of a side, or has another form."""
     head = _Head()
-    with open(page, encoding="utf-8") as file:
+    with open(page, encoding="utf-8", errors="replace") as file:
         while not head.is_read:
             part = file.read(PART)
             if not part:

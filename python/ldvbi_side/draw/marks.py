@@ -6,6 +6,8 @@ from typing import Any, Dict, List, NamedTuple
 from ..judge.readings import Answer
 from ..judge.whole import counted_by
 
+# What a reader is told of the answer's `leftOut` and `stray`
+SKIPPED, OUT_OF_PLACE = "skipped by the disc itself", "codes out of place"
 # The lanes with their colours, and those that few sides have
 LANES = {
     "lost": "#dc2626",
@@ -18,20 +20,20 @@ LANES = {
     "stills": "#0284c7",
     "shown again": "#6366f1",
     "doubtful": "#be185d",
-    "stray codes": "#64748b",
+    "out of place": "#64748b",
 }
 _RARE = ("undecided", "swapped fields", "other speeds")
 PALE = ("unread",)  # of these the colour is too light for text
 _MISSING = {
     "lost": "no field is there for it",
     "unread": "fields are there for it, and none shows it",
-    "undecided": "lost or unread, or left out by the disc's clock",
+    "undecided": "lost or unread, or " + SKIPPED,
 }
 _LOST = {
     "number": "by the numbers",
     "parity": "by isFirstField",
     "both": "by the numbers and by isFirstField",
-    "undecided": "or the disc's clock leaves out a number",
+    "undecided": "or a number was " + SKIPPED,
 }
 _DOUBTFUL = {
     "neighbours": "the numbers around it fit each other",
@@ -45,7 +47,10 @@ _STRAY = {
     "line": "no disc has it on this line",
     "format": "a code of the other format",
     "place": "it stands between two numbers that fit each other",
+    "unsure": "line 16 or 17 has to show it without smoothing, or both",
 }
+# How a word was read, by its pass
+_READ = {1: "", 2: ", read only after smoothing", 3: ", recovered"}
 
 
 class Mark(NamedTuple):
@@ -80,7 +85,7 @@ def marks_of(answer: Answer) -> Dict[str, List[Mark]]:
             span(one["first"], one["last"]), fields_text(one["field"], one["lastField"]), one["before"]))
             for one in answer["repeated"]],
         "doubtful": [Mark(one["field"], one["field"], doubt_text(one)) for one in answer["doubtful"]],
-        "stray codes": [Mark(one["field"], one["field"], _stray(one)) for one in answer["stray"]],
+        "out of place": [Mark(one["field"], one["field"], _stray(one)) for one in answer["stray"]],
     }
     return {lane: sorted(marks) for lane, marks in found.items()}
 
@@ -102,8 +107,8 @@ def doubt_text(one: Answer) -> str:
     """A doubtful number with its place, why it is set aside, and the numbers around it."""
     number = one["word"] if one["number"] is None else one["number"]
     around = ["%s in field %d" % (near["number"], near["field"]) for near in (one["before"], one["after"]) if near]
-    text = "doubtful: %s %s in field %d, line %d, pass %d: %s" % (
-        one["kind"], number, one["field"], one["line"], one["pass"], _DOUBTFUL[one["why"]])
+    text = "doubtful: %s %s in field %d, line %d%s: %s" % (
+        one["kind"], number, one["field"], one["line"], _READ[one["pass"]], _DOUBTFUL[one["why"]])
     return text + (" (%s)" % ", ".join(around) if around else "")
 
 
@@ -128,5 +133,5 @@ def _jump(one):
 
 
 def _stray(one):
-    return "stray: %s in field %d, line %d, pass %d: %s" % (
-        one["kind"], one["field"], one["line"], one["pass"], _STRAY[one["why"]])
+    return "out of place: %s in field %d, line %d%s: %s" % (
+        one["kind"], one["field"], one["line"], _READ[one["pass"]], _STRAY[one["why"]])

@@ -11,6 +11,7 @@ from ..judge.whole import NO, OPEN, YES, counted, counted_by, lost_fields_text
 from ..side import Side
 from .bands import SHOWN
 from .drawing import drawing_of
+from .marks import OUT_OF_PLACE, SKIPPED
 
 MOST_PLOTS = 200
 CLASSES = {YES: "yes", NO: "no", OPEN: "open"}
@@ -26,11 +27,11 @@ summary{cursor:pointer;padding:4px 0}details svg{max-width:100%;height:auto}
 # The lists of the answer, and how a page names them
 LISTS = {
     "missing": "numbers lost, undecided or unread", "lost": "lost fields", "unread": "unread, and their fields",
-    "leftOut": "left out by the disc's clock", "breaks": "breaks", "stills": "stills", "repeated": "shown again",
+    "leftOut": SKIPPED, "breaks": "breaks", "stills": "stills", "repeated": "shown again",
     "swapped": "swapped fields", "speeds": "other speeds", "doubtful": "doubtful, set aside",
     "conflicts": "lines 17 and 18 differ", "chapterConflicts": "chapters of lines 17 and 18 differ",
     "secondRows": "second rows of numbers", "chapters": "chapters", "stops": "picture stops", "leadIn": "lead-in",
-    "leadOut": "lead-out", "stray": "stray codes", "unknown": "unknown words", "programmeStatus": "programme status",
+    "leadOut": "lead-out", "stray": OUT_OF_PLACE, "unknown": "unknown words", "programmeStatus": "programme status",
     "users": "users' codes", "badLines": "bad lines", "completed": "fields whose minute is another field's",
     "confirmed": "fields whose due number is the nearest word of their lines",
     "showings": "numbers as they come by",
@@ -86,10 +87,7 @@ def _verdict(answer):
 
 
 def _fold(name, ones):
-    """A list of the answer in full, behind its name and how many rows it has; of the numbers that no field shows those
-    that are lost stand first."""
-    if name == "missing":
-        ones = sorted(ones, key=lambda one: ("lost", "undecided", "unread").index(one["why"]))
+    """A list of the answer in full, behind its name and how many rows it has."""
     title = "%s: %d" % (LISTS.get(name, name), len(ones))
     if not ones:
         return "<p>%s</p>" % _escaped(title)

@@ -11,7 +11,7 @@ from .page import STYLE
 # The lists of the answer that the page has, and how it names them
 LISTS = {
     "lacks": "numbers that one capture lacks and another has", "missing": "numbers that no capture has",
-    "leftOut": "numbers that the disc's clock leaves out", "ranges": "what to take from which capture",
+    "leftOut": "numbers skipped by the disc itself", "ranges": "what to take from which capture",
 }
 
 

@@ -44,11 +44,17 @@ class Rows:
         if "capture_id" in self._columns:
             of_capture = ("capture_id, ", "(SELECT capture_id FROM main.capture), ")
         with opened(self._path) as old, contextlib.closing(sqlite3.connect(path)) as new:
-            old.backup(new)
-            new.execute("PRAGMA temp_store = MEMORY")
-            new.execute(_WORDS)
-            with new:
-                new.executemany("INSERT INTO temp.words VALUES (?, ?, ?, ?)", (
-                    (field, *three) for field, three in zip(self._fields, words)))
-                new.execute(_UPDATE)
-                new.execute(_INSERT % of_capture)
+            try:
+                old.backup(new)
+                self._fill(new, words, _INSERT % of_capture)
+            except sqlite3.Error as error:
+                raise ValueError("SQLite can't copy it: %s" % error) from None
+
+    def _fill(self, new, words, insert):
+        new.execute("PRAGMA temp_store = MEMORY")
+        new.execute(_WORDS)
+        with new:
+            new.executemany("INSERT INTO temp.words VALUES (?, ?, ?, ?)", (
+                (field, *three) for field, three in zip(self._fields, words)))
+            new.execute(_UPDATE)
+            new.execute(insert)

@@ -24,7 +24,7 @@ class Places:
         try:
             place = place_of_words(text, field, number)
         except ValueError as error:
-            raise ValueError("field %d of the metadata: %s" % (number, error)) from None
+            raise ValueError("field %d: %s" % (number, error)) from None
         self._begins.append(begin + place.begin)
         self._ends.append(begin + place.end)
         self._forms.append(self._numbers.setdefault(place.form, len(self._numbers)))

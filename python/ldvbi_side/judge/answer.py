@@ -39,7 +39,7 @@ def analyse(fields: Fields) -> Answer:
     answer.update(_of_losses(places, fields))
     answer.update(_of_parts(codes, places, doubts, begin))
     bad, rates = bad_lines_of(fields), rates_of(fields)
-    answer.update({"badLines": bad, "lines": rates, "levels": levels_of(rates, bad, len(fields.words)),
+    answer.update({"badLines": bad, "lines": rates, "levels": levels_of(rates, bad, fields),
                    "metadataFields": fields.expected, "judged": judged_of(numbers, fields.judge)})
     reasons = reasons_of(answer, fields.is_strict)
     answer.update({"whole": whole_of(reasons), "reasons": reasons})
@@ -86,13 +86,13 @@ def _of_parts(codes: Codes, places: Places, doubts: Doubts, begin: int) -> Answe
     chapters, doubtful, conflicts = chapters_of(codes, places)
     lead_in, stray_in = ends_of(codes, Kind.lead_in, places.numbers)
     lead_out, stray_out = ends_of(codes, Kind.lead_out, places.numbers)
+    stops, stray_stops = stops_of(codes, places)
     return {
         "doubtful": _by_place(doubts.doubtful + doubtful), "conflicts": _by_place(doubts.conflicts),
         "chapterConflicts": _by_place(conflicts), "secondRows": doubts.second_rows,
         "chapters": [dict(one, frame=frame_of(one["field"], begin)) for one in chapters],
-        "stops": [{"field": one["field"], "frame": frame_of(one["field"], begin), **one}
-                  for one in stops_of(codes, places)],
-        "leadIn": lead_in, "leadOut": lead_out, "stray": _by_place(codes.stray + stray_in + stray_out),
+        "stops": [{"field": one["field"], "frame": frame_of(one["field"], begin), **one} for one in stops],
+        "leadIn": lead_in, "leadOut": lead_out, "stray": _by_place(codes.stray + stray_in + stray_out + stray_stops),
         "unknown": codes.unknown, "programmeStatus": status_of(codes), "users": users_of(codes)}
 
 

@@ -50,20 +50,18 @@ def words_of(rates: Dict[str, int]) -> int:
     return rates["pass1"] + rates["pass2"] + rates["near"]
 
 
-def levels_of(rates: Dict[str, Dict[str, int]], bad: List[Answer], count: int) -> Optional[Answer]:
+def levels_of(rates: Dict[str, Dict[str, int]], bad: List[Answer], fields: Fields) -> Optional[Answer]:
     """Whether the side was read with wrong levels: None where lines 17 and 18 show words of their own enough, else what
-    they show instead, and a line to look at."""
+    they show instead, a line to look at, and what other levels read of some lines, where their samples are at hand."""
     shown: Counted[str] = Counter()
     for line in ("17", "18"):
         shown.update(rates[line])
-    words = shown["pass1"] + shown["pass2"]
+    words, count = shown["pass1"] + shown["pass2"], len(fields.words)
     if not count or FEW * words >= 2 * count:
         return None
     without = sum(shown[cause] for cause in ("near", *BAD))
     lines = [one for one in bad if one["line"] != 16]
-    if without <= shown["blank"] or not lines:
-        return {"shows": "blank", "words": words, "bad": without, "blank": shown["blank"], "field": count // 2 + 1,
-                "line": 17}
-    one = lines[len(lines) // 2]
-    return {"shows": "bad", "words": words, "bad": without, "blank": shown["blank"], "field": one["field"],
-            "line": one["line"]}
+    is_blank = without <= shown["blank"] or not lines
+    one = {"field": count // 2 + 1, "line": 17} if is_blank else lines[len(lines) // 2]
+    return {"shows": "blank" if is_blank else "bad", "words": words, "bad": without, "blank": shown["blank"],
+            "field": one["field"], "line": one["line"], "tried": fields.try_levels() if fields.try_levels else None}

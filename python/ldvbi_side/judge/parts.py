@@ -10,12 +10,13 @@ from .chain import chain
 from .doubts import chapters_aside
 from .paces import ChapterPace
 from .places import Places
-from .readings import Answer, Codes, Reading
+from .readings import WEIGHTS, Answer, Codes, Reading
 
 LEAST_SHARE = 200  # fields to a chapter code at most: of a disc with chapters each picture has one
 APART = 100  # fields without the code between two stretches of lead-in or lead-out: a scratch on a disc is shorter
 FEW = 2  # fields with a number or a chapter that may be read wrongly inside a stretch
 _OTHERS = (Kind.picture, Kind.clv_picture, Kind.time, Kind.chapter)
+_STOP_LINES = (16, 17)  # on which a disc has its stops; line 18 alone makes none
 
 
 # ---- Chapters
@@ -88,11 +89,19 @@ def ends_of(codes: Codes, kind: Kind, numbers: Numbers) -> Tuple[List[Answer], L
 
 # ---- Stops and other codes
 
-def stops_of(codes: Codes, places: Places) -> List[Answer]:
-    """The fields with a picture stop, in the form of the answer but for the frame, each with its picture."""
-    return [{"field": field, "number": places.number_at(field),
-             "lines": [line for lines in values.values() for line in lines]}
-            for field, values in sorted(codes.kinds[Kind.picture_stop].items())]
+def stops_of(codes: Codes, places: Places) -> Tuple[List[Answer], List[Answer]]:
+    """The fields with a picture stop, in the form of the answer but for the frame, each with its picture, and the lines
+    on which a stop isn't believed, as stray ones. As the library's judge does, it believes a stop that line 16 or 17
+    shows in pass 1, or that both show."""
+    found: List[Answer] = []
+    stray: List[Answer] = []
+    for field, values in sorted(codes.kinds[Kind.picture_stop].items()):
+        lines = [line for lines in values.values() for line in lines]
+        if codes.weight(field, [line for line in lines if line in _STOP_LINES]) >= WEIGHTS[1]:
+            found.append({"field": field, "number": places.number_at(field), "lines": lines})
+        else:
+            stray += codes.strays({field: values}, "unsure")
+    return found, stray
 
 
 def status_of(codes: Codes) -> List[Answer]:

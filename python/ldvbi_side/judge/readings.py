@@ -24,7 +24,7 @@ class Fields(NamedTuple):
     is the first one of its frame (`isFirstField` of ld-decode's metadata), or is None where that isn't known.
     `expected` is the number of fields that the metadata has, or None; `is_strict` says that a side without lead-in or
     lead-out, or with an unread number, isn't whole. `nearest_word` finds the nearest words of lines where their samples
-    are at hand, and `judge` asks the library's judge where that is."""
+    are at hand, and `try_levels` what other levels would read; `judge` asks the library's judge where that is."""
     system: str
     words: List[Tuple[int, int, int]]
     passes: List[Tuple[int, int, int]]
@@ -35,6 +35,7 @@ class Fields(NamedTuple):
     is_strict: bool = False
     nearest_word: Optional[NearestWord] = None
     judge: Optional[Judge] = None
+    try_levels: Optional[Callable[[], Answer]] = None
 
 
 class Reading(NamedTuple):

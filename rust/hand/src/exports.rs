@@ -180,6 +180,19 @@ pub unsafe extern "C" fn ldvbi_judge(
 }
 
 #[no_mangle]
+pub unsafe extern "C" fn ldvbi_judge_field(
+    system: u32,
+    counted: u32,
+    pace: u32,
+    readings: *const LdvbiFieldReadings,
+    count: usize,
+    field: usize,
+    number: *mut Number,
+) -> u32 {
+    c::ldvbi_judge_field(system, counted, pace, values(readings, count), field, &mut *number)
+}
+
+#[no_mangle]
 pub unsafe extern "C" fn ldvbi_find_pace(
     system: u32,
     counted: u32,
@@ -203,6 +216,16 @@ pub unsafe extern "C" fn ldvbi_judge_chapters(
 ) -> u32 {
     let (seen, chapters) = (room(seen, seen_count), room(chapters, chapter_count));
     c::ldvbi_judge_chapters(values(readings, count), seen, chapters)
+}
+
+#[no_mangle]
+pub unsafe extern "C" fn ldvbi_judge_stops(
+    readings: *const LdvbiFieldReadings,
+    count: usize,
+    stops: *mut u32,
+    stop_count: usize,
+) -> u32 {
+    c::ldvbi_judge_stops(values(readings, count), room(stops, stop_count))
 }
 
 #[no_mangle]

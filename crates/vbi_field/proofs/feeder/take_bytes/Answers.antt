@@ -21,37 +21,37 @@ pub returns-in_ok-add_row-clause-step : goal.returns-in_ok-add_row-clause-step
 returns-in_ok-add_row-clause-step g c =
     let st = c.requires.stand in
     let copied = c.copy_in-count.ensures in
-    let read = c.read_held-reading.ensures.reads in
+    let read = rw c.levels.ensures at c.take_reading-reading.ensures in
     λ z at.
     fed_row g.W.Write.contents st at _ _ copied.held copied.fits
     (omega (arith, st.few, c.if-progress-max_fields.false, c.max_fields.ensures.value)) copied.rest.system
     (c.is_full.ensures.0 c.if-is_full.true) c.is_selected.ensures read.shows
-    c.read_held-reading.new.line c.add_row.new.self c.args.outlet.now c.add_row.new.outlet read.held
+    c.take_reading-reading.new.line c.add_row.new.self c.args.outlet.now c.add_row.new.outlet read.held
     c.in_ok-add_row.ensures.adds
 
 pub returns-in_err-add_row-clause-step : goal.returns-in_err-add_row-clause-step
 returns-in_err-add_row-clause-step g c =
     let st = c.requires.stand in
     let copied = c.copy_in-count.ensures in
-    let read = c.read_held-reading.ensures.reads in
+    let read = rw c.levels.ensures at c.take_reading-reading.ensures in
     λ z at.
     fed_in_part g.W.Write.contents st at _ _ copied.held copied.fits
     (omega (arith, st.few, c.if-progress-max_fields.false, c.max_fields.ensures.value)) copied.rest.system
     (c.is_full.ensures.0 c.if-is_full.true) c.is_selected.ensures read.shows
-    c.read_held-reading.new.line c.add_row.new.self c.args.outlet.now c.add_row.new.outlet
+    c.take_reading-reading.new.line c.add_row.new.self c.args.outlet.now c.add_row.new.outlet
     c.in_err-add_row.ensures.adds
     c.args.bytes.now c.copy_in-count.result c.add_row.new.outlet.written c.from_residual.result refl (search rules)
 
 pub returns-in_ok-add_row-clause-stand : goal.returns-in_ok-add_row-clause-stand
 returns-in_ok-add_row-clause-stand g c =
     let st = c.requires.stand in
-    let read = c.read_held-reading.ensures.reads in
+    let read = c.take_reading-reading.ensures in
     let same = c.copy_in-count.ensures.rest.system ∙ st.system in
     let system = read.system ∙ same in
     let last = c.if-progress-max_fields.false in
     let few = st.few in
     let most = c.max_fields.ensures in
-    stand_next c.args.config.now c.args.line.now c.read_held-reading.new.line c.args.progress.now c.add_row.new.self
+    stand_next c.args.config.now c.args.line.now c.take_reading-reading.new.line c.args.progress.now c.add_row.new.self
     c.is_selected.result
     c.is_selected.ensures st system read.cursors read.held c.in_ok-add_row.ensures.inside c.in_ok-add_row.ensures.next
     (omega (arith, most.value)) (omega (arith, most.value, most.few))

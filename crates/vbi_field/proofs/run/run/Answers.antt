@@ -27,8 +27,8 @@ loop-row-preserved g c =
     let v = c.loop-row.invariant in
     let t = rw c.in-Full.is at c.in_ok-fill_line.ensures.takes in
     let same = c.in_ok-fill_line.ensures.same in
-    let reads = c.read_line-reading.ensures.reads in
-    let reader = c.read_line-reading.ensures.reader in
+    let reads = c.take_reading-reading.ensures.reads in
+    let reader = c.take_reading-reading.ensures.reader in
     let came = row_came v (search rules) c.levels.ensures t reads reader
     same in
     let last : c.loop-row.row + 1 ≤ c.args.config.now.max_fields * height_of c.args.config.now.system =
@@ -49,8 +49,8 @@ returns-in_err-add_row-in-Full-clause-run g c =
     let v = c.loop-row.invariant in
     let t = rw c.in-Full.is at c.in_ok-fill_line.ensures.takes in
     let same = c.in_ok-fill_line.ensures.same in
-    let reads = c.read_line-reading.ensures.reads in
-    let reader = c.read_line-reading.ensures.reader in
+    let reads = c.take_reading-reading.ensures.reads in
+    let reader = c.take_reading-reading.ensures.reader in
     let came = row_came v (search rules) c.levels.ensures t reads reader
     same in
     let last : c.loop-row.row + 1 ≤ c.args.config.now.max_fields * height_of c.args.config.now.system =

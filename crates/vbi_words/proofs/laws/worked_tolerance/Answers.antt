@@ -7,4 +7,6 @@ returns c = record {
   alone = (worked.spiked_blurred, worked.spiked_alone);
   late = worked.late_not_blurred;
   glitch = worked.three_glitch;
+  no_glitch = worked.four_no_glitch;
+  not_amply = worked.ones_not_amply;
 }

@@ -1,0 +1,332 @@
+-- A field is answered the same from a part of its capture.
+use Rattle.std.proofs.Common.{◌≡◌, ℕ, zero, suc, ◌+◌, ◌*◌, ◌-◌, ◌%◌, ◌<◌, ◌≤◌, Bool, true, false, List}
+use Rattle.std.proofs.Common.{refl, arith, ap, sym, ◌∙◌, subst, inl, inr}
+use Rattle.std.specs.Prelude.{Option, Some, None, slice_get, if◌then◌else◌, ◌⊎◌, ◌↔◌, nat_le, ◌==◌}
+use Rattle.std.proofs.lemmas.Bool.{leb-true, le-leb}
+use Rattle.std.proofs.lemmas.Bool.Decides.{leb_tells}
+use Rattle.vbi_side.specs.declared.number.Number.{Number}
+use Rattle.vbi_side.specs.declared.pace.Pace.{Pace}
+use Rattle.vbi_side.specs.declared.pace.Pace.TheVariants.{Video, Film}
+use Rattle.vbi_side.specs.declared.sighting.Sighting.{Sighting}
+use Rattle.vbi_side.specs.declared.sighting.Sightings.{Sightings}
+use Rattle.vbi_side.specs.Sightings.{weight_of, Shows}
+use Rattle.vbi_side.specs.Paces.{fits, stays, Count, nearly}
+use Rattle.vbi_side.specs.Beliefs.{reach, enough, sighting_weight, field_weight, weight_at, weight_below}
+use Rattle.vbi_side.specs.Beliefs.{support_of, Believed}
+use Rattle.vbi_side.specs.Due.{slack_of, Leaves, IsLeft, Due}
+use Rattle.vbi_side.specs.Numbers.{due, IsAnswer}
+use Rattle.vbi_side.specs.Parts.{IsPart}
+use Rattle.vbi_side.specs.Truth.{IsNear}
+use Rattle.vbi_side.proofs.DueLemmas.{equal_true, video_nearly}
+use Rattle.vbi_side.proofs.Truth.{and_so, video_fits, film_fits, stays_is}
+
+-- ---- what fits, so many fields later
+
+same_truth : (a b : Bool) → (a ≡ true → b ≡ true) → (b ≡ true → a ≡ true) → a ≡ b
+same_truth true b on back = sym (on refl)
+same_truth false true on back = back refl
+same_truth false false on back = refl
+
+fits_later : (pace : Pace) (first i m j n : ℕ) → fits pace i m j n ≡ fits pace (first + i) m (first + j) n
+fits_later Video first i m j n =
+    same_truth (fits Video i m j n) (fits Video (first + i) m (first + j) n)
+    (λ e. equal_true (first + j + 2 * m) (first + i + 2 * n) (omega (arith, video_fits i m j n e)))
+    (λ e. equal_true (j + 2 * m) (i + 2 * n) (omega (arith, video_fits (first + i) m (first + j) n e)))
+fits_later Film first i m j n =
+    same_truth (fits Film i m j n) (fits Film (first + i) m (first + j) n)
+    (λ e. let p = film_fits i m j n e in
+    and_so (nat_le (2 * (first + j) + 5 * m) (2 * (first + i) + 5 * n + 2))
+    (nat_le (2 * (first + i) + 5 * n) (2 * (first + j) + 5 * m + 2))
+    (le-leb (2 * (first + j) + 5 * m) (2 * (first + i) + 5 * n + 2) (omega (arith, p.0)))
+    (le-leb (2 * (first + i) + 5 * n) (2 * (first + j) + 5 * m + 2) (omega (arith, p.1))))
+    (λ e. let p = film_fits (first + i) m (first + j) n e in
+    and_so (nat_le (2 * j + 5 * m) (2 * i + 5 * n + 2)) (nat_le (2 * i + 5 * n) (2 * j + 5 * m + 2))
+    (le-leb (2 * j + 5 * m) (2 * i + 5 * n + 2) (omega (arith, p.0)))
+    (le-leb (2 * i + 5 * n) (2 * j + 5 * m + 2) (omega (arith, p.1))))
+
+stays_later : (first i m j n : ℕ) → stays i m j n ≡ stays (first + i) m (first + j) n
+stays_later first i m j n =
+    same_truth (stays i m j n) (stays (first + i) m (first + j) n)
+    (λ e. let p = stays_is i m j n e in
+    and_so (n == m) ((first + i + (first + j)) % 2 == 0) (equal_true n m p.0)
+    (equal_true ((first + i + (first + j)) % 2) 0 (omega (arith, p.1))))
+    (λ e. let p = stays_is (first + i) m (first + j) n e in
+    and_so (n == m) ((i + j) % 2 == 0) (equal_true n m p.0)
+    (equal_true ((i + j) % 2) 0 (omega (arith, p.1))))
+
+-- ---- what is read around a field
+
+sighting_later : (test later : ℕ → Bool) (sighting : Sighting) → ((n : ℕ) → test n ≡ later n)
+    → sighting_weight test sighting ≡ sighting_weight later sighting
+sighting_later test later sighting same =
+    ap (λ b. if b then weight_of sighting else 0) (same sighting.number)
+
+field_later : (test later : ℕ → Bool) (field : Option Sightings) → ((n : ℕ) → test n ≡ later n)
+    → field_weight test field ≡ field_weight later field
+field_later test later None same = refl
+field_later test later (Some field) same =
+    omega (arith, sighting_later test later field.line_17 same, sighting_later test later field.line_18 same)
+
+weight_at-later : (test later : ℕ → ℕ → Bool) (part whole : List Sightings) (first i k : ℕ) → k ≤ 2 * reach
+    → (first ≡ 0) ⊎ (reach ≤ i) → ((j : ℕ) → IsNear i j → slice_get part j ≡ slice_get whole (first + j))
+    → ((j n : ℕ) → test j n ≡ later (first + j) n)
+    → weight_at test part i k ≡ weight_at later whole (first + i) k
+weight_at-later test later part whole first i k within before agree same =
+    go (leb_tells reach (i + k)) (leb_tells reach (first + i + k))
+  where
+    at : reach ≤ i + k → first + i + k - reach ≡ first + (i + k - reach)
+    at le = omega (arith, le)
+
+    go : ((nat_le reach (i + k) ≡ true) × (reach ≤ i + k)) ⊎ ((nat_le reach (i + k) ≡ false) × (i + k < reach))
+        → ((nat_le reach (first + i + k) ≡ true) × (reach ≤ first + i + k))
+        ⊎ ((nat_le reach (first + i + k) ≡ false) × (first + i + k < reach))
+        → weight_at test part i k ≡ weight_at later whole (first + i) k
+    go (inl (t, le)) (inl (s, more)) =
+        rw t (rw s (
+        field_later (test (i + k - reach)) (later (first + (i + k - reach))) (slice_get part (i + k - reach))
+        (same (i + k - reach))
+        ∙ ap (field_weight (later (first + (i + k - reach)))) (agree (i + k - reach) (omega arith, omega (arith, within)))
+        ∙ ap (λ f. field_weight (later f) (slice_get whole f)) (sym (at le))
+        ))
+    go (inl (t, le)) (inr (s, less)) = absurd (omega (arith, le, less))
+    go (inr (t, less)) (inl (s, more)) = elim before [
+      | inl none ↦ absurd (omega (arith, none, less, more))
+      | inr far ↦ absurd (omega (arith, far, less))
+    ]
+    go (inr (t, less)) (inr (s, lesser)) = rw t (rw s refl)
+
+weight_below-later : (test later : ℕ → ℕ → Bool) (part whole : List Sightings) (first i n : ℕ) → n ≤ 2 * reach + 1
+    → (first ≡ 0) ⊎ (reach ≤ i) → ((j : ℕ) → IsNear i j → slice_get part j ≡ slice_get whole (first + j))
+    → ((j n : ℕ) → test j n ≡ later (first + j) n)
+    → weight_below test part i n ≡ weight_below later whole (first + i) n
+unfolding weight_below
+weight_below-later test later part whole first i zero within before agree same = refl
+weight_below-later test later part whole first i (suc n) within before agree same =
+    omega (
+      arith,
+      weight_below-later test later part whole first i n (omega (arith, within)) before agree same,
+      weight_at-later test later part whole first i n (omega (arith, within)) before agree same,
+    )
+
+-- ---- what is believed
+
+-- the part agrees with the whole on the fields within reach of field i, and begins with it or as far before
+record IsSeen (part whole : List Sightings) (first i : ℕ) : Type 0 where
+  before : (first ≡ 0) ⊎ (reach ≤ i)
+  agree : (j : ℕ) → IsNear i j → slice_get part j ≡ slice_get whole (first + j)
+
+support_later : (pace : Pace) (part whole : List Sightings) (first i m : ℕ) → IsSeen part whole first i
+    → support_of pace part i m ≡ support_of pace whole (first + i) m
+support_later pace part whole first i m seen =
+    omega (
+      arith,
+      weight_below-later (fits pace i m) (fits pace (first + i) m) part whole first i (2 * reach + 1) (omega arith)
+          seen.before seen.agree (fits_later pace first i m),
+      weight_below-later (stays i m) (stays (first + i) m) part whole first i (2 * reach + 1) (omega arith)
+          seen.before seen.agree (stays_later first i m),
+    )
+
+believed_later : (pace : Pace) (part whole : List Sightings) (first i n : ℕ) → IsSeen part whole first i
+    → Believed pace part i n ↔ Believed pace whole (first + i) n
+believed_later pace part whole first i n seen = (on, back)
+  where
+    here : slice_get part i ≡ slice_get whole (first + i)
+    here = seen.agree i (omega arith, omega arith)
+
+    same : (m : ℕ) → support_of pace part i m ≡ support_of pace whole (first + i) m
+    same m = support_later pace part whole first i m seen
+
+    on : Believed pace part i n → Believed pace whole (first + i) n
+    on b = record {
+      shown = subst (λ f. Shows f n) here b.shown;
+      enough = subst (λ w. enough ≤ w) (same n) b.enough;
+      ahead = λ m shown apart. omega (
+        arith,
+        same m,
+        same n,
+        b.ahead m (subst (λ f. Shows f m) (sym here) shown) apart,
+      );
+    }
+
+    back : Believed pace whole (first + i) n → Believed pace part i n
+    back b = record {
+      shown = subst (λ f. Shows f n) (sym here) b.shown;
+      enough = subst (λ w. enough ≤ w) (sym (same n)) b.enough;
+      ahead = λ m shown apart. omega (
+        arith,
+        same m,
+        same n,
+        b.ahead m (subst (λ f. Shows f m) here shown) apart,
+      );
+    }
+
+-- ---- what is due
+
+count_later : (pace : Pace) (first i m j n : ℕ) → Count pace i m j n ↔ Count pace (first + i) m (first + j) n
+count_later Video first i m j n = (λ e. omega (arith, e), λ e. omega (arith, e))
+count_later Film first i m j n = (λ e. omega (arith, e), λ e. omega (arith, e))
+
+nearly_later : (pace : Pace) (slack first i m j n : ℕ)
+    → nearly pace slack i m j n ≡ nearly pace slack (first + i) m (first + j) n
+nearly_later Video slack first i m j n =
+    same_truth (nearly Video slack i m j n) (nearly Video slack (first + i) m (first + j) n)
+    (λ e. let p = video_nearly slack i m j n e in
+    and_so (nat_le (first + j + 2 * m) (first + i + 2 * n + slack)) (nat_le (first + i + 2 * n) (first + j + 2 * m + slack))
+    (le-leb (first + j + 2 * m) (first + i + 2 * n + slack) (omega (arith, p.0)))
+    (le-leb (first + i + 2 * n) (first + j + 2 * m + slack) (omega (arith, p.1))))
+    (λ e. let p = video_nearly slack (first + i) m (first + j) n e in
+    and_so (nat_le (j + 2 * m) (i + 2 * n + slack)) (nat_le (i + 2 * n) (j + 2 * m + slack))
+    (le-leb (j + 2 * m) (i + 2 * n + slack) (omega (arith, p.0)))
+    (le-leb (i + 2 * n) (j + 2 * m + slack) (omega (arith, p.1))))
+nearly_later Film slack first i m j n = fits_later Film first i m j n
+
+slack_later : (first j k : ℕ) → slack_of j k ≡ slack_of (first + j) (first + k)
+slack_later first j k =
+    ap (λ b. if b then 1 else 0) (same_truth (nat_le k (j + 8)) (nat_le (first + k) (first + j + 8))
+    (λ e. le-leb (first + k) (first + j + 8) (omega (arith, leb-true k (j + 8) e)))
+    (λ e. le-leb k (j + 8) (omega (arith, leb-true (first + k) (first + j + 8) e))))
+
+-- a field within reach of field i is seen from a part that field i can be judged from
+seen_near : (whole part : List Sightings) (first i j : ℕ) → IsPart Sightings whole part first i → IsNear i j
+    → IsSeen part whole first j
+seen_near whole part first i j is near = record {
+  before = elim is.before [ inl none ↦ inl none | inr far ↦ inr (omega (arith, far, near.0)) ];
+  agree = λ k by. is.same k (omega (arith, near.1, by.1));
+}
+
+-- a field of the whole that is within reach of field i lies in the part
+within_part : (whole part : List Sightings) (first i j : ℕ) → IsPart Sightings whole part first i → first + i ≤ j + reach
+    → first ≤ j
+within_part whole part first i j is near = elim is.before [
+  | inl none ↦ omega (arith, none)
+  | inr far ↦ omega (arith, far, near)
+]
+
+left_later : (pace : Pace) (whole part : List Sightings) (first i n : ℕ) → IsPart Sightings whole part first i
+    → IsLeft (Believed pace part) pace i n → IsLeft (Believed pace whole) pace (first + i) n
+left_later pace whole part first i n is (j, m, k, l, leaves) = (
+  first + j,
+  m,
+  first + k,
+  l,
+  record {
+    before = omega (arith, leaves.before);
+    near = omega (arith, leaves.near);
+    behind = omega (arith, leaves.behind);
+    far = omega (arith, leaves.far);
+    first = (believed_later pace part whole first j m (seen_near whole part first i j is before)).0 leaves.first;
+    last = (believed_later pace part whole first k l (seen_near whole part first i k is behind)).0 leaves.last;
+    on = (count_later pace first j m i n).0 leaves.on;
+    back = (count_later pace first i n k l).0 leaves.back;
+    between = between;
+  },
+)
+  where
+    before : IsNear i j
+    before = (leaves.near, omega (arith, leaves.before))
+
+    behind : IsNear i k
+    behind = (omega (arith, leaves.behind), leaves.far)
+
+    between : (h x : ℕ) → first + j < h → h < first + k → Believed pace whole h x
+        → nearly pace (slack_of (first + j) (first + k)) (first + i) n h x ≡ true
+    between h x more less b =
+        let at : first + (h - first) ≡ h = omega (arith, more) in
+        let near : IsNear i (h - first) = (omega (arith, more, leaves.near), omega (arith, less, leaves.far)) in
+        let here = (believed_later pace part whole first (h - first) x (seen_near whole part first i (h - first) is near)).1
+        (subst (λ f. Believed pace whole f x) (sym at) b) in
+        subst (λ f. nearly pace (slack_of (first + j) (first + k)) (first + i) n f x ≡ true) at
+        (sym (nearly_later pace (slack_of (first + j) (first + k)) first i n (h - first) x)
+        ∙ ap (λ s. nearly pace s i n (h - first) x) (sym (slack_later first j k))
+        ∙ leaves.between (h - first) x (omega (arith, more)) (omega (arith, less)) here)
+
+left_back : (pace : Pace) (whole part : List Sightings) (first i n : ℕ) → IsPart Sightings whole part first i
+    → IsLeft (Believed pace whole) pace (first + i) n → IsLeft (Believed pace part) pace i n
+left_back pace whole part first i n is (g, m, h, l, leaves) =
+    let at : g ≡ first + (g - first) = omega (arith, within_part whole part first i g is leaves.near) in
+    let to : h ≡ first + (h - first) = omega (arith, leaves.behind) in
+    go (g - first) (h - first) (subst (λ f. Leaves (Believed pace whole) pace (first + (g - first)) m f l (first + i) n) to
+    (subst (λ f. Leaves (Believed pace whole) pace f m h l (first + i) n) at leaves))
+  where
+    go : (j k : ℕ) → Leaves (Believed pace whole) pace (first + j) m (first + k) l (first + i) n
+        → IsLeft (Believed pace part) pace i n
+    go j k leaves = (
+      j,
+      m,
+      k,
+      l,
+      record {
+        before = omega (arith, leaves.before);
+        near = omega (arith, leaves.near);
+        behind = omega (arith, leaves.behind);
+        far = omega (arith, leaves.far);
+        first = (believed_later pace part whole first j m (seen_near whole part first i j is before)).1 leaves.first;
+        last = (believed_later pace part whole first k l (seen_near whole part first i k is behind)).1 leaves.last;
+        on = (count_later pace first j m i n).1 leaves.on;
+        back = (count_later pace first i n k l).1 leaves.back;
+        between = λ f x more less b. nearly_later pace (slack_of j k) first i n f x
+            ∙ ap (λ s. nearly pace s (first + i) n (first + f) x) (slack_later first j k)
+            ∙ leaves.between (first + f) x (omega (arith, more)) (omega (arith, less))
+            ((believed_later pace part whole first f x (seen_near whole part first i f is
+            (omega (arith, more, leaves.near), omega (arith, less, leaves.far)))).0 b);
+      },
+    )
+      where
+        before : IsNear i j
+        before = (omega (arith, leaves.near), omega (arith, leaves.before))
+
+        behind : IsNear i k
+        behind = (omega (arith, leaves.behind), omega (arith, leaves.far))
+
+due_later : (pace : Pace) (whole part : List Sightings) (first i n : ℕ) → IsPart Sightings whole part first i
+    → Due pace part i n ↔ Due pace whole (first + i) n
+due_later pace whole part first i n is = (on, back)
+  where
+    here : slice_get part i ≡ slice_get whole (first + i)
+    here = is.same i (omega arith)
+
+    own : (m : ℕ) → Believed pace part i m ↔ Believed pace whole (first + i) m
+    own m = believed_later pace part whole first i m (seen_near whole part first i i is (omega arith, omega arith))
+
+    on : Due pace part i n → Due pace whole (first + i) n
+    on due = record {
+      unbelieved = λ m b. due.unbelieved m ((own m).1 b);
+      vacant = λ shows. due.vacant (shows.0, here ∙ shows.1, shows.2);
+      unread = λ shows. due.unread (shows.0, here ∙ shows.1, shows.2, shows.3, shows.4);
+      left = left_later pace whole part first i n is due.left;
+    }
+
+    back : Due pace whole (first + i) n → Due pace part i n
+    back due = record {
+      unbelieved = λ m b. due.unbelieved m ((own m).0 b);
+      vacant = λ shows. due.vacant (shows.0, sym here ∙ shows.1, shows.2);
+      unread = λ shows. due.unread (shows.0, sym here ∙ shows.1, shows.2, shows.3, shows.4);
+      left = left_back pace whole part first i n is due.left;
+    }
+
+-- ---- what is answered
+
+pub same_in_part : (pace : Pace) (whole part : List Sightings) (first i : ℕ) (answer : Number)
+    → IsPart Sightings whole part first i → IsAnswer pace part i answer ↔ IsAnswer pace whole (first + i) answer
+same_in_part pace whole part first i answer is = (on, back)
+  where
+    here : slice_get part i ≡ slice_get whole (first + i)
+    here = is.same i (omega arith)
+
+    own : (m : ℕ) → Believed pace part i m ↔ Believed pace whole (first + i) m
+    own m = believed_later pace part whole first i m (seen_near whole part first i i is (omega arith, omega arith))
+
+    dues : (m : ℕ) → Due pace part i m ↔ Due pace whole (first + i) m
+    dues m = due_later pace whole part first i m is
+
+    on : IsAnswer pace part i answer → IsAnswer pace whole (first + i) answer
+    on (inl (n, b, e)) = inl (n, (own n).0 b, e)
+    on (inr (inl (n, d, e))) = inr (inl (n, (dues n).0 d, e))
+    on (inr (inr (none, nor, shows))) =
+        inr (inr (λ n b. none n ((own n).1 b), λ n d. nor n ((dues n).1 d), (shows.0, sym here ∙ shows.1, shows.2)))
+
+    back : IsAnswer pace whole (first + i) answer → IsAnswer pace part i answer
+    back (inl (n, b, e)) = inl (n, (own n).1 b, e)
+    back (inr (inl (n, d, e))) = inr (inl (n, (dues n).1 d, e))
+    back (inr (inr (none, nor, shows))) =
+        inr (inr (λ n b. none n ((own n).0 b), λ n d. nor n ((dues n).0 d), (shows.0, here ∙ shows.1, shows.2)))

@@ -1,0 +1,103 @@
+"""Levels and systems that are tried on the lines of a side of which hardly any word is read. Nothing is read anew by
+them: what comes of the trial is said, for somebody to look at."""
+
+import statistics
+import struct
+from typing import Any, Dict, Iterator, List, NamedTuple, Optional, Tuple
+
+from ldvbi import Stream, System, field_bytes, line_bytes, read_rows
+from ldvbi.readings import Levels
+
+FIELDS = 100  # whose lines 17 and 18 are looked at, in pairs all over the side
+FEW = 20  # lines to a word of one that is found, at most
+# From and to which column a drawn word stands, 48 half cells of a microsecond
+COLUMNS = {System.NTSC: (150, 837), System.PAL: (190, 1042)}
+FIFTH = 5  # a fifth of a word's samples are lower than its low level by noise and edges, and a fifth higher
+STEP = 1000  # levels are rounded to thousands: noise moves them by more than half of that
+LEAST = 1000  # from low to high: less than that is no code
+
+
+class Setup(NamedTuple):
+    """By what lines are read."""
+    system: System
+    levels: Levels
+
+
+def tried_on(stream: Stream) -> Dict[str, Any]:
+    """What comes of other levels, and of the other system, on some lines of a stream: how many lines these are, how
+    many of them are read as the side was, by which levels; and `best`, the levels and the system by which most of them
+    are read, as far as these differ from the side's. It is None where hardly any is read by any."""
+    own = Setup(stream.system, Levels(stream.black, stream.white))
+    rows = list(_rows(stream, own.system))
+    read = _read(rows, own)
+    trials = [(_read(of_system, setup), setup) for of_system, setup in _trials(stream, own, rows)]
+    count, best = max(trials, key=lambda trial: trial[0], default=(0, own))
+    is_found = count > read and FEW * count >= 2 * len(rows)
+    return {"lines": 2 * len(rows), "read": read, "black": own.levels.black, "white": own.levels.white,
+            "best": dict(_changes(own, best), read=count) if is_found else None}
+
+
+def _trials(stream: Stream, own: Setup, rows: List[bytes]) -> Iterator[Tuple[List[bytes], Setup]]:
+    """Rows with the setups by which they are read: each level alone comes before both, and a system's own levels before
+    others, since of trials that read as many lines the first is the best."""
+    for system in (own.system, *(other for other in System if other != own.system)):
+        of_system = rows if system == own.system else list(_rows(stream, system))
+        if system != own.system:
+            yield of_system, Setup(system, own.levels)
+        found = _levels_in(of_system, system)
+        if found is None:
+            continue
+        for levels in (Levels(own.levels.black, found.white), Levels(found.black, own.levels.white), found):
+            if 0 <= levels.black < levels.white <= 65535:
+                yield of_system, Setup(system, levels)
+
+
+def _rows(stream: Stream, system: System) -> Iterator[bytes]:
+    """Lines 16, 17 and 18 of some fields of a stream, as fields of this system: of two that follow each other, since a
+    disc may have its numbers on the first field of each picture alone."""
+    count, pairs = stream.size // field_bytes(system), FIELDS // 2
+    begins = [pair * (count - 2) // (pairs - 1) for pair in range(pairs)]
+    for field in range(count) if count <= FIELDS else (field for begin in begins for field in (begin, begin + 1)):
+        yield stream.rows_as(system, field)
+
+
+def _read(rows: List[bytes], setup: Setup) -> int:
+    """How many of lines 17 and 18 have a word of their own."""
+    return sum(bool(line.word) for field in rows for line in read_rows(field, setup.system, *setup.levels)[1:])
+
+
+def _levels_in(rows: List[bytes], system: System) -> Optional[Levels]:
+    """The low and the high level of lines 17 and 18, where some of them have two: those of the lines in which the two
+    are far from each other, as a code's are."""
+    spans = [_span(field, system, line) for field in rows for line in (1, 2)]
+    widest = max((high - low for low, high in spans), default=0)
+    if widest < LEAST:
+        return None
+    coded = [(low, high) for low, high in spans if 2 * (high - low) >= widest]
+    low, high = (statistics.median(levels) for levels in zip(*coded))
+    return Levels(_rounded(low), _rounded(high))
+
+
+def _span(field: bytes, system: System, line: int) -> Tuple[int, int]:
+    """The low and the high level of a line, counted from 0 for line 16, where a word would be drawn."""
+    first, last = COLUMNS[system]
+    begin = line * line_bytes(system) + 2 * first
+    samples = sorted(struct.unpack("<%dH" % (last - first), field[begin:begin + 2 * (last - first)]))
+    part = len(samples) // FIFTH
+    return samples[part], samples[-part - 1]
+
+
+def _rounded(level: float) -> int:
+    return STEP * round(level / STEP)
+
+
+def _changes(own: Setup, best: Setup) -> Dict[str, Any]:
+    """What of the setup is another than the side's own; None for what isn't."""
+    return {"system": best.system.name if best.system != own.system else None,
+            "black": best.levels.black if best.levels.black != own.levels.black else None,
+            "white": best.levels.white if best.levels.white != own.levels.white else None}
+
+
+def options_of(best: Dict[str, Any]) -> str:
+    """The options that name what is another, as they are given to the command."""
+    return " ".join("--%s %s" % (name, best[name]) for name in ("system", "black", "white") if best[name] is not None)
