@@ -260,7 +260,7 @@ scripts_trials|tests/scripts.sh|s/wanted = $2 + $8 == checks/wanted = 1/
 scripts_trials|tests/scripts.sh|s/timeout -k 30 "$1" //
 scripts_trials|tests/scripts.sh|s/ checks " of " checks / $2 " of " $2 /
 scripts_trials|tests/scripts.sh|s/rows whole > .*/: > "$work\/then"/
-scripts_trials|tests/scripts.sh|s/rows everywhere library >/rows everywhere >/
+scripts_trials|tests/scripts.sh|s/rows everywhere library proved >/rows everywhere proved >/
 scripts_trials|tests/scripts.sh|s/ -o -name '\*.py'//
 scripts_trials|tests/scripts.sh|s/^        failed="$failed $name"/        failed=/
 scripts_trials|tests/scripts.sh|s/fault "no script, or/: "no script, or/
