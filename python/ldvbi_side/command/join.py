@@ -10,6 +10,7 @@ from ..draw.marks import SKIPPED, fields_text
 from ..join.captures import capture_of
 from ..join.joined import join
 from ..judge.readings import Answer
+from ..outside import printable
 from ..side import Side
 from .outputs import refuse_inputs, whole_file
 from .summary import listed, named
@@ -22,7 +23,10 @@ RANGE_COLUMNS = ("first", "last", "source", "first field", "last field")
 
 def run_join(program: str, words: List[str], load: Callable[[str], Side]) -> int:
     """Prints what the captures that these words name have together. `load` makes the side of a file."""
-    options = _parser(program).parse_args(words)
+    parser = _parser(program)
+    options = parser.parse_args(words)
+    if options.html == "":
+        parser.error("a file has to have a name")
     refuse_inputs([1, options.html], options.sides)
     # one side at a time, so that no more than one is held as a whole
     joined = join([capture_of(load(path), path) for path in options.sides])
@@ -37,7 +41,7 @@ def run_join(program: str, words: List[str], load: Callable[[str], Side]) -> int
     elif options.json:
         print(json.dumps(joined))
     elif not options.html:
-        print(*joined_text(joined), sep="\n")
+        print(*map(printable, joined_text(joined)), sep="\n")
     return 0
 
 

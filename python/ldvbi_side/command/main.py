@@ -14,6 +14,7 @@ from ldvbi.metadata import beside, read_metadata, settings_of
 from ldvbi.packed import refuse_packed
 from ldvbi.stream import cut_of
 from ..draw.plot import plot_command
+from ..outside import NAME, bytes_of_document, drop_standard_output, flush_or_drop, printable, say
 from ..seek import seek, text_of, wanted_of
 from ..judge.readings import Answer
 from ..side import Side, side_of_document, side_of_stream
@@ -22,14 +23,13 @@ from .faults import SETTINGS, STANDARD_INPUT, fault_text, naming, no_metadata, r
 from .into import Into
 from .join import run_join
 from .map import COLUMNS as MAP_COLUMNS, map_rows
-from .outputs import drop_standard_output, refuse_inputs, whole_file
+from .outputs import refuse_inputs, whole_file
 from .progress import Progress
 from .recovered import write_recovered
 from .statuses import FAULT, OF_SIDE, of_many
 from .summary import MOST_LINES, summary
 from .tables import BAD_LINE_COLUMNS, FIELD_COLUMNS, bad_line_rows, field_rows
 
-NAME = "ldvbi-side"
 DESCRIPTION = """Reads a side from a TBC file, or from a document that `ldvbi extract` wrote, and says what its words
 mean. A file is taken for a document if its name ends with .json or its text begins as a document does. Statuses: 0
 yes: the side is whole, what is sought is found, or all else is done, 1 no: it isn't whole, or nothing is found, 2 a
@@ -128,7 +128,7 @@ def _source(options, on_field=None):
         refuse_packed(_name_of(options), begin)
         side = None
         if is_standard_input or is_document(options.side, begin):
-            side = side_of_document(file.read())
+            side = side_of_document(bytes_of_document(file, begin))
     metadata = _metadata(options, on_field)
     return side or _stream(options, metadata), metadata
 
@@ -148,7 +148,7 @@ def _stream(options, metadata):
     with naming(metadata.path if metadata else options.side):
         settings = settings_of(metadata, *_settings(options))
     for note in settings.notes:
-        _note("%s: %s" % (options.side, note))
+        say("%s: %s" % (options.side, note))
     with naming(options.side):
         return Stream(options.side, settings.system, settings.black, settings.white, not options.no_recover)
 
@@ -184,16 +184,12 @@ def _add_fields(side, name, metadata, is_all):
     if metadata.fields is not None and metadata.fields != count:
         rest = " and %d bytes" % side.cut.bytes if side.cut else ""
         unused = ", so its isFirstField isn't used" if metadata.first else ""
-        _note("%s: %d fields%s, %s says %d%s: another system, or another file's metadata?" % (
+        say("%s: %d fields%s, %s says %d%s: another system, or another file's metadata?" % (
             name, count, rest, metadata.path, metadata.fields, unused))
         return
     side.first = metadata.first
     if is_all and side.first is None:
-        _note("%s has no isFirstField of each field" % metadata.path)
-
-
-def _note(text):
-    print("%s: %s" % (NAME, text), file=sys.stderr)
+        say("%s has no isFirstField of each field" % metadata.path)
 
 
 def _print_table(columns, rows, file=None):
@@ -206,7 +202,7 @@ def _cut_status(cut, system, name):
     """The status of what is printed of all whole fields of a side: 3 where the last one is cut, which is said then."""
     if cut is None:
         return 0
-    _note("%s: the last field is cut: field %d has %d of %d bytes" % (name, *cut, field_bytes(system)))
+    say("%s: the last field is cut: field %d has %d of %d bytes" % (name, *cut, field_bytes(system)))
     return 3
 
 
@@ -259,6 +255,8 @@ def _options(words):
     options = parser.parse_args(words)
     if not (_is_printed(options) or any(_files(options))):
         options.summary = True
+    if "" in (options.meta, options.output, *_files(options)):
+        parser.error("a file has to have a name")
     if options.recovered and (not (options.document or options.into) or options.no_recover):
         parser.error("--recovered is of --document or --into, and not with --no-recover")
     is_open = options.into or None in _settings(options)
@@ -300,7 +298,7 @@ def _compare(words):
     _refuse_settings(options, options.sides, [source for source, _ in sources])
     sides = [_loaded(*source, one) for source, one in zip(sources, of_each)]
     found = compare(*sides, options.sides)
-    print(json.dumps(found) if options.json else "\n".join(comparison_text(found, options.sides)))
+    print(*[json.dumps(found)] if options.json else map(printable, comparison_text(found, options.sides)), sep="\n")
     return of_many(_cut_status(side.cut, side.system, path) for side, path in zip(sides, options.sides))
 
 
@@ -367,7 +365,7 @@ def _answer(options):
         print(text_of(found))
         return int(found is None)
     if options.summary:
-        print(*summary(side.answer, _plot_command(side, options)), sep="\n")
+        print(*map(printable, summary(side.answer, _plot_command(side, options))), sep="\n")
         return OF_SIDE[side.answer["whole"]]
     if options.json:
         json.dump(side.answer, sys.stdout)
@@ -383,12 +381,16 @@ def main(words: Optional[List[str]] = None) -> int:
     words = sys.argv[1:] if words is None else words
     try:
         command = {"compare": _compare, "join": _join, "index": _index, "scan": _scan}.get(words[0] if words else "")
-        status = command(words[1:]) if command else _run(_options(words))
+        try:
+            status = command(words[1:]) if command else _run(_options(words))
+        except SystemExit:
+            sys.stdout.flush()  # of --help
+            raise
         sys.stdout.flush()
         return status
     except BrokenPipeError:
         drop_standard_output()
-        return FAULT
     except (OSError, ValueError) as error:
-        _note(fault_text(error))
-        return FAULT
+        say(fault_text(error))
+        flush_or_drop()
+    return FAULT

@@ -89,7 +89,8 @@ def _without_interrupts():
 
 def _run(job, task, connection):
     """Runs the job in its process."""
-    signal.signal(signal.SIGTERM, _leave)
+    for number in (signal.SIGTERM, signal.SIGHUP):
+        signal.signal(number, _leave)
     with contextlib.suppress(BrokenPipeError):  # nobody listens any longer
         job(task, connection.send)
 

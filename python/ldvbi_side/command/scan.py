@@ -7,7 +7,6 @@ import io
 import itertools
 import os
 import signal
-import sys
 import time
 from typing import Callable, List, Optional
 
@@ -17,6 +16,7 @@ from ldvbi.packed import refuse_packed
 from ..draw.index import head_of, index_of
 from ..draw.page import said_of
 from ..judge.readings import Answer
+from ..outside import say
 from .faults import fault_text, no_metadata
 from .folders import files_of, page_name, sides_in
 from .outputs import drop_part, refuse_inputs, whole_file
@@ -55,6 +55,8 @@ def _options(words):
                         "links them. A side whose page is newer than its files isn't read again" % INDEX)
     parser.add_argument("--again", action="store_true", help="read each side, and write its page anew")
     options = parser.parse_args(words)
+    if options.html == "":
+        parser.error("a folder has to have a name")
     if options.again and not options.html:
         parser.error("--again is of --html")
     return options
@@ -80,7 +82,7 @@ def scan(words: List[str], read: Read) -> int:
         for row, notes in _in_order(itertools.chain(kept.items(), _results(messages, progress, sides, left))):
             progress.clear()
             for note in notes:
-                print("ldvbi-side: " + note, file=sys.stderr)
+                say(note)
             table.add(row)
             rows.append(row)
     table.end()
