@@ -2,6 +2,7 @@
 names and texts of others that no terminal and no page can show. It imports little, so that signals are heeded before
 the rest of the command is loaded."""
 
+import io
 import os
 import signal
 import sys
@@ -63,8 +64,9 @@ def open_streams() -> None:
             os.set_inheritable(number, True)
     sys.stdout = sys.stdout or open(1, "w", encoding="utf-8", closefd=False)
     sys.stderr = sys.stderr or open(2, "w", encoding="utf-8", errors="backslashreplace", closefd=False)
-    is_unicode = sys.stdout.encoding.lower().startswith("utf-8")
-    sys.stdout.reconfigure(errors="surrogateescape" if is_unicode else "backslashreplace")
+    if isinstance(sys.stdout, io.TextIOWrapper):
+        is_unicode = sys.stdout.encoding.lower() == "utf-8"
+        sys.stdout.reconfigure(errors="surrogateescape" if is_unicode else "backslashreplace")
 
 
 def drop_standard_output() -> None:
