@@ -13,6 +13,7 @@ NAME = "ldvbi-side"
 INTERRUPTED = 130  # the status after Ctrl-C, as a shell has it
 MOST_SAID = 600  # characters of a message
 MOST_BYTES = 1 << 29  # of a document; the longest that the program writes has a quarter of that
+_BEGINS = b'{["-0123456789tfn'  # what a JSON text may begin with
 _STOPPING = tuple(getattr(signal, name) for name in ("SIGINT", "SIGTERM", "SIGHUP") if hasattr(signal, name))
 
 
@@ -65,19 +66,32 @@ def open_streams() -> None:
     sys.stdout = sys.stdout or open(1, "w", encoding="utf-8", closefd=False)
     sys.stderr = sys.stderr or open(2, "w", encoding="utf-8", errors="backslashreplace", closefd=False)
     if isinstance(sys.stdout, io.TextIOWrapper):
-        is_unicode = sys.stdout.encoding.lower() == "utf-8"
+        is_unicode = sys.stdout.encoding.lower() in ("utf-8", "utf8")
         sys.stdout.reconfigure(errors="surrogateescape" if is_unicode else "backslashreplace")
 
 
 def drop_standard_output() -> None:
     """Lets go of what was printed and isn't written yet, since nobody takes it: nothing is written at the end."""
-    os.dup2(os.open(os.devnull, os.O_WRONLY), sys.stdout.fileno())
+    _drop(sys.stdout)
+
+
+def _drop(stream):
+    os.dup2(os.open(os.devnull, os.O_WRONLY), stream.fileno())
+
+
+def flush() -> None:
+    """Writes what was printed and said so far. An OSError where what was printed can't be written."""
+    try:
+        sys.stderr.flush()
+    except OSError:
+        _drop(sys.stderr)
+    sys.stdout.flush()
 
 
 def flush_or_drop() -> None:
     """Writes what was printed before a fault, where this can be written."""
     try:
-        sys.stdout.flush()
+        flush()
     except OSError:
         drop_standard_output()
 
@@ -87,7 +101,7 @@ def say(text: str) -> None:
     try:
         print("%s: %s" % (NAME, legible(text)), file=sys.stderr)
     except OSError:
-        pass
+        pass  # `flush` sees to it
 
 
 # ---- Names and texts
@@ -95,7 +109,7 @@ def say(text: str) -> None:
 def bytes_of_document(file: IO[bytes], begin: bytes) -> bytes:
     """All bytes of a document, which begins with these: a ValueError where there is no end of them. Of what begins as
     none no more is read."""
-    if begin.strip() and not begin.lstrip().startswith((b"{", b"[")):
+    if begin.strip() and not begin.lstrip()[0] in _BEGINS:
         return begin
     data = file.read(MOST_BYTES + 1)
     if len(data) > MOST_BYTES:

@@ -74,10 +74,11 @@ class Closed(Edges):
                                      timeout=DEADLINE, check=False, env=buffered())
             self.assertEqual((run.returncode, run.stderr), (
                 2, b"ldvbi-side: standard output: No space left on device\n"), words)
-        with open("/dev/full", "wb") as full:
-            run = subprocess.run([*COMMAND, "absent"], cwd=self.folder, stdout=subprocess.PIPE, stderr=full,
-                                 timeout=DEADLINE, check=False)
-        self.assertEqual((run.returncode, run.stdout), (2, b""))
+        for words in (["absent"], ["--black"]):
+            with open("/dev/full", "wb") as full:
+                run = subprocess.run([*COMMAND, *words], cwd=self.folder, stdout=subprocess.PIPE, stderr=full,
+                                     timeout=DEADLINE, check=False, env=buffered())
+            self.assertEqual((run.returncode, run.stdout), (2, b""), words)
 
 
 def buffered():
@@ -167,6 +168,14 @@ class Names(Edges):
         # shown, and under the pointer
         self.assertEqual("".join(title.itertext()), 2 * "s\ufffd\ufffd[31m\ufffd<&>.tbc")
         self.assertEqual(self.run_command("compare", self.NAME, "side.vbi.json")[0], 0)
+
+    def test_where_output_has_few_letters(self):
+        """In a locale of ASCII, say: a letter that it lacks is escaped."""
+        self.write("\u00fc.vbi.json", self.document)
+        status, text, said = self.run_command("compare", "\u00fc.vbi.json", "side.vbi.json",
+                                              env=dict(os.environ, PYTHONIOENCODING="ascii"))
+        self.assertEqual((status, text.split(b"\n")[0], said), (
+            0, b"pictures: 12 in \\xfc.vbi.json, 12 in side.vbi.json, 12 in both", ""))
 
     def test_in_messages(self):
         name = os.fsdecode(b"\x1b[31m\n\xff")

@@ -14,7 +14,7 @@ from ldvbi.metadata import beside, read_metadata, settings_of
 from ldvbi.packed import refuse_packed
 from ldvbi.stream import cut_of
 from ..draw.plot import plot_command
-from ..outside import NAME, bytes_of_document, drop_standard_output, flush_or_drop, printable, say
+from ..outside import NAME, bytes_of_document, drop_standard_output, flush, flush_or_drop, printable, say
 from ..seek import seek, text_of, wanted_of
 from ..judge.readings import Answer
 from ..side import Side, side_of_document, side_of_stream
@@ -384,9 +384,9 @@ def main(words: Optional[List[str]] = None) -> int:
         try:
             status = command(words[1:]) if command else _run(_options(words))
         except SystemExit:
-            sys.stdout.flush()  # of --help
+            flush()  # of --help, or of a refused command line
             raise
-        sys.stdout.flush()
+        flush()
         return status
     except BrokenPipeError:
         drop_standard_output()

@@ -89,8 +89,9 @@ def _without_interrupts():
 
 def _run(job, task, connection):
     """Runs the job in its process."""
-    for number in (signal.SIGTERM, signal.SIGHUP):
-        signal.signal(number, _leave)
+    signal.signal(signal.SIGTERM, _leave)
+    if signal.getsignal(signal.SIGHUP) != signal.SIG_IGN:  # as it is behind nohup
+        signal.signal(signal.SIGHUP, _leave)
     with contextlib.suppress(BrokenPipeError):  # nobody listens any longer
         job(task, connection.send)
 

@@ -13,10 +13,6 @@ def escape(text: str) -> str:
     return saxutils.escape(shown(text))
 
 
-def quoteattr(text: str) -> str:
-    return saxutils.quoteattr(shown(text))
-
-
 def text_width(text: str, size: float) -> float:
     """About the width of a text at this font size, in pixels."""
     return CHARACTER * size * len(text)
@@ -36,7 +32,7 @@ def _attributes(values):
     for name, value in values.items():
         if value is not None:
             value = ("%.1f" % value).replace(".0", "") if isinstance(value, float) else str(value)
-            texts.append(" %s=%s" % (name.rstrip("_").replace("_", "-"), quoteattr(value)))
+            texts.append(" %s=%s" % (name.rstrip("_").replace("_", "-"), saxutils.quoteattr(value)))
     return "".join(texts)
 
 
