@@ -4,7 +4,7 @@
 //! of their lines show one number together, which tells the half. A side whose player went back or stood still can lead
 //! astray, so what is found here is no more than a place to look at: seeking.rt judges the fields around it.
 
-ghost use Rattle.std.specs.Prelude.{◌≡◌, ◌+◌, ◌*◌, ◌<◌, ◌≤◌, length, map};
+ghost use Rattle.std.specs.Prelude.{◌≡◌, ◌+◌, ◌*◌, ◌<◌, ◌≤◌, length, map, false};
 ghost use Rattle.std.specs.List.{range_with_len};
 ghost use Rattle.vbi_words.specs.Geometry.{field_bytes};
 ghost use Rattle.vbi_c.specs.Seeking.{shown_at, probe_most, probed_most};
@@ -115,63 +115,95 @@ fn probe(seek: &Seek, bytes: &[u8], count: usize, field: usize) -> (Option<u32>,
     (None, most as u32)
 }
 
-/// The fields between which a number is sought, and how many were read for it.
+/// The fields between which a number is sought.
 #[derive(Clone, Copy)]
 pub(crate) struct Between {
     pub(crate) low: usize,
     pub(crate) high: usize,
+    /// The lower number that was shown at `low`, and the higher one, or the number itself, that was at `high`.
+    lower: Option<u32>,
+    higher: Option<u32>,
+    /// How many fields were read.
     pub(crate) looked: u32,
 }
 
-/// The half in which the number is. Where the middle shows none, the middle of the later half is asked; and where this
-/// shows none either, the earlier half is taken, since most sides have nothing at their end.
-fn half(seek: &Seek, bytes: &[u8], count: usize, number: u32, between: Between) -> Between
+/// Asks what is shown at a field, whether the number is before it or behind it. Answers whether that tells.
+fn narrow(
+    seek: &Seek,
+    bytes: &[u8],
+    count: usize,
+    number: u32,
+    field: usize,
+    between: &mut Between,
+) -> bool
     requires whole { count * field_bytes seek.now.setup.system ≤ length bytes.now }
-    requires order { between.low ≤ between.high }
-    requires inside { between.high ≤ count }
-    requires few { between.looked + 2 * probe_most ≤ probed_most }
-    ensures order { result.low ≤ result.high }
-    ensures inside { result.high ≤ count }
-    ensures few { result.looked ≤ probed_most }
+    requires before { between.old.low ≤ field }
+    requires behind { field ≤ between.old.high }
+    requires inside { between.old.high ≤ count }
+    requires few { between.old.looked ≤ probed_most }
+    ensures order { between.new.low ≤ between.new.high }
+    ensures inside { between.new.high ≤ count }
+    ensures few { between.new.looked ≤ between.old.looked + probe_most }
+    ensures kept { result ≡ false → (between.new.low ≡ between.old.low) × (between.new.high ≡ between.old.high) }
 {
-    let Between { low, high, looked } = between;
-    let middle = low + (high - low) / 2;
-    let (shown, read) = probe(seek, bytes, count, middle);
-    let looked = looked + read;
-    if let Some(shown) = shown {
-        return if shown < number {
-            Between {
-                low: middle,
-                high,
-                looked,
-            }
-        } else {
-            Between {
-                low,
-                high: middle,
-                looked,
-            }
-        };
+    let (shown, read) = probe(seek, bytes, count, field);
+    between.looked += read;
+    let Some(shown) = shown else {
+        return false;
+    };
+    if shown < number {
+        between.low = field;
+        between.lower = Some(shown);
+    } else {
+        between.high = field;
+        between.higher = Some(shown);
     }
-    let later = middle + (high - middle) / 2;
-    let (shown, read) = probe(seek, bytes, count, later);
-    let looked = looked + read;
-    match shown {
-        Some(shown) if shown < number => Between {
-            low: later,
-            high,
-            looked,
-        },
-        Some(_) => Between {
-            low,
-            high: later,
-            looked,
-        },
-        None => Between {
-            low,
-            high: middle,
-            looked,
-        },
+    true
+}
+
+/// Whether the number is rather behind this field than before it, where nothing is shown around the field: by where it
+/// stands between the numbers at both ends. Before the first number of a side, and behind its last one, nothing is.
+fn is_behind(number: u32, field: usize, between: &Between) -> bool
+    requires before { between.now.low ≤ field }
+    requires behind { field ≤ between.now.high }
+{
+    match (between.lower, between.higher) {
+        (Some(lower), Some(higher)) => {
+            let (part, whole) = (field - between.low, between.high - between.low);
+            let (number_part, number_whole) = (
+                number.saturating_sub(lower),
+                higher.saturating_sub(lower),
+            );
+            part as u128 * u128::from(number_whole) < whole as u128 * u128::from(number_part)
+        }
+        (None, Some(_)) => true,
+        _ => false,
+    }
+}
+
+/// Narrows the fields between which the number is, by what is shown in the middle, or else at a quarter.
+fn halve(seek: &Seek, bytes: &[u8], count: usize, number: u32, between: &mut Between)
+    requires whole { count * field_bytes seek.now.setup.system ≤ length bytes.now }
+    requires order { between.old.low ≤ between.old.high }
+    requires inside { between.old.high ≤ count }
+    requires few { between.old.looked + 3 * probe_most ≤ probed_most }
+    ensures order { between.new.low ≤ between.new.high }
+    ensures inside { between.new.high ≤ count }
+    ensures few { between.new.looked ≤ probed_most }
+{
+    let middle = between.low + (between.high - between.low) / 2;
+    let earlier = between.low + (middle - between.low) / 2;
+    let later = middle + (between.high - middle) / 2;
+    if narrow(seek, bytes, count, number, middle, between)
+        || narrow(seek, bytes, count, number, later, between)
+        || narrow(seek, bytes, count, number, earlier, between)
+    {
+        return;
+    }
+    if is_behind(number, middle, between) {
+        between.low = middle;
+    } else {
+        between.high = middle;
     }
 }
 
@@ -185,14 +217,16 @@ pub(crate) fn place_of(seek: &Seek, bytes: &[u8], count: usize, number: u32) -> 
     let mut between = Between {
         low: 0,
         high: count,
+        lower: None,
+        higher: None,
         looked: 0,
     };
     for _ in 0..usize::BITS {
-        let has_room = between.looked + 2 * PROBE as u32 <= PROBED;
+        let has_room = between.looked + 3 * PROBE as u32 <= PROBED;
         if between.high - between.low <= LEFT || !has_room {
             break;
         }
-        between = half(seek, bytes, count, number, between);
+        halve(seek, bytes, count, number, &mut between);
     }
     between
 }
