@@ -9,5 +9,4 @@ pub mod Statuses
 pub mod Words
 pub mod Recovering
 pub mod Chapters
-pub mod OneField
 pub mod Stops

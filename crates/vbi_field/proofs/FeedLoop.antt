@@ -6,9 +6,8 @@ use Rattle.std.proofs.lemmas.List.{length-drop, take_all, take-append-drop}
 use Rattle.std.proofs.Math.Nat.{le_refl, le_of_eq}
 use Rattle.std.proofs.Math.Seq.{take-add}
 use Rattle.vbi_field.specs.Kinds.{document}
-use Rattle.vbi_field.specs.Feed.{IsAt, IsFed, IsFeedFault, StandsAt}
+use Rattle.vbi_field.specs.Feed.{IsAt, IsFed, IsFeedFault, StandsAt, Feeding}
 use Rattle.vbi_field.specs.FeedView.{feeding_of}
-use Rattle.vbi_field.specs.Feeding.{Feeding}
 use Rattle.vbi_line.specs.Counted.{NoError, IsSameDevice}
 use Rattle.vbi_field.specs.Outlet.{counted_of, Rises}
 use Rattle.vbi_field.specs.Position.{Position}

@@ -8,8 +8,7 @@ use Rattle.std.proofs.Math.Nat.{zero-div, eq-zero-or-pos}
 use Rattle.vbi_words.specs.Geometry.{field_bytes}
 use Rattle.vbi_field.specs.ConfigView.{ConfigView, allowed_bytes}
 use Rattle.vbi_field.specs.Extracts.{ExtractsAll}
-use Rattle.vbi_field.specs.Feed.{IsAt, IsFed, IsFinished, StandsAt, Feeds, FeedsAll, Pushes}
-use Rattle.vbi_field.specs.Feeding.{Feeding}
+use Rattle.vbi_field.specs.Feed.{IsAt, IsFed, IsFinished, StandsAt, Feeds, FeedsAll, Pushes, Feeding}
 use Rattle.vbi_field.specs.Kinds.{document}
 use Rattle.vbi_field.specs.Outlet.{Wrote}
 use Rattle.vbi_field.specs.Position.{Position}
