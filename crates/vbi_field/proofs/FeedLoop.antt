@@ -157,11 +157,7 @@ module _ {W : Type 0} {contents : W → Option (List ℕ)} {old : Feeding} {was 
   -- the piece so far
   so_far : (z : List ℕ) → StandsAt old z
       → IsFed contents was.config o0 o z (take at piece) (position_in was.config was.line was.progress) (Ok tt)
-  so_far z s =
-      let P : ConfigView
-      → Type 0 =
-      λ k. IsFed contents k o0 o z (take at piece) (position_in was.config was.line was.progress) (Ok tt) in
-      subst P (sym t.config) (t.fed z s)
+  so_far z s = grind arith
 
   -- the bytes of one row more
   pub taken_more : (n : ℕ) → result ≡ Ok n → at ≤ length piece → n ≤ length bytes
