@@ -58,7 +58,6 @@ pub fn one_drawn_row()
 
 /// The row drawn for a word shows the word; the row drawn for none has no high level. So the bytes drawn are read as
 /// the word in the first pass, or as blank.
-#[tactic(auto, using(crate::proofs::DrawnShows::row_shows, crate::proofs::DrawnShows::row_low, crate::proofs::DrawnLines::drawn_reads))]
 pub fn drawn_shows()
     ensures word { (system : System) (slicing : Slicing) (word : ℕ)
         → slicing.black < slicing.white → IsWord word
