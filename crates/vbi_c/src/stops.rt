@@ -10,7 +10,7 @@ use vbi_side::judge_stop;
 
 /// Whether a field's lines 16 and 17 show a stop that is to be believed.
 fn stop_in(readings: &LdvbiFieldReadings) -> u32
-    ensures { IsStopOf readings.now result }
+    ensures { IsStopOf readings.now.lines result }
 {
     let [line_16, line_17, _] = &readings.lines;
     judge_stop(&shown_by(line_16), &shown_by(line_17))

@@ -8,5 +8,5 @@ abbrev pub invariant-loop-i : goal.invariant-loop-i
 invariant-loop-i l = record {
   count : length l.stops ≡ length l.readings;
   each : (j answer : ℕ) (field : LdvbiFieldReadings) → j < l.i → slice_get l.readings j ≡ Some field
-      → slice_get l.stops j ≡ Some answer → IsStopOf field answer;
+      → slice_get l.stops j ≡ Some answer → IsStopOf field.lines answer;
 }
