@@ -8,5 +8,6 @@ pub mod Setups
 pub mod Statuses
 pub mod Words
 pub mod Recovering
+pub mod Seeking
 pub mod Chapters
 pub mod Stops
