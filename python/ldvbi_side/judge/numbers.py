@@ -22,9 +22,10 @@ from typing import Tuple
 
 from ldvbi import Kind
 from .believed import Numbers, no_numbers, numbers_of_readings
+from .between import with_pictures_between, with_rest_between
 from .chain import chain
 from .doubts import Doubts, numbers_aside, second_rows
-from .order import with_loops, with_pictures_between, with_speeds, with_swaps, with_turned
+from .order import with_loops, with_phases, with_speeds, with_swaps, with_turned
 from .paces import RATES, Unit, pace_of
 from .readings import WEIGHTS, Codes
 from .times import times_of
@@ -49,6 +50,7 @@ def pictures_of(codes: Codes) -> Tuple[Numbers, Doubts]:
     numbers = numbers_of_readings(Unit("picture", RATES[system]), pace, chain(readings, pace), others)
     numbers = numbers._replace(firm={one.field: one.number for one in readings if one.weight == 2 * WEIGHTS[1]})
     numbers = with_pictures_between(with_loops(numbers, readings), readings)
-    numbers = with_turned(with_speeds(numbers, readings), readings)
+    numbers = with_rest_between(numbers, readings)
+    numbers = with_phases(with_turned(with_speeds(numbers, readings), readings))
     numbers = with_swaps(numbers, readings, {reading.field for reading in readings})
     return numbers, numbers_aside(codes, numbers, readings)._replace(second_rows=second_rows(numbers, readings))
