@@ -61,7 +61,7 @@ def _of_numbers(places: Places, doubts: Doubts) -> Answer:
         "numbers": {"count": len(numbers), "least": text_of(min(numbers)) if numbers else None,
                     "greatest": text_of(max(numbers)) if numbers else None},
         "showings": [[text_of(number), first, last] for number, first, last in places.showings],
-        "completed": sorted(places.numbers.completed), "confirmed": places.confirmed,
+        "completed": sorted(places.numbers.completed), "confirmed": list(places.confirmed),
         "unread": [{"number": text_of(number), "field": field, "read": read.get(field)}
                    for number, field in places.due],
         "breaks": [dict(one, **{"from": text_of(one["from"]), "to": text_of(one["to"])}) for one in places.breaks],
