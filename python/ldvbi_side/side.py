@@ -53,8 +53,8 @@ class Side:
         nearest_word = functools.partial(nearest_word_in, self.samples) if self.samples else None
         try_levels = functools.partial(tried_on, self.samples) if self.samples else None
         fields = self.readings
-        return Fields(self.system.name, fields.words(), fields.passes(), fields.causes(), cut, self.first, self.expected, self.is_strict,
-                      nearest_word, self.judge, try_levels)
+        return Fields(self.system.name, fields.words(), fields.passes(), fields.causes(), cut, self.first,
+                      self.expected, self.is_strict, nearest_word, self.judge, try_levels)
 
     @functools.cached_property
     def answer(self) -> Answer:
@@ -108,12 +108,13 @@ def _firsts(pairs):
     return found
 
 
-def side_of_stream(stream: Stream, over: Callable[[Iterable[Any], int], Iterable[Any]] = lambda blocks, fields: blocks,
+def side_of_stream(stream: Stream, over: Optional[Callable[[Iterable[Any], int], Iterable[Any]]] = None,
                    first: Optional[List[bool]] = None) -> Side:
     """The side that a stream holds. `over` yields the blocks that it gets, each of so many fields, and may say
     meanwhile how far they are. A stream that recovers words has to stay open as long as the side is asked for its
     answer."""
-    readings = PackedFields(b"".join(over(stream.packed(0, len(stream)), BLOCK)))
+    blocks = stream.packed(0, len(stream))
+    readings = PackedFields(b"".join(over(blocks, BLOCK) if over else blocks))
     if stream.recover:
         readings = _with_causes(readings, stream)
     side = Side(stream.system, readings, cut_of(stream), Levels(stream.black, stream.white), first,

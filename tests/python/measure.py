@@ -3,8 +3,8 @@
 
 usage: measure.py FROM TO [--kind KIND]... [--parity] [--show N]     the seeds FROM to TO - 1
 
-Without --kind each seed has a kind of KINDS; --kind `each` is each kind of PLAYED. --parity hands over isFirstField of each field, too; --show prints the
-first N differences."""
+Without --kind each seed has a kind of KINDS; --kind `each` is each kind of PLAYED. --parity hands over isFirstField of
+each field, too; --show prints the first N differences."""
 
 import time
 

@@ -13,6 +13,7 @@ from ldvbi.readings import Cut, PackedFields
 FIELDS = [((0, 0, 0), ("blank", "unfinished", "hold 909"), (0, 0, 0)),
           ((0xF00001, 0xFFFFFF, 0x800000), ("word", "word", "word"), (1, 2, 1)),
           ((0, 0xF00002, 0xF00002), ("change 0", "word", "word"), (0, 1, 1))]
+OTHERS = (b"0", b"7", b" ", b",", b"}", b'"', b"\n", b"\xff")  # characters put in the place of one, or before it
 NEAR = ',"vbiNear":[{"word":15728641,"distance":120,"rival":0},null,null]}'
 
 
@@ -65,7 +66,7 @@ class Written(unittest.TestCase):
             data = written(version, 3, Cut(4, 17))
             for _ in range(400):
                 changed, place = bytearray(data), rng.randrange(len(data))
-                changed[place:place + rng.randrange(2)] = rng.choice((b"0", b"7", b" ", b",", b"}", b'"', b"\n", b"\xff"))
+                changed[place:place + rng.randrange(2)] = rng.choice(OTHERS)
                 found = outcome(read_document, bytes(changed))
                 self.assertEqual(found, outcome(document._as_json, bytes(changed)), bytes(changed))
                 faults += isinstance(found, str)

@@ -36,7 +36,8 @@ class Truth:
     where it can't be read, between two fields whose numbers can; `lost` how many fields are lost behind which field,
     `hidden` the numbers that the disc hasn't inside such a loss, where no field shows that, by its field;
     `backs` the fields behind which the disc's order is broken, `searches` how many fields too many (or, negative, too
-    few) each search in the dark has for the numbers that it passes over, `swaps` and `speeds` as far as numbers show them."""
+    few) each search in the dark has for the numbers that it passes over, `swaps` and `speeds` as far as numbers show
+    them."""
 
     def __init__(self, side):
         self.side = side
