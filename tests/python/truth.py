@@ -10,8 +10,8 @@ NUMBER_KINDS = {Kind.picture, Kind.time, Kind.clv_picture}
 
 
 def number_of(text, rate, unit):
-    """A number of the answer as the count that the truth has."""
-    if unit == "picture" or text is None:
+    """A number of the answer as the count that the truth has; None, and what is a count, as they are."""
+    if unit == "picture" or not isinstance(text, str):
         return text
     if unit == "minute":
         hours, minutes = text.split(":")
