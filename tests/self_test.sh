@@ -42,8 +42,8 @@ misread|examples/player.cpp|s/LDVBI_FIND_PACE/LDVBI_VIDEO/
 misread|examples/stops.cpp|s/LDVBI_FIND_PACE/LDVBI_VIDEO/
 header|include/ldvbi.h|s/^#define LDVBI_H$/#define LDVBI_H_/
 header|tests/library/header.sh|s/^ldvbi_classify(0xF12345, NULL)$/ldvbi_classify(0xF12345, code)/
-header|include/ldvbi.h|/^LDVBI_RESULT$/{N;s/.*\n\(uint32_t ldvbi_judge\)/\1/}
-header|include/ldvbi.h|s/^LDVBI_RESULT LDVBI_POINTER(4)$/LDVBI_RESULT/
+header|include/ldvbi.h|s/^LDVBI_RESULT \(uint32_t ldvbi_judge(\)/\1/
+header|include/ldvbi.h|s/^LDVBI_RESULT LDVBI_POINTER(4) /LDVBI_RESULT /
 header|include/ldvbi.h|s/stops.field. != LDVBI_BELIEVED/stops[field] != LDVBI_DOUBTFUL/
 python|python/ldvbi_side/judge/answer.py|s/^def analyse(/def analyze(/
 python|tests/python/python.sh|s/\$3 == "python"/$1 == "side_schema"/
@@ -118,7 +118,7 @@ docs|CONTRIBUTING.md|s,share/completions/ (the,share/man/ (the,
 docs|CONTRIBUTING.md|s,docs/SIGNAL.md,docs/SIGNALS.md,
 docs|CONTRIBUTING.md|s/ The version / & & & & & & & & & & & & & & & & & & & & & & & & & /
 docs|codes/classes.txt|s/^lines     16, 17 also 18/lines     17, 18/
-docs|include/ldvbi.h|s/return "users"/return "user"/
+docs|include/ldvbi.h|s/"clv picture", "cx on"/"clv pictures", "cx on"/
 docs|docs/FORMATS.md|s/`field width differs`/`field width differ`/
 docs|docs/FORMATS.md|/^. `too many fields`/d
 docs|docs/FORMATS.md|/^. `no system given`/{h;d};/^. `unknown system`/G
