@@ -52,7 +52,7 @@ else
     mv "$here/crate.new" "$here/crate"
 fi
 
-(cd "$here/crate" && "$cargo" build --release --quiet ${target:+--target "$target"})
+(cd "$here/crate" && "$cargo" build --release --quiet --features cli ${target:+--target "$target"})
 built=$CARGO_TARGET_DIR/${target:+$target/}release
 to=$here${target:+/$target}
 mkdir -p "$to"
