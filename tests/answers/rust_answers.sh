@@ -1,6 +1,6 @@
 #!/bin/sh
-# Asks the crate of `make rust` for pictures, times, chapters and stops of drawn sides, by the player in examples/rust and
-# the example `answers` of the crate: each answer has to be that of the table answers.txt.
+# Asks the crate of `make rust` for pictures, times, chapters and stops of drawn sides, by the player in examples/rust
+# and the example `answers` of the crate: each answer has to be that of the table answers.txt.
 # usage: sh tests/answers/rust_answers.sh PROGRAM
 # shellcheck disable=SC2086,SC2154,SC2317
 

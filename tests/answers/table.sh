@@ -17,10 +17,10 @@ draws_sides() {
     done < sides
 }
 
-# asks NAME ANSWERER [PATTERN]: of each row of the table, checks what a program answers, which NAME has as its name in the table.
+# asks NAME ANSWERER [PATTERN]: of each row of the table, checks what a program answers that is NAME in its last column.
 # ANSWERER is a function that is called with the side, its system and levels, and the question, which is in `question`,
-# too: it leaves an answer in the file `answer`, or none there, and the status in `status`. With a third word, which is a
-# pattern, the rows are asked whose question is of it.
+# too: it leaves an answer in the file `answer`, or none there, and the status in `status`. With a pattern those rows
+# are asked whose question it matches as a whole.
 asks() {
     sed '/^#/d; s/ *| */|/g' "$here/answers.txt" > rows
     while IFS='|' read -r side question answer silent; do
@@ -62,5 +62,6 @@ finds() {
 lists() {
     status=0
     bounded "$@" > out 2> err || status=$?
-    [ "$status" != 0 ] || sed -n 's/^field \([0-9]*\).*/\1/p' out | paste -s -d ' ' | sed -n 's/^[0-9]/field &/p' > answer
+    [ "$status" != 0 ] || sed -n 's/^field \([0-9]*\).*/\1/p' out | paste -s -d ' ' |
+        sed -n 's/^[0-9]/field &/p' > answer
 }

@@ -293,7 +293,8 @@ check 'stops: with a word too many' refuses "$stops_usage" ./stops $on_cav cav.t
 for seek in ./seek "python3 $top/examples/seek.py"; do
     name=$(basename "${seek##* }")
     usage="$name: usage: $name FILE NTSC|PAL BLACK WHITE NUMBER|H:MM:SS.PP|chapter N"
-    for words in '' "cav.tbc $on_cav" "cav.tbc $on_cav 3 4" "cav.tbc $on_cav 3 chapter" "cav.tbc $on_cav chapter 3 4"; do
+    for words in '' "cav.tbc $on_cav" "cav.tbc $on_cav 3 4" "cav.tbc $on_cav 3 chapter" \
+        "cav.tbc $on_cav chapter 3 4"; do
         check "$seek: with the words '$words'" refuses "$usage" $seek $words
     done
     for chapter in 80 -1 3x 256 4294967299 0:00:00.00; do

@@ -73,8 +73,8 @@ refuses_in_a_line() {
     [ "$status" = 2 ] && [ ! -s out ] && [ "$(grep -c "^$name: " err)" = 1 ] && [ "$(wc -l < err)" = 1 ]
 }
 
-# disc_with_stops: makes stops.tbc, a disc by the standards' lines: stops where the number is on line 18 alone, and lines
-# 17 and 18 that differ
+# disc_with_stops: makes stops.tbc, a disc by the standards' lines: stops where the number is on line 18 alone, and
+# lines 17 and 18 that differ
 disc_with_stops() {
     run_inheriting draw $ntsc - << 'WORDS'
 - F00001 F00001

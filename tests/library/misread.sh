@@ -1,6 +1,6 @@
 #!/bin/sh
-# Runs the examples in C, C++ and Python on drawn sides in which numbers were misread, so that the library has to judge them: of
-# video, of film, and of a CLV disc.
+# Runs the examples in C, C++ and Python on drawn sides in which numbers were misread, so that the library has to judge
+# them: of video, of film, and of a CLV disc.
 # Needs libldvbi.so.1 beside the program, or at the top of the repository (`make lib`).
 # usage: sh tests/library/misread.sh PROGRAM
 # shellcheck disable=SC2086,SC2317
