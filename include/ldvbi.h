@@ -77,9 +77,8 @@ size_t ldvbi_field_bytes(uint32_t system);
  * formats that it doesn't know. A check: if (ldvbi_abi() != LDVBI_ABI || ldvbi_version() < LDVBI_VERSION) .. */
 #define LDVBI_ABI 1
 
-/* Of the library that is linked: its interface, and its version as a number. */
-uint32_t ldvbi_abi(void);
-uint32_t ldvbi_version(void);
+uint32_t ldvbi_abi(void);     /* the interface of the library that is linked */
+uint32_t ldvbi_version(void); /* its version, as a number */
 
 /* ---- Statuses, in the order in which they are tested: a call has those of the arguments that it takes. After any
  * other than LDVBI_DONE, all that the call could have written is as it was. */
@@ -142,10 +141,9 @@ LDVBI_RESULT uint32_t ldvbi_read_fields(uint32_t system, uint32_t black, uint32_
  * another word, or of none, is nearer than `rival`. So if another word was recorded, the samples are off by `rival` or
  * more in sum. Where two words are as near, rival is distance, and either may be answered.
  *
- * Nothing is promised of how much real samples are off: where a dropout turns a cell over, another word is nearest. Nor
- * does the answer say that there is a word: video, captions and sines have a nearest one too, of most with a small
- * margin, which is rival - distance. A sine of 0.5 MHz looks like a word, but it goes on beyond: there `longer` is far
- * below `distance`. */
+ * Nothing is promised of real samples: where a dropout turns a cell over, another word is nearest. Video, captions and
+ * sines have a nearest word too, but of most the margin, which is rival - distance, is small. A sine of 0.5 MHz looks
+ * like a word, but goes on beyond it: there `longer` is far below `distance`. */
 typedef struct LdvbiNear {
     uint32_t word;     /* the nearest word, from 0x800000 to 0xFFFFFF; 0: no word is as near as the row of none */
     uint32_t start;    /* the column, counted from 0, from which on the word is drawn; 0 where there is none */
@@ -200,9 +198,8 @@ enum LdvbiKind {
     /* to here */
 };
 
-/* A word's kind and the numbers that go with it. A number that this kind doesn't have is 0. */
 typedef struct LdvbiCode {
-    uint32_t kind, first, second; /* kind: of enum LdvbiKind */
+    uint32_t kind, first, second; /* of enum LdvbiKind, and its numbers; one that this kind doesn't have is 0 */
 } LdvbiCode;
 
 /* What a word says. 0 is no word. */
@@ -256,15 +253,13 @@ enum LdvbiPace {
     LDVBI_FIND_PACE = 3 /* of film where over a tenth more numbers of NTSC pictures are believed by it, else of video */
 };
 
-/* A number that a line shows. */
 typedef struct LdvbiSighting {
-    uint32_t number;
+    uint32_t number; /* that a line shows */
     uint32_t weight; /* 2: in pass 1; 1: in pass 2 or 3; 0: the line shows no number, and `number` is 0 */
 } LdvbiSighting;
 
-/* What a field shows: the numbers of lines 17 and 18. The seconds of a time are those of line 16. */
 typedef struct LdvbiSightings {
-    LdvbiSighting line_17, line_18;
+    LdvbiSighting line_17, line_18; /* what a field shows there; the seconds of a time are those of line 16 */
     uint32_t instead; /* 1: line 17 or 18 shows a chapter, lead-in, lead-out or the other kind of number; else 0 */
 } LdvbiSightings;
 
@@ -280,11 +275,10 @@ typedef struct LdvbiNumber {
     uint32_t state; /* of enum LdvbiState */
 } LdvbiNumber;
 
-/* Judges the numbers of `count` fields that follow each other. `numbers` gets the answers. `seen` is room for the call:
- * it gets what each field shows, since each is looked at from 48 others. Both arrays have `count` values. If a capture
- * goes on, judge it again with its new fields. At one pace these may change what is believed of the last LDVBI_REACH
- * fields, and what is due in the last 2 * LDVBI_REACH; before those all answers stay. With LDVBI_FIND_PACE the pace may
- * turn, and with it any answer. */
+/* Judges the numbers of `count` fields that follow each other. `numbers` gets the answers. `seen` is room for the call,
+ * and gets what each field shows. Both have `count` values. If a capture goes on, judge it again with its new fields:
+ * at one pace these may change what is believed of the last LDVBI_REACH fields, and what is due in twice as many. Before
+ * those all answers stay. With LDVBI_FIND_PACE the pace may turn, and with it any answer. */
 LDVBI_RESULT uint32_t ldvbi_judge(uint32_t system, uint32_t counted, uint32_t pace, const LdvbiFieldReadings *readings,
     size_t count, LdvbiSightings *seen, size_t seen_count, LdvbiNumber *numbers, size_t number_count);
 
@@ -317,10 +311,9 @@ LDVBI_RESULT LDVBI_POINTER(7) uint32_t ldvbi_judge_field(uint32_t system, uint32
  * So a chapter can seem longer by a few fields, where codes near its ends are misread as its. Where a player goes back
  * to an earlier chapter, none may be believed for LDVBI_REACH fields before and behind. */
 
-/* Judges the chapters of `count` fields that follow each other, as ldvbi_judge does their numbers. `chapters` gets the
- * answers: the number is the chapter, and the state is never LDVBI_DUE. Most fields have no code of a chapter: these
- * have LDVBI_NOTHING, and are of the chapter that was believed last. `seen` gets the chapters that lines 17 and 18
- * show, with `instead` 0. */
+/* Judges the chapters of fields as ldvbi_judge does their numbers. `chapters` gets the answers: the number is the
+ * chapter, and the state is never LDVBI_DUE. Most fields have no code of one: these have LDVBI_NOTHING, and are of the
+ * chapter that was believed last. `seen` gets the chapters that lines 17 and 18 show, with `instead` 0. */
 LDVBI_RESULT uint32_t ldvbi_judge_chapters(const LdvbiFieldReadings *readings, size_t count, LdvbiSightings *seen,
     size_t seen_count, LdvbiNumber *chapters, size_t chapter_count);
 
