@@ -277,8 +277,8 @@ typedef struct LdvbiNumber {
 
 /* Judges the numbers of `count` fields that follow each other. `numbers` gets the answers. `seen` is room for the call,
  * and gets what each field shows. Both have `count` values. If a capture goes on, judge it again with its new fields:
- * at one pace these may change what is believed of the last LDVBI_REACH fields, and what is due in twice as many. Before
- * those all answers stay. With LDVBI_FIND_PACE the pace may turn, and with it any answer. */
+ * at one pace these may change what is believed of the last LDVBI_REACH fields, and what is due in twice as many.
+ * Before those all answers stay. With LDVBI_FIND_PACE the pace may turn, and with it any answer. */
 LDVBI_RESULT uint32_t ldvbi_judge(uint32_t system, uint32_t counted, uint32_t pace, const LdvbiFieldReadings *readings,
     size_t count, LdvbiSightings *seen, size_t seen_count, LdvbiNumber *numbers, size_t number_count);
 
@@ -296,6 +296,24 @@ enum { LDVBI_PART = 97 }; /* the answer of a field depends on itself and 2 * LDV
  * their own. LDVBI_BAD_LENGTH is also for a `field` that isn't below `count`. */
 LDVBI_RESULT LDVBI_POINTER(7) uint32_t ldvbi_judge_field(uint32_t system, uint32_t counted, uint32_t pace,
     const LdvbiFieldReadings *readings, size_t count, size_t field, LdvbiNumber *number);
+
+/* ---- Seeking a number, and where it was found */
+enum { LDVBI_LOOKED = 400 };
+typedef struct LdvbiSought {
+    size_t field;       /* counted from 0; as many as the side has where none was found */
+    LdvbiNumber number; /* what is answered of this field: the number, LDVBI_BELIEVED or LDVBI_DUE */
+    uint32_t pace;      /* the pace at which it is answered; 0 where none was found */
+    uint32_t looked;    /* how many fields were read, LDVBI_LOOKED at most */
+} LdvbiSought;
+
+/* Seeks a number in the `length` bytes of a side, as a mapped file: by halving, so few fields are read. `pace` is as for
+ * ldvbi_judge; one that is to be found is found by the fields around the place. A last field that is cut is left out.
+ *
+ * This is proved: the field that is answered has the number as ldvbi_judge answers it by what ldvbi_read_fields reads of
+ * all fields, at this pace, and the field before it hasn't. Whether a number is found is not proved: numbers have to
+ * rise along the side, as they do where a player runs on. To be sure that a number isn't there, judge the whole side. */
+LDVBI_RESULT LDVBI_POINTER(9) uint32_t ldvbi_seek(uint32_t system, uint32_t black, uint32_t white, uint32_t counted,
+    uint32_t pace, const void *bytes, size_t length, uint32_t number, LdvbiSought *sought);
 
 /* ---- Judging chapters
  *
