@@ -29,7 +29,7 @@ players|examples/player.cpp|s/stops.field. != LDVBI_BELIEVED/stops[field] == LDV
 players|examples/player.c|s/ == shown.i - 1..number/ == 0/
 players|examples/player.py|/SIGPIPE/d
 answers|tests/answers/answers.txt|s/field 29 /field 27 /
-answers|tests/answers/answers.txt|s/c c++ python rust: the/c++ python rust: the/
+answers|tests/answers/answers.txt|s/c c++ call python rust: the/c++ call python rust: the/
 answers|examples/seek.py|s/ldvbi.judge_chapters(side)/ldvbi.judge(side, side.system)/
 examples|examples/stops.c|s/stop == LDVBI_BELIEVED/stop == LDVBI_DOUBTFUL/
 staged|Makefile|s/-m 755 $(BUILT)libldvbi.so/-m 700 $(BUILT)libldvbi.so/

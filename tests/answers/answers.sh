@@ -20,6 +20,7 @@ check 'stops is built' does $cc -std=c99 $strict -o stops_c "$top/examples/stops
 check 'stops is built in C++' does $cxx -std=c++17 $strict -o stops_cpp "$top/examples/stops.cpp" $linked
 check 'player is built' does $cc -std=c99 $strict -o player_c "$top/examples/player.c" $linked
 check 'player is built in C++' does $cxx -std=c++17 $strict -o player_cpp "$top/examples/player.cpp" $linked
+check 'call is built' does $cc -std=c99 -D_DEFAULT_SOURCE $strict -o call "$here/call.c" $linked
 cat > stops.py << 'END_OF_PYTHON'
 import sys
 import ldvbi
@@ -54,6 +55,9 @@ by_side() {
         finds python3 "$top/python/ldvbi-side" "$@" --seek "$question"
     fi
 }
+by_call() {
+    finds ./call "$1.tbc" $2 $3
+}
 # plays PLAYER SIDE ON QUESTION: of a player, which prints the picture that it was asked for
 plays() {
     status=0
@@ -74,6 +78,7 @@ asks c in_c
 asks c++ in_cpp
 asks python in_python
 asks side by_side
+asks call by_call '[0-9:]*[.]*[0-9]*'
 for player in c cpp python; do
     asks player plays_$player '[0-9]*'
 done
