@@ -56,7 +56,7 @@ fi
 built=$CARGO_TARGET_DIR/${target:+$target/}release
 to=$here${target:+/$target}
 mkdir -p "$to"
-for file in ldvbi ldvbi.exe ldvbi.dll libldvbi.a libldvbi.dylib; do
+for file in ldvbi ldvbi.exe ldvbi.dll libldvbi.dll.a libldvbi.a libldvbi.dylib; do
     [ ! -e "$built/$file" ] || cp -f "$built/$file" "$to/$file"
 done
 if [ -e "$built/libldvbi.so" ]; then

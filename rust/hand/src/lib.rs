@@ -39,7 +39,8 @@
 //! ```
 //!
 //! Errors: [`Levels::new`] returns [`LevelsFault`], [`Word24::new`] [`WordFault`], and [`Error`] is that of bytes that
-//! are no side or no line. Nothing else fails; only [`draw_line`] panics, where its bytes are less than a line.
+//! are no side or no line. Two calls panic on what they can't take: [`draw_line`] on less than a line, and
+//! [`Word24::half`] from 48 on.
 //!
 //! The calls below this interface are the source of the library for C without its contracts, which were proved of it;
 //! what they promise is in docs/PROMISES.md. This interface itself is tested. With the feature `cli` the crate has the

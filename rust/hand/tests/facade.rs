@@ -98,6 +98,25 @@ fn reads_what_was_drawn() {
 }
 
 #[test]
+fn names_why_a_line_has_no_word() {
+    for (system, line, _, _, _) in SYSTEMS {
+        let (width, longest) = (line / 2, 2 * system.half_max());
+        let mut bytes = draw(system, &[[0; 3]]);
+        // A run that is too short, one that is longer than two half cells, and one that the line's end cuts
+        for (row, begin, end) in [(15, 400, 405), (16, 300, 360), (17, width - 5, width)] {
+            bytes[row * line..][2 * begin..2 * end].fill(255);
+        }
+        let causes = [Outcome::Change(405), Outcome::Hold(300 + longest as u16), Outcome::Unfinished];
+        let wanted = causes.map(|outcome| Reading { outcome, pass: 0 });
+        let side = Side::new(&bytes, system, levels()).unwrap();
+        assert_eq!(side.fields().next(), Some(wanted));
+        for (row, reading) in (15..).zip(wanted) {
+            assert_eq!(side.line(&bytes[row * line..(row + 1) * line]), Ok(reading));
+        }
+    }
+}
+
+#[test]
 fn refuses_what_is_no_side_and_no_line() {
     for (system, line, field, ..) in SYSTEMS {
         let bytes = vec![0; 29 * line];
@@ -149,6 +168,22 @@ fn a_misread_number_is_never_answered() {
         for place in [Place::Picture(40), Place::Picture(79999), Place::Chapter(79), Place::Time(0, 0, 1, 0)] {
             assert_eq!(side.seek(place), None);
         }
+    }
+}
+
+#[test]
+fn finds_the_pace_of_film() {
+    // Pictures with an odd number last three fields, the others two.
+    let mut rows = Vec::new();
+    for number in 0..40 {
+        rows.push([0, picture(number), picture(number)]);
+        rows.resize(rows.len() + 1 + number as usize % 2, [0; 3]);
+    }
+    let bytes = draw(System::Ntsc, &rows);
+    let side = Side::new(&bytes, System::Ntsc, levels()).unwrap();
+    let numbers = side.numbers(Counted::Pictures);
+    for number in 0..40 {
+        assert_eq!(numbers[(5 * number as usize) / 2], Number::Believed(number));
     }
 }
 
