@@ -1,5 +1,5 @@
-/* Answers a picture or a time of a side by ldvbi_seek alone, for answers.sh: prints its field, from 1. Status 1: there is
- * none; 2: something is wrong, or more fields were read than may be.
+/* Answers a picture or a time of a side by ldvbi_seek alone, for answers.sh: prints its field, from 1. Status 1: there
+ * is none; 2: something is wrong, or more fields were read than may be.
  * usage: call FILE NTSC|PAL BLACK WHITE NUMBER|H:MM:SS.PP */
 #include <fcntl.h>
 #include <ldvbi.h>
