@@ -59,7 +59,7 @@ def kinds_in_c(classes):
 
 
 def texts_in_c(classes):
-    return "".join('    case %s: return "%s";\n' % (constant(one), one.kind) for one in by_number(classes))
+    return wrapped(['"%s"' % one.kind for one in by_number(classes)], " " * 8, ", ")
 
 
 # ---- conditions on a word's digits, in C and Python

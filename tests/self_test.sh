@@ -22,10 +22,15 @@ library|tests/library/library_stops.c|s/(STOP, 3, STOP, 3, 0, 0), LDVBI_BELIEVED
 library|tests/library/library_sightings.c|s/SEEN(1079999, 2, 1079999, 2, 0)/SEEN(1079999, 2, 1079999, 1, 0)/
 library|tests/library/library_worn.c|s/.noise = 0.3}, 1000, 1000/.noise = 0.5}, 1000, 1000/
 examples|tests/library/examples.sh|s/^SECAM 16384 51200$/NTSC 16384 51200/
-examples|examples/seek.py|s/<= 79999/<= 80000/
+examples|examples/seek.py|s/else 79999/else 80000/
 examples|examples/seek.c|s/BLOCK = 64/BLOCK = 63/
-examples|examples/pixels.c|s/858 : 864/920 : 864/
-examples|examples/player.cpp|s/stop == LDVBI_BELIEVED/stop != LDVBI_NOTHING/
+pixels|examples/pixels.c|s/858 : 864/920 : 864/
+players|examples/player.cpp|s/stops.field. != LDVBI_BELIEVED/stops[field] == LDVBI_NOTHING/
+players|examples/player.c|s/ == shown.i - 1..number/ == 0/
+players|examples/player.py|/SIGPIPE/d
+answers|tests/answers/answers.txt|s/field 29 /field 27 /
+answers|tests/answers/answers.txt|s/c c++ call python rust: the/c++ call python rust: the/
+answers|examples/seek.py|s/ldvbi.judge_chapters(side)/ldvbi.judge(side, side.system)/
 examples|examples/stops.c|s/stop == LDVBI_BELIEVED/stop == LDVBI_DOUBTFUL/
 staged|Makefile|s/-m 755 $(BUILT)libldvbi.so/-m 700 $(BUILT)libldvbi.so/
 misread|include/ldvbi.h|s/LDVBI_DUE = 3/LDVBI_DUE = 4/
@@ -33,13 +38,12 @@ misread|examples/seek.c|s/if (is_judged) {/if (!is_judged) {/
 misread|examples/seek.c|s/ \&\& !is_other_disc//
 misread|examples/seek.c|s/seconds.second < rate/seconds.second < 100/
 misread|examples/seek.c|s/refuse(strerror(ENOMEM))/1/
-misread|examples/player.cpp|s/ \&\& number.state != LDVBI_DUE//
-misread|examples/player.cpp|s/check(kind == LDVBI_CHAPTER$/check(kind == LDVBI_OTHER/
+misread|examples/player.cpp|s/LDVBI_FIND_PACE/LDVBI_VIDEO/
 misread|examples/stops.cpp|s/LDVBI_FIND_PACE/LDVBI_VIDEO/
 header|include/ldvbi.h|s/^#define LDVBI_H$/#define LDVBI_H_/
 header|tests/library/header.sh|s/^ldvbi_classify(0xF12345, NULL)$/ldvbi_classify(0xF12345, code)/
-header|include/ldvbi.h|/^LDVBI_RESULT$/{N;s/.*\n\(uint32_t ldvbi_judge\)/\1/}
-header|include/ldvbi.h|s/^LDVBI_RESULT LDVBI_POINTER(4)$/LDVBI_RESULT/
+header|include/ldvbi.h|s/^LDVBI_RESULT \(uint32_t ldvbi_judge(\)/\1/
+header|include/ldvbi.h|s/^LDVBI_RESULT LDVBI_POINTER(4) /LDVBI_RESULT /
 header|include/ldvbi.h|s/stops.field. != LDVBI_BELIEVED/stops[field] != LDVBI_DOUBTFUL/
 python|python/ldvbi_side/judge/answer.py|s/^def analyse(/def analyze(/
 python|tests/python/python.sh|s/\$3 == "python"/$1 == "side_schema"/
@@ -114,7 +118,7 @@ docs|CONTRIBUTING.md|s,share/completions/ (the,share/man/ (the,
 docs|CONTRIBUTING.md|s,docs/SIGNAL.md,docs/SIGNALS.md,
 docs|CONTRIBUTING.md|s/ The version / & & & & & & & & & & & & & & & & & & & & & & & & & /
 docs|codes/classes.txt|s/^lines     16, 17 also 18/lines     17, 18/
-docs|include/ldvbi.h|s/return "users"/return "user"/
+docs|include/ldvbi.h|s/"clv picture", "cx on"/"clv pictures", "cx on"/
 docs|docs/FORMATS.md|s/`field width differs`/`field width differ`/
 docs|docs/FORMATS.md|/^. `too many fields`/d
 docs|docs/FORMATS.md|/^. `no system given`/{h;d};/^. `unknown system`/G
