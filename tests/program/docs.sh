@@ -76,9 +76,13 @@ prints() {
 # folder NAME: makes a folder in which commands of documents run, with what they name of the repository
 folder() {
     mkdir "$1"
-    for part in contrib docs examples python share $library; do
+    for part in contrib docs examples include python share; do
         ln -s "$top/$part" "$1/$part"
     done
+    # What README has `make rust` build
+    mkdir "$1/rust"
+    ln -s "$program" "$1/rust/ldvbi"
+    [ ! "$library" ] || ln -s "$built/$library" "$1/rust/$library"
     ln -s "$program" "$1/ldvbi"
 }
 
@@ -195,19 +199,6 @@ shows() {
 sed -n '/^```c$/,/^```$/{/^```/d;p;}' "$top/README.md" > out
 check 'README has five lines of C' [ "$(wc -l < out)" = 5 ]
 check 'they are of examples/say.c' shows "$top/examples/say.c" < out
-# shellcheck disable=SC2016
-in_rust=$(grep -o 'classify(read[^`]*' "$top/README.md")
-check 'what README has of Rust is of examples/rust' grep -qF "${in_rust:-none}" "$top/examples/rust/src/main.rs"
-
-# What README has of other programs, right and wrong words, is of PEERS.md
-counts='\([0-9]*\), \([0-9]*\) |'
-from="^| .* | $counts $counts not tried | $counts $counts\$"
-to='| \1/\2/.* | \3/\4/.* | .* | \5/\6/.* | .* | \7/\8/'
-sed -n "s@$from@$to@p" "$top/README.md" > rows
-while read -r row; do
-    grep -c "$row" "$top/docs/PEERS.md"
-done < rows > out
-check 'the counts in README are those of PEERS.md' [ "$(paste -s -d ' ' out)" = '1 1 1 1' ]
 
 # The pages for callers: their example is a caller that is proved, with imports that this has, and each public function
 # has a row
