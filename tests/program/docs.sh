@@ -156,8 +156,8 @@ for what in links paths names faults causes sizes rules numbers changes crates; 
     in_folder "$top" python3 tests/documents.py $what
     check "the documents and the source: $what" [ "$status" = 0 ]
 done
-in_folder "$top" python3 tests/definitions.py docs/DEFINITIONS.md docs/PROMISES.md docs/DECISIONS.md
-check 'the definitions of DEFINITIONS.md are those of the source' [ "$status" = 0 ]
+in_folder "$top" python3 tests/definitions.py --check
+check 'the definitions of PROMISES.md are those of the source' [ "$status" = 0 ]
 
 # The real examples of causes in FORMATS.md, of which these are the lines in the order of its rows
 signal NTSC 1 << 'END' | ntsc_samples > causes.tbc
@@ -169,15 +169,15 @@ output_of extract $ntsc causes.tbc | jq -r '.fields[] | [.vbi.vbiData, .vbiCause
 sed -n '/^### A real example/,/^## /s/^|[^|]*\(| [0-9].*\)/\1/p' "$top/docs/FORMATS.md" > out
 check 'the examples of causes in FORMATS.md are those of the program' cmp out causes
 
-# The classes of SIGNAL.md in the report, each of a word with its pattern
+# The classes of FORMATS.md in the report, each of a word with its pattern
 for word in 88FFFF 80EEEE F92345 82CFFF 887DDD 87FFFF F1DD09 8AE712 8DC0A1 8BA0A1 83D0A1 FFFFFF; do
     echo "$word - -"
 done > classes.words
 output_of draw $ntsc classes.words > classes.tbc
 output_of show $ntsc classes.tbc | sed -n 's/^16 ...... //p' > classes
 # shellcheck disable=SC2016
-sed -n '/^| Pattern |/,/^$/s/^| [8Fa].*| `\(.*\)` |$/\1/p' "$top/docs/SIGNAL.md" > out
-check 'the classes of SIGNAL.md are those of the report' cmp out classes
+sed -n '/^| Pattern |/,/^$/s/^| [8Fa].*| `\(.*\)` |$/\1/p' "$top/docs/FORMATS.md" > out
+check 'the classes of FORMATS.md are those of the report' cmp out classes
 
 for document in README RECIPES; do
     folder $document
