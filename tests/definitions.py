@@ -60,7 +60,7 @@ SECTIONS = {
 }
 # The sections that the page has whole, and those of which it has the names of files alone
 WHOLE = ("line",)
-NAMED = ("counts", "words", "field")
+NAMED = ("counts", "recovered", "judge", "words", "chapters", "field", "stops")
 
 
 def marked(mark):
@@ -117,11 +117,11 @@ class Sections:
 
     def counted(self, mark, shown):
         """Says on how many definitions the contracts of a section rest, and where those stand that aren't shown."""
-        rests_on = self.rests_on[mark]
-        count = f"Rests on {len(rests_on)} in {self.definitions.lines(rests_on)} lines"
+        names = [f"`{function}`" for _, functions in SECTIONS[mark][1] for function in functions]
+        rests_on, lines = self.rests_on[mark], self.definitions.lines(self.rests_on[mark])
         others = {f"`{key[0]}/specs/{key[1]}.antt`": None for key in self.own[mark] if key not in shown}
-        behind = ", the others of which stand in " if shown else ", of which those that aren't above stand in "
-        return filled(count + (behind + ", ".join(others) if others else "") + ".")
+        count = f"{', '.join(names)} {'rest' if names[1:] else 'rests'} on {len(rests_on)} definitions in {lines} lines"
+        return filled(count + ("; those that aren't printed stand in " + ", ".join(others) if others else "") + ".")
 
     def texts(self):
         """Returns what stands in the page, by its marks."""

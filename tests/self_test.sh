@@ -101,10 +101,10 @@ docs|docs/PROMISES.md|s/`StopsAtRow`/`StopsAtRows`/
 docs|docs/PROMISES.md|s/`StopsAtLimit`/`StopsAtLimits`/
 docs|docs/PROMISES.md|s/the drawing came (`came`)/the drawing came (`ended`)/
 docs|docs/PROMISES.md|s/no level is high/no level is low/
-docs|docs/PROMISES.md|s/Rests on 74 in/Rests on 73 in/
+docs|docs/PROMISES.md|s/rests on 74 def/rests on 73 def/
 docs|docs/PROMISES.md|s/half_min Pal = 14/half_min Pal = 15/
 docs|docs/PROMISES.md|s/from specs: counts/from specs: count/
-docs|docs/PROMISES.md|s/25 in 64 lines/25 in 65 lines/
+docs|docs/PROMISES.md|s/in 64 lines/in 65 lines/
 docs|crates/vbi_side/src/answers.rt|s/ensures answers { AreAnswers/ensures answers { AreMarks/
 docs|docs/DECISIONS.md|s/`Progress::add_row`/`Progress::added_row`/
 docs|CONTRIBUTING.md|s/Geometry.antt/Geometries.antt/
@@ -146,7 +146,7 @@ docs|share/man/ldvbi.1|s/is not below white level/is not under white level/
 docs|share/man/ldvbi.1|s/^.Sq unfinished/.Sq unfinish/
 docs|share/man/ldvbi.1|s/1820 for NTSC/1810 for NTSC/
 docs|docs/PROMISES.md|s/Of [0-9]* wrong bodies/Of 1 wrong bodies/
-docs|docs/PROMISES.md|s/Rests on 99 in/Rests on 98 in/
+docs|docs/PROMISES.md|s/rests on 99 def/rests on 98 def/
 docs|README.md|s/^    printf("picture/    printf("pictures/
 docs|README.md|s/^whole: no: 8 fields/whole: no: 9 fields/
 docs|README.md|s/^```console lib$/```console/
