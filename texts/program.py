@@ -10,6 +10,7 @@ from typing import Dict, List, NamedTuple, Optional, Tuple
 TOP = os.path.dirname(os.path.dirname(os.path.abspath(__file__)))
 sys.path.insert(0, os.path.join(TOP, "python"))
 COMMANDS_OF_LDVBI = "crates/vbi_cli/src/commands.rt"
+PARSERS = "python/ldvbi_side/command"
 
 # What an option or a word takes
 NOTHING, FILE, FOLDER, ANYTHING = "nothing", "file", "folder", "anything"
@@ -44,6 +45,7 @@ class Command(NamedTuple):
 
 class Program(NamedTuple):
     name: str
+    source: str                 # where its commands and options stand
     commands: List[Command]     # the first one is that without a command
     needs_command: bool
     statuses: List[Tuple[str, str]]
@@ -108,7 +110,7 @@ def ldvbi() -> Program:
     statuses = re.findall(r"^  (\d+)  (.*)$", whole["EXAMPLES"].partition("Exit status:")[2], re.M)
     if (len(commands), len(options), len(statuses)) != (text.count("about: \""), text.count("value: \"") + 1, 4):
         raise SystemExit("%s has commands, options or statuses in a form that isn't known" % COMMANDS_OF_LDVBI)
-    return Program("ldvbi", [Command("", "", paragraph(whole["DETAILS"]), [HELP, version], []), *commands], True, statuses)
+    return Program("ldvbi", COMMANDS_OF_LDVBI, [Command("", "", paragraph(whole["DETAILS"]), [HELP, version], []), *commands], True, statuses)
 
 
 # ---- ldvbi-side
@@ -158,4 +160,4 @@ def ldvbi_side() -> Program:
             merged.setdefault(status, [])
             merged[status] += [text for text in texts if text not in merged[status]]
     statuses = [(str(status), "; ".join(texts)) for status, texts in sorted(merged.items())]
-    return Program("ldvbi-side", commands, False, statuses)
+    return Program("ldvbi-side", PARSERS, commands, False, statuses)

@@ -2,7 +2,8 @@
 """Writes what people read of commands, options, statuses, members and sizes from the source that has them: the
 completions whole; of the manual pages and documents what stands between a comment `from SOURCE: PART` and `to here`.
 
-usage: python3 texts/write.py [--check]     (--check writes nothing: it names what would change, with status 1)"""
+usage: python3 texts/write.py [--check [FOLDER]]
+    --check writes nothing: it names what would change, in this folder if one is named, and ends with status 1"""
 
 import functools
 import os
@@ -10,11 +11,14 @@ import re
 import sys
 
 import completions
+import documents
 import pages
 from program import TOP, ldvbi, ldvbi_side
 
-# What stands between these two lines is written here; each is a comment of its file's language.
-PART = re.compile(r"^([^\w\n]+ from texts/write\.py: (\w+)\b[^\n]*\n)(.*?)(^[^\w\n]+ to here\b)", re.M | re.S)
+# What stands between these two lines is written here; each is a comment of its file's language. Other scripts have
+# such parts, too, of these sources.
+PART = re.compile(r"^([^\w\n]+ from ([\w./-]+): (\w+)\b[^\n]*\n)(.*?)(^[^\w\n]+ to here\b)", re.M | re.S)
+OF_OTHERS = ("codes/classes.txt", "specs")
 
 
 def read(path):
@@ -23,12 +27,13 @@ def read(path):
 
 
 def with_parts(path, parts):
-    """The text of a file with its parts, each a function of no argument, as their source has them."""
+    """The text of a file with its parts, each a source and a function of no argument, as their source has them."""
     text = read(path)
-    found = [one[1] for one in PART.findall(text)]
-    if sorted(found) != sorted(parts):
-        raise SystemExit("write: %s has the parts %s, and not %s" % (path, sorted(found), sorted(parts)))
-    return PART.sub(lambda one: one[1] + parts[one[2]]() + one[4], text)
+    found = [(one[3], one[2]) for one in PART.finditer(text) if one[2] not in OF_OTHERS]
+    wanted = [(name, source) for name, (source, _) in parts.items()]
+    if sorted(found) != sorted(wanted):
+        raise SystemExit("write: %s has the parts %s, and not %s" % (path, sorted(found), sorted(wanted)))
+    return PART.sub(lambda one: one[0] if one[2] in OF_OTHERS else one[1] + parts[one[3]][1]() + one[5], text)
 
 
 def written():
@@ -36,18 +41,23 @@ def written():
     for program in (ldvbi(), ldvbi_side()):
         yield "share/completions/%s.bash" % program.name, completions.bash(program)
         yield "share/completions/_%s" % program.name, completions.zsh(program)
-        parts = {name: functools.partial(part, program) for name, part in pages.PARTS[program.name].items()}
+        parts = {name: (program.source, functools.partial(part, program))
+                 for name, part in pages.PARTS[program.name].items()}
         yield "share/man/%s.1" % program.name, with_parts("share/man/%s.1" % program.name, parts)
+    for path, parts in documents.PARTS.items():
+        yield path, with_parts(path, parts)
 
 
 def main():
+    is_check, folder = sys.argv[1:2] == ["--check"], (sys.argv[2:] or [""])[0]
     status = 0
     for path, wanted in written():
-        is_so = wanted == read(path)
-        if not is_so and sys.argv[1:] == ["--check"]:
+        if wanted == read(path) or not path.startswith(folder):
+            continue
+        if is_check:
             print("write: %s isn't what its source says: python3 texts/write.py" % path, file=sys.stderr)
             status = 1
-        elif not is_so:
+        else:
             with open(os.path.join(TOP, path), "w", encoding="utf-8") as file:
                 file.write(wanted)
     return status

@@ -35,7 +35,7 @@ page() {
     same "the options of $1"
 }
 
-(cd "$top" && PYTHONDONTWRITEBYTECODE=1 bounded python3 texts/write.py --check) < empty > out 2> err
+(cd "$top" && PYTHONDONTWRITEBYTECODE=1 bounded python3 texts/write.py --check share) < empty > out 2> err
 check 'what texts/write.py writes is what stands there' [ ! -s err ]
 
 for command in '' $commands; do
