@@ -9,7 +9,6 @@ from source_names import read
 
 SMOOTH = "crates/vbi_words/specs/Smooth.antt"
 JITTER = "crates/vbi_words/specs/Jitter.antt"
-COMMAND = "python/ldvbi_side/command/main.py"
 # A number in figures, or one up to ten as a word
 NUMBER = r"(\d[\d,]*|" + "|".join(CARDINALS) + ")"
 
@@ -29,7 +28,7 @@ def of_source(path, pattern):
 
 
 def glitches(geometry):
-    """Returns patterns of docs/SIGNAL.md with their numbers, which those of the definitions make."""
+    """Returns patterns of docs/FORMATS.md with their numbers, which those of the definitions make."""
     most, = of_source(SMOOTH, r"^  pub few : m ≤ (\d+)$")
     equal, = of_source(SMOOTH, r"^  pub before : (\d+) ≤ g$")
     lows, = of_source(JITTER, r"^  pub lows : (\d+) ≤ after$")
@@ -51,9 +50,9 @@ def glitches(geometry):
 
 
 def pictures(faults):
-    """Compares the picture of damaged rows in docs/SIGNAL.md with what stands beside it. Returns how many rows it has."""
+    """Compares the picture of damaged rows in docs/FORMATS.md with what stands beside it. Returns how many rows it has."""
     most, = of_source(SMOOTH, r"^  pub few : m ≤ (\d+)$")
-    rows = dict(re.findall(r"^(drawn|early|late|glitch|too long) +([.#]+)", read("docs/SIGNAL.md"), re.M))
+    rows = dict(re.findall(r"^(drawn|early|late|glitch|too long) +([.#]+)", read("docs/FORMATS.md"), re.M))
     gaps = {name: len(gap[1]) for name, gap in
             ((name, re.search(r"#(\.+)#", row)) for name, row in rows.items()) if gap}
     starts = {name: row.index("#") - rows["drawn"].index("#") for name, row in rows.items()}
@@ -61,7 +60,7 @@ def pictures(faults):
             ("columns turned over", gaps, {"glitch": most, "too long": most + 1}),
             ("columns from the drawn change", [starts.get("early"), starts.get("late")], [-1, 1])):
         if found != wanted:
-            faults.append(f"docs/SIGNAL.md, the picture of damaged rows: {what}: {found}, and by the source {wanted}")
+            faults.append(f"docs/FORMATS.md, the picture of damaged rows: {what}: {found}, and by the source {wanted}")
     return len(rows)
 
 
@@ -79,15 +78,10 @@ def columns(faults):
 def of_documents(geometry):
     """Returns triples: a document, a pattern of it, and the numbers that the source has for it."""
     edits = len(glob.glob("crates/*/must-fail/*.edit"))
-    whole = of_source(COMMAND, r"status (\d) \w+ it is whole, (\d) if it isn't, (\d) if that can't be told")
-    cut, = of_source(COMMAND, r"^def _cut_status\(.*\n(?:    .*\n)*?    return ([1-9])$")
     gate = of_source("tests/gate.sh", r"^minutes='(\d+) to (\d+)'$")
     return [("docs/PROMISES.md", rf"Of {NUMBER} wrong bodies", [edits]),
             ("README.md", rf"every check[^|\n]*?{NUMBER} to {NUMBER} minutes", gate),
-            ("docs/SIDES.md", rf"`--summary`, or no option \|[^\n]*\| {NUMBER} \w+ it is whole, {NUMBER} where it isn't, {NUMBER} where "
-             "that can't be told \\|", whole),
-            ("docs/SIDES.md", rf"`--json` \|[^\n]*\| {NUMBER} \w+ the last field is cut, else {NUMBER} \|", [cut, 0]),
-            ] + [("docs/SIGNAL.md", pattern, numbers) for pattern, numbers in glitches(geometry)]
+            ] + [("docs/FORMATS.md", pattern, numbers) for pattern, numbers in glitches(geometry)]
 
 
 def numbers(faults, geometry):

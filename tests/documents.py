@@ -5,11 +5,11 @@ on standard error, and then the status is 1.
 links   what a document links to is there, a heading (`#..`) too; a link to the net is one of NET
 paths   the files and folders that CONTRIBUTING.md names are there, of the repository or of a crate
 names   the functions, clauses, definitions and fields that PROMISES.md names are in the source, and so are the names
-        and files in the prose of DECISIONS.md and SIGNAL.md, and in the pages for callers
+        and files in the prose of DECISIONS.md and FORMATS.md, and in the pages for callers
 faults  the fault texts of FORMATS.md are those of the source, in its order, and those of the manual page among them
-causes  the names of causes in FORMATS.md, SIGNAL.md and the manual page are those of the source
-sizes   the sizes in README.md, FORMATS.md, LIBRARY.md, RECIPES.md, SIGNAL.md, ldvbi.h and the manual page are those of
-        the source, each in its sentence
+causes  the names of causes in FORMATS.md and the manual page are those of the source
+sizes   the sizes in FORMATS.md, LIBRARY.md, RECIPES.md, ldvbi.h and the manual page are those of the source, each in
+        its sentence
 rules   the numbers in the rules of SIDES.md are those of the Python package, each in its sentence
 numbers other numbers and columns are those of their source (document_numbers.py): wrong bodies, the gate's time,
         glitches and blur, statuses and columns of `ldvbi-side`
@@ -32,7 +32,7 @@ from side_sentences import sentences_of
 from source_names import read
 
 # The least that each check has to look at. A check that finds less no longer understands the documents.
-LEAST = {"links": 40, "paths": 95, "names": 475, "faults": 28, "causes": 20, "sizes": 28, "rules": 31, "numbers": 22,
+LEAST = {"links": 40, "paths": 95, "names": 475, "faults": 28, "causes": 15, "sizes": 28, "rules": 31, "numbers": 22,
          "changes": 65, "crates": 18}
 # The links to the net, of which nothing else is looked at
 NET = ["https://github.com/happycube/ld-decode"]
@@ -178,13 +178,11 @@ def causes(faults):
     """Each list of causes is the source's, in its order; the manual page's has those of a line without a word."""
     body = read(glob.glob("crates/*/src/cause_texts.rt")[0])
     wanted = [text.strip() for text in re.findall(r'push_str\("([a-z ]+)"\)', body)]
-    bullet = re.search(r"^- `vbiCause`:(.*?)^- ", read("docs/FORMATS.md"), re.M | re.S)
-    outcome = section("docs/SIGNAL.md", "## The outcome of a line")
+    outcome = section("docs/FORMATS.md", "### The outcome of a line")
     page = read(PAGE).partition("A line without a word is\n")[2].partition(".Sh ")[0]
     lists = {
-        "FORMATS.md, vbiCause": codes(bullet[1] if bullet else ""),
         "FORMATS.md, the examples": [row[2] for row in tables(section("docs/FORMATS.md", "### A real example"))[0][2:]],
-        "SIGNAL.md, the outcome of a line": codes(outcome),
+        "FORMATS.md, the outcome of a line": codes(outcome),
         "the manual page": wanted[:1] + re.findall(r"^\.Sq (\w+)", page, re.M),
     }
     for place, found in lists.items():
@@ -218,7 +216,7 @@ SENTENCES = {
     "docs/PROMISES.md": [
         "Of {number_of_edits} wrong bodies, one for each public function at least",
     ],
-    "docs/SIGNAL.md": [
+    "docs/FORMATS.md": [
         "| Samples of a line | {width_of, n} | {width_of, p} |",
         "| Lines of a field | {height_of, n} | {height_of, p} |",
         "| Bytes of a line | {line_bytes, n} | {line_bytes, p} |",
@@ -227,8 +225,6 @@ SENTENCES = {
         "| Most samples of a half cell (own) | {half_max n} | {half_max p} |",
         "| Column at which a drawn word starts (own) | {start_of n} | {start_of p} |",
         "is one half cell long or two: {half_min n} to {half_max n} columns or",
-    ],
-    "docs/FORMATS.md": [
         "they must be the system's: {width_of n} and {height_of n}, or {width_of p} and {height_of p} |",
         "a `fieldWidth` of `{width_of n}.0` differs from {width_of n}.",
         "Metadata may have {META_LIMIT,} bytes",
@@ -258,8 +254,6 @@ SENTENCES = {
         "The most fields of a run, 1 to {MAX_FIELDS_LIMIT}; {MAX_FIELDS_LIMIT} where it isn't given.",
     ],
 }
-# Columns of a half cell, of which one has the number of NTSC's lines
-COLUMNS = "| low 250 to 263 (14) |"
 PLACE = re.compile(r"\{(\w+)(,?) ?([np]?)\}")
 
 
@@ -283,7 +277,7 @@ def sizes(faults):
             if text.count(wanted) != 1:
                 faults.append(f"{path} hasn't, or not once: {wanted}")
             named += len(whole_numbers(wanted, sizes_of_systems))
-        found = whole_numbers(text.replace(COLUMNS, ""), sizes_of_systems)
+        found = whole_numbers(text, sizes_of_systems)
         if len(found) != named:
             faults.append(f"{path} has {len(found)} sizes in its prose ({', '.join(found)}), and {named} are looked at")
     print(f"sizes: {looked_at} sentences in {len(SENTENCES)} texts")
@@ -328,9 +322,9 @@ def numbers_of_documents(faults):
 
 # ---- names
 
-# Documents whose prose names what is in the source, and the form of such a name: a path, a name with its crate or type,
-# one of several words, or that of a type
-PROSE = ["docs/PROMISES.md", "docs/DECISIONS.md", "docs/SIGNAL.md"]
+# Documents, or a section of one, whose prose names what is in the source, and the form of such a name: a path, a name
+# with its crate or type, one of several words, or that of a type
+PROSE = {"docs/PROMISES.md": "", "docs/DECISIONS.md": "", "docs/FORMATS.md": "## What a line shows"}
 # Pages whose tables are looked at as their prose is
 PAGES = ["crates/vbi_words/CALLING.md", "crates/vbi_line/CALLING.md", "crates/vbi_near/CALLING.md"]
 # A sentence that says what a record has: each field stands first in its parentheses, up to the end of the paragraph
@@ -368,8 +362,10 @@ def names(faults):
                 elif head[0] == "Crate" and code in codes(row[1]) and not source.is_in(code, crate):
                     faults.append(f"PROMISES.md: {code} isn't in {crate}")
     in_prose = fields_of_records(source, faults)
-    for path in PROSE + PAGES:
-        for code in codes(prose(path) if path in PAGES else re.sub(r"^\|.*", "", prose(path), flags=re.M)):
+    for path in [*PROSE, *PAGES]:
+        text = section(path, PROSE[path]) if PROSE.get(path) else prose(path)
+        text = re.sub(r"^```.*?^```$", "", text, flags=re.M | re.S)
+        for code in codes(text if path in PAGES else re.sub(r"^\|.*", "", text, flags=re.M)):
             if IS_NAME.fullmatch(code):
                 in_prose += 1
                 if not source.has_somewhere(code):

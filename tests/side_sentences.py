@@ -23,7 +23,7 @@ def sentences_of():
     steps = ", ".join(map(str, order.STEPS[:-1]))
     tenth = ORDINALS[clock.TENTH_MINUTE // clock.MINUTE]
     return [
-        f"what to look at first, at most {summary.MOST_LINES} lines |",
+        f"A summary has at most {summary.MOST_LINES} lines.",
         f"the first {page.MOST_PLOTS} bad lines drawn",
         f"A word of pass 1 weighs {readings.WEIGHTS[1]}, one of pass 2 weighs {readings.WEIGHTS[2]}, a recovered one "
         f"{readings.WEIGHTS[3]},",

@@ -1,16 +1,14 @@
-"""The tables of the documents that the source makes: options, statuses, columns, and what a schema has of members and
+"""The tables of the documents that the source makes: statuses, columns, and what a schema has of members and
 of the words that stand in them."""
 
 import json
 import os
-import re
 from typing import Any, Dict, Iterable, Iterator, List, Tuple
 
-from program import COMMANDS_OF_LDVBI, TOP, Words, ldvbi, ldvbi_side
+from program import COMMANDS_OF_LDVBI, TOP, ldvbi
 
 Schema = Dict[str, Any]
 SIDE, JOIN, SCAN = ("share/schema/ldvbi-%s.schema.json" % name for name in ("side", "join", "scan"))
-PRINTED = ("print help", "print the version")
 MOST_WORDS = 8  # that are listed of what may stand at a place
 
 
@@ -29,7 +27,7 @@ def listed(words: List[str]) -> str:
     return words[0] if len(words) == 1 else ", ".join(words[:-1]) + " or " + words[-1]
 
 
-# ---- statuses and options
+# ---- statuses
 
 def statuses_of_ldvbi() -> str:
     return table(("Status", "Means"), ldvbi().statuses)
@@ -41,27 +39,6 @@ def statuses_of_side() -> str:
     rows = ([", ".join(name if " " in name else code(name) for name in names),
              *(meanings.get(status, "") for status in statuses)] for names, meanings in MEANINGS)
     return table(("Of", *map(str, statuses)), rows)
-
-
-def options_of_side() -> str:
-    """What each option or command writes, and the statuses with which it may end besides that of a fault."""
-    from ldvbi_side.command.statuses import MEANINGS
-    of_name = {name: ", ".join(map(str, meanings)) for names, meanings in MEANINGS for name in names}
-    without, *commands = ldvbi_side().commands
-    rows = [(code(" ".join(filter(None, (option.names[-1], option.value)))), option.text, of_name[option.names[-1]])
-            for option in without.options if option.names[-1] in of_name and option.value + option.text not in PRINTED]
-    rows += [(code("%s %s" % (command.name, " ".join(map(words_of_usage, command.words)))),
-              command.about, of_name[command.name]) for command in commands]
-    return table(("Option or command", "Does", "Status"), ((name, with_code(text), status) for name, text, status in rows))
-
-
-def words_of_usage(words: Words) -> str:
-    return " ".join([words.name] * words.least) + ".." * words.many
-
-
-def with_code(text: str) -> str:
-    """A text with its options in code font."""
-    return re.sub(r"(?<![\w`-])--[a-z-]+", lambda found: code(found[0]), text)
 
 
 # ---- columns
@@ -209,7 +186,6 @@ PARTS = {
         "join": (JOIN, lambda: members(JOIN)),
     },
     "docs/SIDES.md": {
-        "options": ("python/ldvbi_side/command", options_of_side),
         "answer": (SIDE, lambda: members(SIDE)),
         "no": (SIDE, lambda: whys(SIDE, "reasons", "no")),
         "cannot_tell": (SIDE, lambda: whys(SIDE, "reasons", "can't tell")),
