@@ -1,9 +1,10 @@
 #!/usr/bin/env python3
 """Writes what people read of commands, options, statuses, members and sizes from the source that has them: the
-completions whole; of the manual pages and documents what stands between a comment `from SOURCE: PART` and `to here`.
+completions whole; of the manual pages and documents what stands between a comment `from SOURCE: PART` and `to here`,
+and the numbers of documents that stand behind their name.
 
-usage: python3 texts/write.py [--check [FOLDER]]
-    --check writes nothing: it names what would change, in this folder if one is named, and ends with status 1"""
+usage: python3 texts/write.py [--check [PATH..]]
+    --check writes nothing: it names what would change, of paths that begin so if any is named, with status 1"""
 
 import functools
 import os
@@ -12,6 +13,7 @@ import sys
 
 import completions
 import documents
+import numbers_of
 import pages
 from program import TOP, ldvbi, ldvbi_side
 
@@ -44,15 +46,16 @@ def written():
         parts = {name: (program.source, functools.partial(part, program))
                  for name, part in pages.PARTS[program.name].items()}
         yield "share/man/%s.1" % program.name, with_parts("share/man/%s.1" % program.name, parts)
-    for path, parts in documents.PARTS.items():
-        yield path, with_parts(path, parts)
+    numbers = numbers_of.all_numbers()
+    for path in ["README.md", "CONTRIBUTING.md", *sorted(numbers_of.paths("docs/*.md"))]:
+        yield path, numbers_of.with_numbers(with_parts(path, documents.PARTS.get(path, {})), numbers)
 
 
 def main():
-    is_check, folder = sys.argv[1:2] == ["--check"], (sys.argv[2:] or [""])[0]
+    is_check, folders = sys.argv[1:2] == ["--check"], tuple(sys.argv[2:]) or ""
     status = 0
     for path, wanted in written():
-        if wanted == read(path) or not path.startswith(folder):
+        if wanted == read(path) or not path.startswith(folders):
             continue
         if is_check:
             print("write: %s isn't what its source says: python3 texts/write.py" % path, file=sys.stderr)
