@@ -55,7 +55,8 @@ HELP_OF_COMMANDS = """        help)
 def bash_case(pattern: str, command: Command) -> str:
     """What is offered behind a command: its options, and behind an option with a value what that may be."""
     lines = textwrap.wrap(" ".join(long_names(command.options)), WIDTH - 26, break_on_hyphens=False)
-    text = "        %s)\n            options='%s'\n" % (pattern, ("'\n            options=\"$options \"'").join(lines))
+    names = "'\n            options=\"$options \"'".join(lines)
+    text = "        %s)\n            options='%s'\n" % (pattern, names)
     rows = ["%s) answers='%s' ;;" % (" | ".join(option.names), " ".join(option.choices))
             for option in command.options if option.choices]
     for takes, action in ((FILE, "compopt -o default; return"), (FOLDER, "compopt -o dirnames; return"),

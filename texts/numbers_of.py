@@ -13,6 +13,7 @@ CARDINALS = "no one two three four five six seven eight nine ten".split()
 ORDINALS = "no first second third fourth fifth sixth seventh eighth ninth tenth".split()
 SMOOTH = "crates/vbi_words/specs/Smooth.antt"
 JITTER = "crates/vbi_words/specs/Jitter.antt"
+REFUSED = "tests/refused.txt"
 
 
 def read(path: str) -> str:
@@ -43,12 +44,21 @@ def sizes() -> Dict[str, int]:
     return numbers
 
 
+def refused() -> Dict[str, int]:
+    """How many wrong bodies there are, and by what the check refuses them."""
+    counts = {name: int(count) for name, count in re.findall(r"^(\w+) (\d+)$", read(REFUSED), re.M)}
+    count = len(paths("crates/*/must-fail/*.edit"))
+    if sum(counts.values()) != count:
+        raise SystemExit("%s has %d wrong bodies, and there are %d" % (REFUSED, sum(counts.values()), count))
+    return {"wrong_bodies": count, **{"refused." + name: number for name, number in counts.items()}}
+
+
 def limits() -> Dict[str, int]:
-    """The limits of a run, and what the gate has: wrong bodies and minutes."""
+    """The limits of a run, and the minutes that the gate takes."""
     numbers = {name: int(number) for path in paths("crates/*/src/*.rt") for name, number in
                re.findall(r"pub const (META_LIMIT|MAX_FIELDS_LIMIT): \w+ = ([\d_]+);", read(path))}
     least, most = of_source("tests/gate.sh", r"^minutes='(\d+) to (\d+)'$")
-    return {**numbers, "wrong_bodies": len(paths("crates/*/must-fail/*.edit")), "gate.least": least, "gate.most": most}
+    return {**numbers, "gate.least": least, "gate.most": most}
 
 
 def glitches(size: Dict[str, int]) -> Dict[str, int]:
@@ -95,7 +105,7 @@ def package() -> Dict[str, Any]:
 
 def all_numbers() -> Dict[str, Any]:
     size = sizes()
-    return {**size, **limits(), **glitches(size), **package()}
+    return {**size, **limits(), **refused(), **glitches(size), **package()}
 
 
 def as_there(value: Any, there: str) -> str:

@@ -106,11 +106,13 @@ def ldvbi() -> Program:
     commands = [Command(row["name"], row["about"], paragraph(row["details"]), options,
                         [Words("input", FILE, 1, False)]) for row in fields_of(text, "CommandTexts")]
     version = Option(("-V", "--version"), "", NOTHING, (), "print the version", "print the version", (), False)
-    whole = {name: unescaped(literal) for name, literal in re.findall(r"^const (\w+): &str =\s+%s;" % LITERAL, text, re.M)}
+    constants = re.findall(r"^const (\w+): &str =\s+%s;" % LITERAL, text, re.M)
+    whole = {name: unescaped(literal) for name, literal in constants}
     statuses = re.findall(r"^  (\d+)  (.*)$", whole["EXAMPLES"].partition("Exit status:")[2], re.M)
     if (len(commands), len(options), len(statuses)) != (text.count("about: \""), text.count("value: \"") + 1, 4):
         raise SystemExit("%s has commands, options or statuses in a form that isn't known" % COMMANDS_OF_LDVBI)
-    return Program("ldvbi", COMMANDS_OF_LDVBI, [Command("", "", paragraph(whole["DETAILS"]), [HELP, version], []), *commands], True, statuses)
+    without = Command("", "", paragraph(whole["DETAILS"]), [HELP, version], [])
+    return Program("ldvbi", COMMANDS_OF_LDVBI, [without, *commands], True, statuses)
 
 
 # ---- ldvbi-side

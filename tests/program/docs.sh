@@ -155,7 +155,7 @@ in_folder "$top" python3 texts/write.py --check docs
 check 'the source and what the documents have of it' [ "$status" = 0 ]
 
 # What the documents say, compared with the source
-for what in links paths names faults causes sizes rules numbers changes crates; do
+for what in links paths names faults causes sizes columns pictures changes crates; do
     in_folder "$top" python3 tests/documents.py $what
     check "the documents and the source: $what" [ "$status" = 0 ]
 done
