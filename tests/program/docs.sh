@@ -151,8 +151,11 @@ check 'the statuses of FORMATS.md are those of the help' cmp out help.statuses
 in_folder "$top" python3 codes/write.py --check
 check 'the table of classes and what is written from it' [ "$status" = 0 ]
 
+in_folder "$top" python3 texts/write.py --check docs
+check 'the source and what the documents have of it' [ "$status" = 0 ]
+
 # What the documents say, compared with the source
-for what in links paths names faults causes sizes rules numbers changes crates; do
+for what in links paths names faults causes sizes columns pictures changes crates; do
     in_folder "$top" python3 tests/documents.py $what
     check "the documents and the source: $what" [ "$status" = 0 ]
 done
@@ -227,9 +230,13 @@ for crate in vbi_words vbi_line vbi_near; do
     check 'it has a row for each public function' cmp found functions
 done
 
-# The examples of the manual page, one script; the last line that it prints is of the drawn field
-mandoc -T ascii -O width=200 "$top/share/man/ldvbi.1" | sed 's/.'"$(printf '\010')"'//g' |
-    sed -n '/^EXAMPLES/,/^DIAGNOSTICS/s/^           //p' > page.sh
+# The examples of the manual pages, each page one script; the last line that the one of ldvbi prints is of the drawn field
+# examples_of PAGE: makes page.sh of a page's examples
+examples_of() {
+    mandoc -T ascii -O width=200 "$top/share/man/$1" | sed 's/.'"$(printf '\010')"'//g' |
+        sed -n '/^EXAMPLES/,/^[DS]/s/^           //p' > page.sh
+}
+examples_of ldvbi.1
 check 'the manual page has examples' [ "$(grep -c ldvbi page.sh)" = 6 ]
 folder page
 sides page
@@ -238,6 +245,26 @@ check 'the examples of the manual page' prints absent
 tail -n 1 out > last
 echo '[8572927,15803205,15803205]' > last.wanted
 check 'the words of the drawn field of the manual page' cmp last last.wanted
+
+# Those of ldvbi-side, of a side that is whole; where the library isn't built, the ones that have documents
+examples_of ldvbi-side.1
+[ "$library" ] || sed -i '/side.tbc/d' page.sh
+check 'the manual page of ldvbi-side has examples' [ "$(grep -c ldvbi-side page.sh)" -ge 3 ]
+folder side_page
+sides side_page
+for picture in 01 02 03 04 05 06 07 08 09 10 11 12 13 14 15 16; do
+    printf '%s\n' "- F000$picture F000$picture" '- - -'
+done > whole.words
+output_of draw $ntsc whole.words > side_page/side.tbc
+mkdir side_page/captures
+for name in side first second captures/side; do
+    output_of extract $ntsc side_page/side.tbc > side_page/$name.vbi.json
+done
+in_folder side_page sh ../strictly sh ../page.sh
+check 'the examples of the manual page of ldvbi-side' prints absent
+for name in side.svg both.html pages/index.html; do
+    check "an example writes $name" [ -s side_page/$name ]
+done
 
 # The examples of the help texts; one of them has a disc of PAL
 for command in '' line extract show draw; do

@@ -6,7 +6,7 @@ import csv
 import json
 import os
 import sys
-from typing import List, Optional
+from typing import Dict, List, Optional
 
 from ldvbi import Stream, System, __version__, field_bytes
 from ldvbi.document import is_document, write_document
@@ -20,26 +20,26 @@ from ..side import Side, side_of_document, side_of_stream
 from .compare import compare, comparison_text
 from .faults import SETTINGS, STANDARD_INPUT, fault_text, naming, no_metadata, refuse_folder
 from .into import Into
-from .join import run_join
+from .join import parser_of_join, run_join
 from .map import COLUMNS as MAP_COLUMNS, map_rows
 from .outputs import drop_standard_output, refuse_inputs, whole_file
 from .progress import Progress
 from .recovered import write_recovered
-from .statuses import FAULT, OF_SIDE, of_many
+from .statuses import FAULT, OF_SIDE, of_many, statuses_text
 from .summary import MOST_LINES, summary
 from .tables import BAD_LINE_COLUMNS, FIELD_COLUMNS, bad_line_rows, field_rows
 
 NAME = "ldvbi-side"
 DESCRIPTION = """Reads a side from a TBC file, or from a document that `ldvbi extract` wrote, and says what its words
-mean. A file is taken for a document if its name ends with .json or its text begins as a document does. Statuses: 0
-yes: the side is whole, what is sought is found, or all else is done, 1 no: it isn't whole, or nothing is found, 2 a
-fault or a refused command line, 3 done and the last field is cut, 4 it can't be told whether the side is whole, 130
-ended by Ctrl-C. The words `compare SIDE SIDE` compare two sides, and `join SIDE SIDE..` joins captures of one; `index
-FILE PAGE..` writes a file that links pages of --html; `scan PATH..` prints a table of the sides in folders."""
+mean together: which numbers, times and chapters are believed, and which are lost, unread, shown again or doubtful. A
+file is taken for a document if its name ends with .json or its text begins as a document does. The words `compare SIDE
+SIDE` compare two sides, and `join SIDE SIDE..` joins captures of one; `index FILE PAGE..` writes a file that links
+pages of --html; `scan PATH..` prints a table of the sides in folders. """ + statuses_text()
 COMPARISON = """Compares two captures of one side by their numbers. It says which numbers only one of them has, and
 which of those that both have one of them shows better: by more lines, or by lines read without smoothing instead of
-others. Statuses: 0 done, 2 a fault, or sides that can't be of one disc, 3 done and the last field of one is cut."""
-LEVELS = "the sample of %s, from 0 to 65535; black is below white"
+others. It ends with what the two have together. """ + statuses_text("compare")
+INDEX = "Writes a page that links these pages. " + statuses_text("index")
+LEVELS = "the sample of %s, from 0 to 65535, in place of the metadata's; black is below white"
 
 
 def _wanted(text):
@@ -55,7 +55,7 @@ def _parser():
     parser.add_argument("--version", action="version", version="%s %s" % (NAME, __version__))
     parser.add_argument("--meta", metavar="FILE", help="take system and levels of a TBC file from this .tbc.json or "
                         ".tbc.db of ld-decode, and not from the one beside the file. Levels with decimals are rounded "
-                        "to the next whole number. The count of fields in it is compared with the side. Its "
+                        "to the nearest whole number. The count of fields in it is compared with the side. Its "
                         "isFirstField shows single lost fields, of a document as well")
     _add_settings(parser)
     parser.add_argument("--no-recover", action="store_true", help="leave out the words that are recovered from worn "
@@ -68,10 +68,9 @@ def _parser():
                         "that its samples are nearest to")
     output.add_argument("--seek", metavar="WANTED", type=_wanted, help="print the first field of a picture (its "
                         "number, or a CLV time h:mm:ss.pp), of a minute h:mm, of a second h:mm:ss, or of a chapter, as "
-                        "'chapter 3'; status 1 if there is none")
+                        "'chapter 3'")
     output.add_argument("--summary", action="store_true", help="print in at most %d lines whether the side is whole, "
-                        "and what to look at first (the default); "
-                        "status 0 if it is whole, 1 if it isn't, 4 if that can't be told" % MOST_LINES)
+                        "and what to look at first (the default)" % MOST_LINES)
     output.add_argument("--document", action="store_true", help="print the document of the TBC file, byte for byte as "
                         "`ldvbi extract` writes it")
     parser.add_argument("--recovered", action="store_true", help="copy with --into the recovered words, too; print "
@@ -94,9 +93,33 @@ def _parser():
 
 
 def _add_settings(parser):
-    parser.add_argument("--system", choices=list(System.__members__))
-    parser.add_argument("--black", type=int, help=LEVELS % "black")
-    parser.add_argument("--white", type=int, help=LEVELS % "white")
+    parser.add_argument("--system", choices=list(System.__members__), help="the system of a TBC file, in "
+                        "place of the metadata's")
+    parser.add_argument("--black", metavar="N", type=int, help=LEVELS % "black")
+    parser.add_argument("--white", metavar="N", type=int, help=LEVELS % "white")
+
+
+def _parser_of_compare():
+    parser = argparse.ArgumentParser(prog=NAME + " compare", description=COMPARISON)
+    parser.add_argument("sides", nargs=2, metavar="SIDE", help="a document, or a TBC file with its metadata beside "
+                        "it or with the options below")
+    parser.add_argument("--json", action="store_true", help="print all stretches, as JSON")
+    _add_settings(parser)
+    return parser
+
+
+def _parser_of_index():
+    parser = argparse.ArgumentParser(prog=NAME + " index", description=INDEX)
+    parser.add_argument("index", metavar="FILE", help="the page to write")
+    parser.add_argument("pages", nargs="+", metavar="PAGE", help="a page that --html wrote")
+    return parser
+
+
+def parsers() -> Dict[str, argparse.ArgumentParser]:
+    """What reads the words behind each command, and behind none; the manual page and the completions are made of it."""
+    from .scan import parser_of_scan
+    return {"": _parser(), "compare": _parser_of_compare(), "join": parser_of_join(NAME), "index": _parser_of_index(),
+            "scan": parser_of_scan()}
 
 
 def _settings(options):
@@ -287,12 +310,7 @@ def _join(words):
 
 def _compare(words):
     """Prints what two sides have of each other's numbers."""
-    parser = argparse.ArgumentParser(prog=NAME + " compare", description=COMPARISON)
-    parser.add_argument("sides", nargs=2, metavar="SIDE", help="a document, or a TBC file with its metadata beside "
-                        "it or with the options below")
-    parser.add_argument("--json", action="store_true", help="print all stretches, as JSON")
-    _add_settings(parser)
-    options = parser.parse_args(words)
+    options = _parser_of_compare().parse_args(words)
     refuse_inputs([1], options.sides)
     given = ["--%s=%s" % pair for pair in zip(("system", "black", "white"), _settings(options)) if pair[1] is not None]
     of_each = [_options([*given, "--", path]) for path in options.sides]
@@ -306,10 +324,7 @@ def _compare(words):
 
 def _index(words):
     """Writes a page that links those of many sides."""
-    parser = argparse.ArgumentParser(prog=NAME + " index", description="Writes a page that links these pages.")
-    parser.add_argument("index", metavar="FILE", help="the page to write")
-    parser.add_argument("pages", nargs="+", metavar="PAGE", help="a page that --html wrote")
-    options = parser.parse_args(words)
+    options = _parser_of_index().parse_args(words)
     refuse_inputs([options.index], options.pages)
     from ..draw.index import index_of
     text = index_of(options.index, options.pages)
