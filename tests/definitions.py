@@ -2,11 +2,10 @@
 """Prints what one has to believe: the definitions of specs/ on which the contracts of SECTIONS rest, as they stand in
 their source.
 
-Into docs/PROMISES.md, between `<!-- from specs: MARK -->` and `<!-- to here -->`, goes for each section what its
-contracts name, each definition behind those on which it rests itself, but what a section above has; of a section of
-WHOLE all on which they rest, of one of NAMED none. A line behind them counts all of these, and names the files of the
-others. In place of a function of RELATIONS (definition_sources.py) stands a relation, of which a law says that it is
-the same.
+Into docs/PROMISES.md, between `<!-- from specs: MARK -->` and `<!-- to here -->`, go for a section of WHOLE the
+definitions on which its contracts rest, each behind those on which it rests itself; for one of SHOWN those that its
+contracts name. A line behind them counts all of these, and names the files of the others. In place of a function of
+RELATIONS (definition_sources.py) stands a relation, of which a law says that it is the same.
 
 --all prints every definition, section by section and file by file, with the words of the standard library and the types
 of the code that they name. --check compares the page with what would be written into it.
@@ -58,9 +57,9 @@ SECTIONS = {
         ("crates/vbi_side/src/stop_laws.rt", ("stops_in_words",)),
     ]),
 }
-# The sections that the page has whole, and those of which it has the names of files alone
+# The section that the page has whole, and those of which it has what the contracts name
 WHOLE = ("line",)
-NAMED = ("counts", "recovered", "judge", "words", "chapters", "field", "stops")
+SHOWN = ("belief",)
 
 
 def marked(mark):
@@ -127,7 +126,7 @@ class Sections:
         """Returns what stands in the page, by its marks."""
         texts = {}
         for mark in SECTIONS:
-            shown = self.own[mark] if mark in WHOLE else [] if mark in NAMED else self.named(mark)
+            shown = self.own[mark] if mark in WHOLE else self.named(mark) if mark in SHOWN else []
             texts[mark] = (self.block(shown, False) if shown else "") + self.counted(mark, shown)
         return texts
 

@@ -139,7 +139,7 @@ docs|docs/FORMATS.md|s/<!--=width_of.ntsc-->910[.]/910./
 docs|crates/vbi_words/specs/Smooth.antt|s/pub few : m ≤ 3/pub few : m ≤ 4/
 docs|docs/SIDES.md|s/weight.1-->2/weight.1-->3/
 docs|docs/SIDES.md|s/film-->ten/film-->nine/
-docs|docs/SIDES.md|s/price of the smallest break/price of 30 breaks/
+docs|docs/SIDES.md|s/order.turn-->5 off/order.turn-->6 off/
 docs|python/ldvbi_side/judge/chain.py|s/^REACH = 40/REACH = 50/
 docs|texts/numbers_of.py|/chain.REACH/d
 docs|docs/FORMATS.md|s/^2. `blank`/2. `black`/
