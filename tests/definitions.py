@@ -2,11 +2,10 @@
 """Prints what one has to believe: the definitions of specs/ on which the contracts of SECTIONS rest, as they stand in
 their source.
 
-Into docs/PROMISES.md, between `<!-- from specs: MARK -->` and `<!-- to here -->`, goes for each section what its
-contracts name, each definition behind those on which it rests itself, but what a section above has; of a section of
-WHOLE all on which they rest, of one of NAMED none. A line behind them counts all of these, and names the files of the
-others. In place of a function of RELATIONS (definition_sources.py) stands a relation, of which a law says that it is
-the same.
+Into docs/PROMISES.md, between `<!-- from specs: MARK -->` and `<!-- to here -->`, go for a section of WHOLE the
+definitions on which its contracts rest, each behind those on which it rests itself; for one of SHOWN those that its
+contracts name. A line behind them counts all of these, and names the files of the others. In place of a function of
+RELATIONS (definition_sources.py) stands a relation, of which a law says that it is the same.
 
 --all prints every definition, section by section and file by file, with the words of the standard library and the types
 of the code that they name. --check compares the page with what would be written into it.
@@ -58,9 +57,9 @@ SECTIONS = {
         ("crates/vbi_side/src/stop_laws.rt", ("stops_in_words",)),
     ]),
 }
-# The sections that the page has whole, and those of which it has the names of files alone
+# The section that the page has whole, and those of which it has what the contracts name
 WHOLE = ("line",)
-NAMED = ("counts", "words", "field")
+SHOWN = ("belief",)
 
 
 def marked(mark):
@@ -117,17 +116,17 @@ class Sections:
 
     def counted(self, mark, shown):
         """Says on how many definitions the contracts of a section rest, and where those stand that aren't shown."""
-        rests_on = self.rests_on[mark]
-        count = f"Rests on {len(rests_on)} in {self.definitions.lines(rests_on)} lines"
+        names = [f"`{function}`" for _, functions in SECTIONS[mark][1] for function in functions]
+        rests_on, lines = self.rests_on[mark], self.definitions.lines(self.rests_on[mark])
         others = {f"`{key[0]}/specs/{key[1]}.antt`": None for key in self.own[mark] if key not in shown}
-        behind = ", the others of which stand in " if shown else ", of which those that aren't above stand in "
-        return filled(count + (behind + ", ".join(others) if others else "") + ".")
+        count = f"{', '.join(names)} {'rest' if names[1:] else 'rests'} on {len(rests_on)} definitions in {lines} lines"
+        return filled(count + ("; those that aren't printed stand in " + ", ".join(others) if others else "") + ".")
 
     def texts(self):
         """Returns what stands in the page, by its marks."""
         texts = {}
         for mark in SECTIONS:
-            shown = self.own[mark] if mark in WHOLE else [] if mark in NAMED else self.named(mark)
+            shown = self.own[mark] if mark in WHOLE else self.named(mark) if mark in SHOWN else []
             texts[mark] = (self.block(shown, False) if shown else "") + self.counted(mark, shown)
         return texts
 

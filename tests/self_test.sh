@@ -101,10 +101,10 @@ docs|docs/PROMISES.md|s/`StopsAtRow`/`StopsAtRows`/
 docs|docs/PROMISES.md|s/`StopsAtLimit`/`StopsAtLimits`/
 docs|docs/PROMISES.md|s/the drawing came (`came`)/the drawing came (`ended`)/
 docs|docs/PROMISES.md|s/no level is high/no level is low/
-docs|docs/PROMISES.md|s/Rests on 74 in/Rests on 73 in/
+docs|docs/PROMISES.md|s/rests on 74 def/rests on 73 def/
 docs|docs/PROMISES.md|s/half_min Pal = 14/half_min Pal = 15/
 docs|docs/PROMISES.md|s/from specs: counts/from specs: count/
-docs|docs/PROMISES.md|s/25 in 64 lines/25 in 65 lines/
+docs|docs/PROMISES.md|s/in 64 lines/in 65 lines/
 docs|crates/vbi_side/src/answers.rt|s/ensures answers { AreAnswers/ensures answers { AreMarks/
 docs|docs/DECISIONS.md|s/`Progress::add_row`/`Progress::added_row`/
 docs|CONTRIBUTING.md|s/Geometry.antt/Geometries.antt/
@@ -139,7 +139,7 @@ docs|docs/FORMATS.md|s/<!--=width_of.ntsc-->910[.]/910./
 docs|crates/vbi_words/specs/Smooth.antt|s/pub few : m ≤ 3/pub few : m ≤ 4/
 docs|docs/SIDES.md|s/weight.1-->2/weight.1-->3/
 docs|docs/SIDES.md|s/film-->ten/film-->nine/
-docs|docs/SIDES.md|s/price of the smallest break/price of 30 breaks/
+docs|docs/SIDES.md|s/order.turn-->5 off/order.turn-->6 off/
 docs|python/ldvbi_side/judge/chain.py|s/^REACH = 40/REACH = 50/
 docs|texts/numbers_of.py|/chain.REACH/d
 docs|docs/FORMATS.md|s/^2. `blank`/2. `black`/
@@ -148,7 +148,7 @@ docs|docs/FORMATS.md|s/`users 3 0A1`/`user 3 0A1`/
 docs|docs/RECIPES.md|s/478,660 bytes/478,650 bytes/
 docs|share/man/ldvbi.1|s/is not below white level/is not under white level/
 docs|docs/PROMISES.md|s/wrong_bodies-->[0-9]*/wrong_bodies-->1/
-docs|docs/PROMISES.md|s/Rests on 99 in/Rests on 98 in/
+docs|docs/PROMISES.md|s/rests on 99 def/rests on 98 def/
 docs|README.md|s/^    printf("picture/    printf("pictures/
 docs|README.md|s/^whole: no: 8 fields/whole: no: 9 fields/
 docs|README.md|s/^```console lib$/```console/

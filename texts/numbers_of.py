@@ -8,7 +8,7 @@ from typing import Any, Dict, List
 
 from program import TOP
 
-MARK = re.compile(r"(<!--=([\w.]+)-->`?)(\d[\d,]*|[A-Za-z]+)")
+MARK = re.compile(r"(<!--=([\w.]+)-->`?)(\d+(?:,\d{3})*|[A-Za-z]+)")
 CARDINALS = "no one two three four five six seven eight nine ten".split()
 ORDINALS = "no first second third fourth fifth sixth seventh eighth ninth tenth".split()
 SMOOTH = "crates/vbi_words/specs/Smooth.antt"
