@@ -5,9 +5,10 @@ import unittest
 from ldvbi_side.command.main import parsers
 from ldvbi_side.command.statuses import statuses_of
 
-# The statuses of each command, and of none: yes or done, no, a fault, a cut field, can't tell, Ctrl-C
-STATUSES = {"": [0, 1, 2, 3, 4, 130], "compare": [0, 2, 3, 130], "join": [0, 2, 3, 130], "index": [0, 2, 130],
-            "scan": [0, 1, 2, 4, 130]}
+# The statuses of each command, and of none: yes or done, no, a fault, a cut field, can't tell, and those of signals
+SIGNALS = [129, 130, 143]
+STATUSES = {"": [0, 1, 2, 3, 4, *SIGNALS], "compare": [0, 2, 3, *SIGNALS], "join": [0, 2, 3, *SIGNALS],
+            "index": [0, 2, *SIGNALS], "scan": [0, 1, 2, 4, *SIGNALS]}
 
 
 class Parsers(unittest.TestCase):
