@@ -213,14 +213,13 @@ peers|peers/compare.py|s/return read == words and/return/
 peers|peers/compare.sh|s/^for tool in "$compiler" chdman /for tool in "$compiler" /
 peers|peers/compare.sh|s/^PYTHON.*/& \x7c\x7c :/
 manual|out|      --white <N>|      --wheat <N>
-manual|crates/vbi_cli/src/commands.rt|s/1 to 1000000; a stream/1 to 100000; a stream/
 manual|crates/vbi_cli/src/commands.rt|s/The sample of black, 0 to/The sample of black, 1 to/
 manual|share/man/ldvbi.1|s/1820 for NTSC/1810 for NTSC/
 manual|share/man/ldvbi.1|s/^The sample of black,/The sample of white,/
 manual|share/completions/ldvbi.bash|s/extract/extrakt/
 manual|share/completions/_ldvbi|s/extract/extrakt/
 manual|share/man/ldvbi-side.1|s/at most 26 lines/at most 30 lines/
-manual|share/man/ldvbi-side.1|s/^it isn't found/it is found/
+manual|share/man/ldvbi-side.1|s/; it isn't found/; it is found/
 manual|share/completions/ldvbi-side.bash|s/--html --again/--html/
 manual|share/completions/_ldvbi-side|s/white, from 0 to 65535/white, from 1 to 65535/
 manual|python/ldvbi_side/command/main.py|s/side without lead-in or lead-out/side with lead-in or lead-out/

@@ -119,8 +119,9 @@ def zsh_option(option: Option) -> str:
 def zsh_arguments(command: Command, indent: str) -> str:
     """The call of _arguments for the words of a command."""
     specifications = [zsh_option(option) for option in command.options]
-    specifications += ["'%s:%s:%s'" % ("*" if words.many or words.least > 1 else "", words.name.lower(), ACTIONS[words.takes])
-                       for words in command.words[-1:]]
+    for words in command.words[-1:]:
+        several = "*" if words.many or words.least > 1 else ""
+        specifications.append("'%s:%s:%s'" % (several, words.name.lower(), ACTIONS[words.takes]))
     return (" \\\n" + indent + "    ").join([indent + "_arguments -S"] + specifications) + "\n"
 
 

@@ -114,12 +114,15 @@ def as_there(value: Any, there: str) -> str:
         return "{:,}".format(value) if "," in there else str(value)
     for words in (CARDINALS, ORDINALS):
         for end in ("", "s"):
-            if there.lower() in [word + end for word in words]:
+            if there.lower() in [word + end for word in words] and value < len(words):
                 word = words[value] + end
                 return word.capitalize() if there[0].isupper() else word
-    raise SystemExit("write: '%s' is no number" % there)
+    raise SystemExit("write: '%s' can't say the number %s: write it in figures" % (there, value))
 
 
 def with_numbers(text: str, numbers: Dict[str, Any]) -> str:
     """A document with its named numbers as the source has them."""
+    unknown = {found[2] for found in MARK.finditer(text)} - set(numbers)
+    if unknown:
+        raise SystemExit("write: no number has the name %s" % ", ".join(sorted(unknown)))
     return MARK.sub(lambda found: found[1] + as_there(numbers[found[2]], found[3]), text)

@@ -230,7 +230,8 @@ for crate in vbi_words vbi_line vbi_near; do
     check 'it has a row for each public function' cmp found functions
 done
 
-# The examples of the manual pages, each page one script; the last line that the one of ldvbi prints is of the drawn field
+# The examples of the manual pages, each page one script; the last line that the one of ldvbi prints is of the drawn
+# field
 # examples_of PAGE: makes page.sh of a page's examples
 examples_of() {
     mandoc -T ascii -O width=200 "$top/share/man/$1" | sed 's/.'"$(printf '\010')"'//g' |

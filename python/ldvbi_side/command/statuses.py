@@ -20,7 +20,8 @@ MEANINGS: Tuple[Tuple[Tuple[str, ...], Dict[int, str]], ...] = (
     (("join", "compare"), {0: "it is done", CUT: "done, and the last field is cut"}),
     (("index", "--help", "--version"), {0: "it is done"}),
 )
-OF_ALL = {FAULT: "a fault, named in one line on standard error, or a refused command line", 130: "ended by Ctrl-C"}
+OF_ALL = {FAULT: "a fault, named in one line on standard error, or a refused command line",
+          129: "its terminal was closed", 130: "ended by Ctrl-C", 143: "ended by `kill`"}
 
 
 def of_many(statuses: Iterable[int]) -> int:
