@@ -4,13 +4,13 @@ their source.
 
 Into docs/PROMISES.md, between `<!-- from specs: MARK -->` and `<!-- to here -->`, go for a section of WHOLE the
 definitions on which its contracts rest, each behind those on which it rests itself; for one of SHOWN those that its
-contracts name. A line behind them counts all of these, and names the files of the others. In place of a function of
-RELATIONS (definition_sources.py) stands a relation, of which a law says that it is the same.
+contracts name. A line behind them counts all of these, and says how to print them. In place of a function of RELATIONS
+(definition_sources.py) stands a relation, of which a law says that it is the same.
 
---all prints every definition, section by section and file by file, with the words of the standard library and the types
-of the code that they name. --check compares the page with what would be written into it.
+--all prints every definition, or those of some sections, file by file, with the words of the standard library and the
+types of the code that they name. --check compares the page with what would be written into it.
 
-usage: python3 tests/definitions.py --write | --check | --all     (at the top of the repository)
+usage: python3 tests/definitions.py --write | --check | --all [MARK..]     (at the top of the repository)
 """
 import re
 import sys
@@ -114,25 +114,25 @@ class Sections:
             lines += [f"-- {file[0]}/specs/{file[1]}.antt", *printed(module, own, with_heads), ""]
         return "\n".join(["```agda", *lines[:-1], "```", "", ""])
 
-    def counted(self, mark, shown):
-        """Says on how many definitions the contracts of a section rest, and where those stand that aren't shown."""
+    def counted(self, mark):
+        """Says on how many definitions the contracts of a section rest, and how they are printed."""
         names = [f"`{function}`" for _, functions in SECTIONS[mark][1] for function in functions]
-        rests_on, lines = self.rests_on[mark], self.definitions.lines(self.rests_on[mark])
-        others = {f"`{key[0]}/specs/{key[1]}.antt`": None for key in self.own[mark] if key not in shown}
-        count = f"{', '.join(names)} {'rest' if names[1:] else 'rests'} on {len(rests_on)} definitions in {lines} lines"
-        return filled(count + ("; those that aren't printed stand in " + ", ".join(others) if others else "") + ".")
+        rests_on = self.rests_on[mark]
+        return filled(f"{', '.join(names)} {'rest' if names[1:] else 'rests'} on {len(rests_on)} definitions in "
+                      f"{self.definitions.lines(rests_on)} lines: `python3 tests/definitions.py --all {mark}`.")
 
     def texts(self):
         """Returns what stands in the page, by its marks."""
         texts = {}
         for mark in SECTIONS:
             shown = self.own[mark] if mark in WHOLE else self.named(mark) if mark in SHOWN else []
-            texts[mark] = (self.block(shown, False) if shown else "") + self.counted(mark, shown)
+            texts[mark] = (self.block(shown, False) if shown else "") + self.counted(mark)
         return texts
 
-    def whole(self):
-        """Returns all definitions in their order, for one who reads each of them."""
-        parts = [f"# {title}\n\n{self.block(self.own[mark], True)}".rstrip() for mark, (title, _) in SECTIONS.items()]
+    def whole(self, marks):
+        """Returns all definitions on which these sections rest, or all, in their order, for one who reads each."""
+        keys = {mark: self.rests_on[mark] for mark in marks} or self.own
+        parts = [f"# {SECTIONS[mark][0]}\n\n{self.block(keys[mark], True)}".rstrip() for mark in keys]
         return "\n\n".join([*parts, "# Words of the standard library\n\n" + filled(self.words_of_std()),
                             "# Types of the code\n\n" + filled(self.types())])
 
@@ -174,11 +174,12 @@ def fault_of(text, wanted):
 
 
 def main():
-    if sys.argv[1:] not in (["--write"], ["--check"], ["--all"]):
-        raise SystemExit("usage: python3 tests/definitions.py --write | --check | --all")
+    is_all = sys.argv[1:2] == ["--all"] and set(sys.argv[2:]) <= set(SECTIONS)
+    if not is_all and sys.argv[1:] not in (["--write"], ["--check"]):
+        raise SystemExit(f"usage: python3 tests/definitions.py --write | --check | --all [{' | '.join(SECTIONS)}]..")
     sections = Sections(Definitions())
-    if sys.argv[1] == "--all":
-        print(sections.whole())
+    if is_all:
+        print(sections.whole(sys.argv[2:]))
         return 0
     text = read(PAGE)
     wanted = written(text, sections.texts())
