@@ -3,13 +3,15 @@ the same bytes as the program's. Those with recovered words, version 3, are read
 is read is checked; what isn't as it has to be raises a ValueError that says where. The readings that are written are
 those of the library, which is proved; that the text is the program's is shown by tests alone."""
 
+import itertools
 import json
 import re
-from typing import Any, Callable, Iterable, Iterator, List, NamedTuple, Optional, TextIO, Tuple
+from typing import Any, Callable, Dict, Iterable, Iterator, NamedTuple, Optional, TextIO, Tuple
 
 from .collector import paused
 from .library import System
-from .readings import (PACKED_FIELD, Cause, Cut, FieldReadings, Levels, Reading, field_bytes, size_of, unknown_cause)
+from .readings import (PACKED_FIELD, PACKED_LINE, Cause, Cut, Levels, PackedFields, field_bytes, size_of,
+                       unknown_cause)
 from .stream import BLOCK, Stream, cut_of
 
 MAX_FIELDS = 1000000  # the program has the same limit
@@ -19,6 +21,12 @@ _BEGIN = re.compile(rb'\s*\{\s*"version"')
 _CAUSE = re.compile(r"(word|blank|unfinished)|(change|hold) (0|[1-9][0-9]{0,3})")
 
 RECORD = '{"seqNo":%d,"vbi":{"vbiData":[%d,%d,%d]},"vbiCause":["%s","%s","%s"],"vbiPass":[%d,%d,%d]}'
+_NUMBER = "(?:0|[1-9][0-9]{0,18})"
+_NEAR = r'(?:null|\{"word":%s,"distance":%s,"rival":%s\})' % (3 * (_NUMBER,))
+_RECORD = re.compile(re.escape(RECORD[:-1]).replace("%d", "(%s)" % _NUMBER).replace("%s", "([a-z0-9 ]*)")
+                     + r'(?:,"vbiNear":\[%s,%s,%s\])?\}' % (3 * (_NEAR,)))
+_PART = 1024  # records that are taken apart at once
+_FRAME = 400  # characters: more than what stands before the records and behind them
 _LONGEST = 1135  # samples of a line
 # Of each cause, by its number, the texts by column
 _CAUSES = [["word"], ["blank"], ["unfinished"], ["change %d" % column for column in range(_LONGEST)],
@@ -29,7 +37,7 @@ class Document(NamedTuple):
     """What a document has: the readings of the whole fields, the field in which the stream was cut, and the levels that
     it was read with."""
     system: System
-    readings: List[FieldReadings]
+    readings: PackedFields
     cut: Optional[Cut]
     levels: Levels
 
@@ -44,6 +52,10 @@ def is_document(path: Any, begin: bytes) -> bool:
 @paused()
 def read_document(data: bytes) -> Document:
     """The document with these bytes."""
+    return _as_written(data) or _as_json(data)
+
+
+def _as_json(data):
     document = _parsed(data)
     if not isinstance(document, dict) or not _is_number(document.get("version"), 2, 3):
         raise ValueError("not a document of version 2 or 3")
@@ -51,15 +63,18 @@ def read_document(data: bytes) -> Document:
     records = document.get("fields")
     if not isinstance(records, list):
         raise ValueError("fields is no list")
-    readings, known = [], _KnownLines(size_of(system)[0], document["version"])
+    packed, known = [], _KnownLines(size_of(system)[0], document["version"])
     for number, record in enumerate(records, 1):
         try:
-            readings.append(_quick_field(record, number, known) or _field(record, number, known))
+            packed.append(_quick_field(record, number, known) or _field(record, number, known))
         except ValueError as error:
             raise ValueError("field %d: %s" % (number, error)) from None
-    levels = document["videoParameters"]
-    return Document(system, readings, _cut(document, len(readings) + 1, system),
-                    Levels(levels["black16bIre"], levels["white16bIre"]))
+    return Document(system, PackedFields(b"".join(packed)), _cut(document, len(packed) + 1, system), _levels(document))
+
+
+def _levels(document):
+    parameters = document["videoParameters"]
+    return Levels(parameters["black16bIre"], parameters["white16bIre"])
 
 
 class _NoNumber(ValueError):
@@ -111,27 +126,27 @@ def _system(parameters):
     return system
 
 
-class _KnownLines(dict):
-    """The readings of word, cause and pass together. Each is checked once: a side has few that differ."""
+class _KnownLines(Dict[Tuple[int, str, int], bytes]):
+    """The packed readings of word, cause and pass together. Each is checked once: a side has few that differ."""
 
-    def __init__(self, width, version):
+    def __init__(self, width: int, version: int) -> None:
         super().__init__()
         self.width, self.version = width, version
 
-    def __missing__(self, line):
+    def __missing__(self, line: Tuple[int, str, int]) -> bytes:
         self[line] = _line(*line, self.width, self.version)
         return self[line]
 
 
 def _quick_field(record, number, known):
-    """The readings of a record without a fault; of others they are, or None, and `_field` says what is wrong."""
+    """The packed readings of a record without a fault; of others they are, or None, and `_field` says what is wrong."""
     try:
         words, causes, passes = record["vbi"]["vbiData"], record["vbiCause"], record["vbiPass"]
         first, second, third = zip(words, causes, passes)
         # true and 1.0 are 1 to a dict
         is_whole = type(record["seqNo"]) is int and set(map(type, words + passes)) == {int}
         if is_whole and record["seqNo"] == number and len(words) == len(causes) == len(passes) == 3:
-            return FieldReadings(known[first], known[second], known[third])
+            return known[first] + known[second] + known[third]
     except (KeyError, TypeError, ValueError):
         pass
     return None
@@ -146,12 +161,12 @@ def _field(record, number, known):
     for name, values in lists.items():
         if not isinstance(values, list) or len(values) != 3:
             raise ValueError("%s is no list of three" % name)
-    return FieldReadings(*(_line(*line, known.width, known.version) for line in zip(*lists.values())))
+    return b"".join([_line(*line, known.width, known.version) for line in zip(*lists.values())])
 
 
 def _line(word, text, number_of_pass, width, version):
-    """The reading of a line, each number of which is checked. In a document of version 3 a line with a recovered word,
-    of pass 3, has the cause for which it shows none of its own."""
+    """The packed reading of a line, each number of which is checked. In a document of version 3 a line with a recovered
+    word, of pass 3, has the cause for which it shows none of its own."""
     if not _is_number(word, 0, 0) and not _is_number(word, 0x800000, 0xFFFFFF):
         raise ValueError("%s is no word" % json.dumps(word))
     match = _CAUSE.fullmatch(text) if isinstance(text, str) else None
@@ -164,7 +179,7 @@ def _line(word, text, number_of_pass, width, version):
     is_shown = cause != Cause.blank and word > 0 if number_of_pass == 3 else cause == Cause.word
     if not (word > 0) == is_shown == (number_of_pass > 0):
         raise ValueError("word, cause and pass of a line don't fit: %d, %s, %d" % (word, text, number_of_pass))
-    return Reading(cause, number_of_pass, column, word)
+    return PACKED_LINE.pack(cause, number_of_pass, column, word)
 
 
 def _cut(document, number, system):
@@ -176,6 +191,50 @@ def _cut(document, number, system):
     if not _is_number(_member(value, "bytes", "cutField"), 1, field_bytes(system) - 1):
         raise ValueError("cutField: bytes is not from 1 to %d" % (field_bytes(system) - 1))
     return Cut(number, value["bytes"])
+
+
+# ---- Read as it was written
+
+def _as_written(data: bytes) -> Optional[Document]:
+    """The document with these bytes, if they stand as `extract` or `ldvbi-side` writes them: then its records are taken
+    apart by a pattern, and not as JSON, which takes four times as long. None of any other, and of one with a fault."""
+    try:
+        head, _, rest = data.decode("ascii").partition("\n")
+        body, _, tail = rest.rpartition("\n],")
+        frame = json.loads(head + "]," + tail) if len(head) + len(tail) < _FRAME else None
+        system, levels, version = _system(frame["videoParameters"]), _levels(frame), frame["version"]
+        records = body.split(",\n")
+        cut = _cut(frame, len(records) + 1, system)
+        is_framed = head_of(version, system, *levels) == head + "\n" and tail_of(cut) == "\n]," + tail
+        if not is_framed or version not in (2, 3):
+            return None
+        known = _KnownTexts(size_of(system)[0], version)
+        packed = b"".join([_packed_records(records[first:first + _PART], first + 1, known)
+                           for first in range(0, len(records), _PART)])
+        return Document(system, PackedFields(packed), cut, levels)
+    except (KeyError, TypeError, ValueError):
+        return None
+
+
+def _packed_records(records, number, known):
+    """The packed readings of records, the first of which has this number; a ValueError where one has a fault."""
+    matches = list(map(_RECORD.fullmatch, records))
+    if None in matches:
+        raise ValueError("a record isn't as it is written")
+    columns = list(zip(*[match.groups() for match in matches]))
+    if columns[0] != tuple(map(str, range(number, number + len(records)))):
+        raise ValueError("a record has another number")
+    lines = [map(known.__getitem__, zip(*columns[line::3])) for line in (1, 2, 3)]
+    return b"".join(itertools.chain.from_iterable(zip(*lines)))
+
+
+class _KnownTexts(_KnownLines):
+    """The same of the texts of word, cause and pass."""
+
+    def __missing__(self, line):
+        word, cause, number_of_pass = line
+        self[line] = _line(int(word), cause, int(number_of_pass), self.width, self.version)
+        return self[line]
 
 
 # ---- Written

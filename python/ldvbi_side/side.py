@@ -7,8 +7,8 @@ from typing import Any, Callable, Dict, Iterable, Iterator, List, Optional, Tupl
 from ldvbi import FieldReadings, Reading, State, Stream, System, format_of, judge, read_rows
 from ldvbi.codes import code, codes_by_kind
 from ldvbi.document import read_document
-from ldvbi.readings import Cut, Levels, cause_text
-from ldvbi.stream import cut_of
+from ldvbi.readings import PACKED_FIELD, Cut, Levels, PackedFields
+from ldvbi.stream import BLOCK, cut_of
 from .judge.answer import analyse
 from .judge.readings import Answer, Fields, Judge
 from .levels import tried_on
@@ -20,7 +20,8 @@ RECOVERED = 3  # the pass of a recovered word
 
 
 class Side:
-    """The whole fields of a side in their order, and the field in which it was cut. `first` says of each field whether
+    """The whole fields of a side in their order, and the field in which it was cut. `readings` are kept as the library
+    writes them, and each field's are made when they are asked for. `first` says of each field whether
     it is the first one of its frame, or is None where that isn't known. `expected` is the number of fields that the
     metadata has, or None; with `is_strict` a side without lead-in or lead-out, or with an unread number, isn't whole.
     `samples` is the stream from which words were recovered, and `judge` asks the library's judge; None where they
@@ -29,11 +30,11 @@ class Side:
     `answer` is what the words mean, as docs/SIDES.md describes it; `pictures`, `times`, `chapters`, `stops` and
     `format` are parts of it. `codes` is what each field says, judged by nothing."""
 
-    def __init__(self, system: System, readings: List[FieldReadings], cut: Optional[Cut] = None,
+    def __init__(self, system: System, readings: Iterable[FieldReadings], cut: Optional[Cut] = None,
                  levels: Optional[Levels] = None, first: Optional[List[bool]] = None,
                  samples: Optional[Stream] = None) -> None:
         self.system = system
-        self.readings = readings
+        self.readings = PackedFields.of(readings)
         self.cut = cut
         self.levels = levels
         self.first = first
@@ -48,16 +49,12 @@ class Side:
 
     def plain(self) -> Fields:
         """The side as plain data, for the analysis."""
-        words, passes, causes = [], [], []
-        for one, two, three in self.readings:
-            words.append((one.word, two.word, three.word))
-            passes.append((one.pass_, two.pass_, three.pass_))
-            causes.append((cause_text(one), cause_text(two), cause_text(three)))
         cut = self.cut and {"seqNo": self.cut.field, "bytes": self.cut.bytes}
         nearest_word = functools.partial(nearest_word_in, self.samples) if self.samples else None
         try_levels = functools.partial(tried_on, self.samples) if self.samples else None
-        return Fields(self.system.name, words, passes, causes, cut, self.first, self.expected, self.is_strict,
-                      nearest_word, self.judge, try_levels)
+        fields = self.readings
+        return Fields(self.system.name, fields.words(), fields.passes(), fields.causes(), cut, self.first,
+                      self.expected, self.is_strict, nearest_word, self.judge, try_levels)
 
     @functools.cached_property
     def answer(self) -> Answer:
@@ -111,38 +108,43 @@ def _firsts(pairs):
     return found
 
 
-def side_of_stream(stream: Stream, over: Callable[[Stream], Iterable[FieldReadings]] = iter,
+def side_of_stream(stream: Stream, over: Optional[Callable[[Iterable[Any], int], Iterable[Any]]] = None,
                    first: Optional[List[bool]] = None) -> Side:
-    """The side that a stream holds. `over` yields its fields, and may say meanwhile how far they are. A stream that
-    recovers words has to stay open as long as the side is asked for its answer."""
-    readings = list(over(stream))
+    """The side that a stream holds. `over` yields the blocks that it gets, each of so many fields, and may say
+    meanwhile how far they are. A stream that recovers words has to stay open as long as the side is asked for its
+    answer."""
+    blocks = stream.packed(0, len(stream))
+    readings = PackedFields(b"".join(over(blocks, BLOCK) if over else blocks))
     if stream.recover:
-        for index, field in enumerate(readings):
-            if RECOVERED in (field.first.pass_, field.second.pass_, field.third.pass_):
-                readings[index] = _with_causes(field, stream, index)
+        readings = _with_causes(readings, stream)
     side = Side(stream.system, readings, cut_of(stream), Levels(stream.black, stream.white), first,
                 stream if stream.recover else None)
     side.judge = _judge_of(readings, stream.system)
     return side
 
 
-def _judge_of(readings: List[FieldReadings], system: System) -> Optional[Judge]:
+def _judge_of(readings: PackedFields, system: System) -> Optional[Judge]:
     """What asks the library's judge about these readings; None where the library is too old to have one."""
     try:
         judge((), system)
     except OSError:
         return None
     return lambda counted, pace: {field: one.number for field, one in enumerate(
-        judge(readings, system, counted, pace), 1) if one.state == State.believed and one.number is not None}
+        judge(readings.data, system, counted, pace), 1) if one.state == State.believed and one.number is not None}
 
 
-def _with_causes(field: FieldReadings, stream: Stream, index: int) -> FieldReadings:
-    """The readings of a field, of which each recovered word has the cause for which its line shows none of its own. (A
+def _with_causes(readings: PackedFields, stream: Stream) -> PackedFields:
+    """The readings of a stream, of which each recovered word has the cause for which its line shows none of its own. (A
     word of pass 2 that gave way to another has no such cause.)"""
-    shown = read_rows(stream.rows(index), stream.system, stream.black, stream.white)
-    return FieldReadings(*(
-        Reading(own.cause, RECOVERED, own.column, line.word) if line.pass_ == RECOVERED else line
-        for line, own in zip(field, shown)))
+    size, data = PACKED_FIELD.size, bytearray(readings.data)
+    for index, passes in enumerate(readings.passes()):
+        if RECOVERED in passes:
+            shown = read_rows(stream.rows(index), stream.system, stream.black, stream.white)
+            field = FieldReadings(*(
+                Reading(own.cause, RECOVERED, own.column, line.word) if line.pass_ == RECOVERED else line
+                for line, own in zip(readings[index], shown)))
+            data[size * index:size * (index + 1)] = PackedFields.of([field]).data
+    return PackedFields(bytes(data))
 
 
 def side_of_tbc(path: str, system: System, black: int, white: int, first: Optional[List[bool]] = None,

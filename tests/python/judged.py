@@ -7,17 +7,17 @@ usage: judged.py FROM TO [--kind KIND]... [--show N]     the seeds FROM to TO - 
 Without --kind each seed has a kind of KINDS; --kind `each` is each kind of PLAYED. --show prints the first N answers
 that are wrong. The status is 1 where one of them stands where the promise speaks."""
 
-import argparse
 import functools
 import sys
-from collections import Counter, defaultdict
+from collections import Counter
 
 import ldvbi
 from ldvbi import Counted, Pace, State
 from judged_truth import JudgedTruth, packed_of
 from ldvbi_side.judge.answer import analyse
 from measure import fields_of
-from simulate import KINDS, PLAYED, simulated
+from simulate import simulated
+from simulated_runs import parser, totals_of
 from truth import number_of
 
 FINDERS = ("judge", "package", "lines")
@@ -179,21 +179,11 @@ def print_table(totals):
 
 
 def main():
-    parser = argparse.ArgumentParser()
-    parser.add_argument("begin", type=int)
-    parser.add_argument("end", type=int)
-    parser.add_argument("--kind", choices=KINDS + tuple(PLAYED) + ("each",), action="append")
-    parser.add_argument("--show", type=int, default=0)
-    options = parser.parse_args()
-    totals, told = defaultdict(Counter), []
-    for asked in PLAYED if options.kind == ["each"] else options.kind or [None]:
-        for seed in range(options.begin, options.end):
-            kind, counts = judged(seed, asked, told.append)
-            for how in counts:
-                for key in (kind, "all"):
-                    totals[key, how].update(counts[how])
-    for text in told[:options.show]:
-        print(text)
+    def parts_of(seed, asked, tell):
+        kind, found = judged(seed, asked, tell)
+        return [(kind, how, counts) for how, counts in found.items()]
+
+    totals = totals_of(parser().parse_args(), parts_of)
     print_table(totals)
     return int(any(count for counts in totals.values() for name, count in counts.items()
                    if name.endswith("where promised")))

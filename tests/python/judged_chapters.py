@@ -7,20 +7,19 @@ usage: judged_chapters.py FROM TO [--kind KIND]... [--show N]     the seeds FROM
 Without --kind each seed has a kind of KINDS; --kind `each` is each kind of PLAYED. --show prints the first N answers
 that are wrong. The status is 1 where one of them breaks the promise."""
 
-import argparse
 import sys
-from collections import Counter, defaultdict
+from collections import Counter
 
 import ldvbi
 from ldvbi import Kind, State
-from judged import packed_of
-from judged_truth import ENOUGH, REACH
+from judged import FINDERS
+from judged_truth import ENOUGH, REACH, packed_of
 from ldvbi_side.judge.answer import analyse
 from measure import fields_of
-from simulate import KINDS, PLAYED, simulated
+from simulate import simulated
+from simulated_runs import parser, totals_of
 from truth import said_by
 
-FINDERS = ("judge", "package", "lines")
 NAMES = ("sides", "fields", "right",
          *("%s by the %s" % (how, finder) for how in ("right", "wrong") for finder in FINDERS),
          "promised", "broken promises", "chapters",
@@ -127,27 +126,14 @@ def count_finder(counts, finder, truth, answers):
 
 
 def print_table(totals):
-    for kind, counts in sorted(totals.items()):
+    for (kind,), counts in sorted(totals.items()):
         print("%s: %s" % (kind, ", ".join("%s %d" % (name, counts[name]) for name in NAMES)))
 
 
 def main():
-    parser = argparse.ArgumentParser()
-    parser.add_argument("begin", type=int)
-    parser.add_argument("end", type=int)
-    parser.add_argument("--kind", choices=KINDS + tuple(PLAYED) + ("each",), action="append")
-    parser.add_argument("--show", type=int, default=0)
-    options = parser.parse_args()
-    totals, told = defaultdict(Counter), []
-    for asked in PLAYED if options.kind == ["each"] else options.kind or [None]:
-        for seed in range(options.begin, options.end):
-            kind, counts = judged(seed, asked, told.append)
-            for key in (kind, "all"):
-                totals[key].update(counts)
-    for text in told[:options.show]:
-        print(text)
+    totals = totals_of(parser().parse_args(), lambda *asked: [judged(*asked)])
     print_table(totals)
-    return int(bool(totals["all"]["broken promises"]))
+    return int(any(counts["broken promises"] for counts in totals.values()))
 
 
 if __name__ == "__main__":

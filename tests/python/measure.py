@@ -3,18 +3,17 @@
 
 usage: measure.py FROM TO [--kind KIND]... [--parity] [--show N]     the seeds FROM to TO - 1
 
-Without --kind each seed has a kind of KINDS. --parity hands over isFirstField of each field, too; --show prints the
-first N differences."""
+Without --kind each seed has a kind of KINDS; --kind `each` is each kind of PLAYED. --parity hands over isFirstField of
+each field, too; --show prints the first N differences."""
 
-import argparse
 import time
-from collections import Counter, defaultdict
 
 from comparison import Comparison
 from judged_truth import judge_of
 from ldvbi_side.judge.answer import analyse
 from ldvbi_side.judge.readings import Fields
-from simulate import KINDS, PLAYED, simulated
+from simulate import simulated
+from simulated_runs import parser, totals_of
 from sound import faults_of
 from truth import Truth
 
@@ -51,7 +50,7 @@ def measured(seed, kind=None, parity=False, tell=lambda text: None, count=None, 
 
 
 def print_table(totals):
-    for kind, counts in sorted(totals.items()):
+    for (kind,), counts in sorted(totals.items()):
         exact = ", ".join("%s %d" % (name, counts[name]) for name in EXACT)
         shares = ", ".join("%s %d of %d" % (name, counts[name + " found"], counts[name])
                            for name in SHARES if counts[name])
@@ -65,22 +64,10 @@ def print_table(totals):
 
 
 def main():
-    parser = argparse.ArgumentParser()
-    parser.add_argument("begin", type=int)
-    parser.add_argument("end", type=int)
-    parser.add_argument("--kind", choices=KINDS + tuple(PLAYED), action="append")
-    parser.add_argument("--parity", action="store_true")
-    parser.add_argument("--show", type=int, default=0)
-    options = parser.parse_args()
-    totals, told = defaultdict(Counter), []
-    for asked in options.kind or [None]:
-        for seed in range(options.begin, options.end):
-            kind, counts = measured(seed, asked, options.parity, told.append)
-            for key in (kind, "all"):
-                totals[key].update(counts)
-    for text in told[:options.show]:
-        print(text)
-    print_table(totals)
+    asked = parser()
+    asked.add_argument("--parity", action="store_true")
+    options = asked.parse_args()
+    print_table(totals_of(options, lambda seed, kind, tell: [measured(seed, kind, options.parity, tell)]))
 
 
 if __name__ == "__main__":

@@ -10,7 +10,7 @@ import bisect
 import json
 import random
 import sys
-from typing import NamedTuple, Optional
+from typing import NamedTuple, Optional, Sequence
 
 from simulated_captures import Damage, kept_of, played
 from simulated_discs import disc
@@ -36,8 +36,8 @@ class Simulated(NamedTuple):
     on_disc: list
     order: list
     misread: list
-    swaps: list = []
-    speeds: list = []
+    swaps: Sequence = ()
+    speeds: Sequence = ()
     second: Optional[int] = None
     between: range = range(0)
     other: frozenset = frozenset()

@@ -1,6 +1,7 @@
 """What holds of every answer, by the words of its side alone, whatever the truth is."""
 
 import bisect
+import math
 
 from ldvbi import Kind
 from ldvbi.codes import LINES
@@ -12,6 +13,8 @@ OTHERS = {"picture": (Kind.chapter,), "time": (Kind.chapter,) + CX}
 COUNTED = {Kind.chapter, *NUMBER_KINDS, *CX}
 PASS_WEIGHTS = (0, 2, 1, 1)  # of no word, of one of pass 1, of pass 2, and of a recovered one
 MINUTE_FIELDS = 3600
+SHORTEST = {"NTSC": 3590, "PAL": 3000}  # fields of a minute
+SPARSE = 20  # numbers of a disc of which it is seen that it has them on some pictures alone
 
 
 class Sound:
@@ -40,8 +43,13 @@ class Sound:
             self._look_at_unread()
             self._look_at_doubtful()
             self._look_at_lost()
+            self._look_at_dark_and_sparse()
+        if self.unit == "picture":
+            self._look_at_pictures()
         if self.unit == "time":
             self._look_at_minutes()
+        if self.unit == "minute":
+            self._look_at_room()
 
     def _codes(self):
         """The codes with a number, by field: the kind, the value, the line and the pass. Those that stand on a line of
@@ -233,8 +241,71 @@ class Sound:
             self.faults.append("something is lacking, and whole is: %s" % answer["whole"])
         if answer["whole"] == "yes" and any(one["why"] == "undecided" for one in answer["missing"]):
             self.faults.append("a number is undecided, and the side is whole")
-        if (answer["whole"] == "yes") == bool(answer["reasons"]):
+        said = {one["whole"] for one in answer["reasons"]}
+        if answer["whole"] != ("no" if "no" in said else "can't tell" if said else "yes"):
             self.faults.append("whole is %s, and the reasons are %s" % (answer["whole"], answer["reasons"]))
+        differ = answer["judged"]["differ"] if answer["judged"] else 0
+        if bool(differ) != any(one["why"] == "judged" for one in answer["reasons"]):
+            self.faults.append("the judges differ in %d fields, and the reasons are %s" % (differ, answer["reasons"]))
+
+    def _is_seen(self, field):
+        """Whether a line of a field isn't blank, and none shows a code that stands where no number does."""
+        return any(cause != "blank" for cause in self.fields.causes[field - 1]) and not any(
+            kind in OTHERS[self.unit] for kind, _, _, _ in self.codes[field])
+
+    def _look_at_dark_and_sparse(self):
+        """A number that is due in no field is unread only where something was seen among the fields that pass it over:
+        else a player may have searched in the dark. Where line 16 has a time on each k-th picture alone, blank ones
+        are no unread ones."""
+        due = {self.number_of(one["number"]): one["field"] for one in self.answer["unread"]}
+        passed = [(self.number_of(one["from"]), self.number_of(one["to"]), one["after"], one["before"])
+                  for one in self.answer["breaks"]]
+        for one in self.answer["missing"]:
+            for number in range(self.number_of(one["first"]), self.number_of(one["last"]) + 1):
+                if one["why"] != "unread" or number in due:
+                    continue
+                spans = [(after, before) for low, high, after, before in passed if low < number < high]
+                if not any(map(self._is_seen, (field for after, before in spans + [(one["after"], one["before"])]
+                                               for field in range(after + 1, before)))):
+                    self.faults.append("number %d is unread, and nothing was seen there" % number)
+        shown = sorted(set(self.believed.values()))
+        spacing = math.gcd(*(number - shown[0] for number in shown)) if len(shown) >= SPARSE else 1
+        for number, field in due.items() if self.unit == "time" and spacing > 1 else ():
+            if (number - shown[0]) % spacing and self.fields.causes[field - 1][0] == "blank":
+                self.faults.append("number %d is unread, and the disc hasn't got it" % number)
+
+    def _look_at_pictures(self):
+        """One frozen field makes no disc with numbers on both fields. A picture that both lines say in pass 1 isn't set
+        aside between two stills that don't fit."""
+        said = {}
+        for field, codes in self.codes.items():
+            for kind, value, _, of_pass in codes:
+                if kind == Kind.picture:
+                    said.setdefault(field, []).append((value, of_pass))
+        twice = {value for field, ones in said.items() for value, _ in ones
+                 if value in [other for other, _ in said.get(field + 1, ())]}
+        if self.answer["pace"] == "both" and 40 * len(twice) < len({one for ones in said.values() for one, _ in ones}):
+            self.faults.append("the pace is both, and %d numbers stand on two fields" % len(twice))
+        firsts, lasts = ({one[end]: one["number"] for one in self.answer["stills"]} for end in ("first", "last"))
+        for one in self.answer["doubtful"] if self.answer["pace"] == "video" else ():
+            before, after, ones = one["before"], one["after"], said.get(one["field"], ())
+            if len(ones) == 2 and ones[0] == ones[1] and ones[0][1] == 1 and before and after and (
+                    before["field"] in lasts and after["field"] in firsts and before["number"] != after["number"]) and (
+                    after["field"] - before["field"] != 2 * (after["number"] - before["number"])) and not any(
+                    near in self.believed or near != one["field"] and said.get(near)
+                    for near in range(before["field"] + 1, after["field"])):
+                self.faults.append("field %d has a picture between two stills, and it is doubtful" % one["field"])
+
+    def _look_at_room(self):
+        """Of a minute between two others that has room for fewer fields than a minute has, some are lost."""
+        ones = [(self.number_of(number), first, last) for number, first, last in self.answer["showings"]]
+        lost = [(one["after"], one["before"]) for one in self.answer["lost"]]
+        for before, one, after in zip(ones, ones[1:], ones[2:]):
+            room = after[1] - before[2] - 1
+            if after[0] - one[0] == one[0] - before[0] == 1 and room < SHORTEST[self.fields.system] and not any(
+                    before[2] <= begin and end <= after[1] for begin, end in lost) and not any(
+                    before[2] < field < after[1] for field in self.ends):
+                self.faults.append("minute %d has %d fields, and none is lost" % (one[0], room))
 
 
 def faults_of(fields, answer):

@@ -35,7 +35,9 @@ class Truth:
     has it, else `lost`), `left_out` those that the disc hasn't; `due` are pairs of a number and the field that has it
     where it can't be read, between two fields whose numbers can; `lost` how many fields are lost behind which field,
     `hidden` the numbers that the disc hasn't inside such a loss, where no field shows that, by its field;
-    `backs` the fields behind which the disc's order is broken, `swaps` and `speeds` as far as numbers show them."""
+    `backs` the fields behind which the disc's order is broken, `searches` how many fields too many (or, negative, too
+    few) each search in the dark has for the numbers that it passes over, `swaps` and `speeds` as far as numbers show
+    them."""
 
     def __init__(self, side):
         self.side = side
@@ -49,6 +51,7 @@ class Truth:
         self._find_missing()
         self._find_due()
         self._find_lost()
+        self.searches = [off for off in map(self._searched, self.numbered, self.numbered[1:]) if off is not None]
         self.swaps = [field for field in side.swaps if self._is_seen(field)]
         self.speeds = [] if side.layout == "clv-minutes" else side.speeds
 
@@ -158,6 +161,12 @@ class Truth:
                     max(around) < max(set(numbers) - {None})):
                 self.lost[place], self.hidden[place] = after - before - 1, set()
 
+    def _searched(self, before, after):
+        """The fields that are too many between two that show numbers, or None where there is no search in the dark."""
+        if not self.side.dark.intersection(range(before + 1, after)):
+            return None
+        return after - before - self.side.order[after - 1] + self.side.order[before - 1]
+
     def _passed_over(self, place):
         """The numbers between the field of this place and the next one."""
         numbers = self.side.numbers
@@ -181,7 +190,7 @@ class Reasons:
             "lost": self._lost(), "jumps": self._jumps(),
             "missing": self._or_clock("lost" in truth.missing.values()), "begins": self._begins(),
             "joined": self._joined(), "format": self._format(), "metadata": False, "cut": False,
-            "swapped": bool(truth.swaps), "speed": bool(truth.speeds)}
+            "swapped": bool(truth.swaps), "speed": self._speed()}
         self.open = {"numbers": not truth.read, "line": False, "doubtful": self._doubtful(), "judged": False,
                      "ends": False, "undecided": None, "order": None}
 
@@ -196,7 +205,13 @@ class Reasons:
         """In a short stretch a number that the clock leaves out is undecided."""
         return is_so or (None if self.truth.left_out else False)
 
+    def _speed(self):
+        """A disc that is turned by hand may go by as at another speed for a while."""
+        return bool(self.truth.speeds) or (None if self.side.kind == "turned" else False)
+
     def _lost(self):
+        if any(off < 0 for off in self.truth.searches):
+            return True
         if self.side.layout == "clv-minutes" and not self.truth.lost:
             order = self.side.order
             return None if any(after - before != 1 for before, after in zip(order, order[1:])) else False
@@ -210,6 +225,8 @@ class Reasons:
     def _jumps(self):
         """A still is none, but where most of it can't be read it looks like one. Minutes show few jumps."""
         order = self.side.order
+        if any(off > 0 for off in self.truth.searches):
+            return True
         if self.side.layout == "clv-minutes" and any(after <= before for before, after in zip(order, order[1:])):
             return None
         if any(abs(order[place] - order[place - 1]) > 2 for place in self.truth.backs):

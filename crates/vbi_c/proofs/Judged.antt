@@ -1,9 +1,6 @@
 -- What is judged, by the words that were read.
 use Rattle.std.proofs.Common.{◌≡◌, ℕ, [], ◌∷◌, List, map, refl, ap, arith, subst, sym, ◌∙◌}
 use Rattle.std.specs.Prelude.{Option, Some, slice_get}
-use Rattle.vbi_words.specs.declared.system.System as words
-use Rattle.vbi_side.specs.declared.lines.Counted as side
-use Rattle.vbi_side.specs.declared.lines.Counted.TheVariants.{Pictures, Times}
 use Rattle.vbi_side.specs.declared.number.Number.{Number}
 use Rattle.vbi_side.specs.declared.pace.Pace as paces
 use Rattle.vbi_side.specs.declared.sighting.Sightings.{Sightings}
@@ -13,33 +10,13 @@ use Rattle.vbi_side.specs.Misread.{Words, numbers_in, IsRead}
 use Rattle.vbi_side.proofs.MisreadWords.{wrong_misread}
 use Rattle.vbi_c.specs.declared.fields.LdvbiFieldReadings.{LdvbiFieldReadings}
 use Rattle.vbi_c.specs.declared.judging.Judging.{Judging}
-use Rattle.vbi_c.specs.declared.reading.LdvbiReading.{LdvbiReading}
-use Rattle.vbi_c.specs.Judging.{seen_of, seen_in, lines_of, lines_in}
-
--- lines that show nothing show no number
-blank_lines : (system : words.System) (counted : side.Counted)
-    → record {
-      line_17 = record { number = 0; weight = 0 };
-      line_18 = record { number = 0; weight = 0 };
-      instead = 0;
-    } ≡ numbers_in system counted (lines_of [])
-blank_lines system Pictures = refl
-blank_lines system Times = refl
-
-seen_lines : (judging : Judging) (lines : List LdvbiReading)
-    → seen_of judging lines ≡ numbers_in judging.system judging.counted (lines_of lines)
-seen_lines judging [] = blank_lines judging.system judging.counted
-seen_lines judging (a ∷ []) = blank_lines judging.system judging.counted
-seen_lines judging (a ∷ b ∷ []) = blank_lines judging.system judging.counted
-seen_lines judging (a ∷ b ∷ c ∷ []) = refl
-seen_lines judging (a ∷ b ∷ c ∷ d ∷ rest) = blank_lines judging.system judging.counted
+use Rattle.vbi_c.specs.Judging.{seen_in, lines_in}
 
 seen_all : (judging : Judging) (readings : List LdvbiFieldReadings)
     → map (seen_in judging) readings ≡ map (numbers_in judging.system judging.counted) (map lines_in readings)
 seen_all judging [] = refl
 seen_all judging (field ∷ rest) =
-    ap (λ (s : Sightings). s ∷ map (seen_in judging) rest) (seen_lines judging field.lines)
-    ∙ ap (λ (l : List Sightings). numbers_in judging.system judging.counted (lines_in field) ∷ l) (seen_all judging rest)
+    ap (λ (l : List Sightings). seen_in judging field ∷ l) (seen_all judging rest)
 
 -- where a believed number is right by what was misread of numbers, it is by what was misread of words
 pub read_sound : (judging : Judging) (readings : List LdvbiFieldReadings) (seen : List Sightings) (numbers : List Number)

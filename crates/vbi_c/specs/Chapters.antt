@@ -1,31 +1,21 @@
 -- The judging of chapters, as C asks for it.
-use Rattle.std.specs.Prelude.{◌≡◌, ℕ, ◌==◌, ◌&&◌, if◌then◌else◌, List, [], ◌∷◌, slice_get, Option, Some}
+use Rattle.std.specs.Prelude.{◌≡◌, ℕ, ◌==◌, ◌&&◌, if◌then◌else◌, List, slice_get, Option, Some}
 use Rattle.vbi_side.specs.declared.number.Number.{Number}
 use Rattle.vbi_side.specs.declared.sighting.Sightings.{Sightings}
 use Rattle.vbi_side.specs.Chapters.{chapters_of, AreChapters, IsSoundChapter}
 use Rattle.vbi_side.specs.Numbers.{believed}
 use Rattle.vbi_c.specs.declared.fields.LdvbiFieldReadings.{LdvbiFieldReadings}
-use Rattle.vbi_c.specs.declared.reading.LdvbiReading.{LdvbiReading}
 use Rattle.vbi_c.specs.declared.status.Refusal.TheVariants.{Length}
-use Rattle.vbi_c.specs.Judging.{shown_by}
+use Rattle.vbi_c.specs.Judging.{lines_in}
 use Rattle.vbi_c.specs.Statuses.{refusal_status}
 
 -- the status of a call with arrays of these lengths: both have to be as long as that of the readings
 abbrev pub chapters_status : ℕ → ℕ → ℕ → ℕ
 chapters_status count seen chapters = if seen == count && chapters == count then 0 else refusal_status Length
 
--- what a field's three lines show of its chapter: lines 17 and 18 alone have one
-abbrev pub chapters_seen : List LdvbiReading → Sightings
-chapters_seen (line_16 ∷ line_17 ∷ line_18 ∷ []) = chapters_of (shown_by line_17) (shown_by line_18)
-chapters_seen other = record {
-  line_17 = record { number = 0; weight = 0 };
-  line_18 = record { number = 0; weight = 0 };
-  instead = 0;
-}
-
--- what a field's readings show of its chapter
+-- what a field's readings show of its chapter: lines 17 and 18 alone have one
 abbrev pub chapters_in : LdvbiFieldReadings → Sightings
-chapters_in readings = chapters_seen readings.lines
+chapters_in readings = let lines = lines_in readings in chapters_of lines.line_17 lines.line_18
 
 -- the answers are those of these fields, and of a believed chapter holds what the crate `vbi_side` says of it, whatever
 -- the disc has: it is on the disc nearby, where little was misread, and no other one than the codes around it say

@@ -1,7 +1,7 @@
 -- The judging of numbers, as C asks for it: first the system is looked at, then the lengths of the arrays, then what is
 -- counted, then the pace.
 use Rattle.std.specs.Prelude.{◌≡◌, ℕ, ◌==◌, ◌^◌, ◌&&◌, nat_le, nat_lt, if◌then◌else◌, List, [], ◌∷◌, map, slice_get}
-use Rattle.std.specs.Prelude.{Option, Some, None, Result, Ok, Err}
+use Rattle.std.specs.Prelude.{Option, Some, None, Result, Ok, Err, ◌+◌}
 use Rattle.vbi_words.specs.declared.system.System as words
 use Rattle.vbi_side.specs.declared.lines.Counted as side
 use Rattle.vbi_side.specs.declared.lines.Counted.TheVariants.{Pictures, Times}
@@ -11,10 +11,9 @@ use Rattle.vbi_side.specs.declared.pace.Pace as paces
 use Rattle.vbi_side.specs.declared.pace.Pace.TheVariants.{Video, Film}
 use Rattle.vbi_side.specs.declared.sighting.Sightings.{Sightings}
 use Rattle.vbi_side.specs.Found.{IsFound}
-use Rattle.vbi_side.specs.Lines.{sightings_of}
-use Rattle.vbi_side.specs.Numbers.{believed, due, AreAnswers, AreRight}
+use Rattle.vbi_side.specs.Numbers.{believed, due, AreAnswers, AreRight, IsAnswer}
 use Rattle.vbi_side.specs.Truth.{IsRegular, IsSound, IsSoundStill}
-use Rattle.vbi_side.specs.Misread.{Lines, Words, IsRead}
+use Rattle.vbi_side.specs.Misread.{Lines, Words, numbers_in, IsRead}
 use Rattle.vbi_c.specs.declared.fields.LdvbiFieldReadings.{LdvbiFieldReadings}
 use Rattle.vbi_c.specs.declared.judging.Judging.{Judging}
 use Rattle.vbi_c.specs.declared.judging.Asked.{Asked}
@@ -23,6 +22,7 @@ use Rattle.vbi_c.specs.declared.reading.LdvbiReading.{LdvbiReading}
 use Rattle.vbi_c.specs.declared.status.Refusal.{Refusal}
 use Rattle.vbi_c.specs.declared.status.Refusal.TheVariants.{System, Length, Counted, Pace}
 use Rattle.vbi_c.specs.Setups.{system_of}
+use Rattle.vbi_side.specs.Parts.{part_most, IsPart}
 
 -- ---- what is asked for
 
@@ -63,19 +63,23 @@ shown_by reading = record {
   pass = reading.pass;
 }
 
--- what a field's three lines show of its number
-abbrev pub seen_of : Judging → List LdvbiReading → Sightings
-seen_of judging (line_16 ∷ line_17 ∷ line_18 ∷ []) =
-    sightings_of judging.system judging.counted (shown_by line_16) (shown_by line_17) (shown_by line_18)
-seen_of judging other = record {
-  line_17 = record { number = 0; weight = 0 };
-  line_18 = record { number = 0; weight = 0 };
-  instead = 0;
+-- what a field's three lines show
+abbrev pub lines_of : List LdvbiReading → Lines
+lines_of (line_16 ∷ line_17 ∷ line_18 ∷ []) =
+    record { line_16 = shown_by line_16; line_17 = shown_by line_17; line_18 = shown_by line_18 }
+lines_of other = record {
+  line_16 = record { word = None; pass = 0 };
+  line_17 = record { word = None; pass = 0 };
+  line_18 = record { word = None; pass = 0 };
 }
+
+-- what a field's readings show
+abbrev pub lines_in : LdvbiFieldReadings → Lines
+lines_in readings = lines_of readings.lines
 
 -- what a field's readings show of its number
 abbrev pub seen_in : Judging → LdvbiFieldReadings → Sightings
-seen_in judging readings = seen_of judging readings.lines
+seen_in judging readings = numbers_in judging.system judging.counted (lines_in readings)
 
 -- the pace is the one that is asked for: the one that was given, or the one that is found
 abbrev pub IsPaceOf : words.System → side.Counted → Asked → List Sightings → paces.Pace → Type 0
@@ -90,20 +94,6 @@ IsAskedPace judging = IsPaceOf judging.system judging.counted judging.asked
 abbrev pub pace_for_c : paces.Pace → ℕ
 pace_for_c Video = 1
 pace_for_c Film = 2
-
--- what a field's three lines show
-abbrev pub lines_of : List LdvbiReading → Lines
-lines_of (line_16 ∷ line_17 ∷ line_18 ∷ []) =
-    record { line_16 = shown_by line_16; line_17 = shown_by line_17; line_18 = shown_by line_18 }
-lines_of other = record {
-  line_16 = record { word = None; pass = 0 };
-  line_17 = record { word = None; pass = 0 };
-  line_18 = record { word = None; pass = 0 };
-}
-
--- what a field's readings show
-abbrev pub lines_in : LdvbiFieldReadings → Lines
-lines_in readings = lines_of readings.lines
 
 -- the numbers are the answers of these fields at the pace that is asked for; a believed one is the number on the disc,
 -- where the disc ran on around its field, and the words misread there weigh less than enough, or where it stood still,
@@ -120,3 +110,29 @@ pub record AreJudged (judging : Judging) (readings : List LdvbiFieldReadings) (s
       → IsSoundStill recorded seen i m → n ≡ m
   pub due_sound : (recorded : ℕ → Option ℕ) (i n : ℕ) → slice_get numbers i ≡ Some (due n)
       → IsRegular pace recorded i → AreRight numbers recorded i → recorded i ≡ Some n
+
+-- ---- of one field: first the system is looked at, then how many fields there are and whether the field is among them,
+-- then what is counted, then the pace
+
+-- the pace has to be given: a few fields have none of their own
+abbrev pub given_of : ℕ → Option Asked
+given_of number = if number == 3 then None else asked_of number
+
+-- a system with a field among so many, which are no more than an answer depends on
+abbrev pub with_field : Option words.System → ℕ → ℕ → Result words.System Refusal
+with_field None count field = Err System
+with_field (Some system) count field = if nat_le count part_most && nat_lt field count then Ok system else Err Length
+
+-- what the numbers of a call ask for, of this field among so many
+abbrev pub one_judging_of : ℕ → ℕ → ℕ → ℕ → ℕ → Result Judging Refusal
+one_judging_of system counted pace count field =
+    with_pace (with_field (system_of system) count field) (counted_of counted) (given_of pace)
+
+-- the number is the answer of this field at the pace that is asked for, of these readings, and of a whole capture of
+-- which they are a part that has enough around the field
+pub record IsJudgedField (judging : Judging) (readings : List LdvbiFieldReadings) (field : ℕ) (number : Number)
+    (pace : paces.Pace) : Type 0 where
+  pub pace_is : IsAskedPace judging (map (seen_in judging) readings) pace
+  pub answer : IsAnswer pace (map (seen_in judging) readings) field number
+  pub of_whole : (whole : List LdvbiFieldReadings) (first : ℕ) → IsPart LdvbiFieldReadings whole readings first field
+      → IsAnswer pace (map (seen_in judging) whole) (first + field) number

@@ -10,5 +10,4 @@ pub mod Words
 pub mod Recovering
 pub mod Seeking
 pub mod Chapters
-pub mod OneField
 pub mod Stops

@@ -1,7 +1,7 @@
 -- What the numbers of a call stand for, and why they are refused: the system is looked at first, then black and white,
 -- then the length. The numbers of systems and levels may be any of 32 bits.
-use Rattle.std.specs.Prelude.{ℕ, ◌*◌, ◌%◌, ◌==◌, ◌&&◌, nat_lt, nat_le, if◌then◌else◌}
-use Rattle.std.specs.Prelude.{Option, Some, None, Result, Ok, Err}
+use Rattle.std.specs.Prelude.{ℕ, Bool, ◌*◌, ◌%◌, ◌==◌, ◌&&◌, nat_lt, nat_le, if◌then◌else◌, Option, Some, None, Result}
+use Rattle.std.specs.Prelude.{Ok, Err}
 use Rattle.vbi_words.specs.declared.system.System as words
 use Rattle.vbi_words.specs.declared.system.System.TheVariants.{Ntsc, Pal}
 use Rattle.vbi_words.specs.Geometry.{line_bytes, field_bytes}
@@ -25,35 +25,31 @@ with_levels (Some system) black white =
 abbrev pub setup_of : ℕ → ℕ → ℕ → Result Setup Refusal
 setup_of number black white = with_levels (system_of number) black white
 
--- a setup whose bytes have a length, which has to be the one that goes with the system
-abbrev pub of_length : (words.System → ℕ) → ℕ → Result Setup Refusal → Result Setup Refusal
-of_length wanted length (Err refusal) = Err refusal
-of_length wanted length (Ok setup) = if length == wanted setup.system then Ok setup else Err Length
+-- a setup whose bytes have a length that fits its system
+abbrev pub of_length : (words.System → Bool) → Result Setup Refusal → Result Setup Refusal
+of_length fits (Err refusal) = Err refusal
+of_length fits (Ok setup) = if fits setup.system then Ok setup else Err Length
 
 -- the setup of a call with so many bytes, which have to be those of a line
 abbrev pub line_setup : ℕ → ℕ → ℕ → ℕ → Result Setup Refusal
-line_setup number black white length = of_length line_bytes length (setup_of number black white)
+line_setup number black white length =
+    of_length (λ system. length == line_bytes system) (setup_of number black white)
 
 -- the setup of a call with so many bytes, which have to be those of three lines
 abbrev pub rows_setup : ℕ → ℕ → ℕ → ℕ → Result Setup Refusal
-rows_setup number black white length = of_length (λ system. 3 * line_bytes system) length (setup_of number black white)
+rows_setup number black white length =
+    of_length (λ system. length == 3 * line_bytes system) (setup_of number black white)
 
 -- the setup of a call with so many bytes, which have to be those of that many fields
 abbrev pub fields_setup : ℕ → ℕ → ℕ → ℕ → ℕ → Result Setup Refusal
 fields_setup number black white length count =
-    of_length (λ system. count * field_bytes system) length (setup_of number black white)
-
--- a setup whose bytes have a length, which has to be that of 1 to 28 lines
-abbrev pub of_lines : ℕ → Result Setup Refusal → Result Setup Refusal
-of_lines length (Err refusal) = Err refusal
-of_lines length (Ok setup) =
-    if length % line_bytes setup.system == 0 && nat_lt 0 length && nat_le length (28 * line_bytes setup.system)
-    then Ok setup
-    else Err Length
+    of_length (λ system. length == count * field_bytes system) (setup_of number black white)
 
 -- the setup of a call with so many bytes, which have to be those of 1 to 28 lines
 abbrev pub lines_setup : ℕ → ℕ → ℕ → ℕ → Result Setup Refusal
-lines_setup number black white length = of_lines length (setup_of number black white)
+lines_setup number black white length = of_length (λ system.
+    length % line_bytes system == 0 && nat_lt 0 length && nat_le length (28 * line_bytes system))
+    (setup_of number black white)
 
 -- a number of a system's geometry, or 0 where there is no system
 abbrev pub of_system : (words.System → ℕ) → Option words.System → ℕ

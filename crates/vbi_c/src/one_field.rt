@@ -3,7 +3,7 @@
 ghost use Rattle.std.specs.Prelude.{◌≡◌, ◌≢◌, ◌<◌, ◌≤◌, length, IfOk};
 ghost use Rattle.vbi_side.specs.declared.pace.Pace as paces;
 ghost use Rattle.vbi_side.specs.Parts.{part_most};
-ghost use Rattle.vbi_c.specs.OneField.{given_of, one_judging_of, IsJudgedField};
+ghost use Rattle.vbi_c.specs.Judging.{given_of, one_judging_of, IsJudgedField};
 ghost use Rattle.vbi_c.specs.Statuses.{status_of};
 
 use crate::fields::LdvbiFieldReadings;

@@ -113,12 +113,10 @@ module _ (c : ConfigView) (input0 input output0 output : Option (List ℕ)) (n :
 
 -- where the answer is a fault of metadata or settings, P holds of it
 abbrev pub IfMeta : Result Ended AppFault → (MetaFault → Type 0) → Type 0
-IfMeta (Ok ended) P = ⊤
 IfMeta (Err (Meta fault)) P = P fault
-IfMeta (Err _) P = ⊤
+IfMeta _ P = ⊤
 
 -- P holds, unless the answer is one of those faults
 abbrev pub UnlessMeta : Result Ended AppFault → Type 0 → Type 0
-UnlessMeta (Ok ended) P = P
 UnlessMeta (Err (Meta fault)) P = ⊤
-UnlessMeta (Err _) P = P
+UnlessMeta _ P = P

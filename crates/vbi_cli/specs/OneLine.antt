@@ -5,13 +5,12 @@ use Rattle.std.specs.Io.KnownBytes.{IsAtEnd}
 use Rattle.vbi_words.specs.Geometry.{width_of, line_bytes}
 use Rattle.vbi_words.specs.Levels.{row_levels}
 use Rattle.vbi_words.specs.declared.outcome.Outcome.{Outcome}
-use Rattle.vbi_words.specs.declared.outcome.Outcome.TheVariants.{Word, Blank, Unfinished, Change, Hold}
+use Rattle.vbi_words.specs.declared.outcome.Outcome.TheVariants.{Word}
 use Rattle.vbi_line.specs.Counted.{device_of}
 use Rattle.vbi_line.specs.Intake as intakes
 use Rattle.vbi_line.specs.OneReading.{reading_of}
 use Rattle.vbi_line.specs.declared.intake.Intake.{Intake}
-use Rattle.vbi_field.specs.CauseTexts.{cause_text_of}
-use Rattle.vbi_field.specs.CodeTexts.{hex_text_of}
+use Rattle.vbi_field.specs.CodeTexts.{cause_text_of, hex_text_of}
 use Rattle.vbi_field.specs.ConfigView.{ConfigView}
 use Rattle.vbi_field.specs.Extracts.{counts_of}
 use Rattle.vbi_field.specs.Outlet as outlets
@@ -27,10 +26,7 @@ outcome_read c bytes = (reading_of c.system (row_levels c.levels bytes)).outcome
 -- what a line is answered with: its word in hexadecimal digits, or why it has none
 abbrev pub answer_of : Outcome → List ℕ
 answer_of (Word word) = hex_text_of word
-answer_of Blank = cause_text_of Blank
-answer_of Unfinished = cause_text_of Unfinished
-answer_of (Change column) = cause_text_of (Change column)
-answer_of (Hold column) = cause_text_of (Hold column)
+answer_of outcome = cause_text_of outcome
 
 -- the answer and a newline
 abbrev pub line_text : Outcome → List ℕ

@@ -1,6 +1,6 @@
 -- What is written with a whole row.
-use Rattle.std.proofs.Common.{◌≡◌, ℕ, ◌+◌, ◌*◌, ◌<◌, inl, inr, List, [], ◌++◌, length, sym, ap, ◌∙◌, arith}
-use Rattle.std.proofs.Common.{append-nil, add-zero, add_assoc}
+use Rattle.std.proofs.Common.{◌≡◌, ℕ, ◌+◌, ◌*◌, ◌<◌, List, [], ◌++◌, length, sym, ap, ◌∙◌, arith}
+use Rattle.std.proofs.Common.{append-nil, add-zero}
 use Rattle.std.specs.Prelude.{Option, Result, Err, Ok, IsErr}
 use Rattle.vbi_words.specs.Geometry.{width_of, height_of}
 use Rattle.vbi_field.specs.ConfigView.{ConfigView}
@@ -14,7 +14,7 @@ use Rattle.vbi_field.specs.declared.outlet.Outlet.{Outlet}
 use Rattle.vbi_field.specs.declared.progress.Progress.{Progress}
 use Rattle.vbi_field.specs.declared.summary.RunFault.{RunFault}
 use Rattle.vbi_field.specs.declared.readings.FieldReadings.{FieldReadings}
-use Rattle.vbi_field.proofs.Counts.{sizes_of, times-next, whole_fields, looks_field}
+use Rattle.vbi_field.proofs.Counts.{sizes_of, whole_fields}
 use Rattle.vbi_field.proofs.Devices.{wrote_none, wrote_whole, put_in_part}
 use Rattle.vbi_field.proofs.FeedTexts.{begun_same, begun_next}
 
@@ -31,14 +31,7 @@ pub record Further (c : ConfigView) (p p' : Progress) (looked : ℕ) : Type 0 wh
 pub further : (c : ConfigView) (p p' : Progress) (looked : ℕ)
     → looked ≡ width_of c.system * selected p.fields (p.row + 1)
     → MovesOneRow c p p' → Further c p p' looked
-further c p p' looked before (inl (fields, row)) = record {
-  rows = rw (fields, row) (sym (add_assoc _ _ _));
-  looks = rw (fields, row) before;
-}
-further c p p' looked before (inr (fields, row, last)) = record {
-  rows = rw (fields, row) (omega (arith, times-next p.fields (height_of c.system)));
-  looks = rw (fields, row) (looks_field c.system p.fields p.row looked last before);
-}
+further c p p' looked before h = grind arith
 
 module _ (t : Kind) {W : Type 0} (contents : W → Option (List ℕ)) (o o' : Outlet W) {c : ConfigView} {z : List ℕ}
     {p : Progress} (at : IsProgress c z p) (b : List ℕ) {p' : Progress} (next : IsProgress c (z ++ b) p') where

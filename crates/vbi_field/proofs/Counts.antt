@@ -1,10 +1,8 @@
 -- Numbers of fields, rows, bytes and samples looked at. What needs the sizes of the two systems is here: a field is
 -- `height_of s` rows of `line_bytes s` bytes each.
-use Rattle.std.proofs.Common.{◌≡◌, ℕ, ◌+◌, ◌-◌, ◌*◌, ◌/◌, ◌%◌, ◌≤◌, ◌<◌, ◌⊎◌, inl, inr, Bool, true, false, cond}
-use Rattle.std.proofs.Common.{refl, ap, ◌∙◌, arith, add-one, lit<, lit≤}
-use Rattle.std.specs.Prelude.{IsTrue, ◌↔◌}
-use Rattle.std.proofs.Math.Nat.{eq-zero-or-pos, lt_of_not-le, suc-mul}
-use Rattle.std.proofs.lemmas.Nat.{div-mul-add}
+use Rattle.std.proofs.Common.{◌≡◌, ℕ, ◌+◌, ◌*◌, ◌/◌, ◌%◌, ◌≤◌, ◌<◌}
+use Rattle.std.proofs.Common.{refl, ap, ◌∙◌, arith, add-one}
+use Rattle.std.proofs.Math.Nat.{suc-mul}
 use Rattle.vbi_field.specs.FeederState.{selected}
 use Rattle.vbi_words.specs.Geometry.{width_of, height_of, line_bytes, field_bytes}
 use Rattle.vbi_words.specs.declared.system.System.{System}
@@ -27,24 +25,7 @@ pub record Sizes (s : System) : Type 0 where
   pub small : field_bytes s ≤ field_bytes Pal
 
 pub sizes_of : (s : System) → Sizes s
-sizes_of Ntsc = record {
-  line = refl;
-  field = refl;
-  some = lit< tt;
-  narrow = lit≤ tt;
-  tall = lit< tt;
-  low = lit≤ tt;
-  small = lit≤ tt;
-}
-sizes_of Pal = record {
-  line = refl;
-  field = refl;
-  some = lit< tt;
-  narrow = lit≤ tt;
-  tall = lit< tt;
-  low = lit≤ tt;
-  small = lit≤ tt;
-}
+sizes_of s = grind arith
 
 -- ---- rows and fields
 
@@ -134,42 +115,6 @@ past_fields Pal n f r h inside short e = omega arith
 
 -- ---- samples looked at
 
--- after a row that is read
-looks_read : (s : System) (f r old new : ℕ) → 15 ≤ r → r ≤ 17 → old ≡ width_of s * selected f r → new ≡ old + width_of s
-    → new ≡ width_of s * selected f (r + 1)
-looks_read Ntsc f r old new low high before read = omega arith
-looks_read Pal f r old new low high before read = omega arith
-
--- after a row that isn't read
-looks_unread : (s : System) (f r old new : ℕ) → (r < 15) ⊎ (17 < r) → old ≡ width_of s * selected f r → new ≡ old + 0
-    → new ≡ width_of s * selected f (r + 1)
-looks_unread Ntsc f r old new (inl low) before same = omega arith
-looks_unread Ntsc f r old new (inr high) before same = omega arith
-looks_unread Pal f r old new (inl low) before same = omega arith
-looks_unread Pal f r old new (inr high) before same = omega arith
-
--- a row that isn't one of the three
-unselected : (r : ℕ) → (IsTrue false ↔ ((15 ≤ r) × (r ≤ 17))) → (r < 15) ⊎ (17 < r)
-unselected r selects =
-    elim (eq-zero-or-pos (15 - r)) [
-      | inl past ↦ inr (lt_of_not-le (λ b. let e : false ≡ true = selects.1 (omega arith, b) in cc))
-      | inr low ↦ inl (omega arith)
-    ]
-
--- after any row
-pub looks_next : (s : System) (f r old new : ℕ) (is_selected : Bool) → (IsTrue is_selected ↔ ((15 ≤ r) × (r ≤ 17)))
-    → old ≡ width_of s * selected f r → new ≡ old + cond is_selected (width_of s) 0
-    → new ≡ width_of s * selected f (r + 1)
-looks_next s f r old new true selects before read =
-    let at = selects.0 refl in looks_read s f r old new at.0 at.1 before read
-looks_next s f r old new false selects before same = looks_unread s f r old new (unselected r selects) before same
-
--- after the last row of a field
-pub looks_field : (s : System) (f r new : ℕ) → r + 1 ≡ height_of s → new ≡ width_of s * selected f (r + 1)
-    → new ≡ width_of s * selected (f + 1) 0
-looks_field Ntsc f r new last before = omega arith
-looks_field Pal f r new last before = omega arith
-
 -- those of three rows for each field, the unfinished one among them, are enough
 pub few_looks : (s : System) (f r : ℕ) → width_of s * selected f r ≤ 3 * width_of s * (f + 1)
 few_looks Ntsc f r = omega arith
@@ -185,27 +130,9 @@ no_looks Pal = refl
 pub selected_is : (s : System) (n f r h : ℕ) → r < height_of s → h < line_bytes s
     → n ≡ (f * height_of s + r) * line_bytes s + h
     → selected (n / field_bytes s) (n % field_bytes s / line_bytes s) ≡ selected f r
-selected_is s n f r h inside short e =
-    ap (λ m. selected m (n % field_bytes s / line_bytes s)) (whole_fields s n f r h inside short e)
-    ∙ ap (λ m. selected f (m / line_bytes s)) (past_fields s n f r h inside short e)
-    ∙ ap (selected f) (div-mul-add r (line_bytes s) h short)
+selected_is s n f r h inside short e = grind arith
 
 -- the line past m fields is in no row that is looked at
 pub selected_past : (s : System) (n m b : ℕ) → n ≡ m * field_bytes s + b → b ≤ line_bytes s
     → selected (n / field_bytes s) (n % field_bytes s / line_bytes s) ≡ selected m 0
-selected_past s n m b e le =
-    ap (λ k. selected k (n % field_bytes s / line_bytes s)) (fields s n m b e le)
-    ∙ ap (λ k. selected m (k / line_bytes s)) (rest s n m b e le)
-    ∙ none s m b le
-  where
-    fields : (s : System) (n m b : ℕ) → n ≡ m * field_bytes s + b → b ≤ line_bytes s → n / field_bytes s ≡ m
-    fields Ntsc n m b e le = omega arith
-    fields Pal n m b e le = omega arith
-
-    rest : (s : System) (n m b : ℕ) → n ≡ m * field_bytes s + b → b ≤ line_bytes s → n % field_bytes s ≡ b
-    rest Ntsc n m b e le = omega arith
-    rest Pal n m b e le = omega arith
-
-    none : (s : System) (m b : ℕ) → b ≤ line_bytes s → selected m (b / line_bytes s) ≡ selected m 0
-    none Ntsc m b le = omega arith
-    none Pal m b le = omega arith
+selected_past s n m b e le = grind arith

@@ -1,12 +1,12 @@
 -- What the devices of a run did: what a writer took, whole or in part, and that one failed for good.
-use Rattle.std.proofs.Common.{◌≡◌, ℕ, ◌+◌, ◌<◌, inl, inr, List, [], ◌++◌, length, take, drop, sym, ap, ◌∙◌, arith}
-use Rattle.std.proofs.Common.{append_assoc, add-zero, ◌≤◌, refl}
-use Rattle.std.specs.Prelude.{Option, ◌⊎◌}
+use Rattle.std.proofs.Common.{◌≡◌, ℕ, ◌+◌, ◌<◌, List, [], ◌++◌, length, take, drop, sym, ap, ◌∙◌, arith}
+use Rattle.std.proofs.Common.{append_assoc, add-zero, refl}
+use Rattle.std.specs.Prelude.{Option}
 use Rattle.std.proofs.KnownBytes.{Appends-nil, Appends-trans}
 use Rattle.std.proofs.lemmas.List.{length-append, length-drop, length-take-le, take_all, take-append-drop}
 use Rattle.vbi_field.specs.Outlet.{written_of, Puts, Wrote, WrotePart}
 use Rattle.vbi_field.specs.declared.outlet.Outlet.{Outlet}
-use Rattle.vbi_line.specs.Counted.{tries, failures_of, NoError, HasCause}
+use Rattle.vbi_line.specs.Counted.{failures_of, HasCause}
 use Rattle.vbi_line.specs.declared.counted.Counted.{Counted}
 use Rattle.vbi_field.specs.Outlet as outlets
 use Rattle.vbi_field.specs.Ran.{EndsInside, HasFailed}
@@ -75,15 +75,7 @@ module _ {W : Type 0} (contents : W → Option (List ℕ)) (o o' : Outlet W) whe
 -- a device that hadn't given an error before has failed for good
 pub has_failed : {D : Type 0} (old new : Counted D) → (failures_of old).errors ≡ 0 → HasCause old new
     → HasFailed (failures_of new)
-has_failed old new none h = record { rose = let r = h.rose in omega arith; cause = since h.cause }
-  where
-    since : (((failures_of new).errors ≡ (failures_of old).errors + 1) × ((failures_of new).streak ≡ 0))
-        ⊎ (NoError old new × (tries ≤ (failures_of new).streak)
-        × ((failures_of old).all + tries ≤ (failures_of new).all))
-        → (((failures_of new).errors ≡ 1) × ((failures_of new).streak ≡ 0))
-        ⊎ (((failures_of new).errors ≡ 0) × (tries ≤ (failures_of new).streak))
-    since (inl (errors, streak)) = inl (omega arith, streak)
-    since (inr (errors, streak, failures)) = inr (omega arith, streak)
+has_failed old new none h = grind arith
 
 -- the first of a text, and not all of it
 pub inside_of : {W : Type 0} (contents : W → Option (List ℕ)) (o o' : Outlet W) (before text due : List ℕ)

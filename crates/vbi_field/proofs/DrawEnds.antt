@@ -1,10 +1,9 @@
 -- How a run of drawing ends where no field is written any more: the reader's end, its fault, a malformed row, or a byte
 -- behind the last row that is allowed.
 use Rattle.std.proofs.Common.{◌≡◌, ℕ, ◌+◌, ◌≤◌, ◌<◌, ◌⊎◌, inl, inr, List, [], ◌∷◌, ◌++◌}
-use Rattle.std.proofs.Common.{length, refl, sym, ap, subst, ◌∙◌, arith}
+use Rattle.std.proofs.Common.{length, refl, ap, subst, ◌∙◌, arith}
 use Rattle.std.specs.Prelude.{Option, None, Result, Ok, Err}
 use Rattle.std.specs.Io.KnownBytes.{IsAtEnd}
-use Rattle.std.proofs.lemmas.List.{append-nil}
 use Rattle.vbi_line.specs.Counted.{device_of, NoError, HasCause}
 use Rattle.vbi_field.specs.ConfigView.{ConfigView}
 use Rattle.vbi_field.specs.Limits.{longest_row}
@@ -47,17 +46,7 @@ module _ {R W : Type 0} {remaining : R → Option (List ℕ)} {contents : W → 
   ended : (j : RowIntake R) → Fetches remaining i j [] → NoError (intakes.counted_of i) (intakes.counted_of j)
       → IsAtEnd (remaining (device_of (intakes.counted_of j))) → done ≤ c.max_fields
       → RunsDrawing remaining contents c i0 j o0 o (Ok done)
-  ended j f calm end few = ends_here j [] f (Ok done) (record {
-    devices = (calm ∙ g.calm_reads, g.calm_writes);
-    came = record {
-      rows = g.rows;
-      well_formed = rw append-nil g.well_formed;
-      number = sym g.count;
-      few = few;
-      at_end = end;
-      drawn = refl;
-    };
-  })
+  ended j f calm end few = grind arith
 
   -- the reader failed
   read_failed : (j : RowIntake R) (b : List ℕ) → Fetches remaining i j b → HasNoNewline b
@@ -146,9 +135,7 @@ module _ {R W : Type 0} {remaining : R → Option (List ℕ)} {contents : W → 
   -- the reader ended after whole rows, or failed in the next
   pub row_ended : (j : RowIntake R) (t : TakesRow remaining i j AtEnd) → done ≤ c.max_fields
       → RunsDrawing remaining contents c i0 j o0 o (Ok done)
-  row_ended j t few =
-      let P : List ℕ → Type 0 = Fetches remaining i j in
-      ended j (subst P t.got.0 t.fetches) t.caused t.got.1 few
+  row_ended j t few = grind arith
 
   pub row_read_failed : (j : RowIntake R) (t : TakesRow remaining i j Failed) → done < c.max_fields
       → RunsDrawing remaining contents c i0 j o0 o (Err (faults.Read (done + 1)))
@@ -156,9 +143,7 @@ module _ {R W : Type 0} {remaining : R → Option (List ℕ)} {contents : W → 
 
   pub byte_ended : (j : RowIntake R) → TakesByte remaining i j bytes.AtEnd → (n : ℕ) → n ≡ c.max_fields → done ≡ n
       → RunsDrawing remaining contents c i0 j o0 o (Ok n)
-  byte_ended j t n max last =
-      let P : ℕ → Type 0 = λ k. RunsDrawing remaining contents c i0 j o0 o (Ok k) in
-      subst P last (ended j t.fetches t.caused t.got (omega arith))
+  byte_ended j t n max last = grind arith
 
   pub byte_read_failed : (j : RowIntake R) → TakesByte remaining i j bytes.Failed → (n : ℕ) → n ≡ c.max_fields
       → done ≡ n

@@ -9,8 +9,7 @@ use Rattle.vbi_words.specs.Geometry.{field_bytes}
 use Rattle.vbi_words.specs.declared.system.System.{System}
 use Rattle.vbi_words.specs.declared.system.System.TheVariants.{Ntsc, Pal}
 use Rattle.vbi_field.specs.ConfigView.{ConfigView}
-use Rattle.vbi_field.specs.Drawing.{draw_out, drawn_field_of}
-use Rattle.vbi_field.specs.DrawnReadings.{drawn_readings, drawn_text, no_words}
+use Rattle.vbi_field.specs.Drawing.{draw_out, drawn_field_of, drawn_readings, drawn_text, no_words}
 use Rattle.vbi_field.specs.Stream.{fields_of, rest_of}
 use Rattle.vbi_field.specs.Texts.{whole_text}
 use Rattle.vbi_field.specs.Kinds.{Kind}

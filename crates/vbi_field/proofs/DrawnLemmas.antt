@@ -1,5 +1,5 @@
 -- Fields that are drawn.
-use Rattle.std.proofs.Common.{◌≡◌, ◌≢◌, ℕ, zero, suc, ◌+◌, ◌*◌, ◌-◌, ◌<◌, ◌≤◌, ◌⊎◌, inl, inr}
+use Rattle.std.proofs.Common.{◌≡◌, ◌≢◌, ℕ, zero, suc, ◌+◌, ◌*◌, ◌-◌, ◌<◌, ◌≤◌, ◌⊎◌}
 use Rattle.std.proofs.Common.{List, [], ◌++◌, length, refl, sym, ap, ◌∙◌}
 use Rattle.std.proofs.Common.{arith, append_assoc, add-zero, zero-add}
 use Rattle.std.proofs.Math.Nat.{zero-mul, suc-mul}
@@ -53,12 +53,7 @@ no_word words r a b c = grind (arith, nat_tests)
 
 -- a row that is as the row before
 pub same_word : (words : WordRow) (r : ℕ) → (r < 15) ⊎ (18 < r) → word_at words (r - 1) ≡ word_at words r
-same_word words r (inl l) =
-    no_word words (r - 1) (omega arith) (omega arith) (omega arith)
-    ∙ sym (no_word words r (omega arith) (omega arith) (omega arith))
-same_word words r (inr l) =
-    no_word words (r - 1) (omega arith) (omega arith) (omega arith)
-    ∙ sym (no_word words r (omega arith) (omega arith) (omega arith))
+same_word words r h = grind arith
 
 -- ---- fields
 
@@ -106,6 +101,4 @@ length-drawn_field_of c words =
 
 -- the last row of a field has no word
 pub last_word : (c : ConfigView) (words : WordRow) → word_at words (height_of c.system - 1) ≡ None
-last_word c words =
-    let sizes = sizes_of c.system in
-    no_word words (height_of c.system - 1) (omega arith) (omega arith) (omega arith)
+last_word c words = grind arith

@@ -13,9 +13,8 @@ use Rattle.vbi_words.specs.Words.{IsWordOrNone}
 use Rattle.vbi_words.proofs.DrawnLines.{length-drawn_line_of, drawn_reads}
 use Rattle.vbi_field.specs.ConfigView.{ConfigView}
 use Rattle.vbi_field.specs.declared.word_row.WordRow.{WordRow}
-use Rattle.vbi_field.specs.Drawing.{word_at, drawn_field_of, draw_out}
-use Rattle.vbi_field.specs.DrawnReadings.{AreDrawable, drawn_readings}
-use Rattle.vbi_field.specs.ByLines.{RowReads, FieldReads}
+use Rattle.vbi_field.specs.Drawing.{word_at, drawn_field_of, draw_out, AreDrawable, drawn_readings}
+use Rattle.vbi_field.specs.Texts.{RowReads, FieldReads}
 use Rattle.vbi_field.proofs.Counts.{sizes_of}
 use Rattle.vbi_field.proofs.DrawnLemmas.{length-drawn_field_of, drawn_rows_of, length-drawn_rows_of, drawn_rows_of-more}
 use Rattle.vbi_field.proofs.DrawnLemmas.{drawn_rows_of-split}

@@ -1,7 +1,8 @@
+use Rattle.std.proofs.Common.{arith}
 -- How a stream that is pushed begins and ends.
-use Rattle.std.proofs.Common.{◌/◌, ◌≡◌, ℕ, ◌+◌, ◌*◌, ◌<◌, List, length, sym, ap, subst, ◌∙◌}
+use Rattle.std.proofs.Common.{◌≡◌, ℕ, ◌+◌, ◌*◌, ◌<◌, List, length, sym, ap, subst, ◌∙◌}
 use Rattle.std.specs.Prelude.{Option, Result, Ok, Err, OnOk, OnErr, IfOk, IfErr}
-use Rattle.vbi_words.specs.Geometry.{width_of, line_bytes}
+use Rattle.vbi_words.specs.Geometry.{line_bytes}
 use Rattle.vbi_line.specs.Line.{Line}
 use Rattle.vbi_field.specs.Kinds.{document}
 use Rattle.vbi_field.specs.Feed.{IsAt, IsFinished}
@@ -9,13 +10,12 @@ use Rattle.vbi_field.specs.Outlet.{written_of, Puts, WrotePart}
 use Rattle.vbi_field.specs.ConfigView.{ConfigView}
 use Rattle.vbi_field.specs.FeederState.{IsFeederState, position_in}
 use Rattle.vbi_field.specs.Stream.{fields_of, rest_of, cut_of, looks_of}
-use Rattle.vbi_field.specs.FeederState.{selected}
 use Rattle.vbi_field.specs.declared.outlet.Outlet.{Outlet}
 use Rattle.vbi_field.specs.declared.progress.Progress.{Progress}
 use Rattle.vbi_field.specs.declared.summary.RunFault.{RunFault}
 use Rattle.vbi_field.specs.declared.summary.RunFault.TheVariants.{Write}
 use Rattle.vbi_field.specs.declared.summary.Summary.{Summary}
-use Rattle.vbi_field.proofs.Positions.{Split, split_of, split_fields, split_rest, split_rows}
+use Rattle.vbi_field.proofs.Positions.{Split, split_of, split_fields, split_rest}
 use Rattle.vbi_field.proofs.Devices.{wrote_whole, put_in_part}
 
 -- what was put is the first of it
@@ -43,10 +43,7 @@ module _ {W : Type 0} (contents : W → Option (List ℕ)) (c : ConfigView) (l :
   tail = ap (λ n. document.tail n rest) fields ∙ ap (document.tail (fields_of c z)) past
 
   looks : l.looked ≡ looks_of c z
-  looks =
-      let same : selected p.fields p.row ≡ selected (fields_of c z) (rest_of c z / line_bytes c.system) =
-      ap (λ n. selected n p.row) fields ∙ ap (selected (fields_of c z)) (sym (split_rows c z l.held p parts)) in
-      st.looked ∙ ap (λ n. width_of c.system * n) same
+  looks = grind arith
 
   -- the tail was put, or the first of it
   pub finished : (looked : ℕ) (r : Result Summary RunFault) → looked ≡ l.looked

@@ -6,9 +6,8 @@ use Rattle.std.proofs.lemmas.List.{length-drop, take_all, take-append-drop}
 use Rattle.std.proofs.Math.Nat.{le_refl, le_of_eq}
 use Rattle.std.proofs.Math.Seq.{take-add}
 use Rattle.vbi_field.specs.Kinds.{document}
-use Rattle.vbi_field.specs.Feed.{IsAt, IsFed, IsFeedFault, StandsAt}
+use Rattle.vbi_field.specs.Feed.{IsAt, IsFed, IsFeedFault, StandsAt, Feeding}
 use Rattle.vbi_field.specs.FeedView.{feeding_of}
-use Rattle.vbi_field.specs.Feeding.{Feeding}
 use Rattle.vbi_line.specs.Counted.{NoError, IsSameDevice}
 use Rattle.vbi_field.specs.Outlet.{counted_of, Rises}
 use Rattle.vbi_field.specs.Position.{Position}
@@ -158,11 +157,7 @@ module _ {W : Type 0} {contents : W → Option (List ℕ)} {old : Feeding} {was 
   -- the piece so far
   so_far : (z : List ℕ) → StandsAt old z
       → IsFed contents was.config o0 o z (take at piece) (position_in was.config was.line was.progress) (Ok tt)
-  so_far z s =
-      let P : ConfigView
-      → Type 0 =
-      λ k. IsFed contents k o0 o z (take at piece) (position_in was.config was.line was.progress) (Ok tt) in
-      subst P (sym t.config) (t.fed z s)
+  so_far z s = grind arith
 
   -- the bytes of one row more
   pub taken_more : (n : ℕ) → result ≡ Ok n → at ≤ length piece → n ≤ length bytes

@@ -1,7 +1,6 @@
 -- What the bytes up to the end of a row do to a feeder.
-use Rattle.std.proofs.Common.{◌≡◌, ℕ, ◌+◌, ◌*◌, ◌≤◌, ◌<◌, inl, inr, Bool, false, cond, List, [], ◌++◌, length}
+use Rattle.std.proofs.Common.{◌≡◌, ℕ, ◌+◌, ◌*◌, ◌≤◌, ◌<◌, Bool, false, cond, List, [], ◌++◌, length}
 use Rattle.std.proofs.Common.{take, drop, refl, sym, ap, ◌∙◌, arith, append_assoc, append-nil}
-use Rattle.std.proofs.lemmas.Bool.{cond-true}
 use Rattle.std.specs.Prelude.{Option, Some, None, Result, Err, Ok, IsErrAnd, IsTrue, ◌↔◌}
 use Rattle.std.proofs.lemmas.List.{length-append, take-append-drop, take_at}
 use Rattle.vbi_words.specs.Geometry.{width_of, height_of, line_bytes, field_bytes}
@@ -22,10 +21,10 @@ use Rattle.vbi_field.specs.declared.outlet.Outlet.{Outlet}
 use Rattle.vbi_field.specs.declared.progress.Progress.{Progress}
 use Rattle.vbi_field.specs.declared.summary.RunFault.{RunFault}
 use Rattle.vbi_field.specs.declared.summary.RunFault.TheVariants.{Write, TooManyFields}
-use Rattle.vbi_field.proofs.Counts.{sizes_of, row_before, row_fits, exactly_fields, looks_next}
+use Rattle.vbi_field.proofs.Counts.{sizes_of, row_before, row_fits, exactly_fields}
 use Rattle.vbi_field.proofs.Positions.{Split, split_of, split_fields, split_long, at_of}
 use Rattle.vbi_field.proofs.FeedTexts.{begun_same, begun_grows, completes_twice, cut_longer}
-use Rattle.vbi_field.proofs.AddedRows.{fields_at, further}
+use Rattle.vbi_field.proofs.AddedRows.{fields_at}
 use Rattle.vbi_field.proofs.Devices.{wrote_none, longer_part}
 
 pub not_full : (b : Bool) (P : Type 0) → (IsTrue b ↔ P) → b ≡ false → P → ⊥
@@ -35,13 +34,7 @@ not_full b P iff e p = let t = iff.1 p in cc
 row_held : (c : ConfigView) (s : System) (is_selected : Bool) (b : List ℕ) (row : ℕ) (o : Option Reading)
     → (IsTrue is_selected ↔ ((15 ≤ row) × (row ≤ 17))) → s ≡ c.system → length b ≡ line_bytes s
     → o ≡ cond is_selected (Some (reading_of s (row_levels c.levels b))) None → IsLineOf c b row o
-row_held c s is_selected b row o selects ss whole shows =
-    record {
-      whole = whole ∙ ap line_bytes ss;
-      shows = λ x y. shows
-          ∙ cond-true is_selected (Some (reading_of s (row_levels c.levels b))) None (selects.1 (x, y))
-          ∙ ap (λ s. Some (reading_of s (row_levels c.levels b))) ss;
-    }
+row_held c s is_selected b row o selects ss whole shows = grind arith
 
 -- where the line is held no longer, and its row was added
 pub stand_next : (c : ConfigView) (l l' : Line) (p p' : Progress) (is_selected : Bool)
@@ -51,24 +44,7 @@ pub stand_next : (c : ConfigView) (l l' : Line) (p p' : Progress) (is_selected :
     → p.fields < c.max_fields → c.max_fields ≤ most_fields
     → l'.looked ≡ l.looked + cond is_selected (width_of c.system) 0
     → IsFeederState c l' p'
-stand_next c l l' p p' is_selected selects st system cursors held inside next left most looked =
-    let on =
-    further c p p' l'.looked
-    (looks_next c.system p.fields p.row l.looked l'.looked is_selected selects st.looked looked) next in
-    let few = more p p' next in
-    record {
-      system = system;
-      cursors = cursors;
-      short = rw held (sizes_of c.system).some;
-      inside = inside;
-      few = omega arith;
-      most = omega arith;
-      looked = on.looks;
-    }
-  where
-    more : (p p' : Progress) → MovesOneRow c p p' → p'.fields ≤ p.fields + 1
-    more p p' (inl (fields, row)) = omega arith
-    more p p' (inr (fields, row, last)) = omega arith
+stand_next c l l' p p' is_selected selects st system cursors held inside next left most looked = grind arith
 
 module _ {W : Type 0} (contents : W → Option (List ℕ)) {c : ConfigView} {l : Line} {p : Progress}
     (st : IsFeederState c l p) {z : List ℕ} (at : IsAt c z (position_in c l p)) where

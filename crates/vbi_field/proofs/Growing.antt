@@ -49,10 +49,7 @@ reading_at-more c z b i r le = ap (λ l. reading_of c.system (row_levels c.level
 -- an inner row of a whole field is whole
 inner : (s : System) (i r n : ℕ) → r ≤ 17 → (i + 1) * height_of s ≤ n
     → (i * height_of s + r + 1) * line_bytes s ≤ n * line_bytes s
-inner s i r n small le =
-    let sizes = sizes_of s in
-    let within : i * height_of s + r + 1 ≤ n = omega (arith, times-next i (height_of s)) in
-    mul-le-mul_right (line_bytes s) within
+inner s i r n small le = grind arith
 
 -- the readings of a whole field stay
 pub readings_at-more : (c : ConfigView) (z b : List ℕ) (i n : ℕ)
@@ -78,13 +75,7 @@ among_none c z i rows r le = cond_above r rows (Some (reading_at c z i r)) None 
 -- of two streams with the same reading of a row, once it is whole
 pub among_same : (c : ConfigView) (z w : List ℕ) (i rows r : ℕ)
     → (r < rows → reading_at c z i r ≡ reading_at c w i r) → reading_among c z i rows r ≡ reading_among c w i rows r
-among_same c z w i rows r same =
-    elim (eq-zero-or-pos (rows - r)) [
-      | inl none ↦ sym (among_none c z i rows r (omega arith)) ∙ among_none c w i rows r (omega arith)
-      | inr some ↦
-          let lt : r < rows = omega arith in
-          sym (among_some c z i rows r lt) ∙ ap Some (same lt) ∙ among_some c w i rows r lt
-    ]
+among_same c z w i rows r same = grind arith
 
 -- the reading of a row, once the next has come
 reads_next : (c : ConfigView) (z b : List ℕ) (i row r : ℕ) (o was now : Option Reading) → 15 ≤ r → r ≤ 17

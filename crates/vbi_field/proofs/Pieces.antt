@@ -8,8 +8,7 @@ use Rattle.std.proofs.Math.Nat.{zero-div, eq-zero-or-pos}
 use Rattle.vbi_words.specs.Geometry.{field_bytes}
 use Rattle.vbi_field.specs.ConfigView.{ConfigView, allowed_bytes}
 use Rattle.vbi_field.specs.Extracts.{ExtractsAll}
-use Rattle.vbi_field.specs.Feed.{IsAt, IsFed, IsFinished, StandsAt, Feeds, FeedsAll, Pushes}
-use Rattle.vbi_field.specs.Feeding.{Feeding}
+use Rattle.vbi_field.specs.Feed.{IsFed, IsFinished, StandsAt, Feeds, FeedsAll, Pushes, Feeding}
 use Rattle.vbi_field.specs.Kinds.{document}
 use Rattle.vbi_field.specs.Outlet.{Wrote}
 use Rattle.vbi_field.specs.Position.{Position}
@@ -77,9 +76,7 @@ module _ {W : Type 0} (contents : W → Option (List ℕ)) where
   -- a feeder whose call was Ok stands behind the piece
   stands_next : (f f' : Feeding) (o o' : Outlet W) (z piece : List ℕ) → Feeds contents f f' o o' piece (Ok tt)
       → StandsAt f z → StandsAt f' (z ++ piece)
-  stands_next f f' o o' z piece fed stands =
-      let P : ConfigView → Type 0 = λ c. IsAt c (z ++ piece) f'.position in
-      record { unfailed = grind (arith, fed.failed); at = subst P (sym fed.config) (fed.fed z stands).0 }
+  stands_next f f' o o' z piece fed stands = grind arith
 
   pub pieces_join : (f f' : Feeding) (o o' : Outlet W) (z : List ℕ) (pieces : List (List ℕ))
       (result : Result (Unit {0}) RunFault) → StandsAt f z → FeedsAll contents f f' o o' pieces result

@@ -1,22 +1,19 @@
 -- A run that fetched a whole row more: what is due with the row was written, or its writer failed.
 use Rattle.std.proofs.Common.{◌≡◌, ℕ, ◌+◌, ◌*◌, ◌≤◌, ◌<◌, inl, inr, Bool, true, false, List, ◌++◌, length, take}
 use Rattle.std.proofs.Common.{drop, sym, ap, ◌∙◌, arith, subst, cond, zero-le, add-zero, append_assoc}
-use Rattle.std.proofs.lemmas.Bool.{cond-true}
-use Rattle.std.specs.Prelude.{Option, Some, None, Result, Ok, Err, IsErrAnd, IsTrue, ◌↔◌}
+use Rattle.std.specs.Prelude.{Option, Result, Ok, Err, IsErrAnd, IsTrue, ◌↔◌}
 use Rattle.vbi_field.specs.declared.summary.Summary.{Summary}
 use Rattle.std.specs.Io.KnownBytes.{Consumes, Appends}
 use Rattle.std.proofs.KnownBytes.{Appends-trans, Consumes-trans}
 use Rattle.std.proofs.lemmas.List.{length-append, length-drop, length-take-le, take-append-drop}
 use Rattle.std.proofs.Math.Nat.{le_of_eq, le_trans, zero-mul, mul-le-mul_right}
 use Rattle.vbi_words.specs.Geometry.{width_of, height_of, line_bytes, field_bytes}
-use Rattle.vbi_words.specs.Levels.{Slicing, row_levels}
+use Rattle.vbi_words.specs.Levels.{Slicing}
 use Rattle.vbi_words.specs.declared.system.System.{System}
 use Rattle.vbi_words.specs.declared.system.System.TheVariants.{Pal}
 use Rattle.vbi_words.specs.declared.outcome.Reading.{Reading}
 use Rattle.vbi_line.specs.Counted.{tries, device_of, failures_of, NoError, HasCause, IsSameDevice}
 use Rattle.vbi_line.specs.Intake as intakes
-use Rattle.vbi_line.specs.OneReading.{reading_of}
-use Rattle.vbi_line.specs.declared.counted.Counted.{Counted}
 use Rattle.vbi_line.specs.declared.intake.Filled.TheVariants.{Full}
 use Rattle.vbi_line.specs.declared.intake.Intake.{Intake}
 use Rattle.vbi_field.specs.ConfigView.{ConfigView, allowed_bytes}
@@ -35,7 +32,7 @@ use Rattle.vbi_field.specs.declared.progress.Progress.{Progress}
 use Rattle.vbi_field.specs.declared.summary.RunFault.{RunFault}
 use Rattle.vbi_field.specs.declared.summary.RunFault.TheVariants.{Write}
 use Rattle.vbi_field.proofs.Counts.{sizes_of, few_fields, bytes_of_next_field, rows_fit}
-use Rattle.vbi_field.proofs.Counts.{whole_fields, past_fields, looks_next, selected_is}
+use Rattle.vbi_field.proofs.Counts.{whole_fields, past_fields, selected_is}
 use Rattle.vbi_field.proofs.FeedTexts.{begun_same}
 use Rattle.vbi_field.proofs.AddedRows.{fields_at, further}
 use Rattle.vbi_field.proofs.Devices.{inside_of}
@@ -111,40 +108,13 @@ module _ {t : Kind} {R W : Type 0} {remaining : R → Option (List ℕ)} {conten
     system = let kept = row.kept in kept.system ∙ g.system
 
     took : Took remaining i i' row.bytes
-    took =
-        let got = row.got in
-        let P : Counted R → Type 0 = λ d.
-        Consumes (remaining (device_of (intakes.counted_of i))) (remaining (device_of d)) row.bytes
-        × ((failures_of d).all ≤ (failures_of (intakes.counted_of i)).all + tries * (length row.bytes + 1))
-        × NoError (intakes.counted_of i) d × IsSameDevice (intakes.counted_of i) d in
-        let all = subst P (sym reader.reader) (row.consumed, row.most, got.no_error, named) in
-        record {
-          consumed = all.0;
-          fetched = reader.fetched ∙ row.fetched;
-          most = all.1;
-          no_error = all.2;
-          same = all.3;
-        }
+    took = grind arith
 
     pub row_came : IsLineOf c row.bytes p.row reading
-    row_came =
-        let got = row.got in
-        record {
-          whole = got.whole ∙ ap line_bytes g.system;
-          shows = λ a b. line.shows
-              ∙ cond-true is_selected (Some (reading_of filled.line.system (row_levels levels filled.line.held))) None
-              (selects.1 (a, b))
-              ∙ ap (λ s. Some (reading_of s (row_levels levels filled.line.held))) system
-              ∙ ap (λ l. Some (reading_of c.system (row_levels levels l))) row.held
-              ∙ ap (λ l. Some (reading_of c.system (row_levels l row.bytes))) same_levels;
-        }
+    row_came = grind arith
 
     looks_after : i'.line.looked ≡ width_of c.system * selected p.fields (p.row + 1)
-    looks_after =
-        let kept = row.kept in
-        looks_next c.system p.fields p.row i.line.looked i'.line.looked is_selected selects g.looks
-        (line.looked ∙ ap (λ n. n + cond is_selected (width_of filled.line.system) 0) kept.looked
-        ∙ ap (λ s. i.line.looked + cond is_selected (width_of s) 0) system)
+    looks_after = grind arith
 
     -- what is due with the row was written
     pub step : (o' : Outlet W) (p' : Progress) → MovesOneRow c p p'

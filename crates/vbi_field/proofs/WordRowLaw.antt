@@ -11,7 +11,7 @@ use Rattle.std.proofs.lemmas.List.Splits.{slice_split_at, slice_split_none, join
 use Rattle.vbi_field.specs.declared.word_row.WordRow.{WordRow}
 use Rattle.vbi_field.specs.WordRows.{IsItem, IsWordRow, is_none_item, is_hex_item, is_word, item_of}
 use Rattle.vbi_field.specs.WordRows.{row_of_items, row_of_parts, parts_of, word_row_of, row_words, rows_of, AreRows}
-use Rattle.vbi_field.specs.DrawnReadings.{AreDrawable}
+use Rattle.vbi_field.specs.Drawing.{AreDrawable}
 use Rattle.vbi_words.specs.Words.{IsWordOrNone}
 
 -- ---- items
@@ -70,12 +70,7 @@ is_item text (Some word) (long, digits, value, range) =
 
 -- an item has no space
 no_space : (c : ℕ) → digit_value c < 16 → (c == 32) ≡ false
-no_space c d = go (c == 32) refl
-  where
-    go : (b : Bool) → (c == 32) ≡ b → b ≡ false
-    go true e = let P : ℕ
-        → Type 0 = λ k. digit_value k < 16 in let bad : 36 < 16 = subst P (eqb-true c 32 e) d in absurd (omega arith)
-    go false e = refl
+no_space c d = grind arith
 
 plain_at : (text : List ℕ) → AllDigits 16 text → (k d : ℕ) → k < length text → (get_or text k d == 32) ≡ false
 plain_at [] digits k d l = absurd (omega arith)
@@ -104,12 +99,7 @@ record AreItems (a b c : Option (Option ℕ)) (words : WordRow) : Type 0 where
   third : c ≡ Some words.third
 
 items_of : (a b c : Option (Option ℕ)) (words : WordRow) → row_of_items a b c ≡ Some words → AreItems a b c words
-items_of None b c words e = cc
-items_of (Some a) None c words e = cc
-items_of (Some a) (Some b) None words e = cc
-items_of (Some a) (Some b) (Some c) words e =
-    let same : record { first = a; second = b; third = c } ≡ words = cc in
-    subst (AreItems (Some a) (Some b) (Some c)) same (record { first = refl; second = refl; third = refl })
+items_of a b c words e = grind arith
 
 row_from : (row : List ℕ) (words : WordRow) (parts : List (List ℕ)) → join_with_byte 32 parts ≡ row
     → row_of_parts parts ≡ Some words

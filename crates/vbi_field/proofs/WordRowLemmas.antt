@@ -3,7 +3,7 @@ use Rattle.std.proofs.Common.{◌≡◌, ◌≢◌, ℕ, suc, ◌+◌, ◌-◌, 
 use Rattle.std.proofs.Common.{take, drop, cond, refl, sym, ap, ◌∙◌, arith, inl, inr, map, append_assoc, get_or}
 use Rattle.std.specs.Prelude.{Option, Some, None, nat_lt, ◌==◌, ◌⊎◌}
 use Rattle.std.specs.List.{position, position_or_len, count_by, join_with_byte, onto_first}
-use Rattle.std.proofs.lemmas.Bool.{ltb-true, ltb-false, cases_lt}
+use Rattle.std.proofs.lemmas.Bool.{ltb-true, ltb-false}
 use Rattle.std.proofs.lemmas.List.{take_rest, take_at, take_all, length-append, map-append, get_or_append_left}
 use Rattle.std.proofs.lemmas.List.{get_or_push}
 use Rattle.std.proofs.lemmas.List.Sums.{position_or_len_is, fails_before_first}
@@ -96,9 +96,7 @@ no_second None c = refl
 no_second (Some a) c = refl
 
 no_third : (a b : Option (Option ℕ)) → row_of_items a b None ≡ None
-no_third None b = refl
-no_third (Some a) None = refl
-no_third (Some a) (Some b) = refl
+no_third a b = grind arith
 
 long_items : (a b c : List ℕ) → (6 < length a) ⊎ ((6 < length b) ⊎ (6 < length c))
     → row_of_items (item_of a) (item_of b) (item_of c) ≡ None
@@ -107,13 +105,7 @@ long_items a b c (inr (inl h)) = rw (item_long b h) (no_second (item_of a) (item
 long_items a b c (inr (inr h)) = rw (item_long c h) (no_third (item_of a) (item_of b))
 
 one_long : (a b c : ℕ) → 20 < a + (1 + (b + (1 + c))) → (6 < a) ⊎ (6 < b) ⊎ (6 < c)
-one_long a b c l = elim (cases_lt 6 a) [
-  | inl h ↦ inl h
-  | inr h ↦ elim (cases_lt 6 b) [
-    | inl k ↦ inr (inl k)
-    | inr k ↦ inr (inr (omega arith))
-  ]
-]
+one_long a b c l = grind arith
 
 long_parts : (parts : List (List ℕ)) → 20 < length (join_with_byte 32 parts) → row_of_parts parts ≡ None
 long_parts [] l = refl
@@ -151,11 +143,7 @@ some_after (c ∷ cs) = some_cond (c == newline) c (rows_of (cs ++ newline ∷ [
 
 onto_append : (c : ℕ) (rows more : List (List ℕ)) → IsSome_rows rows
     → onto_first c (rows ++ more) ≡ onto_first c rows ++ more
-onto_append c [] more some = absurd (none_there some.first some.others some.whole)
-  where
-    none_there : (first : List ℕ) (others : List (List ℕ)) → [] ≡ first ∷ others → ⊥
-    none_there first others e = cc
-onto_append c (first ∷ others) more some = refl
+onto_append c rows more some = grind arith
 
 cut_cond : (b : Bool) (c : ℕ) (both rows more : List (List ℕ)) → both ≡ rows ++ more → IsSome_rows rows
     → cond b ((c ∷ []) ∷ both) (onto_first c both) ≡ cond b ((c ∷ []) ∷ rows) (onto_first c rows) ++ more

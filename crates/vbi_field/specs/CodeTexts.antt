@@ -1,10 +1,13 @@
--- The texts of code words and of their codes in the report, as lists of ASCII codes.
+-- The texts of code words and of their codes in the report, and of why a line has no word in the document and the
+-- report, as lists of ASCII codes.
 use Rattle.std.specs.Prelude.{ℕ, ◌+◌, ◌-◌, List, [], ◌∷◌, ◌++◌, length, replicate, nat_lt, if◌then◌else◌, codes}
 use Rattle.std.specs.Prelude.{decimal}
 use Rattle.vbi_words.specs.declared.code.Code.{Code}
 use Rattle.vbi_words.specs.declared.code.Code.TheVariants.{Picture, Chapter, Time, ClvPicture, CxOn, CxOff}
 use Rattle.vbi_words.specs.declared.code.Code.TheVariants.{Users, LeadIn, LeadOut, PictureStop, ClvMark, Other}
 use Rattle.vbi_words.specs.Codes.{digit_of}
+use Rattle.vbi_words.specs.declared.outcome.Outcome.{Outcome}
+use Rattle.vbi_words.specs.declared.outcome.Outcome.TheVariants.{Word, Blank, Unfinished, Change, Hold}
 
 -- the hexadecimal digit: '0' to '9', and 'A' to 'F'
 abbrev pub hex_digit : ℕ → ℕ
@@ -43,3 +46,11 @@ code_text_of (CxOn number) = codes "cx on " ++ hex_number number
 code_text_of (CxOff number) = codes "cx off " ++ hex_number number
 code_text_of (Users digit number) = codes "users " ++ decimal digit ++ codes " " ++ hex_number number
 code_text_of Other = codes "other"
+
+-- the name of an outcome, and its column where it has one
+abbrev pub cause_text_of : Outcome → List ℕ
+cause_text_of (Word word) = codes "word"
+cause_text_of Blank = codes "blank"
+cause_text_of Unfinished = codes "unfinished"
+cause_text_of (Change column) = codes "change " ++ decimal column
+cause_text_of (Hold column) = codes "hold " ++ decimal column

@@ -1,6 +1,6 @@
 -- What a feeder does with a stream in pieces. The bytes z are those of the pieces before.
 use Rattle.std.specs.Prelude.{◌≡◌, ◌↔◌, ℕ, ◌<◌, ◌≤◌, ◌⊎◌, false, IsTrue, List, [], ◌∷◌, ◌++◌, length, take, Option}
-use Rattle.std.specs.Prelude.{Result, Ok, Err, IsErr}
+use Rattle.std.specs.Prelude.{Result, Ok, Err, IsErr, Bool}
 use Rattle.vbi_field.specs.Kinds.{document}
 use Rattle.vbi_line.specs.Counted.{NoError, HasCause}
 use Rattle.vbi_field.specs.Outlet.{counted_of, written_of, Wrote, WrotePart}
@@ -8,11 +8,18 @@ use Rattle.vbi_field.specs.Position.{Position, position_of}
 use Rattle.vbi_field.specs.ConfigView.{ConfigView, allowed_bytes}
 use Rattle.vbi_field.specs.Stream.{fields_of, rest_of, cut_of, looks_of}
 use Rattle.vbi_field.specs.Texts.{Extends, ExtendsInPart}
-use Rattle.vbi_field.specs.Feeding.{Feeding}
 use Rattle.vbi_field.specs.declared.outlet.Outlet.{Outlet}
 use Rattle.vbi_field.specs.declared.summary.Summary.{Summary}
 use Rattle.vbi_field.specs.declared.summary.RunFault.{RunFault}
 use Rattle.vbi_field.specs.declared.summary.RunFault.TheVariants.{Read, Write, TooManyFields, Failed}
+
+-- what a contract sees of a feeder: its config, the position to which its stream has come, whether it has failed,
+-- and how many samples were looked at
+pub record Feeding : Type 0 where
+  pub config : ConfigView
+  pub position : Position
+  pub has_failed : Bool
+  pub looked : ℕ
 
 -- a stream of the bytes z, no more than are allowed, has come to this position
 pub record IsAt (c : ConfigView) (z : List ℕ) (now : Position) : Type 0 where
@@ -32,8 +39,7 @@ module _ {W : Type 0} (contents : W → Option (List ℕ)) (c : ConfigView) (o o
       ExtendsInPart document contents c o o' z (take (allowed_bytes c) (z ++ piece))
   IsFed piece now (Err TooManyFields) = (allowed_bytes c < length (z ++ piece))
       × Extends document contents c o o' z (take (allowed_bytes c) (z ++ piece))
-  IsFed piece now (Err (Read field offset)) = ⊥
-  IsFed piece now (Err Failed) = ⊥
+  IsFed piece now (Err _) = ⊥
 
   -- what the end did, where the feeder was at z before
   abbrev pub IsFinished : Result Summary RunFault → Type 0
@@ -41,9 +47,7 @@ module _ {W : Type 0} (contents : W → Option (List ℕ)) (c : ConfigView) (o o
       Wrote contents o o' (document.tail (fields_of c z) (rest_of c z))
       × (s.fields ≡ fields_of c z) × (s.cut ≡ cut_of (rest_of c z)) × (s.looked ≡ looks_of c z)
   IsFinished (Err (Write written)) = WrotePart contents o o' (document.tail (fields_of c z) (rest_of c z))
-  IsFinished (Err (Read field offset)) = ⊥
-  IsFinished (Err TooManyFields) = ⊥
-  IsFinished (Err Failed) = ⊥
+  IsFinished (Err _) = ⊥
 
 -- ---- what a call says, and what a caller has who makes one for each piece
 
@@ -95,5 +99,4 @@ module _ {W : Type 0} (o o' : Outlet W) where
   abbrev pub IsEndFault : RunFault → Type 0
   IsEndFault (Write written) = (written ≡ written_of o') × HasCause (counted_of o) (counted_of o')
   IsEndFault Failed = Unit {0}
-  IsEndFault TooManyFields = ⊥
-  IsEndFault (Read field offset) = ⊥
+  IsEndFault _ = ⊥

@@ -1,5 +1,5 @@
 -- How the fields of a feeder are seen.
-use Rattle.vbi_field.specs.Feeding.{Feeding}
+use Rattle.vbi_field.specs.Feed.{Feeding}
 use Rattle.vbi_field.specs.FeederState.{IsFeederState, position_in}
 use Rattle.vbi_field.specs.declared.feeder.Feeder.TheInside.{Inside}
 

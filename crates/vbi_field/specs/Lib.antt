@@ -1,16 +1,12 @@
-pub mod ByLines
-pub mod CauseTexts
 pub mod CodeTexts
 pub mod ConfigView
 pub mod Document
 pub mod Drawing
-pub mod DrawnReadings
 pub mod Draws
 pub mod Extracts
 pub mod Feed
 pub mod FeedView
 pub mod FeederState
-pub mod Feeding
 pub mod Kinds
 pub mod Limits
 pub mod NextLine

@@ -1,14 +1,10 @@
 -- What a run does with the next line of a reader.
-use Rattle.std.specs.Prelude.{◌≡◌, ℕ, ◌+◌, ◌*◌, ◌<◌, ◌≤◌, Bool, if◌then◌else◌, List, [], length, Option, Some, None}
-use Rattle.std.specs.Prelude.{Result, Ok, Err}
+use Rattle.std.specs.Prelude.{◌≡◌, ℕ, ◌+◌, ◌*◌, ◌<◌, ◌≤◌, List, length, Option, Result, Ok, Err}
 use Rattle.std.specs.Io.KnownBytes.{Consumes, IsAtEnd}
-use Rattle.vbi_words.specs.Geometry.{width_of, line_bytes}
-use Rattle.vbi_words.specs.Levels.{Slicing, row_levels}
-use Rattle.vbi_words.specs.declared.outcome.Reading.{Reading}
-use Rattle.vbi_line.specs.OneReading.{reading_of}
+use Rattle.vbi_words.specs.Geometry.{line_bytes}
 use Rattle.vbi_line.specs.Counted.{tries, device_of, failures_of, NoError, HasCause}
 use Rattle.vbi_line.specs.Intake.{counted_of, fetched_of, held_of, line_of}
-use Rattle.vbi_line.specs.Line.{Line, KeepsPasses}
+use Rattle.vbi_line.specs.Line.{KeepsPasses}
 use Rattle.vbi_line.specs.declared.intake.Filled.{Filled}
 use Rattle.vbi_line.specs.declared.intake.Filled.TheVariants.{Full, Ended}
 use Rattle.vbi_line.specs.declared.intake.Intake.{Intake}

@@ -11,8 +11,7 @@ use Rattle.vbi_words.specs.Outcomes.{word_of}
 use Rattle.vbi_words.specs.CodeTable.{code_of}
 use Rattle.vbi_words.specs.Formats.{format_of_lines}
 use Rattle.vbi_field.specs.declared.readings.FieldReadings.{FieldReadings}
-use Rattle.vbi_field.specs.CodeTexts.{hex_text_of, code_text_of}
-use Rattle.vbi_field.specs.CauseTexts.{cause_text_of}
+use Rattle.vbi_field.specs.CodeTexts.{hex_text_of, code_text_of, cause_text_of}
 
 -- the first line
 unfoldable pub report_head_of : System → Slicing → List ℕ

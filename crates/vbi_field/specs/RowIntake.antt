@@ -1,6 +1,6 @@
 -- What a contract sees of an intake of rows of words, and what its calls take from the reader.
-use Rattle.std.specs.Prelude.{◌≡◌, ◌≢◌, ℕ, ◌+◌, ◌*◌, ◌<◌, ◌≤◌, ◌⊎◌, List, [], ◌∷◌, ◌++◌, All, length, ⊤}
-use Rattle.std.specs.Prelude.{Option, Some, None}
+use Rattle.std.specs.Prelude.{◌≡◌, ◌≢◌, ℕ, ◌+◌, ◌*◌, ◌<◌, ◌≤◌, ◌⊎◌, List, [], ◌∷◌, ◌++◌, All, length, ⊤, Option, Some}
+use Rattle.std.specs.Prelude.{None}
 use Rattle.std.specs.Io.KnownBytes.{Consumes, IsAtEnd}
 use Rattle.vbi_line.specs.Counted.{tries, device_of, failures_of, NoError, HasCause, IsSameDevice}
 use Rattle.vbi_line.specs.declared.counted.Counted.{Counted}
@@ -19,8 +19,7 @@ HasNoNewline text = All (λ c. c ≢ newline) text
 -- the bytes that were fetched
 abbrev pub byte_of : NextByte → List ℕ
 byte_of (bytes.Byte byte) = byte ∷ []
-byte_of bytes.AtEnd = []
-byte_of bytes.Failed = []
+byte_of _ = []
 
 module _ {R : Type 0} where
   -- the reader with the counts of its failed calls
@@ -45,15 +44,13 @@ module _ {R : Type 0} where
 
   -- the reader is at its end where that is the answer
   abbrev pub GotByte : (R → Option (List ℕ)) → RowIntake R → RowIntake R → NextByte → Type 0
-  GotByte remaining old new (bytes.Byte byte) = ⊤
   GotByte remaining old new bytes.AtEnd = IsAtEnd (remaining (device_of (counted_of new)))
-  GotByte remaining old new bytes.Failed = ⊤
+  GotByte remaining old new _ = ⊤
 
   -- no error was given, or else the answer is a fault, which has its cause
   abbrev pub HasByteCause : RowIntake R → RowIntake R → NextByte → Type 0
-  HasByteCause old new (bytes.Byte byte) = NoError (counted_of old) (counted_of new)
-  HasByteCause old new bytes.AtEnd = NoError (counted_of old) (counted_of new)
   HasByteCause old new bytes.Failed = HasCause (counted_of old) (counted_of new)
+  HasByteCause old new _ = NoError (counted_of old) (counted_of new)
 
   pub record TakesByte (remaining : R → Option (List ℕ)) (old new : RowIntake R) (answer : NextByte) : Type 0 where
     pub fetches : Fetches remaining old new (byte_of answer)
@@ -84,11 +81,8 @@ module _ {R : Type 0} where
 
   -- no error was given, or else the answer is a fault, which has its cause
   abbrev pub HasRowCause : RowIntake R → RowIntake R → NextRow → Type 0
-  HasRowCause old new (Row words) = NoError (counted_of old) (counted_of new)
-  HasRowCause old new (LastRow words) = NoError (counted_of old) (counted_of new)
-  HasRowCause old new Malformed = NoError (counted_of old) (counted_of new)
-  HasRowCause old new AtEnd = NoError (counted_of old) (counted_of new)
   HasRowCause old new Failed = HasCause (counted_of old) (counted_of new)
+  HasRowCause old new _ = NoError (counted_of old) (counted_of new)
 
   pub record TakesRow (remaining : R → Option (List ℕ)) (old new : RowIntake R) (answer : NextRow) : Type 0 where
     pub bytes : List ℕ

@@ -1,7 +1,7 @@
 //! The texts of causes.
 
 ghost use Rattle.std.specs.Prelude.{◌≡◌};
-ghost use Rattle.vbi_field.specs.CauseTexts.{cause_text_of};
+ghost use Rattle.vbi_field.specs.CodeTexts.{cause_text_of};
 
 use crate::numbers::push_number;
 use arrayvec::ArrayString;

@@ -16,7 +16,7 @@
 //! the words in it), share/schema/ldvbi.schema.json, docs/FORMATS.md, and the two modules of the Python package that
 //! write and read it. `version` is raised where those who read the document so far can't any more.
 ghost use Rattle.std.specs.Prelude.{◌≡◌, ◌-◌, ◌^◌, ◌<◌, ◌++◌, codes, decimal};
-ghost use Rattle.vbi_field.specs.CauseTexts.{cause_text_of};
+ghost use Rattle.vbi_field.specs.CodeTexts.{cause_text_of};
 ghost use Rattle.vbi_field.specs.Document.{value_of, lines_of, head_of, tail_of};
 ghost use Rattle.vbi_field.specs.Kinds.{document};
 ghost use Rattle.vbi_field.specs.Texts.{joined_entry_of};

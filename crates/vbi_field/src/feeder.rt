@@ -16,7 +16,7 @@
 //! can ask for the same outlet in each call, so that is left to the caller. A fault may have cut a record off in the
 //! middle, so `has_failed` keeps the feeder from writing behind it.
 //!
-//! A new field of `Feeder` has to be seen in `specs/FeedView.antt` and `Feeding.antt`, and what always holds of it said
+//! A new field of `Feeder` has to be seen in `specs/FeedView.antt` and `Feed.antt`, and what always holds of it said
 //! in `IsFeederState` (`FeederState.antt`). What is written is changed in document.rt, and when it is written in
 //! progress.rt.
 ghost use Rattle.std.specs.Prelude.{◌≡◌, ◌≢◌, ℕ, List, ◌+◌, ◌*◌, ◌^◌, ◌<◌, ◌≤◌, ◌↔◌, [], ◌++◌, length, take};
@@ -110,7 +110,7 @@ pub struct Feeder {
 }
 
 impl Model for Feeder {
-    ghost use Rattle.vbi_field.specs.Feeding.{Feeding};
+    ghost use Rattle.vbi_field.specs.Feed.{Feeding};
 
     ghost Value = { Feeding };
 

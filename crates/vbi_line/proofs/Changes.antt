@@ -40,12 +40,7 @@ module _ (word i : ℕ) where
         where
           same_bits : (a b : ℕ) → bit_at (changes_of word) i ≡ (a + b) % 2 → a < 2 → b < 2 → nat_eq b 1 ≡ nat_eq a 1
               → bit_at (changes_of word) i ≡ 0
-          same_bits zero zero is la lb e = is
-          same_bits zero (suc zero) is la lb e = cc
-          same_bits (suc zero) zero is la lb e = cc
-          same_bits (suc zero) (suc zero) is la lb e = is
-          same_bits (suc (suc a)) b is la lb e = absurd (omega arith)
-          same_bits a (suc (suc b)) is la lb e = absurd (omega arith)
+          same_bits a b is la lb e = grind arith
 
 -- bits without a change before the last
 run_of_bits : (word place count : ℕ) → 0 < count
@@ -110,11 +105,7 @@ module _ {system : System} {word first far end rest : ℕ} (found : Found system
       ]
 
       last : level_of_bit (changes_of word) (0 + (columns - 1)) ≡ false → ⊥
-      last e =
-          let place : half_max system + far ≡ 0 + (columns - 1) = omega arith in
-          let inside : half_max system + far < 64
-          = omega (arith, found.short, found.half.1, found.other_half.1, found.whole) in
-          found.behind.ends inside (ap (level_of_bit (changes_of word)) place ∙ e)
+      last e = grind arith
 
   two_runs : 1 + first ≤ half_max system → end ≡ 1 + first → IsTwoRuns system word end columns
   two_runs near e =

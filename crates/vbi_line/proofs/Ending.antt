@@ -1,3 +1,4 @@
+use Rattle.std.proofs.Common.{arith}
 -- The outcome that a decoder gives at the end of a line.
 use Rattle.std.proofs.Common.{◌≡◌, ℕ, ◌≤◌, Bool, true, false, List, length, None, sym, ap, subst, ◌∙◌}
 use Rattle.std.proofs.lemmas.List.{take_all}
@@ -9,16 +10,12 @@ use Rattle.vbi_words.proofs.Machine.{State, dead, is_lead}
 use Rattle.vbi_words.proofs.SystemMachine.{IsFit, ending_of, state_after, state_at, fit_after}
 use Rattle.vbi_words.proofs.Outcomes.{word_outcome, blank_outcome, unfinished_outcome}
 use Rattle.vbi_line.specs.declared.decoder.Decoder.{Decoder}
-use Rattle.vbi_line.specs.declared.decoder.Decoder.TheVariants.{Lead, First, Second, Tail}
 use Rattle.vbi_line.specs.Decoder.{state_of}
 use Rattle.std.proofs.Common.{Some}
 
 -- a decoder's state is never the dead one
 pub alive : (decoder : Decoder) → state_of decoder ≡ dead → ⊥
-alive (Lead run) e = cc
-alive (First level run cells bits) e = cc
-alive (Second level run cells bits) e = cc
-alive (Tail bits) e = cc
+alive decoder e = grind arith
 
 module _ (system : System) (levels : List Bool) (decoder : Decoder)
     (at_end : state_of decoder ≡ state_after system levels) where

@@ -1,19 +1,18 @@
 -- The machine from the middle of a cell to the middle of the next.
-use Rattle.std.proofs.Common.{◌≡◌, ℕ, ◌+◌, ◌-◌, ◌*◌, ◌^◌, ◌<◌, ◌≤◌, Bool, true, false, leb, eqb, ◌&&◌}
+use Rattle.std.proofs.Common.{◌≡◌, ℕ, ◌+◌, ◌-◌, ◌*◌, ◌^◌, ◌<◌, ◌≤◌, Bool, true, false}
 use Rattle.std.proofs.Common.{List, [], ◌∷◌, ◌++◌}
 use Rattle.std.proofs.Common.{Some, None, inl, inr, length, refl, sym, ap, subst, ◌∙◌, arith}
 use Rattle.std.specs.Prelude.{not}
 use Rattle.std.proofs.Math.ListN.{replicate, take}
-use Rattle.std.proofs.lemmas.Bool.{cond_both, and_cases, leb-false, eqb-false}
 use Rattle.vbi_words.specs.declared.system.System.{System}
 use Rattle.vbi_words.specs.declared.outcome.Outcome.TheVariants.{Word}
 use Rattle.vbi_words.specs.Geometry.{half_min, half_max}
 use Rattle.vbi_words.specs.Levels.{level_at}
 use Rattle.vbi_words.specs.Outcomes.{IsOutcome}
 use Rattle.vbi_words.specs.Words.{IsWord, lowest_bits}
-use Rattle.vbi_words.proofs.Sizes.{sizes_of, apart_of}
+use Rattle.vbi_words.proofs.Sizes.{sizes_of}
 use Rattle.vbi_words.proofs.Machine.{State, lead, first, second, tail, dead, grown, length_of, pick}
-use Rattle.vbi_words.proofs.Machine.{limit_cases, turn_cases, half_cases}
+use Rattle.vbi_words.proofs.Machine.{limit_cases}
 use Rattle.vbi_words.proofs.SystemMachine.{next_of, turn_of, after_of, limit_of, ending_of, IsFit}
 use Rattle.vbi_words.proofs.SystemMachine.{state_after, state_at, after_append, fit_after}
 use Rattle.vbi_words.proofs.Bits.{length-lowest_bits}
@@ -29,19 +28,14 @@ use Rattle.vbi_line.proofs.Steps.{begun_top}
 
 -- a level that isn't this one is the other
 other : (v u : Bool) → (u ≡ v → ⊥) → u ≡ not v
-other true true differs = absurd (differs refl)
-other true false differs = refl
-other false true differs = refl
-other false false differs = absurd (differs refl)
+other v u differs = grind arith
 
 module _ (system : System) where
   -- ---- the limit of a run from the middle of a cell
 
   limit_before : (v : Bool) (n : ℕ) (bits : List Bool) → length bits < 24
       → limit_of system (second v n bits) ≡ Some (half_max system + half_max system)
-  limit_before v n bits few = limit_cases (sizes_of system)
-      (λ o. o ≡ Some (half_max system + half_max system)) v n bits
-      (λ _. refl) (λ all _. absurd (omega arith)) (λ all _. absurd (omega arith))
+  limit_before v n bits few = grind arith
 
   limit_high : (n : ℕ) (bits : List Bool) → length bits ≡ 24
       → limit_of system (second true n bits) ≡ Some (half_max system)
@@ -60,52 +54,22 @@ module _ (system : System) where
 
   turn_single : (v : Bool) (n : ℕ) (bits : List Bool) → IsHalf system n → length bits < 24
       → turn_of system (second v n bits) ≡ first (not v) 1 bits
-  turn_single v n bits half few = turn_cases (sizes_of system) (λ s. s ≡ first (not v) 1 bits) v n bits (record {
-    single = λ _ _ _. refl;
-    last = λ _ _ all _. absurd (omega arith);
-    double = λ long _ _. absurd (omega (arith, half.1));
-    short = λ _ short. absurd (omega (arith, half.0));
-    over = λ _ all _. absurd (omega arith);
-    odd = λ long _. absurd (omega (arith, half.1));
-  })
+  turn_single v n bits half few = grind arith
 
   turn_double : (v : Bool) (n : ℕ) (bits : List Bool) → 2 * half_min system ≤ n → length bits < 24
       → turn_of system (second v n bits) ≡ second (not v) 1 (bits ++ not v ∷ [])
-  turn_double v n bits long few =
-      let apart = (apart_of system).apart in
-      turn_cases (sizes_of system) (λ s. s ≡ second (not v) 1 (bits ++ not v ∷ [])) v n bits (record {
-        single = λ _ short _. absurd (omega (arith, apart));
-        last = λ _ short _ _. absurd (omega (arith, apart));
-        double = λ _ _ _. refl;
-        short = λ short _. absurd (omega (arith, apart));
-        over = λ short _ _. absurd (omega (arith, apart));
-        odd = λ _ bad. elim bad [
-          | inl short ↦ absurd (omega arith)
-          | inr all ↦ absurd (omega arith)
-        ];
-      })
+  turn_double v n bits long few = grind arith
 
   turn_last : (n : ℕ) (bits : List Bool) → IsHalf system n → length bits ≡ 24
       → turn_of system (second true n bits) ≡ tail bits
-  turn_last n bits half full = turn_cases (sizes_of system) (λ s. s ≡ tail bits) true n bits (record {
-    single = λ _ _ few. absurd (omega arith);
-    last = λ _ _ _ _. refl;
-    double = λ long _ _. absurd (omega (arith, half.1));
-    short = λ _ short. absurd (omega (arith, half.0));
-    over = λ _ _ low. let e : true ≡ false = low in cc;
-    odd = λ long _. absurd (omega (arith, half.1));
-  })
+  turn_last n bits half full = grind arith
 
   turn_first : (v : Bool) (n : ℕ) (bits : List Bool) → half_min system ≤ n
       → turn_of system (first v n bits) ≡ second (not v) 1 (bits ++ not v ∷ [])
-  turn_first v n bits long =
-      half_cases (sizes_of system) (λ s. s ≡ second (not v) 1 (bits ++ not v ∷ [])) n
-      (second (not v) 1 (bits ++ not v ∷ [])) (λ _. refl) (λ short. absurd (omega arith))
+  turn_first v n bits long = grind arith
 
   turn_lead : (n : ℕ) → half_min system ≤ n → turn_of system (lead n) ≡ second true 1 (true ∷ [])
-  turn_lead n long =
-      half_cases (sizes_of system) (λ s. s ≡ second true 1 (true ∷ [])) n (second true 1 (true ∷ []))
-      (λ _. refl) (λ short. absurd (omega arith))
+  turn_lead n long = grind arith
 
   -- ---- a run
 
@@ -252,14 +216,7 @@ module _ (system : System) where
 
   ends_second : (n : ℕ) (bits : List Bool) → length bits ≡ 24 → half_min system ≤ n
       → ending_of system (second false n bits) ≡ Some bits
-  ends_second n bits full long =
-      let count : Bool = eqb (length bits) 24 in
-      let enough : Bool = leb (half_min system) n in
-      cond_both (count && enough) (Some bits) None (λ o. o ≡ Some bits) (λ _. refl)
-      (λ e. elim (and_cases count enough e) [
-        | inl a ↦ absurd (eqb-false (length bits) 24 a full)
-        | inr b ↦ absurd (omega (arith, leb-false (half_min system) n b))
-      ])
+  ends_second n bits full long = grind arith
 
   module _ (levels : List Bool) (w : ℕ) (few : w < 2 ^ 24) where
     word_of_tail : state_after system levels ≡ tail (lowest_bits 24 w)

@@ -1,3 +1,4 @@
+use Rattle.std.proofs.Common.{arith}
 -- A list of levels has one reading.
 use Rattle.std.proofs.Common.{◌≡◌, ℕ, List, Bool, inl, inr, refl, sym, ◌∙◌, ap, subst}
 use Rattle.vbi_words.specs.declared.system.System.{System}
@@ -32,19 +33,8 @@ no_word : (system : System) (levels : List Bool) (o : Outcome) → IsOutcome sys
     → NoWord o
 no_word system levels o is none w e = none w (subst (IsOutcome system levels) e is)
 
-second_plain : (o p : Outcome) → NoWord p → second_reading o p ≡ with_pass o 0
-second_plain o (Word v) none = absurd (none v refl)
-second_plain o Blank none = refl
-second_plain o Unfinished none = refl
-second_plain o (Change d) none = refl
-second_plain o (Hold d) none = refl
-
 reads_plain : (o p : Outcome) → NoWord o → NoWord p → reading_from o p ≡ with_pass o 0
-reads_plain (Word w) p free none = absurd (free w refl)
-reads_plain Blank p free none = refl
-reads_plain Unfinished p free none = second_plain Unfinished p none
-reads_plain (Change c) p free none = second_plain (Change c) p none
-reads_plain (Hold c) p free none = second_plain (Hold c) p none
+reads_plain o p free none = grind arith
 
 module _ (system : System) (levels : List Bool) where
   -- the outcome of the levels
@@ -63,11 +53,7 @@ module _ (system : System) (levels : List Bool) where
 
   reads_second : (o : Outcome) → IsOutcome system levels o → ShowsNone system levels → (AllLow levels → ⊥) → (w : ℕ)
       → reading_from o (Word w) ≡ with_pass (Word w) 2
-  reads_second (Word v) is none high w = absurd (none v is)
-  reads_second Blank is none high w = absurd (high is.1)
-  reads_second Unfinished is none high w = refl
-  reads_second (Change c) is none high w = refl
-  reads_second (Hold c) is none high w = refl
+  reads_second o is none high w = grind arith
 
   -- ---- there is at most one
 
@@ -95,11 +81,7 @@ module _ (system : System) (levels : List Bool) where
 
   from_second : (o p : Outcome) → ShowsNone system levels → (AllLow levels → ⊥) → IsOutcome system (smooth_of levels) p
       → (ShowsNone system (smooth_of levels) → Reads system levels o 0) → IsReading system levels (second_reading o p)
-  from_second o (Word v) none high is reads = inr (refl, none, high, is)
-  from_second o Blank none high is reads = reads is.0
-  from_second o Unfinished none high is reads = reads is.0
-  from_second o (Change d) none high is reads = reads is.0
-  from_second o (Hold d) none high is reads = reads is.0
+  from_second o p none high is reads = grind arith
 
   pub from_outcomes : (o p : Outcome) → IsOutcome system levels o → IsOutcome system (smooth_of levels) p
       → IsReading system levels (reading_from o p)

@@ -3,7 +3,6 @@ use Rattle.std.proofs.Common.{◌≡◌, ℕ, ◌+◌, ◌-◌, ◌/◌, ◌%◌
 use Rattle.std.proofs.Common.{◌⊎◌, inl, inr, length, min, nat_eq, slice_index, sym, ap, ◌∙◌, arith}
 use Rattle.std.specs.Int.{bit_at, bit_not, trailing_zeros}
 use mir.Syntax.{w64}
-use Rattle.std.proofs.Math.ListN.{get_or}
 use Rattle.std.proofs.Math.Nat.{div-le_self}
 use Rattle.std.proofs.lemmas.Bool.{cases_lt}
 use Rattle.std.proofs.lemmas.Nat.Bits.{bit_at-lt, bit_at-zero, bit_at_not, bit_at-trailing_zeros, bit_at_above}
@@ -102,10 +101,7 @@ module _ {words : List ℕ} {width column end : ℕ} {level : Bool} {equal : ℕ
 
   -- the level of a column behind the end, in its word
   at : (i : ℕ) → end % 64 + i < 64 → packed_level words (end + i) ≡ level_of_bit word (end % 64 + i)
-  at i l =
-      let e : (end + i) / 64 ≡ end / 64 = omega arith in
-      let f : (end + i) % 64 ≡ end % 64 + i = omega arith in
-      ap (λ (j : ℕ). level_of_bit (get_or words j 0) ((end + i) % 64)) e ∙ ap (level_of_bit word) f
+  at i l = grind arith
 
   pub each_on : (i : ℕ) → column + i < end + equal → packed_level words (column + i) ≡ level
   each_on i l = elim (cases_lt (column + i) end) [
@@ -122,12 +118,7 @@ module _ {words : List ℕ} {width column end : ℕ} {level : Bool} {equal : ℕ
     other e = bits.ends ended (sym (at equal ended) ∙ e)
 
     some : column < end + equal
-    some = elim (cases_lt column (end + equal)) [
-      | inl l ↦ l
-      | inr l ↦
-          let e : end + equal ≡ column = omega arith in
-          absurd (other (ap (packed_level words) e ∙ sym so_far.here))
-    ]
+    some = grind arith
 
     -- the length of the run
     abbrev count : ℕ

@@ -159,10 +159,7 @@ module _ {words : List ℕ} {width bits count : ℕ} (has : HasRoom words width 
 
   -- the last word has no level yet at this column
   empty : (column : ℕ) → width ≤ column → column < 1152 → column / 64 ≡ width / 64 → bit_at word (column % 64) ≡ 0
-  empty column past inside e =
-      let here : level_of_bit word (column % 64) ≡ packed_level words column
-      = ap (λ (j : ℕ). level_of_bit (get_or words j 0) (column % 64)) (sym e) in
-      low_bit word (column % 64) (here ∙ has.rest column past inside)
+  empty column past inside e = grind arith
 
   kept : (column : ℕ) → column < width → packed_level pushed column ≡ packed_level words column
   kept column l = elim (cases_eq (column / 64) (width / 64)) [

@@ -1,10 +1,9 @@
 -- What the loop over a line's runs needs.
 use Rattle.std.proofs.Common.{◌≡◌, ℕ, zero, suc, ◌+◌, ◌<◌, ◌≤◌, Bool, false, List, [], ◌∷◌}
-use Rattle.std.proofs.Common.{◌++◌, inl, inr, length, take, sym, ap, subst, ◌∙◌, arith}
+use Rattle.std.proofs.Common.{◌++◌, length, take, sym, ap, subst, ◌∙◌, arith}
 use Rattle.std.proofs.Common.{add-zero, add-one, append_assoc}
 use Rattle.std.proofs.Math.ListN.{replicate}
 use Rattle.std.proofs.lemmas.List.{take_more, replicate_more, append-nil}
-use Rattle.std.proofs.lemmas.Bool.{cases_lt}
 use Rattle.vbi_words.specs.declared.system.System.{System}
 use Rattle.vbi_words.specs.declared.outcome.Outcome.TheVariants.{Change, Hold}
 use Rattle.vbi_words.specs.Outcomes.{IsOutcome}
@@ -99,18 +98,10 @@ module _ {levels : List Bool} {column : ℕ} {v : Bool} {count : ℕ} (run : IsR
 
         -- the first level doesn't end the lows before a word, of which there are none
         start : column ≡ 0 → GoesOn system levels column → ⊥
-        start e same =
-            let lead_now : state_of decoder ≡ lead 0 = so_far ∙ ap (state_at system levels) e in
-            let low : v ≡ false = sym here ∙ same ∙ ap level_of (sym so_far ∙ lead_now) in
-            let bad : dead ≡ lead (0 + 1) = sym at_once ∙ ap (λ (s : State). next_of system s v) lead_now
-            ∙ ap (next_of system (lead 0)) low in
-            cc
+        start e same = grind arith
 
         differs : GoesOn system levels column → ⊥
-        differs same = elim (cases_lt 0 column) [
-          | inl later ↦ turns later inside (same ∙ ap level_of (sym so_far))
-          | inr first ↦ start (omega arith) same
-        ]
+        differs same = grind arith
 
     pub holds : (lived : ℕ) → 0 < lived → lived < count → DiesAfter system (state_of decoder) v lived
         → IsOutcome system levels (Hold (column + lived))

@@ -1,7 +1,7 @@
 -- Smoothed levels by whole runs.
 use Rattle.std.proofs.Common.{◌≡◌, ℕ, suc, zero, ◌+◌, ◌-◌, ◌<◌, ◌≤◌, Bool, false, true}
 use Rattle.std.proofs.Common.{List, [], ◌∷◌, ◌++◌, ◌⊎◌, inl, inr, length, drop, refl, sym}
-use Rattle.std.proofs.Common.{ap, subst, ◌∙◌, arith, append_assoc, add-zero, Some, None}
+use Rattle.std.proofs.Common.{ap, subst, ◌∙◌, arith, append_assoc, Some, None}
 use Rattle.std.proofs.Math.ListN.{replicate}
 use Rattle.std.proofs.lemmas.List.{append-nil, drop_all}
 use Rattle.std.specs.Prelude.{not}
@@ -28,14 +28,7 @@ Turns out a b c x = (c ≡ not x) ⊎ ((out ≡ x) × (a ≡ x) × (b ≡ x) × 
 long_turn : (out a b x : Bool) (s : List Bool)
     → window out a b (not x) (x ∷ x ∷ x ∷ x ∷ s) ≡ out ∷ out ∷ out ∷ x ∷ steady x s
 unfolding window
-long_turn out true true true s = refl
-long_turn out true false true s = refl
-long_turn out false true true s = refl
-long_turn out false false true s = refl
-long_turn out true true false s = refl
-long_turn out true false false s = refl
-long_turn out false true false s = refl
-long_turn out false false false s = refl
+long_turn out a b x s = grind arith
 
 -- a run of four levels or more
 pub long_run : (out a b c x : Bool) (k : ℕ) (s : List Bool) → Turns out a b c x → 4 ≤ k
@@ -61,20 +54,10 @@ ShortRun out a b c x k s =
     (a' : Bool) × (b' : Bool) × (window out a b c (replicate k x ++ s) ≡ replicate k out ++ window out a' b' x s)
 
 kept_first : (a b x out : Bool) → level_of_four a b (not x) x out ≡ out
-kept_first true true true out = refl
-kept_first true true false out = refl
-kept_first true false true out = refl
-kept_first true false false out = refl
-kept_first false true true out = refl
-kept_first false true false out = refl
-kept_first false false true out = refl
-kept_first false false false out = refl
+kept_first a b x out = grind arith
 
 kept_second : (b x out : Bool) → level_of_four b (not x) x x out ≡ out
-kept_second true true out = refl
-kept_second true false out = refl
-kept_second false true out = refl
-kept_second false false out = refl
+kept_second b x out = grind arith
 
 kept_third : (x out : Bool) → level_of_four (not x) x x x out ≡ out
 kept_third true out = refl
@@ -161,18 +144,10 @@ module _ {system : System} {levels : List Bool} {column : ℕ} {out : Bool} {sta
   rest = drop (column + count) levels
 
   turning : Turns out h.a h.b h.c x
-  turning =
-      let here : level_at levels column ≡ x = ap (level_at levels) (sym (add-zero column)) ∙ run.each 0 run.some in
-      subst (Turns out h.a h.b h.c) here (h.turns (omega (arith, run.some, run.inside)))
+  turning = grind arith
 
   next_turn : (o a b : Bool) → column + count < length levels → Turns o a b x (level_at levels (column + count))
-  next_turn o a b l = go x (level_at levels (column + count)) (run.ends l)
-    where
-      go : (x y : Bool) → (y ≡ x → ⊥) → Turns o a b x y
-      go true true ne = absurd (ne refl)
-      go true false ne = inl refl
-      go false true ne = inl refl
-      go false false ne = absurd (ne refl)
+  next_turn o a b l = grind arith
 
   spread : (a b c : Bool) → window out a b c (drop column levels) ≡ window out a b c (replicate count x ++ rest)
   spread a b c = ap (window out a b c) (equal_from levels column count x run.inside run.each)

@@ -1,31 +1,29 @@
 -- What is found in the document of a stream is what its lines show.
 use Rattle.std.proofs.Common.{◌≡◌, ℕ, zero, suc, ◌+◌, ◌<◌, ◌≤◌, List, Bool, Option, Some, None, option_and_then}
-use Rattle.std.proofs.Common.{cond, refl, sym, ap, ◌∙◌, subst, inl, inr, ◌⊎◌, map, arith}
-use Rattle.std.proofs.Math.Dec.{eqb-suc-zero}
+use Rattle.std.proofs.Common.{refl, sym, ap, ◌∙◌, subst, inl, inr, ◌⊎◌, map, arith}
 use Rattle.std.proofs.lemmas.Bool.{cases_lt}
 use Rattle.std.specs.List.{range_with_len}
 use Rattle.std.specs.Prelude.{codes}
-use Rattle.serde_json.specs.Data.{Data, null}
+use Rattle.serde_json.specs.Data.{Data}
 use Rattle.serde_json.specs.Find.{at, get_item, as_str}
 use Rattle.serde_json.specs.Read.{read}
 use Rattle.serde_json.specs.View.{items_of}
 use Rattle.vbi_words.specs.declared.outcome.Outcome.{Outcome}
-use Rattle.vbi_words.specs.declared.outcome.Outcome.TheVariants.{Word, Blank, Unfinished, Change, Hold}
+use Rattle.vbi_words.specs.declared.outcome.Outcome.TheVariants.{Word}
 use Rattle.vbi_words.specs.declared.outcome.Reading.{Reading}
 use Rattle.vbi_words.specs.declared.system.System.{System}
 use Rattle.vbi_words.specs.Levels.{row_levels}
 use Rattle.vbi_words.specs.Readings.{Reads}
 use Rattle.vbi_line.proofs.OneReading.{is_reading, only_reading}
-use Rattle.vbi_field.specs.ByLines.{RowReads}
-use Rattle.vbi_field.specs.CauseTexts.{cause_text_of}
+use Rattle.vbi_field.specs.Texts.{RowReads, whole_text}
+use Rattle.vbi_field.specs.CodeTexts.{cause_text_of}
 use Rattle.vbi_field.specs.ConfigView.{ConfigView}
 use Rattle.vbi_field.specs.Document.{value_of}
 use Rattle.vbi_field.specs.Kinds.{document}
 use Rattle.vbi_words.specs.Rows.{line_at}
 use Rattle.vbi_field.specs.Stream.{fields_of, rest_of, reading_at, readings_at}
-use Rattle.vbi_field.specs.Texts.{whole_text}
-use Rattle.vbi_meta.specs.DocumentValue.{IsOfRun, document_value, field_value, cut_field_value, cut_value}
-use Rattle.vbi_meta.specs.ReadBack.{IsReadAs, field_in, word_in, cut_in, HasReading, HasCut, ReadsWord, HasReadings}
+use Rattle.vbi_meta.specs.DocumentValue.{IsOfRun, document_value, field_value}
+use Rattle.vbi_meta.specs.ReadBack.{IsReadAs, field_in, word_in, HasReading, HasCut, ReadsWord, HasReadings}
 use Rattle.vbi_meta.specs.ReadBack.{ReadsBack}
 use Rattle.vbi_meta.specs.Settings.{whole, member_of}
 use Rattle.vbi_meta.proofs.DocumentReads.{document_is_read}
@@ -77,10 +75,7 @@ module _ (c : ConfigView) (z : List ℕ) where
   word_there i (suc (suc (suc k))) h = absurd (omega arith)
 
   no_word_there : (i k : ℕ) → 3 ≤ k → word_of_field k (Some (field i)) ≡ None
-  no_word_there i zero h = absurd (omega arith)
-  no_word_there i (suc zero) h = absurd (omega arith)
-  no_word_there i (suc (suc zero)) h = absurd (omega arith)
-  no_word_there i (suc (suc (suc k))) h = refl
+  no_word_there i k h = grind arith
 
   cause_there : (i k : ℕ) → k < 3 → cause_of_field k (Some (field i)) ≡ Some (cause_text_of (of_line i k).outcome)
   cause_there i zero h = refl
@@ -89,42 +84,19 @@ module _ (c : ConfigView) (z : List ℕ) where
   cause_there i (suc (suc (suc k))) h = absurd (omega arith)
 
   pass_there : (i k : ℕ) → k < 3 → pass_of_field k (Some (field i)) ≡ Some (of_line i k).pass
-  pass_there i zero h = refl
-  pass_there i (suc zero) h = refl
-  pass_there i (suc (suc zero)) h = refl
-  pass_there i (suc (suc (suc k))) h = absurd (omega arith)
+  pass_there i k h = grind arith
 
 -- ---- the cut field
 
-cut_is_null : (fields rest : ℕ) → rest ≡ 0 → cut_value fields rest ≡ null
-cut_is_null fields rest e = ap (cut_value fields) e
-
 abbrev number_of_cut : Data → List ℕ → Option ℕ
 number_of_cut cut name = option_and_then whole (member_of (Some cut) name)
-
--- where some bytes are past the whole fields
-there_is_a_cut : (fields rest : ℕ) → 0 < rest → cut_value fields rest ≡ cut_field_value (fields + 1) rest
-there_is_a_cut fields zero h = absurd (omega arith)
-there_is_a_cut fields (suc rest) h =
-    ap (λ b. cond b null (cut_field_value (fields + 1) (suc rest))) (eqb-suc-zero rest)
-
-cut_number : (fields rest : ℕ) → 0 < rest → number_of_cut (cut_value fields rest) (codes "seqNo") ≡ Some (fields + 1)
-cut_number fields rest h = ap (λ cut. number_of_cut cut (codes "seqNo")) (there_is_a_cut fields rest h)
-
-cut_bytes : (fields rest : ℕ) → 0 < rest → number_of_cut (cut_value fields rest) (codes "bytes") ≡ Some rest
-cut_bytes fields rest h = ap (λ cut. number_of_cut cut (codes "bytes")) (there_is_a_cut fields rest h)
 
 -- ---- a number other than 0 is a word
 
 word_of_value : (system : System) (levels : List Bool) (outcome : Outcome) (pass word : ℕ)
     → Reads system levels outcome pass
     → value_of outcome ≡ word → 0 < word → Reads system levels (Word word) pass
-word_of_value system levels (Word v) pass word reads e some =
-    let P : ℕ → Type 0 = λ x. Reads system levels (Word x) pass in subst P e reads
-word_of_value system levels Blank pass word reads e some = absurd (omega arith)
-word_of_value system levels Unfinished pass word reads e some = absurd (omega arith)
-word_of_value system levels (Change column) pass word reads e some = absurd (omega arith)
-word_of_value system levels (Hold column) pass word reads e some = absurd (omega arith)
+word_of_value system levels outcome pass word reads e some = grind arith
 
 abbrev value_or : Option ℕ → ℕ
 value_or None = 0
@@ -144,9 +116,6 @@ module _ (c : ConfigView) (z text : List ℕ) (is : read text ≡ Some (document
 
   not_found : (i : ℕ) → fields_of c z ≤ i → field_in text i ≡ None
   not_found i past = field_is i ∙ no_item_at (field c z) 0 (fields_of c z) i past
-
-  cut_found : cut_in text ≡ Some (cut_value (fields_of c z) (rest_of c z))
-  cut_found = ap (λ d. member_of d (codes "cutField")) is
 
   word_found : (i k : ℕ) → i < fields_of c z → k < 3 → word_in text i k ≡ Some (value_of (of_line c z i k).outcome)
   word_found i k inside line = ap (word_of_field k) (found i inside) ∙ word_there c z i k line
@@ -189,13 +158,7 @@ module _ (c : ConfigView) (z text : List ℕ) (is : read text ≡ Some (document
           }
 
   has_cut : HasCut text (fields_of c z) (rest_of c z)
-  has_cut = record {
-    none = λ whole. cut_found ∙ ap (λ d. Some d) (cut_is_null (fields_of c z) (rest_of c z) whole);
-    number = λ some. ap (λ d. option_and_then whole (member_of d (codes "seqNo"))) cut_found
-        ∙ cut_number (fields_of c z) (rest_of c z) some;
-    bytes = λ some. ap (λ d. option_and_then whole (member_of d (codes "bytes"))) cut_found
-        ∙ cut_bytes (fields_of c z) (rest_of c z) some;
-  }
+  has_cut = grind arith
 
   pub has_readings : HasReadings c z text
   has_readings = record {

@@ -171,16 +171,11 @@ after_pair h t unit =
 
 after_unit-fed : (t : List ℕ) → ((w : Within) → content w (fed t) ≡ content w t) → (unit : Option ℕ)
     → after_unit (fed t) unit ≡ after_unit t unit
-after_unit-fed t later None = refl
-after_unit-fed t later (Some u) =
-    ap₂ (λ high low. cond (is_high_surrogate u) high (cond (is_low_surrogate u) None (prepend (encode_utf8 u) low)))
-    (later (after_high u)) (later plain)
+after_unit-fed t later unit = grind arith
 
 after_pair-fed : (h : ℕ) (t : List ℕ) → ((w : Within) → content w (fed t) ≡ content w t) → (unit : Option ℕ)
     → after_pair h (fed t) unit ≡ after_pair h t unit
-after_pair-fed h t later None = refl
-after_pair-fed h t later (Some l) =
-    ap (λ r. cond (is_low_surrogate l) (prepend (encode_utf8 (surrogate_pair h l)) r) None) (later plain)
+after_pair-fed h t later unit = grind arith
 
 no_pair : (b : Bool) → cond b (after_pair 0 [] None) None ≡ None
 no_pair true = refl

@@ -1,7 +1,7 @@
 -- Texts of plain bytes.
-use Rattle.std.proofs.Common.{◌≡◌, ℕ, ◌<◌, ◌^◌, ◌&&◌, ◌||◌, not, Bool, true, false, List, [], ◌∷◌}
-use Rattle.std.proofs.Common.{◌++◌, ◌⊎◌, inl, inr, decimal, refl, subst, arith, leb, eqb}
-use Rattle.std.proofs.lemmas.Bool.{leb-true, eqb-true, and_parts}
+use Rattle.std.proofs.Common.{◌≡◌, ℕ, ◌<◌, ◌^◌, ◌&&◌, ◌||◌, not, Bool, true, List, [], ◌∷◌}
+use Rattle.std.proofs.Common.{◌++◌, inl, decimal, arith, leb, eqb}
+use Rattle.std.proofs.lemmas.Bool.{and_parts}
 use Rattle.std.proofs.lemmas.Fmt.{decimal_is_IsNumeral}
 use Rattle.std.proofs.lemmas.Str.Parse.{digit_from_value}
 use Rattle.std.specs.List.{AllByRecursion}
@@ -30,23 +30,8 @@ abbrev pub are_plain : List ℕ → Bool
 are_plain [] = true
 are_plain (x ∷ text) = is_plain x && are_plain text
 
-either : (p q : Bool) → (p || q) ≡ true → (p ≡ true) ⊎ (q ≡ true)
-either true q e = inl refl
-either false q e = inr e
-
 passes : (byte : ℕ) → is_plain byte ≡ true → IsPlain byte
-passes byte e = go (either (leb 32 byte && (leb byte 126 && not (eqb byte 92))) (eqb byte 10) e)
-  where
-    go : ((leb 32 byte && (leb byte 126 && not (eqb byte 92))) ≡ true) ⊎ (eqb byte 10 ≡ true) → IsPlain byte
-    go (inl h) =
-        let low = and_parts (leb 32 byte) (leb byte 126 && not (eqb byte 92)) h in
-        let high = and_parts (leb byte 126) (not (eqb byte 92)) low.1 in
-        inl (
-          leb-true 32 byte low.0,
-          leb-true byte 126 high.0,
-          λ same. let bad : false ≡ true = subst (λ (k : ℕ). not (eqb k 92) ≡ true) same high.1 in cc,
-        )
-    go (inr h) = inr (eqb-true byte 10 h)
+passes byte e = grind arith
 
 tested : (text : List ℕ) → are_plain text ≡ true → AllByRecursion IsPlain text
 tested [] e = tt

@@ -20,7 +20,7 @@ use Rattle.vbi_words.specs.Levels.{samples_of, is_high_of, row_levels}
 use Rattle.vbi_words.specs.Outcomes.{FirstHopeless}
 use Rattle.vbi_words.specs.Readings.{Reads}
 use Rattle.vbi_line.proofs.OneReading.{is_reading}
-use Rattle.vbi_field.specs.CauseTexts.{cause_text_of}
+use Rattle.vbi_field.specs.CodeTexts.{cause_text_of}
 use Rattle.vbi_field.specs.ConfigView.{ConfigView}
 use Rattle.vbi_field.specs.Document.{value_of}
 use Rattle.vbi_words.specs.Rows.{line_at}

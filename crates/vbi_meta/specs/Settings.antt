@@ -78,15 +78,13 @@ is_other n (Some member) = not (unwrap_or (option_map (λ m. m == n) (whole memb
 -- two systems are one
 abbrev pub same_system : System → System → Bool
 same_system Ntsc Ntsc = true
-same_system Ntsc Pal = false
-same_system Pal Ntsc = false
 same_system Pal Pal = true
+same_system _ _ = false
 
 -- both are there, and differ
 abbrev pub disagree : Option System → Option System → Bool
 disagree (Some s) (Some t) = not (same_system s t)
-disagree (Some s) None = false
-disagree None t = false
+disagree _ _ = false
 
 -- ---- the refusals in order
 

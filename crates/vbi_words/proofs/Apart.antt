@@ -29,10 +29,7 @@ differs_not true = refl
 differs_not false = refl
 
 differs_sym : (v w : Bool) → differs v w ≡ differs w v
-differs_sym true true = refl
-differs_sym true false = refl
-differs_sym false true = refl
-differs_sym false false = refl
+differs_sym v w = grind arith
 
 pub differences_sym : (x y : List Bool) → differences x y ≡ differences y x
 differences_sym [] [] = refl
@@ -197,9 +194,7 @@ module _ {sizes : Sizes} (ok : AreApart sizes) (d : ℕ) (gap : d + sizes.greate
   half_run u bits x r = (r.count, r.rest, r.at_least, r.whole)
 
   cell_run : (b u : Bool) (bits s : List Bool) → Cells sizes (b ∷ bits) (u ∷ s) → RunOf least u (u ∷ s)
-  cell_run b u bits s r =
-      let e : u ≡ not b = Runs.run_head ok r in
-      (r.count, r.rest, r.at_least, r.whole ∙ ap (λ (h : Bool). replicate r.count h ++ r.rest) (sym e))
+  cell_run b u bits s r = grind arith
 
   half_not_alone : (v b : Bool) (bits : List Bool) (n : ℕ) → Half sizes v (b ∷ bits) (replicate n v) → ⊥
   half_not_alone v b bits n r =

@@ -3,9 +3,9 @@ use Rattle.std.proofs.Common.{get_or, ◌≡◌, ℕ, suc, zero, ◌≤◌, ◌<
 use Rattle.std.proofs.Common.{List, [], ◌∷◌, ◌++◌, ◌⊎◌, inl, inr, refl, ap, sym, ◌∙◌, subst, arith, append_assoc}
 use Rattle.std.proofs.Common.{zero-add, add-one, length, add-zero}
 use Rattle.std.proofs.lemmas.Nat.{pow-add}
-use Rattle.std.proofs.lemmas.Nat.Bits.{bit_at-lt, bit_at-suc, bit_at_lowest, bit_at_above, bit_at_cat_high}
+use Rattle.std.proofs.lemmas.Nat.Bits.{bit_at-suc, bit_at_above}
 use Rattle.std.proofs.lemmas.Nat.Bits.{same_from_bits_below}
-use Rattle.std.proofs.lemmas.Bool.{eqb-true, eqb-false, eq-eqb, ne_eqb, cases_lt}
+use Rattle.std.proofs.lemmas.Bool.{eqb-true, cases_lt}
 use Rattle.std.proofs.lemmas.List.{append-nil}
 use Rattle.std.specs.Int.{bit_at}
 use Rattle.std.specs.Prelude.{not}
@@ -24,29 +24,13 @@ length-lowest_bits (suc n) w = ap suc (length-lowest_bits n w)
 
 -- ---- numbers with the same bits
 
--- two bits that test alike are equal
-same_bit : (a b : ℕ) → a < 2 → b < 2 → eqb a 1 ≡ eqb b 1 → a ≡ b
-same_bit a b la lb e = go (eqb a 1) refl
-  where
-    go : (t : Bool) → eqb a 1 ≡ t → a ≡ b
-    go true f = eqb-true a 1 f ∙ sym (eqb-true b 1 (sym e ∙ f))
-    go false f =
-        let x : a ≡ 1 → ⊥ = eqb-false a 1 f in
-        let y : b ≡ 1 → ⊥ = eqb-false b 1 (sym e ∙ f) in
-        omega arith
-
 bits_agree : (n v w : ℕ) → lowest_bits n v ≡ lowest_bits n w → (i : ℕ) → i < n → bit_at v i ≡ bit_at w i
 unfolding lowest_bits
 bits_agree zero v w e i l = absurd (omega arith)
 bits_agree (suc n) v w e i l = go (λ below. bits_agree n v w (same_tail e) i below) (cases_lt i n)
   where
     go : (i < n → bit_at v i ≡ bit_at w i) → (i < n) ⊎ (n ≤ i) → bit_at v i ≡ bit_at w i
-    go before (inl below) = before below
-    go before (inr above) =
-        let same : n ≡ i = omega arith in
-        let here : bit_at v n ≡ bit_at w n
-        = same_bit (bit_at v n) (bit_at w n) (bit_at-lt v n) (bit_at-lt w n) (same_head e) in
-        subst (λ (k : ℕ). bit_at v k ≡ bit_at w k) same here
+    go before h = grind arith
 
 -- two numbers of n bits with the same bits are equal
 pub same_from_lowest : (n v w : ℕ) → v < 2 ^ n → w < 2 ^ n → lowest_bits n v ≡ lowest_bits n w → v ≡ w
@@ -60,9 +44,7 @@ bit_of true = 1
 bit_of false = 0
 
 last_bit : (a : ℕ) (b : Bool) → bit_is_one (2 * a + bit_of b) 0 ≡ b
-last_bit a true = eq-eqb (bit_at (2 * a + 1) 0) 1 (bit_at_lowest (2 * a + 1) ∙ omega arith)
-last_bit a false = ne_eqb (bit_at (2 * a + 0) 0) 1
-    (λ e. let x : (2 * a + 0) % 2 ≡ 1 = sym (bit_at_lowest (2 * a + 0)) ∙ e in omega arith)
+last_bit a b = grind arith
 
 half_of : (a : ℕ) (b : Bool) → (2 * a + bit_of b) / 2 ≡ a
 half_of a true = omega arith
@@ -127,14 +109,7 @@ number_of bits =
 -- the first of n + 1 bits
 pub top_bit_set : (n w : ℕ) → 2 ^ n ≤ w → w < 2 ^ (suc n) → lowest_bits (suc n) w ≡ true ∷ lowest_bits n w
 unfolding lowest_bits
-top_bit_set n w low high =
-    let r : ℕ = w - 2 ^ n in
-    let e : w ≡ 1 * 2 ^ n + r = omega arith in
-    let small : r < 2 ^ n = omega (arith, pow-add 2 n 1, high, ap (λ (k : ℕ). 2 ^ k) (add-one n)) in
-    let nothing : n - n ≡ 0 = omega arith in
-    let one : bit_at w n ≡ 1 = ap (λ (x : ℕ). bit_at x n) e ∙ bit_at_cat_high 1 n r n small (omega arith)
-    ∙ ap (λ (k : ℕ). bit_at 1 k) nothing in
-    ap (λ (x : Bool). x ∷ lowest_bits n w) (eq-eqb (bit_at w n) 1 one)
+top_bit_set n w low high = grind arith
 
 pub top_bit_then : (n w : ℕ) (rest : List Bool) → lowest_bits (suc n) w ≡ true ∷ rest → 2 ^ n ≤ w
 unfolding lowest_bits

@@ -1,5 +1,5 @@
 -- A row whose samples beside each change of level lie on either side is read as its word.
-use Rattle.std.proofs.Common.{◌≡◌, ℕ, suc, zero, ◌≤◌, ◌<◌, ◌+◌, ◌-◌, Bool, true, false, List, [], ◌∷◌, ◌⊎◌, inl}
+use Rattle.std.proofs.Common.{◌≡◌, ℕ, suc, zero, ◌≤◌, ◌<◌, ◌+◌, ◌-◌, Bool, false, List, [], ◌∷◌, ◌⊎◌, inl}
 use Rattle.std.proofs.Common.{inr}
 use Rattle.std.proofs.Common.{length, get_or, refl, sym, ap, subst, ◌∙◌, arith}
 use Rattle.std.proofs.lemmas.Bool.{cases_lt}
@@ -22,16 +22,10 @@ use Rattle.vbi_words.proofs.NotAlone.{shown_not_alone}
 use Rattle.vbi_words.proofs.SmoothShown.{smooth_shows, shown_alike, smooth_same, turned_none, turned_high}
 
 one_at_most : (a b : Bool) → differs a b ≤ 1
-one_at_most true true = omega arith
-one_at_most true false = omega arith
-one_at_most false true = omega arith
-one_at_most false false = omega arith
+one_at_most a b = grind arith
 
 none_of_same : (a b : Bool) → a ≡ b → differs a b ≡ 0
-none_of_same true true e = refl
-none_of_same false false e = refl
-none_of_same true false e = cc
-none_of_same false true e = cc
+none_of_same a b e = grind arith
 
 few_of_short : (x y : List Bool) → differences x y ≤ length x
 few_of_short [] y = omega arith

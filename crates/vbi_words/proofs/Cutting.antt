@@ -215,14 +215,7 @@ module _ {sizes : Sizes} (ok : AreApart sizes) where
 
   pub first_half : (v : Bool) (todo s : List Bool) (n : ℕ) → least ≤ n → n ≤ greatest → Half sizes (not v) todo s
       → Cells sizes (not v ∷ todo) (replicate n v ++ s)
-  first_half v todo s n low high p = record {
-    count = n;
-    rest = s;
-    at_least = low;
-    at_most = high;
-    whole = ap (λ (x : Bool). replicate n x ++ s) (sym (not-not v));
-    then = p;
-  }
+  first_half v todo s n low high p = grind arith
 
   pub double_half : (v : Bool) (todo s : List Bool) (n : ℕ) → least + least ≤ n → n ≤ greatest + greatest
       → Half sizes (not v) todo s → Half sizes v (not v ∷ todo) (replicate n v ++ s)

@@ -6,7 +6,7 @@ use Rattle.std.proofs.Common.{◌∙◌, arith, add-zero, append_assoc, Some, No
 use Rattle.std.proofs.Math.ListN.{replicate}
 use Rattle.std.proofs.lemmas.List.{append-nil, get_or-map, length-map, drop_all}
 use Rattle.std.proofs.lemmas.List.Elements.{All-from_get_or}
-use Rattle.std.proofs.lemmas.Bool.{lt-ltb, le-ltb, cases_order}
+use Rattle.std.proofs.lemmas.Bool.{lt-ltb, le-ltb}
 use Rattle.std.specs.List.{flat_map}
 use Rattle.vbi_words.specs.declared.system.System.{System}
 use Rattle.vbi_words.specs.declared.system.System.TheVariants.{Ntsc, Pal}
@@ -137,11 +137,7 @@ module _ (system : System) (slicing : Slicing) (word : ℕ) (order : slicing.bla
 
   -- a column lies in one half cell alone
   one_half : (i j c : ℕ) → edge i ≤ c → c < edge (i + 1) → edge j ≤ c → c < edge (j + 1) → i ≡ j
-  one_half i j c low high low' high' = elim (cases_order i j) [
-    | inl e ↦ e
-    | inr (inl l) ↦ absurd (omega (arith, ordered system (i + 1) j (omega arith)))
-    | inr (inr l) ↦ absurd (omega (arith, ordered system (j + 1) i (omega arith)))
-  ]
+  one_half i j c low high low' high' = grind arith
 
   in_half : (j c : ℕ) → j < 48 → edge j ≤ c → c < edge (j + 1) → (h : Bool) → half j ≡ h → get_or levels c false ≡ h
   in_half j c l low high true e =

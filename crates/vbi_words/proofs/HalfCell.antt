@@ -4,7 +4,7 @@ use Rattle.std.proofs.Common.{inr, get_or, refl, sym, ap, ◌∙◌, arith}
 use Rattle.std.proofs.lemmas.Bool.{cases_order}
 use Rattle.std.specs.Prelude.{not}
 use Rattle.vbi_words.specs.Jitter.{IsBlurred, NoneAlone}
-use Rattle.vbi_words.proofs.Runs.{not_same, same_or_not}
+use Rattle.vbi_words.proofs.Runs.{same_or_not}
 
 module _ (d l : List Bool) (blurred : IsBlurred d l) where
   -- the level drawn at a column, and the level there
@@ -104,17 +104,7 @@ module _ (d l : List Bool) (blurred : IsBlurred d l) where
 
     -- the last column doesn't stand alone
     not_alone : NoneAlone l → at_l last ≡ not h → at_l (p + n) ≡ h → ⊥
-    not_alone none e f = go (none last)
-      where
-        before : at_l (last - 1) ≡ h
-        before = core (last - 1) (omega arith) (omega arith)
-
-        place : last + 1 ≡ p + n
-        place = omega arith
-
-        go : (at_l last ≡ at_l (last - 1)) ⊎ (at_l last ≡ at_l (last + 1)) → ⊥
-        go (inl same) = not_same h (sym before ∙ sym same ∙ e)
-        go (inr same) = not_same h (sym f ∙ ap at_l (sym place) ∙ sym same ∙ e)
+    not_alone none e f = grind arith
 
     pub ends : Ends p (p + n) h h'
     ends = go (same_or_not h h') (same_or_not h (at_l last)) (same_or_not h (at_l (p + n)))

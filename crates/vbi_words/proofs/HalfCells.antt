@@ -232,9 +232,7 @@ module _ (d l : List Bool) (blurred : IsBlurred d l) where
         go n low high (omega (arith, long, len, blurred.same_length)) x.at x.begins.early x.begins.late x.inside y
       where
         upto : {q : ℕ} → Plain p q h → (c : ℕ) → e ≤ c → c < q → (c ≡ p) ⊎ ((c < p) ⊎ (p < c)) → at_l c ≡ h
-        upto rest c from to (inl same) = begins.has c from (omega arith)
-        upto rest c from to (inr (inl less)) = begins.has c from (omega arith)
-        upto rest c from to (inr (inr more)) = rest c (omega arith) to
+        upto rest c from to h = grind arith
 
         -- the columns from e up to q
         columns : (q : ℕ) → e ≤ q → q ≤ length l → Plain p q h → drop e l ≡ replicate (q - e) h ++ drop q l
@@ -302,9 +300,7 @@ module _ (d l : List Bool) (blurred : IsBlurred d l) where
         near_d c near = low_d c (side (cases_order c before)) near
           where
             side : (c ≡ before) ⊎ ((c < before) ⊎ (before < c)) → (c < before) ⊎ (before ≤ c)
-            side (inl same) = inr (omega arith)
-            side (inr (inl less)) = inl less
-            side (inr (inr more)) = inr (omega arith)
+            side h = grind arith
 
         low : (c : ℕ) → c ≤ before → at_l c ≡ false
         low c to = HalfCell.away d l blurred false (c - 1) c (c + 1) refl refl (near_d (c - 1) (omega arith))

@@ -1,7 +1,7 @@
 -- A word has one code: no two patterns have a word in common.
 use Rattle.std.proofs.Common.{◌≡◌, ℕ, suc, zero, ◌≤◌, ◌<◌, ◌+◌, Bool, true, false, ltb, leb, ◌&&◌, ◌||◌, List, []}
 use Rattle.std.proofs.Common.{◌∷◌, cond, Any, ◌⊎◌, inl, inr, refl, ap, subst, sym, ◌∙◌, arith}
-use Rattle.std.proofs.lemmas.Bool.{ltb-true, leb-true, le-leb, and_parts, and_from, or_cases, cases_eq}
+use Rattle.std.proofs.lemmas.Bool.{leb-true, le-leb, and_parts, and_from, or_cases, cases_eq}
 use Rattle.std.specs.List.{list_all, list_any, range_with_len}
 use Rattle.vbi_words.specs.declared.code.Code.{Code}
 use Rattle.vbi_words.specs.declared.code.Code.TheVariants.{Other}
@@ -48,11 +48,7 @@ apart a b = list_any (λ place. below_at place a b || below_at place b a) (range
 
 below-not : (word place : ℕ) (a b : Pattern) → 1 ≤ place → place ≤ 6 → below_at place a b ≡ true → HasPattern word a
     → HasPattern word b → ⊥
-below-not word place a b low high e x y =
-    let l : digit_of a.greatest place < digit_of b.least place = ltb-true _ _ e in
-    let p : digit_of word place ≤ digit_of a.greatest place = (x place low high).1 in
-    let q : digit_of b.least place ≤ digit_of word place = (y place low high).0 in
-    omega arith
+below-not word place a b low high e x y = grind arith
 
 apart-not : (word : ℕ) (a b : Pattern) → apart a b ≡ true → HasPattern word a → HasPattern word b → ⊥
 apart-not word a b e x y =

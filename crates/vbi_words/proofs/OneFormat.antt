@@ -1,11 +1,11 @@
+use Rattle.std.proofs.Common.{arith}
 -- A field has one format.
-use Rattle.std.proofs.Common.{◌≡◌, ℕ, Bool, true, false, List, Option, Some, None, Any, IsTrue, ◌↔◌}
-use Rattle.std.proofs.Common.{refl, ap, sym, ◌∙◌, subst}
+use Rattle.std.proofs.Common.{◌≡◌, ℕ, Bool, true, List, Option, Some, None, Any, IsTrue, ◌↔◌}
+use Rattle.std.proofs.Common.{ap, sym, ◌∙◌, subst}
 use Rattle.std.specs.List.{list_any}
 use Rattle.std.proofs.lemmas.List.Folds.{Any-from_list_any, list_any_at}
 use Rattle.vbi_words.specs.declared.code.Code.{Code}
 use Rattle.vbi_words.specs.declared.format.Format.{Format}
-use Rattle.vbi_words.specs.declared.format.Format.TheVariants.{Cav, Clv, Both, Neither}
 use Rattle.vbi_words.specs.CodeTable.{code_of}
 use Rattle.vbi_words.specs.Formats.{is_cav_code, is_clv_code, HasCode, names_cav, names_clv, IsFormat}
 use Rattle.vbi_words.specs.Formats.{has_code, format_from, format_of_lines}
@@ -36,31 +36,19 @@ module _ (test : Code → Bool) where
 
 -- two tests of one fact are the same
 same_test : (a b : Bool) (P : Type 0) → IsTrue a ↔ P → IsTrue b ↔ P → a ≡ b
-same_test true true P x y = refl
-same_test true false P x y = sym (y.1 (x.0 refl))
-same_test false true P x y = x.1 (y.0 refl)
-same_test false false P x y = refl
+same_test a b P x y = grind arith
 
 -- ---- the format
 
 cav_named : (a b : Bool) → names_cav (format_from a b) ≡ a
-cav_named true true = refl
-cav_named true false = refl
-cav_named false true = refl
-cav_named false false = refl
+cav_named a b = grind arith
 
 clv_named : (a b : Bool) → names_clv (format_from a b) ≡ b
-clv_named true true = refl
-clv_named true false = refl
-clv_named false true = refl
-clv_named false false = refl
+clv_named a b = grind arith
 
 -- a format is known by the kinds of code that it names
 by_names : (format : Format) → format ≡ format_from (names_cav format) (names_clv format)
-by_names Cav = refl
-by_names Clv = refl
-by_names Both = refl
-by_names Neither = refl
+by_names format = grind arith
 
 -- the function gives the field's format
 pub format_is : (lines : List (Option ℕ)) → IsFormat lines (format_of_lines lines)

@@ -11,7 +11,7 @@ use Rattle.vbi_words.specs.Outcomes.{AllLow, FirstHopeless, Holds, IsOutcome}
 use Rattle.vbi_words.proofs.Sizes.{sizes_of}
 use Rattle.vbi_words.proofs.Machine
 use Rattle.vbi_words.proofs.Machine.{State, lead, first, second, tail, dead, level_of, is_lead}
-use Rattle.vbi_words.proofs.SystemMachine.{next_of, ending_of, state_after, state_at, state_next, dead_later}
+use Rattle.vbi_words.proofs.SystemMachine.{ending_of, state_after, state_at, state_next, dead_later}
 use Rattle.vbi_words.proofs.Shown
 
 pub dead_none : (system : System) (levels : List Bool) → state_after system levels ≡ dead → ShowsNone system levels
@@ -65,12 +65,7 @@ module _ (system : System) (levels : List Bool) (c : ℕ) (there : DiesAt system
 
   -- the first column isn't that of a death by a low level
   not_first : 0 ≡ c → GoesOn system levels c → ⊥
-  not_first e same =
-      let start : state_at system levels c ≡ lead 0 = ap (state_at system levels) (sym e) in
-      let low : level_at levels c ≡ false = same ∙ ap level_of start in
-      let next : state_at system levels (c + 1) ≡ lead 1 = state_next system levels c there.within
-      ∙ ap (λ (s : State). next_of system s (level_at levels c)) start ∙ ap (next_of system (lead 0)) low in
-      let bad : dead ≡ lead 1 = sym there.dies ∙ next in cc
+  not_first e same = grind arith
 
   pub hold_outcome : GoesOn system levels c → IsOutcome system levels (Hold c)
   hold_outcome same = (dead_none system levels gone, dead_high system levels gone, hopeless, held c refl)
@@ -95,11 +90,7 @@ module _ (system : System) (levels : List Bool) where
       (Shown.ended_none system levels (none (state_after system levels) e), Shown.lead_low system levels e)
     where
       none : (state : State) → is_lead state ≡ true → ending_of system state ≡ None
-      none (lead n) e = refl
-      none (first v n done) e = cc
-      none (second v n done) e = cc
-      none (tail done) e = cc
-      none dead e = cc
+      none state e = grind arith
 
   pub unfinished_outcome : (state_after system levels ≡ dead → ⊥) → is_lead (state_after system levels) ≡ false
       → ending_of system (state_after system levels) ≡ None → IsOutcome system levels Unfinished

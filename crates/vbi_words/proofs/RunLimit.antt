@@ -22,13 +22,7 @@ module _ (sizes : Sizes) where
   open sizes use {greatest, cells}
 
   fresh_next : (state : State) (v : Bool) → level_of state ≡ not v → Fresh sizes (next sizes state v)
-  fresh_next state v e = go (level_of state) v e
-    where
-      go : (l x : Bool) → l ≡ not x → Fresh sizes (Machine.pick sizes l x (stay sizes state) (turn sizes state))
-      go true true e = cc
-      go true false e = turn_fresh sizes state
-      go false true e = turn_fresh sizes state
-      go false false e = cc
+  fresh_next state v e = grind arith
 
   fresh_start : (v : Bool) → Fresh sizes (next sizes (lead 0) v)
   fresh_start true = turn_fresh sizes (lead 0)
@@ -39,19 +33,10 @@ module _ (sizes : Sizes) where
   OneOrTwo m = (m ≡ greatest) ⊎ (m ≡ greatest + greatest)
 
   limit_value : (state : State) (m : ℕ) → limit sizes state ≡ Some m → OneOrTwo m
-  limit_value (lead n) m = λ e. cc
-  limit_value (first v n done) m = λ e. inl cc
-  limit_value (second v n done) m = Machine.limit_cases sizes (λ o. o ≡ Some m → OneOrTwo m) v n done
-      (λ few e. inr cc) (λ all high e. inl cc) (λ all low e. cc)
-  limit_value (tail done) m = λ e. cc
-  limit_value dead m = λ e. cc
+  limit_value state m = grind arith
 
   fresh_length : (state : State) (m : ℕ) → limit sizes state ≡ Some m → Fresh sizes state → length_of state ≡ 1
-  fresh_length (lead n) m e f = cc
-  fresh_length (first v n done) m e f = f
-  fresh_length (second v n done) m e f = f
-  fresh_length (tail done) m e f = cc
-  fresh_length dead m e f = cc
+  fresh_length state m e f = grind arith
 
 module _ (system : System) (levels : List Bool) (v : Bool) where
   -- the state behind the run's first level

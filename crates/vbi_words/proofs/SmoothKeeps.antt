@@ -28,10 +28,7 @@ steady_same false (suc k) s = ap (λ t. false ∷ t) (steady_same false k s)
 -- four or more of any level: the first three are read as the level before
 steady_four : (v h : Bool) (s : List Bool) → steady v (h ∷ h ∷ h ∷ h ∷ s) ≡ v ∷ v ∷ v ∷ h ∷ steady h s
 unfolding window
-steady_four true true s = refl
-steady_four true false s = refl
-steady_four false true s = refl
-steady_four false false s = refl
+steady_four v h s = grind arith
 
 pub steady_run : (v h : Bool) (k : ℕ) (s : List Bool) → 4 ≤ k
     → steady v (replicate k h ++ s) ≡ replicate 3 v ++ (replicate (k - 3) h ++ steady h s)

@@ -156,13 +156,7 @@ module _ (levels turned : List Bool) (x : Glitch levels turned) where
 
   -- one of its levels is high
   pub turned_high : AllLow turned → ⊥
-  turned_high low =
-      let first = x.before in
-      let before : level_at turned (g - 4) ≡ v
-      = x.others (g - 4) (inl (omega arith)) ∙ x.equal (g - 4) (omega arith) (omega arith) in
-      let one : level_at turned (g - 4) ≡ false = low (g - 4) false (omega (arith, x.same_length, x.behind)) in
-      let two : level_at turned g ≡ false = low g false (omega (arith, x.same_length, x.behind)) in
-      not_same v (sym before ∙ one ∙ sym two ∙ x.over g (omega arith) (omega (arith, x.some)))
+  turned_high low = grind arith
 
 -- ---- the laws
 

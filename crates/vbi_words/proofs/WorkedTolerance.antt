@@ -1,82 +1,30 @@
 -- Worked facts of the definitions of tolerance, computed on a few columns.
-use Rattle.std.proofs.Common.{◌≡◌, ℕ, suc, zero, ◌≤◌, ◌<◌, ◌+◌, ◌-◌, ◌*◌, Bool, true, false, List, [], ◌∷◌, ◌++◌, ◌⊎◌}
-use Rattle.std.proofs.Common.{inl, inr, refl, sym, subst, ap, ◌∙◌, arith, lit<, lit≤, length}
+use Rattle.std.proofs.Common.{◌≡◌, ℕ, ◌≤◌, ◌<◌, ◌+◌, ◌*◌, Bool, true, false, List, [], ◌∷◌, ◌++◌, ◌⊎◌}
+use Rattle.std.proofs.Common.{inl, inr, refl, ap, ◌∙◌, arith, lit<, length}
 use Rattle.std.proofs.Math.ListN.{replicate}
 use Rattle.std.proofs.lemmas.Bool.{cases_lt}
-use Rattle.std.proofs.lemmas.List.{get_or_past, length-append, length-replicate}
-use Rattle.std.specs.Prelude.{not}
+use Rattle.std.proofs.lemmas.List.{length-append, length-replicate}
 use Rattle.vbi_words.specs.Jitter.{ShowsAmply, IsBlurred, NoneAlone, IsJittered, HasGlitches}
 use Rattle.vbi_words.specs.Levels.{level_at}
 use Rattle.vbi_words.specs.declared.system.System.TheVariants.{Ntsc}
 use Rattle.vbi_words.specs.Shows.{Spells}
 use Rattle.vbi_words.specs.Words.{lowest_bits, halves_of}
 use Rattle.vbi_words.specs.WorkedLines.{low, high, little_row, little_early, little_spiked, little_late, ones_and_five}
-use Rattle.vbi_words.proofs.HalfCells.{in_run, past_run, all_low}
+use Rattle.vbi_words.proofs.HalfCells.{all_low}
 
 -- ---- a row and its changes of level
 
-early_at : (c : ℕ) → c < 7 → level_at little_row (c - 1) ≡ level_at little_row c
-    → level_at little_row (c + 1) ≡ level_at little_row c → level_at little_early c ≡ level_at little_row c
-early_at zero in_row h k = refl
-early_at (suc zero) in_row h k = let bad : true ≡ false = k in cc
-early_at (suc (suc zero)) in_row h k = refl
-early_at (suc (suc (suc zero))) in_row h k = refl
-early_at (suc (suc (suc (suc zero)))) in_row h k = refl
-early_at (suc (suc (suc (suc (suc zero))))) in_row h k = refl
-early_at (suc (suc (suc (suc (suc (suc zero)))))) in_row h k = refl
-early_at (suc (suc (suc (suc (suc (suc (suc c))))))) in_row h k = absurd (omega arith)
-
 pub early_blurred : IsBlurred little_row little_early
-early_blurred = record {
-  same_length = refl;
-  others = λ c h k. elim (cases_lt c 7) [
-    | inl inside ↦ early_at c inside h k
-    | inr past ↦ get_or_past little_early c false past ∙ sym (get_or_past little_row c false past)
-  ];
-}
-
-early_near : (c : ℕ) → c < 7
-    → (level_at little_early c ≡ level_at little_early (c - 1))
-    ⊎ (level_at little_early c ≡ level_at little_early (c + 1))
-early_near zero inside = inl refl
-early_near (suc zero) inside = inr refl
-early_near (suc (suc zero)) inside = inl refl
-early_near (suc (suc (suc zero))) inside = inl refl
-early_near (suc (suc (suc (suc zero)))) inside = inl refl
-early_near (suc (suc (suc (suc (suc zero))))) inside = inr refl
-early_near (suc (suc (suc (suc (suc (suc zero)))))) inside = inl refl
-early_near (suc (suc (suc (suc (suc (suc (suc c))))))) inside = absurd (omega arith)
+early_blurred = grind arith
 
 early_none_alone : NoneAlone little_early
-early_none_alone c = elim (cases_lt c 7) [
-  | inl inside ↦ early_near c inside
-  | inr past ↦
-      let next : 7 ≤ c + 1 = omega arith in
-      inr (get_or_past little_early c false past ∙ sym (get_or_past little_early (c + 1) false next))
-]
+early_none_alone c = grind arith
 
 pub early_jittered : IsJittered little_row little_early
 early_jittered = (early_blurred, early_none_alone)
 
-spiked_at : (c : ℕ) → c < 7 → level_at little_row (c - 1) ≡ level_at little_row c
-    → level_at little_row (c + 1) ≡ level_at little_row c → level_at little_spiked c ≡ level_at little_row c
-spiked_at zero in_row h k = refl
-spiked_at (suc zero) in_row h k = let bad : true ≡ false = k in cc
-spiked_at (suc (suc zero)) in_row h k = let bad : false ≡ true = h in cc
-spiked_at (suc (suc (suc zero))) in_row h k = refl
-spiked_at (suc (suc (suc (suc zero)))) in_row h k = refl
-spiked_at (suc (suc (suc (suc (suc zero))))) in_row h k = refl
-spiked_at (suc (suc (suc (suc (suc (suc zero)))))) in_row h k = refl
-spiked_at (suc (suc (suc (suc (suc (suc (suc c))))))) in_row h k = absurd (omega arith)
-
 pub spiked_blurred : IsBlurred little_row little_spiked
-spiked_blurred = record {
-  same_length = refl;
-  others = λ c h k. elim (cases_lt c 7) [
-    | inl inside ↦ spiked_at c inside h k
-    | inr past ↦ get_or_past little_spiked c false past ∙ sym (get_or_past little_row c false past)
-  ];
-}
+spiked_blurred = grind arith
 
 -- column 1 stands alone
 pub spiked_alone : NoneAlone little_spiked → ⊥
@@ -93,39 +41,9 @@ late_not_blurred b = let bad : false ≡ true = b.others 3 refl refl in cc
 
 -- ---- a glitch
 
-three_others : (c : ℕ) → (c < 4) ⊎ (7 ≤ c) → level_at (low 4 ++ (high 3 ++ low 4)) c ≡ level_at (low 11) c
-three_others c (inl l) = in_run 4 false (high 3 ++ low 4) c l ∙ sym (all_low 11 c)
-three_others c (inr l) =
-    let place : 4 + (3 + (c - 7)) ≡ c = omega arith in
-    subst (λ (i : ℕ). level_at (low 4 ++ (high 3 ++ low 4)) i ≡ level_at (low 11) i) place
-    (past_run 4 false (high 3 ++ low 4) (3 + (c - 7)) ∙ past_run 3 true (low 4) (c - 7) ∙ all_low 4 (c - 7)
-    ∙ sym (all_low 11 (4 + (3 + (c - 7)))))
-
-three_over : (c : ℕ) → 4 ≤ c → c < 7 → level_at (low 4 ++ (high 3 ++ low 4)) c ≡ not (level_at (low 11) c)
-three_over c from to =
-    let place : 4 + (c - 4) ≡ c = omega arith in
-    subst (λ (i : ℕ). level_at (low 4 ++ (high 3 ++ low 4)) i ≡ not (level_at (low 11) i)) place
-    (past_run 4 false (high 3 ++ low 4) (c - 4) ∙ in_run 3 true (low 4) (c - 4) (omega arith)
-    ∙ ap not (sym (all_low 11 (4 + (c - 4)))))
-
 -- three columns are one, with four equal ones on either side
 pub three_glitch : HasGlitches 1 (low 11) (low 4 ++ (high 3 ++ low 4))
-three_glitch = (
-  low 11,
-  refl,
-  record {
-    g = 4;
-    m = 3;
-    some = lit≤ tt;
-    few = lit≤ tt;
-    before = lit≤ tt;
-    behind = lit≤ tt;
-    equal = λ c from to. all_low 11 c ∙ sym (all_low 11 4);
-    same_length = refl;
-    others = three_others;
-    over = three_over;
-  },
-)
+three_glitch = grind arith
 
 -- four are none
 pub four_no_glitch : HasGlitches 1 (low 11) (low 4 ++ (high 4 ++ low 3)) → ⊥

@@ -29,16 +29,14 @@ HasCode test (Some word) = (code : Code) × IsCode word code × IsTrue (test cod
 -- whether the format says that there are CAV codes
 abbrev pub names_cav : Format → Bool
 names_cav Cav = true
-names_cav Clv = false
 names_cav Both = true
-names_cav Neither = false
+names_cav _ = false
 
 -- whether the format says that there are CLV codes
 abbrev pub names_clv : Format → Bool
-names_clv Cav = false
 names_clv Clv = true
 names_clv Both = true
-names_clv Neither = false
+names_clv _ = false
 
 -- the format of a field whose lines have these words, or none: it names the kinds of code that a line has
 pub record IsFormat (lines : List (Option ℕ)) (format : Format) : Type 0 where

@@ -2,8 +2,8 @@
 plain data out; docs/SIDES.md has the rules and the form of the answer. All else that speaks of a side prints this.
 
 Where the rules of docs/SIDES.md are: 1, 2, 4 and 7 in paces.py, 3 and 11 in readings.py, 5, 6 and 8 in chain.py, 9 in
-times.py, 10 in parts.py, 12 in places.py and missing.py, 13 in clock.py, 14, 15 and the end of 6 in order.py, 16 in
-confirmed.py, 17 in minutes.py, 18 in sparse.py."""
+times.py, 10 in parts.py, 12 in places.py and missing.py, 13 in clock.py, 14, 15 and the loops of 6 in order.py, the end
+of 6 in between.py, 16 in confirmed.py, 17 in minutes.py, 18 in sparse.py."""
 
 from typing import List
 
@@ -61,7 +61,7 @@ def _of_numbers(places: Places, doubts: Doubts) -> Answer:
         "numbers": {"count": len(numbers), "least": text_of(min(numbers)) if numbers else None,
                     "greatest": text_of(max(numbers)) if numbers else None},
         "showings": [[text_of(number), first, last] for number, first, last in places.showings],
-        "completed": sorted(places.numbers.completed), "confirmed": places.confirmed,
+        "completed": sorted(places.numbers.completed), "confirmed": list(places.confirmed),
         "unread": [{"number": text_of(number), "field": field, "read": read.get(field)}
                    for number, field in places.due],
         "breaks": [dict(one, **{"from": text_of(one["from"]), "to": text_of(one["to"])}) for one in places.breaks],

@@ -3,6 +3,7 @@ the disc's own speed or where it was played at another one."""
 
 import bisect
 import math
+import types
 from typing import FrozenSet, List, Mapping, NamedTuple, Optional, Set, Tuple, Union
 
 from .paces import RATES, MinutePace, Pace, Unit
@@ -11,6 +12,7 @@ from .readings import Reading
 APART = 100  # fields from one reading of a stretch to the next, at most
 SLOW = 6  # fields of a number that is shown for three pictures
 Around = Tuple[Optional[Reading], Optional[Reading]]
+_NONE: Mapping[int, int] = types.MappingProxyType({})
 
 
 class Line(NamedTuple):
@@ -56,9 +58,9 @@ class Numbers(NamedTuple):
     believed: List[Reading]
     fields: List[int]
     others: Set[int]
-    firm: Mapping[int, int] = {}
+    firm: Mapping[int, int] = _NONE
     completed: FrozenSet[int] = frozenset()
-    swapped: Mapping[int, int] = {}
+    swapped: Mapping[int, int] = _NONE
     speeds: Tuple[Stretch, ...] = ()
 
     def believing(self, readings: List[Reading]) -> "Numbers":

@@ -56,6 +56,8 @@ class _Chains:
     def __init__(self, readings, pace):
         self.readings, self.pace = readings, pace
         self.states = 2 * pace.variants
+        self.join = self._join if self.states > 2 else self._join_video if pace.kind == "video" else self._join_one
+        self.places = [one.field - 2 * one.number for one in readings] if pace.kind == "video" else []
         # of each reading its best value, what each state has less, and whence: how many readings back, in which state
         self.values, self.less, self.origins = [], [], []
         self.last_of = {}  # of each number its last reading
@@ -127,7 +129,7 @@ class _Chains:
         best, origin, values = [0, NEVER] * (self.states // 2), [None] * self.states, self.values
         limit = max(index - (REACH if self.left >= REACH else NEAR), 0)
         before, joined, enough = index - 1, 0, 0
-        join = self._join if self.states > 2 else self._join_one
+        join = self.join
         while before >= 0:
             if values[before] > enough:
                 enough = join(before, index, best, origin, enough)
@@ -179,6 +181,19 @@ class _Chains:
             worth = value - price(off)
             if worth > best[0]:
                 best[0], origin[0] = worth, (index - before, int(moving < 0))
+        return max(best)
+
+    def _join_video(self, before, index, best, origin, enough):
+        """The same at the pace of video, by the fields in which the disc's first picture would stand: among noise this
+        is what takes the time."""
+        other, reading = self.readings[before], self.readings[index]
+        if other.number == reading.number or other.field == reading.field:
+            return self._join_one(before, index, best, origin, enough)
+        off = self.places[index] - self.places[before]
+        worth = self.values[before] - (1 + abs(off).bit_length() if off else 0)
+        if worth <= best[0]:
+            return enough
+        best[0], origin[0] = worth, (index - before, int(self.less[before][0] < 0))
         return max(best)
 
     def _add_columns(self, apart, number, step):

@@ -24,7 +24,8 @@ def with_confirmed(places: Places, nearest_word: Optional[NearestWord]) -> Place
         return places
     showings = places.showings + [[number, field, field] for number, field in confirmed]
     return places._replace(
-        showings=sorted(showings, key=lambda showing: showing[1]), confirmed=sorted(field for _, field in confirmed),
+        showings=sorted(showings, key=lambda showing: showing[1]),
+        confirmed=tuple(sorted(field for _, field in confirmed)),
         due=[one for one in places.due if one not in set(confirmed)])
 
 

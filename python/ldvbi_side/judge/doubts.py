@@ -97,8 +97,8 @@ def second_rows(numbers: Numbers, readings: List[Reading]) -> List[Answer]:
     wrong numbers always fit, so a row has at least a tenth of the readings that are believed beside it."""
     taken = {(reading.field, reading.number) for reading in numbers.believed}
     rest = [one for one in readings if (one.field, one.number) not in taken]
-    if numbers.pace is None or not rest:
-        return []
+    if numbers.pace is None or not rest or not numbers.believed:
+        return []  # where none is believed, the chain has found no row
     row = chain(rest, numbers.pace)
     weight = sum(one.weight for one in row)
     if weight - sum(price(numbers.off(*pair)) for pair in zip(row, row[1:])) <= WIDEST:

@@ -5,11 +5,11 @@ Pictures are found here, and times in times.py, as a time is joined of two words
 1. The codes become readings: a number of a field, with its weight.
 2. These say at which pace the numbers go on (`pace_of`).
 3. `chain` chooses the readings that are believed at this pace, each in its own field.
-4. `with_loops`, `with_pictures_between`, `with_speeds`, `with_turned` and `with_swaps` find what the chain takes for
-   stills or for breaks: a few pictures that were played again and again, pictures that were stepped over between two
-   stills, stretches that were played at another speed or turned by hand, and fields that were written in each other's
-   place. Speeds come before swaps: a swap is found between two numbers that fit, and those of another speed fit only
-   once it is known.
+4. `with_loops`, `with_pictures_between`, `with_rest_between`, `with_speeds`, `with_turned` and `with_swaps` find what
+   the chain takes for stills or for breaks, or sets aside: a few pictures that were played again and again, pictures
+   that were stepped over between two stills, what is left between two losses, stretches that were played at another
+   speed or turned by hand, and fields that were written in each other's place. Speeds come before swaps: a swap is
+   found between two numbers that fit, and those of another speed fit only once it is known.
 5. What isn't believed then is set aside by name (`Doubts`).
 
 Each step returns new `Numbers`, and leaves those that it was given as they were. All later modules ask `Numbers.off` or
@@ -22,9 +22,10 @@ from typing import Tuple
 
 from ldvbi import Kind
 from .believed import Numbers, no_numbers, numbers_of_readings
+from .between import with_pictures_between, with_rest_between
 from .chain import chain
 from .doubts import Doubts, numbers_aside, second_rows
-from .order import with_loops, with_pictures_between, with_speeds, with_swaps, with_turned
+from .order import with_loops, with_phases, with_speeds, with_swaps, with_turned
 from .paces import RATES, Unit, pace_of
 from .readings import WEIGHTS, Codes
 from .times import times_of
@@ -49,6 +50,7 @@ def pictures_of(codes: Codes) -> Tuple[Numbers, Doubts]:
     numbers = numbers_of_readings(Unit("picture", RATES[system]), pace, chain(readings, pace), others)
     numbers = numbers._replace(firm={one.field: one.number for one in readings if one.weight == 2 * WEIGHTS[1]})
     numbers = with_pictures_between(with_loops(numbers, readings), readings)
-    numbers = with_turned(with_speeds(numbers, readings), readings)
+    numbers = with_rest_between(numbers, readings)
+    numbers = with_phases(with_turned(with_speeds(numbers, readings), readings))
     numbers = with_swaps(numbers, readings, {reading.field for reading in readings})
     return numbers, numbers_aside(codes, numbers, readings)._replace(second_rows=second_rows(numbers, readings))

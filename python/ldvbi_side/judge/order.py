@@ -45,47 +45,53 @@ def with_loops(numbers: Numbers, readings: List[Reading]) -> Numbers:
     return numbers.believing(sorted(numbers.believed + more, key=lambda one: one.field)) if more else numbers
 
 
-def with_pictures_between(numbers: Numbers, readings: List[Reading]) -> Numbers:
-    """These numbers, with those between two stills that don't fit each other: of a player that is stepped from picture
-    to picture. Each is two breaks, and weighs less, but one break is there in any case. A number counts that was read
-    in pass 1 on both lines, or as often on one."""
-    if numbers.pace is None or numbers.pace.kind not in ("video", "film"):
-        return numbers
-    believed = numbers.believed
-    more: List[Reading] = []
-    fields: List[int] = []
-    for one, before, after, other in zip(believed, believed[1:], believed[2:], believed[3:]):
-        if one.number != before.number or after.number != other.number or numbers.off(before, after) in (None, 0):
-            continue
-        fields = fields or [reading.field for reading in readings]
-        between = readings[bisect.bisect(fields, before.field):bisect.bisect_left(fields, after.field)]
-        weights: Counted[int] = Counter()
-        for reading in between:
-            weights[reading.number] += reading.weight
-        if len({reading.field for reading in between}) == len(between):
-            more += [reading for reading in between if weights[reading.number] >= 2 * WEIGHTS[1]]
-    return numbers.believing(sorted(believed + more, key=lambda one: one.field)) if more else numbers
-
-
 def with_turned(numbers: Numbers, readings: List[Reading]) -> Numbers:
     """These numbers, with those that a disc showed while it was turned by hand: near those before and behind it, among
     breaks that are as near. The chain passes over them where two others fit by chance."""
-    if numbers.pace is None or numbers.pace.kind not in ("video", "film"):
+    if not isinstance(numbers.pace, Pace):
         return numbers
     taken, near, breaks = set(numbers.fields), [], []
     for one in readings:
-        if one.field not in taken and one.weight >= WEIGHTS[1]:
-            around = [other for other in numbers.around(one.field) if other]
-            if all(abs(other.number - one.number) <= TURN and abs(other.field - one.field) <= TURNED
-                   for other in around):
-                near.append(one)
+        around = [other for other in numbers.around(one.field) if other] if one.field not in taken else []
+        is_sure = one.weight >= WEIGHTS[1] or any(other.number == one.number for other in around)
+        if around and is_sure and all(abs(other.number - one.number) <= TURN and abs(other.field - one.field) <= TURNED
+                                      for other in around):
+            near.append(one)
+    is_still = False
     for one, other in zip(numbers.believed, numbers.believed[1:]) if near else ():
-        if abs(other.number - one.number) <= TURN and numbers.off(one, other) not in (None, 0):
+        off = numbers.off(one, other)
+        if abs(other.number - one.number) <= TURN and (off or off is None and not is_still):
             breaks.append(other.field)
+        is_still = off is None
     fields = sorted(breaks + [one.field for one in near])
     more = {one.field: one for one in near if
             bisect.bisect(fields, one.field + TURNED) - bisect.bisect_left(fields, one.field - TURNED) > SIGNS}
     return numbers.believing(sorted(numbers.believed + list(more.values()), key=lambda one: one.field))
+
+
+def with_phases(numbers: Numbers) -> Numbers:
+    """These numbers, where both fields of a picture have its number, each that fits neither the one before nor the one
+    behind as of the first field or of the second by the pictures around it: a player shows both fields of a picture,
+    and goes on with another one. The chain leaves that open where either costs as much."""
+    if numbers.pace is None or numbers.pace.kind != "both":
+        return numbers
+    believed, found = numbers.believed, numbers.believed[:1]
+    fits = [False] + [numbers.off(one, other) == 0 for one, other in zip(believed, believed[1:])] + [False]
+    for place, one in enumerate(believed[1:], 1):
+        before = found[-1]
+        if not fits[place] and not fits[place + 1] and (one.field - one.variant - before.field + before.variant) % 2:
+            other = one._replace(variant=1 - one.variant)
+            around = before, believed[place + 1] if place + 1 < len(believed) else None
+            if _price_between(numbers, other, around) <= _price_between(numbers, one, around):
+                one = other
+        found.append(one)
+    return numbers.believing(found)
+
+
+def _price_between(numbers, one, around):
+    """What the breaks between a reading and those around cost; a number that stays costs as much in either field."""
+    pairs = [(around[0], one), (one, around[1])]
+    return sum(price(numbers.off(*pair)) for pair in pairs if None not in pair)
 
 
 def _that_go_on(pace, before, between, after):
@@ -133,6 +139,9 @@ def _with_stretch(numbers, stretch, ones):
     """These numbers, with those readings of a stretch, if they weigh more than what was believed in its fields and two
     changes of the speed cost."""
     inside = numbers.believed_in(stretch.first, stretch.last)
+    fields = {one.field for one in ones}
+    if 2 * sum(one.weight for one in inside if one.field not in fields) > sum(one.weight for one in ones):
+        return numbers  # as where a disc is turned by hand: it showed other numbers, too
     before, after = numbers.around(stretch.first)[0], numbers.around(stretch.last)[1]
     place = bisect.bisect(numbers.speeds, stretch)
     changed = numbers._replace(speeds=numbers.speeds[:place] + (stretch,) + numbers.speeds[place:])

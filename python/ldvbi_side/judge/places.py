@@ -35,7 +35,7 @@ class Places(NamedTuple):
     unshown: Set[int]
     clock: Clock
     number_of: Dict[int, int]
-    confirmed: List[int] = []
+    confirmed: Tuple[int, ...] = ()
 
     def number_at(self, field: int) -> object:
         """The number of the picture that a field belongs to, read or due: its own, or that of a field just before it;

@@ -8,6 +8,7 @@ from typing import Any, Callable, Dict, Iterator, List, NamedTuple, Optional, Se
 
 from ldvbi import Kind
 from .believed import Around, Line, Numbers, no_numbers, numbers_of_readings
+from .between import with_rest_between
 from .chain import chain
 from .doubts import Doubts, conflict_of, doubts_of, numbers_aside, second_rows
 from .order import with_loops, with_speeds, with_swaps
@@ -109,7 +110,8 @@ def _believed(times, readings):
     if more:
         known = sorted(readings + more, key=lambda one: one.field)
         numbers = numbers.believing(chain(known, pace))
-    numbers = with_speeds(with_loops(numbers, known), readings, times.of_line)
+    numbers = with_rest_between(with_loops(numbers, known), readings)
+    numbers = with_speeds(numbers, readings, times.of_line)
     numbers = with_swaps(numbers, readings, times.parts)
     numbers = numbers._replace(
         completed=frozenset(reading.field for reading in numbers.believed if reading.lines == (16,)))

@@ -38,10 +38,4 @@ returns-then-rest-gt0-clause-levels c =
     (subst (Sliced c.args.slicing bytes) (sym is) sliced)
 
 pub returns-else-rest-gt0-clause-levels : goal.returns-else-rest-gt0-clause-levels
-returns-else-rest-gt0-clause-levels c =
-    let now = c.loop-column in
-    let system = c.args.system in
-    let long : length now.packed ≡ width_of system
-    = omega (arith, now.invariant.count, now.invariant.inside, c.if-rest-gt0.false, c.width-width.ensures) in
-    sliced_all c.args.slicing c.args.bytes.now now.packed (width_of system)
-    (c.requires.bytes ∙ line_bytes-twice system) long now.invariant.sliced
+returns-else-rest-gt0-clause-levels c = grind arith

@@ -1,4 +1,4 @@
-use Rattle.std.proofs.Common.{◌≡◌, ℕ, ◌+◌, ◌-◌, ◌≤◌, ◌<◌, Bool, true, false, List, refl, arith, inl, inr, length, sym}
+use Rattle.std.proofs.Common.{◌≡◌, ℕ, ◌+◌, ◌-◌, ◌≤◌, ◌<◌, Bool, List, arith, inl, inr, length, sym}
 use Rattle.std.proofs.Common.{ap, ◌∙◌, take, subst}
 use Rattle.std.specs.Prelude.{not}
 use Rattle.std.proofs.lemmas.Bool.{cases_eq}
@@ -14,10 +14,7 @@ use Rattle.vbi_line.proofs.outcome.read_runs.Goals as goal
 
 -- a level that isn't this one is the other
 other : (a b : Bool) → (a ≡ b → ⊥) → not b ≡ a
-other true true differs = absurd (differs refl)
-other true false differs = refl
-other false true differs = refl
-other false false differs = absurd (differs refl)
+other a b differs = grind arith
 
 pub read_run-requires-clause-fit : goal.read_run-requires-clause-fit
 read_run-requires-clause-fit c = subst (IsFit c.args.system) (sym c.loop-column.invariant.state)

@@ -1,7 +1,8 @@
+use Rattle.std.proofs.Common.{arith}
 use Rattle.std.proofs.Common.{◌≡◌, ℕ, inl, refl, ap, ◌∙◌, lit<}
 use Rattle.std.proofs.lemmas.Bool.{false≢true}
 use Rattle.vbi_words.specs.declared.code.Code.{Code}
-use Rattle.vbi_words.specs.declared.code.Code.TheVariants.{Picture, Chapter, Time, ClvPicture, CxOn, CxOff, Users}
+use Rattle.vbi_words.specs.declared.code.Code.TheVariants.{Picture, Chapter, Time, ClvPicture, CxOn, CxOff}
 use Rattle.vbi_words.proofs.OneCode.{other}
 use Rattle.vbi_words.proofs.code.code_of_number.Goals as goal
 
@@ -47,10 +48,7 @@ returns-then-is_between-10 c =
     inl (9, _, lit< tt, refl, (c.if-is_between-10.ensures.0 refl, ap CxOff c.three_digits-then-is_between-10.ensures))
 
 pub returns-then-is_between-11 : goal.returns-then-is_between-11
-returns-then-is_between-11 c =
-    let numbers = both Users _ _ _ _ c.digit-then-is_between-11.ensures.digit
-    c.three_digits-then-is_between-11.ensures in
-    inl (10, _, lit< tt, refl, (c.if-is_between-11.ensures.0 refl, numbers))
+returns-then-is_between-11 c = grind arith
 
 -- no pattern fits
 pub returns-else-is_between-11 : goal.returns-else-is_between-11

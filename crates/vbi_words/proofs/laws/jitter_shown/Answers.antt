@@ -1,4 +1,4 @@
-use Rattle.std.proofs.Common.{◌≡◌, ℕ, Bool, List, inl, inr, arith}
+use Rattle.std.proofs.Common.{ℕ, Bool, List, arith}
 use Rattle.vbi_words.specs.declared.system.System.{System}
 use Rattle.vbi_words.specs.declared.outcome.Outcome.TheVariants.{Word}
 use Rattle.vbi_words.specs.Jitter.{ShowsAmply, IsJittered, ReadsWord}
@@ -17,9 +17,7 @@ shown system drawn levels word s (blurred, none_alone) = go r.reading
     r = blurred_reads system drawn levels word s blurred
 
     go : Reads system levels (Word word) r.pass → Shows system levels word
-    go (inl (first, here)) = here
-    go (inr (second, none, high, smooth)) =
-        let e : r.pass ≡ 1 = r.first.1 none_alone in absurd (omega (arith, second, e))
+    go h = grind arith
 
 pub returns : goal.returns
 returns c = record {

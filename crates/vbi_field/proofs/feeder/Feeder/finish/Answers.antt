@@ -1,6 +1,5 @@
 use Rattle.std.proofs.Common.{subst}
-use Rattle.vbi_field.specs.Feed.{Finishes}
-use Rattle.vbi_field.specs.Feeding.{Feeding}
+use Rattle.vbi_field.specs.Feed.{Finishes, Feeding}
 use Rattle.vbi_field.proofs.FeedEnds.{finished}
 use Rattle.vbi_field.proofs.feeder.Feeder.finish.Goals as goal
 

@@ -33,9 +33,4 @@ returns-in-None-clause-ok c =
     c.requires.some c.in-None.ensures)
 
 pub overflow_sub-result : goal.overflow_sub-result
-overflow_sub-result c =
-    let begun = c.in-Some in
-    let limit = c.in-Some-limit in
-    let fit = fits c.args.system (state_of c.args.self) c.args.level begun.begun begun.ensures.some limit.limit
-    c.requires.fit limit.ensures in
-    omega (arith, c.length-else-length-more.ensures, fit)
+overflow_sub-result c = grind arith

@@ -1,0 +1,80 @@
+"""Numbers between two breaks, which the chain sets aside, since they weigh less than one break more costs: pictures
+that a player stepped over between two stills, and what is left between two losses. One break is there in any case."""
+
+import bisect
+import operator
+from collections import Counter
+from typing import Counter as Counted, List
+
+from .believed import Numbers
+from .chain import chain
+from .paces import Pace
+from .readings import WEIGHTS, Reading
+
+OTHER = 3  # digits of a single number between two losses that aren't those due: a misread one has one or two
+
+
+def with_pictures_between(numbers: Numbers, readings: List[Reading]) -> Numbers:
+    """These numbers, with those between two stills that don't fit each other: of a player that is stepped from picture
+    to picture. Each is two breaks, and weighs less, but one break is there in any case. A number counts that was read
+    in pass 1 on both lines, or as often on one."""
+    if numbers.pace is None or numbers.pace.kind not in ("video", "film"):
+        return numbers
+    believed = numbers.believed
+    more: List[Reading] = []
+    fields: List[int] = []
+    for one, before, after, other in zip(believed, believed[1:], believed[2:], believed[3:]):
+        if one.number != before.number or after.number != other.number or numbers.off(before, after) in (None, 0):
+            continue
+        fields = fields or [reading.field for reading in readings]
+        between = readings[bisect.bisect(fields, before.field):bisect.bisect_left(fields, after.field)]
+        weights: Counted[int] = Counter()
+        for reading in between:
+            weights[reading.number] += reading.weight
+        if len({reading.field for reading in between}) == len(between):
+            more += [reading for reading in between if weights[reading.number] >= 2 * WEIGHTS[1]]
+    return numbers.believing(sorted(believed + more, key=lambda one: one.field)) if more else numbers
+
+
+def with_rest_between(numbers: Numbers, readings: List[Reading]) -> Numbers:
+    """These numbers, with those that are left between two breaks, as of a disc that lost much: read in pass 1 or on two
+    lines, they fit each other, and lie between the believed ones around. A single one counts between two losses if
+    three of its digits or more are others than the numbers around leave for its field: then it isn't one of these,
+    misread."""
+    if not isinstance(numbers.pace, Pace):
+        return numbers
+    more: List[Reading] = []
+    for place, ones in _between(numbers, readings).items():
+        before, after = numbers.believed[place - 1:place + 1]
+        row = chain([one for one in ones if before.number < one.number < after.number], numbers.pace)
+        if row and numbers.off(before, after) != 0 and not any(map(numbers.off, row, row[1:])):
+            more += row if len(row) > 1 or _is_another(numbers, before, row[0], after) else []
+    return numbers.believing(sorted(numbers.believed + more, key=lambda one: one.field)) if more else numbers
+
+
+def _between(numbers, readings):
+    """The readings that are set aside between two believed ones, by the place of the second of these."""
+    taken, found = set(numbers.fields), {}
+    for one in readings:
+        if one.field not in taken and one.weight >= WEIGHTS[1]:
+            place = bisect.bisect(numbers.fields, one.field)
+            if 0 < place < len(numbers.fields):
+                found.setdefault(place, []).append(one)
+    return found
+
+
+def _is_another(numbers, before, one, after):
+    """Whether a number between two losses is none of those that are due in its field by the one before or behind,
+    misread."""
+    if numbers.off(before, one) >= 0 or numbers.off(one, after) >= 0:
+        return False
+    due = [before.number + numbers.pace.numbers_in(one.field - before.field),
+           after.number - numbers.pace.numbers_in(after.field - one.field)]
+    said = _digits(numbers.unit, one.number)
+    return all(sum(map(operator.ne, said, _digits(numbers.unit, near + step))) >= OTHER
+               for near, steps in zip(due, ((0, 1), (-1, 0))) for step in steps)
+
+
+def _digits(unit, number):
+    """A number as its words have it."""
+    return "%05d" % number if unit.name == "picture" else unit.text_of(number)
