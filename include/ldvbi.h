@@ -346,6 +346,29 @@ LDVBI_RESULT LDVBI_POINTER(7)
 uint32_t ldvbi_judge_field(uint32_t system, uint32_t counted, uint32_t pace, const LdvbiFieldReadings *readings,
                            size_t count, size_t field, LdvbiNumber *number);
 
+/* ---- Seeking a number */
+
+/* Where a number was found. */
+typedef struct LdvbiSought {
+    size_t field;       /* counted from 0; as many as the side has where none was found */
+    LdvbiNumber number; /* what is answered of this field: the number, LDVBI_BELIEVED or LDVBI_DUE */
+    uint32_t pace;      /* the pace at which it is answered; 0 where none was found */
+    uint32_t looked;    /* how many fields were read, LDVBI_LOOKED at most */
+} LdvbiSought;
+
+#define LDVBI_LOOKED 400
+
+/* Seeks a number in the `length` bytes of a side, as a mapped file: by halving, so few fields are read. `pace` is as for
+ * ldvbi_judge; one that is to be found is found by the fields around the place. A last field that is cut is left out.
+ *
+ * This is proved: the field that is answered has the number as ldvbi_judge answers it by what ldvbi_read_fields reads of
+ * all fields, at this pace, and the field before it hasn't. Whether a number is found is not proved: numbers have to
+ * rise along the side, as they do where a player runs on. To be sure that a number isn't there, judge the whole side.
+ * LDVBI_BAD_SYSTEM, LDVBI_BAD_LEVELS, LDVBI_BAD_COUNTED, LDVBI_BAD_PACE. */
+LDVBI_RESULT LDVBI_POINTER(9)
+uint32_t ldvbi_seek(uint32_t system, uint32_t black, uint32_t white, uint32_t counted, uint32_t pace,
+                    const void *bytes, size_t length, uint32_t number, LdvbiSought *sought);
+
 /* ---- Judging chapters
  *
  * The fields around a field decide on its chapter too. A chapter is believed only where the codes that say it, in the

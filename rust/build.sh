@@ -52,11 +52,11 @@ else
     mv "$here/crate.new" "$here/crate"
 fi
 
-(cd "$here/crate" && "$cargo" build --release --quiet ${target:+--target "$target"})
+(cd "$here/crate" && "$cargo" build --release --quiet --features cli ${target:+--target "$target"})
 built=$CARGO_TARGET_DIR/${target:+$target/}release
 to=$here${target:+/$target}
 mkdir -p "$to"
-for file in ldvbi ldvbi.exe ldvbi.dll libldvbi.a libldvbi.dylib; do
+for file in ldvbi ldvbi.exe ldvbi.dll libldvbi.dll.a libldvbi.a libldvbi.dylib; do
     [ ! -e "$built/$file" ] || cp -f "$built/$file" "$to/$file"
 done
 if [ -e "$built/libldvbi.so" ]; then

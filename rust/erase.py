@@ -37,6 +37,8 @@ ATTRIBUTE = re.compile(r"#!?\[(\w+)")
 # What is the same in both, but for its form. Lines stay where they are.
 REWRITTEN = [(re.compile(pattern, re.M), other) for pattern, other in [
     (r"\bprove!", "assert!"),
+    # What contracts compare by their views, Rust compares and prints by these.
+    (r"^#\[derive\(Clone, Copy\)\]$", "#[derive(Clone, Copy, Debug, PartialEq, Eq)]"),
     (r"<W: fmt::Write>\(&self, f: &mut fmt::Formatter<W>\)", "(&self, f: &mut fmt::Formatter<'_>)"),
     (r"(#\[derive\(.*)\bDrop, ", r"\1"), (r"\bDrop\)\]", ")]"), (r", \)\]", ")]"), (r"^[ \t]*#\[derive\(\)\]$", ""),
     (r"^use std::(?:marker::Model|simd::prelude::\*|alloc::Global);$", ""),
@@ -47,7 +49,7 @@ REWRITTEN = [(re.compile(pattern, re.M), other) for pattern, other in [
     (r"\bValue::from_slice\(", "serde_json::from_slice::<Value>("),
     (r"^[ \t]*Err\(fault\) if fault\.is_memory\(\) => .*$", ""),
     (r"^[ \t]*#\[unsafe\(no_mangle\)\]$", ""), (r'^pub extern "C" fn ', "pub fn "),
-    (r"^(?:pub )?mod laws;$", ""), (r"\bclap::", "crate::clap::"),
+    (r"^(?:pub )?mod (?:\w+_)?laws;$", ""), (r"\bclap::", "crate::clap::"),
     # Texts of commands are fixed, which clap asks for and its port doesn't; names that it takes are a slice there.
     (r"\bhelp: &'a str\b", "help: &'static str"), (r"\.value_parser\((\w+)\.as_slice\(\)\)", r".value_parser(\1)"),
     # The body of `bits_above`
@@ -155,7 +157,7 @@ def erased(path):
     source.take_out(MODEL, "a model", "}")
     source.take_out(TACTIC, "a tactic", "]")
     source.take_out(REFUSED_MEMORY, "an impl", "}")
-    if path.stem == "laws":
+    if path.stem == "laws" or path.stem.endswith("_laws"):
         source.check_laws()
         return None
     for pattern, other in REWRITTEN:

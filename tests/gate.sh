@@ -17,7 +17,7 @@ unit_tests=110
 wrong_bodies=493
 # Scripts on what was proved, and on the Rust program
 scripts=29
-rust_scripts=15
+rust_scripts=16
 # The minutes that README says it takes
 minutes='40 to 80'
 # Memory in kB with which the proofs and the build can run side by side

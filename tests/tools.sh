@@ -23,7 +23,7 @@ if [ "${1:-}" ]; then
     command -v cargo > /dev/null || missing="$missing rustc cargo"
     command -v rustfmt > /dev/null || missing="$missing rustfmt"
     command -v cargo-clippy > /dev/null || missing="$missing rust-clippy"
-    for crate in arrayvec byteorder clap itoa serde-json thiserror; do
+    for crate in arrayvec byteorder clap itoa libc serde-json thiserror; do
         [ -e /usr/share/doc/librust-$crate-dev ] || missing="$missing librust-$crate-dev"
     done
 fi

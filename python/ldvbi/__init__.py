@@ -11,6 +11,7 @@
     numbers = ldvbi.judge(side, "NTSC")
     print(numbers[7].number, numbers[7].state, ldvbi.first_of(numbers, 12345))
     print(ldvbi.first_of(ldvbi.judge_chapters(side), 3))
+    print(ldvbi.seek(side, 12345))
 
 A line, a field or a stream is anything with the buffer protocol that holds samples of 16 bits, the low byte first, as
 ld-decode's TBC files do: a numpy array of uint16, an array of "H"; or the bytes of such samples: bytes, a mapped file,
@@ -24,7 +25,7 @@ package, in the one above that, or in lib/ of the folder to which `make install`
 loader finds. `classify` and `format_of` need no library. Only CPython and its standard library are needed besides.
 
 Read first `classes` (what a word says) and `codes` (on which lines), then `library` and `samples` (the calls of C and
-the memory that they get), `readings`, `near`, `stream` and `judging` (these calls as Python has them), at last
+the memory that they get), `readings`, `near`, `stream`, `judging` and `seeking` (these calls in Python), at last
 `document` and `metadata` (with `scanner` and `database`), the files beside a TBC file. What the words of a whole side
 mean is the business of the package `ldvbi_side`, which stands on this one: nothing here imports it.
 """
@@ -36,11 +37,12 @@ from .library import Counted, Pace, System
 from .near import Near, nearest
 from .readings import (PACKED_FIELD, Cause, FieldReadings, Reading, draw_line, field_bytes, line_bytes, read_field,
                        read_line, read_rows)
+from .seeking import Sought, seek
 from .stream import BLOCK, Stream, fields
 
 __all__ = ["System", "Cause", "Kind", "Format", "Counted", "Pace", "State", "Reading", "FieldReadings", "Code",
-           "Number", "Near", "Stream", "line_bytes", "field_bytes", "read_line", "read_rows", "read_field", "fields",
-           "classify", "format_of", "judge", "judge_field", "find_pace", "judge_chapters", "judge_stops", "first_of",
-           "nearest", "draw_line"]
+           "Number", "Near", "Sought", "Stream", "line_bytes", "field_bytes", "read_line", "read_rows", "read_field",
+           "fields", "classify", "format_of", "judge", "judge_field", "find_pace", "judge_chapters", "judge_stops",
+           "first_of", "seek", "nearest", "draw_line"]
 
 __version__ = "0.1.0"

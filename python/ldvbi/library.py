@@ -71,6 +71,7 @@ _ARGUMENTS = {
 _LATER = {
     "ldvbi_judge": ("judge numbers", [_NUMBER] * 3 + [_MEMORY, _SIZE] * 3),
     "ldvbi_judge_field": ("judge one field", [_NUMBER] * 3 + [_MEMORY, _SIZE, _SIZE, _MEMORY]),
+    "ldvbi_seek": ("seek numbers", _SETUP + [_NUMBER] * 2 + [_MEMORY, _SIZE, _NUMBER, _MEMORY]),
     "ldvbi_find_pace": ("find paces", [_NUMBER] * 2 + [_MEMORY, _SIZE] * 2 + [_MEMORY]),
     "ldvbi_judge_chapters": ("judge chapters", [_MEMORY, _SIZE] * 3),
     "ldvbi_judge_stops": ("judge stops", [_MEMORY, _SIZE] * 2),

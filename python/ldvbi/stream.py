@@ -5,7 +5,7 @@ import mmap
 import operator
 import os
 import stat
-from typing import Any, Iterator, List, Optional, Union, overload
+from typing import Any, Iterator, List, Optional, Tuple, Union, overload
 
 from .library import System, later_call, library, setup_of
 from .readings import PACKED_FIELD, AnySystem, Cut, FieldReadings, field_bytes, line_bytes, unpacked
@@ -103,6 +103,11 @@ class Stream:
         rows = ctypes.string_at(samples.address + field * size + 15 * line, 3 * line)
         self._give_back(field * size, (field + 1) * size)
         return rows
+
+    def arguments(self) -> Tuple[int, int, int, int, int]:
+        """What the library's calls get of the stream: its system, black and white, its address, and its length."""
+        samples = self._open_samples()
+        return self._setup.system, self._setup.black, self._setup.white, samples.address, samples.length
 
     def _open_samples(self) -> Samples:
         if self._samples is None:

@@ -75,13 +75,14 @@ check 'the first declaration stands before line 60' \
 # called_as STATEMENT: makes a file in which a call stands as this statement. What it reads can't be written.
 called_as() {
     taken='const void *samples, void *drawn, LdvbiReading *reading, LdvbiFieldReadings *readings, LdvbiCode *code,
-LdvbiNear *near, uint32_t *format, const LdvbiFieldReadings *read, LdvbiSightings *seen, LdvbiNumber *numbers'
+LdvbiNear *near, uint32_t *format, const LdvbiFieldReadings *read, LdvbiSightings *seen, LdvbiNumber *numbers,
+LdvbiSought *sought'
     cat > called.c << END
 #include <ldvbi.h>
 uint32_t called($taken);
 uint32_t called($taken) {
     (void)samples; (void)drawn; (void)reading; (void)readings; (void)code; (void)near; (void)format;
-    (void)read; (void)seen; (void)numbers;
+    (void)read; (void)seen; (void)numbers; (void)sought;
     $1;
     return 0;
 }
@@ -110,6 +111,8 @@ ldvbi_judge(1, 1, 1, NULL, 0, NULL, 0, NULL, 0)
 ldvbi_find_pace(1, 1, read, 9, seen, 9, format)
 ldvbi_find_pace(1, 1, NULL, 0, NULL, 0, format)
 ldvbi_judge_field(1, 1, 1, read, 9, 4, numbers)
+ldvbi_seek(1, 1, 2, 1, 1, samples, 478660, 7, sought)
+ldvbi_seek(1, 1, 2, 1, 1, NULL, 0, 7, sought)
 ldvbi_judge_chapters(read, 9, seen, 9, numbers, 9)
 ldvbi_judge_chapters(NULL, 0, NULL, 0, NULL, 0)
 ldvbi_judge_stops(read, 9, format, 9)
@@ -128,5 +131,6 @@ ldvbi_classify(0xF12345, NULL)
 ldvbi_format(0, 0xF12345, 0, NULL)
 ldvbi_find_pace(1, 1, read, 9, seen, 9, NULL)
 ldvbi_judge_field(1, 1, 1, read, 9, 4, NULL)
+ldvbi_seek(1, 1, 2, 1, 1, samples, 478660, 7, NULL)
 END
 finish

@@ -157,6 +157,27 @@ static void test_refused_fields(void)
     CHECK(number.number == 0 && number.state == LDVBI_NOTHING);
 }
 
+static void test_refused_seeks(void)
+{
+    static const uint32_t cut_off[] = {0, 4, 257, 65537, UINT32_MAX};
+    LdvbiSought sought = {7, {7, 7}, 7, 7};
+
+    for (size_t i = 0; i < sizeof cut_off / sizeof *cut_off; i++) {
+        uint32_t bad = cut_off[i];
+
+        CHECK(ldvbi_seek(bad, 5, 5, bad, bad, NULL, 0, 7, &sought) == LDVBI_BAD_SYSTEM);
+        CHECK(ldvbi_seek(LDVBI_PAL, 5, 5, bad, bad, NULL, 0, 7, &sought) == LDVBI_BAD_LEVELS);
+        CHECK(ldvbi_seek(LDVBI_PAL, 5, 65536, bad, bad, NULL, 0, 7, &sought) == LDVBI_BAD_LEVELS);
+        CHECK(ldvbi_seek(LDVBI_PAL, 5, 6, bad, bad, NULL, 0, 7, &sought) == LDVBI_BAD_COUNTED);
+        CHECK(ldvbi_seek(LDVBI_PAL, 5, 6, LDVBI_TIMES, bad, NULL, 0, 7, &sought) == LDVBI_BAD_PACE);
+    }
+    CHECK(sought.field == 7 && sought.number.number == 7 && sought.number.state == 7);
+    CHECK(sought.pace == 7 && sought.looked == 7);
+    CHECK(ldvbi_seek(LDVBI_PAL, 5, 6, LDVBI_TIMES, LDVBI_FIND_PACE, NULL, 0, 7, &sought) == LDVBI_DONE);
+    CHECK(sought.field == 0 && sought.number.number == 0 && sought.number.state == LDVBI_NOTHING);
+    CHECK(sought.pace == 0 && sought.looked == 0);
+}
+
 static void test_refusals(void)
 {
     static const uint32_t cut_off[] = {0, 3, 4, 257, 65537, UINT32_MAX};
@@ -197,6 +218,7 @@ int main(void)
     TEST(goes_on, LDVBI_NTSC, LDVBI_PICTURES, LDVBI_VIDEO);
     test_parts();
     test_refused_fields();
+    test_refused_seeks();
     test_refusals();
     printf("%d wrong\n", wrong);
     return wrong != 0;

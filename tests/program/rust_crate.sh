@@ -1,8 +1,9 @@
 #!/bin/sh
 # Tries the script that takes the contracts out of the source, on forms that it doesn't know; and the crate that it
-# writes (rust/crate, by `make rust`): no warning, the two ways of `bits_above`, the example in its documents.
+# writes (rust/crate, by `make rust`): no warning, the two ways of `bits_above`, its own interface, its package, and the
+# example project.
 # usage: sh tests/program/rust_crate.sh PROGRAM
-# shellcheck disable=SC2317
+# shellcheck disable=SC2086,SC2317
 
 # shellcheck source=tests/helpers.sh
 . "$(dirname "$0")/../helpers.sh"
@@ -50,9 +51,8 @@ check 'an unknown macro' stops "$levels:$line" "'print' is no macro that is know
 check 'an unknown attribute' stops "$levels:$line" "'ensures' is no attribute that is known" $levels \
     '$a#[ensures(true)]'
 
-check 'the version of the crate is that of make' \
-    [ "$(sed -n 's/^version = "\(.*\)"$/\1/p' "$top/rust/hand/Cargo.toml")" = \
-    "$(sed -n 's/^VERSION := //p' "$top/Makefile")" ]
+version=$(sed -n 's/^version = "\(.*\)"$/\1/p' "$top/rust/hand/Cargo.toml")
+check 'the version of the crate is that of make' [ "$version" = "$(sed -n 's/^VERSION := //p' "$top/Makefile")" ]
 
 # The crate as it is built
 cd "$top/rust/crate" || exit 1
@@ -65,29 +65,105 @@ quiet() {
     ! grep -q '^\(warning\|error\)' "$work/err" && [ "$status" = 0 ]
 }
 touch src/lib.rs
-check 'no warning of rustc and clippy' quiet cargo clippy --quiet
+check 'no warning of rustc and clippy' quiet cargo clippy --quiet --all-targets
+check 'none of those of the program either' quiet cargo clippy --quiet --all-targets --features cli
+check 'none of its documents' quiet cargo doc --quiet --no-deps
 check 'it is laid out by rustfmt' quiet cargo fmt --check
 check 'bits_above is the plain loop' quiet rustc --edition 2021 --test -A dead_code -O -o "$work/bits_above" \
     src/bits_above.rs
 check 'at every position and of every value' quiet "$work/bits_above"
 check 'the example in its documents' quiet cargo test --doc --quiet
+check 'its interface on drawn sides' quiet cargo test --quiet --test facade
+# is_small: whether who takes the library takes none of what the program alone needs
+is_small() {
+    bounded cargo tree --quiet --edges normal --prefix none > "$work/out" 2> "$work/err" &&
+        grep -q '^byteorder v' "$work/out" && ! grep -q '^\(clap\|serde_json\|arrayvec\|itoa\) v' "$work/out"
+}
+check 'the library needs no clap and no serde_json' is_small
 
-# The example project, on a drawn disc, whose third picture is on line 18 alone, and which is cut in its eleventh field
-bounded "$program" draw --system NTSC --black 16384 --white 51200 "$top/examples/cav.words" 2> "$work/err" |
-    head -c 4786601 > "$work/cut.tbc"
+# The package, which has nothing of this machine, and builds by itself. As a repository others depend on it by git.
+sources=
+[ ! -d .cargo ] || sources=$PWD/.cargo
+check 'it is packed' quiet cargo package --quiet --no-metadata --allow-dirty
+tar -C "$work" -xzf "$CARGO_TARGET_DIR/package/ldvbi-$version.crate" || exit 1
+check 'the package is the crate' [ "$(cd "$work/ldvbi-$version" && find . -type f ! -name 'Cargo.*' | sort)" = \
+    "$(find . -type f ! -name 'Cargo.*' ! -path './.cargo/*' | sort)" ]
+git init -q "$work/ldvbi-$version" && git -C "$work/ldvbi-$version" add -A &&
+    git -C "$work/ldvbi-$version" -c user.name=test -c user.email=test@localhost commit -qm crate || exit 1
+
+# The example project: a player, with the crate by its path, and by git
 cp -r "$top/examples/rust" "$work/example"
-sed -i "s|\"../../rust/crate\"|\"$top/rust/crate\"|" "$work/example/Cargo.toml"
-[ ! -d .cargo ] || cp -r .cargo "$work/example"
+[ ! "$sources" ] || cp -r "$sources" "$work/example"
 cd "$work/example" || exit 1
-status=0
-bounded cargo run --quiet -- "$work/cut.tbc" NTSC 16384 51200 > "$work/out" 2> "$work/err" || status=$?
-cat > "$work/pictures" << 'END'
-field 3 picture 1
-field 5 picture 2
-field 7 picture 3
-field 9 picture 4
-END
-echo 'pictures: field 11 is cut after 1 bytes' > "$work/cut"
+manifest=$(cat Cargo.toml)
+# depends ON: makes the crate that which these words name
+depends() {
+    printf '%s\n' "$manifest" | sed "s|{ path = \"../../rust/crate\" }|{ $1 }|" > Cargo.toml
+}
+depends "git = \"file://$work/ldvbi-$version\""
+check 'a project that depends on it by git' quiet env ${sources:+CARGO_HOME="$work/home"} cargo check --quiet
+depends "path = \"$top/rust/crate\""
+check 'no warning of the example project' quiet cargo clippy --quiet
+check 'the example project is built' quiet cargo build --quiet
+player=$CARGO_TARGET_DIR/debug/player
 cd "$work" || exit 1
-check 'the example project' ended 0 pictures cut
+
+# plays STATUS TEXT WORD..: whether the player ends with this status, says nothing, and writes this text
+plays() {
+    wanted=$1
+    printf '%s\n' "$2" > played
+    shift 2
+    status=0
+    bounded "$player" "$@" < empty > out 2> err || status=$?
+    ended "$wanted" played empty
+}
+# A side that skips pictures 10 to 13 and stands at 21, and whose picture 30 was misread; and one with a stop on both
+# fields of two pictures that follow one another
+bounded sh "$top/examples/side.sh" "$program" || exit 1
+bounded "$program" draw $ntsc - > twice.tbc << 'END'
+- F00001 F00001
+- 800DDD 800DDD
+- F00002 F00002
+- 800DDD 800DDD
+82CFFF 82CFFF F00003
+82CFFF 82CFFF 800DDD
+82CFFF 82CFFF F00004
+82CFFF 82CFFF 800DDD
+- F00005 F00005
+END
+on='NTSC 16384 51200'
+check 'the player: no wrong picture' plays 0 'search: field 65 picture 30
+play: field 97 picture 46
+search: field 21 picture 7
+play: field 33 picture 17' side.tbc $on search 30 play search 7 play
+check 'the player: what was misread is not found' plays 1 'search: not found' side.tbc $on search 79999
+check 'the player: chapters' plays 1 'chapter: field 10
+chapter: not found' side.tbc $on chapter 0 chapter 3
+check 'the player: each picture once' plays 1 'play: field 5 picture 3
+play: field 7 picture 4
+play: not found' twice.tbc $on play play play
+awk 'BEGIN { for (i = 0; i < 60; i++) printf "8%sE%d%02d 87FFFF F0DD59\n- 87FFFF -\n", "F", 8 + int(i / 30), i % 30 }' |
+    bounded "$program" draw $ntsc - > clv.tbc
+check 'the player: a time' plays 0 'search: field 67' clv.tbc $on search 0:59:59.03
+check 'the player: no such time' plays 1 'search: not found' clv.tbc $on search 0:59:59.30
+# refuses TEXT WORD..: whether the player ends with status 2, and says this line
+refuses() {
+    said_line "player: $1"
+    shift
+    status=0
+    bounded "$player" "$@" < empty > out 2> err || status=$?
+    ended 2 empty wanted
+}
+head -c 100 side.tbc > cut.tbc
+usage='usage: player FILE SYSTEM BLACK WHITE search PLACE, chapter N, play ..'
+check 'the player: no words' refuses "$usage"
+check 'the player: nothing to seek' refuses "$usage" side.tbc $on search
+check 'the player: another system' refuses 'system is neither NTSC nor PAL' side.tbc SECAM 16384 51200 play
+check 'the player: levels' refuses 'black level is not below white level' side.tbc NTSC 51200 16384 play
+check 'the player: no place' refuses 'neither a picture nor a time: 1:2' side.tbc $on search 1:2
+check 'the player: no command' refuses 'no such command: stop' side.tbc $on stop
+check 'the player: less than a field' refuses 'a field has 478660 bytes, and these are 100' cut.tbc $on play
+# The pipe is closed before the player writes.
+{ sleep 1; "$player" side.tbc $on search 30 play 2> err; echo $? > piped; } | :
+check 'the player: a closed pipe' [ "$(cat piped; cat err)" = 141 ]
 finish

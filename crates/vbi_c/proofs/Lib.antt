@@ -1,3 +1,4 @@
 mod Drawn
 mod Judged
+pub mod Sought
 pub mod PartOfReadings

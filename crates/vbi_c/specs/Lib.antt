@@ -8,6 +8,7 @@ pub mod Setups
 pub mod Statuses
 pub mod Words
 pub mod Recovering
+pub mod Seeking
 pub mod Chapters
 pub mod OneField
 pub mod Stops

@@ -88,7 +88,7 @@ pub(crate) fn shown_by(reading: &LdvbiReading) -> Shown
 }
 
 /// What a field's lines show of its number.
-fn seen_in(judging: &Judging, readings: &LdvbiFieldReadings) -> Sightings
+pub(crate) fn seen_in(judging: &Judging, readings: &LdvbiFieldReadings) -> Sightings
     ensures { result ≡ seen_in judging.now readings.now }
 {
     let [line_16, line_17, line_18] = &readings.lines;

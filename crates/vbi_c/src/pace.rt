@@ -14,7 +14,7 @@ use vbi_side::{Pace, Sightings};
 const FIND: u32 = 3;
 
 /// A pace as C sees it.
-fn pace_for_c(pace: Pace) -> u32
+pub(crate) fn pace_for_c(pace: Pace) -> u32
     ensures { result ≡ pace_for_c pace }
 {
     match pace {

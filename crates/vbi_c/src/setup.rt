@@ -29,7 +29,7 @@ pub(crate) fn system_of(number: u32) -> Option<System>
 }
 
 /// The system of a number with black and white, or why they are refused.
-fn setup_of(number: u32, black: u32, white: u32) -> Result<Setup, Refusal>
+pub(crate) fn setup_of(number: u32, black: u32, white: u32) -> Result<Setup, Refusal>
     ensures setup { result ≡ setup_of number black white }
     ensures order { IfOk result (λ setup. setup.levels.black < setup.levels.white) }
 {

@@ -1,42 +1,58 @@
-//! Prints the picture numbers of a CAV side, field by field: cargo run -- disc.tbc NTSC 16384 51200
-use ldvbi::line::read_bytes_twice;
-use ldvbi::words::{classify, Code, Levels, System};
-use std::error::Error;
-use std::fs::File;
-use std::io::Read;
+//! A player: seeks, plays to the next stop, and prints the field, from 1, where it is then. Status 1: nothing is found.
+//!     cargo run -- side.tbc NTSC 16384 51200 search 12345 play chapter 3 play search 0:59:29.07
+use ldvbi::{Counted, Levels, Place, Side, System};
+use std::{error::Error, fs::File, io, io::Write, os::unix::io::AsRawFd, process::ExitCode, ptr, slice};
 
-/// The picture that a field's line shows, if it shows one.
-fn picture_of(line: &[u8], system: System, levels: Levels) -> Option<u32> {
-    match classify(read_bytes_twice(line, system, levels).outcome.word()?) {
-        Code::Picture(number) => Some(number),
-        _ => None,
+/// Maps a file until the program ends. Nobody may make it shorter meanwhile.
+fn map(path: &str) -> io::Result<&'static [u8]> {
+    let file = File::open(path)?;
+    let size = file.metadata()?.len() as usize;
+    match unsafe { libc::mmap(ptr::null_mut(), size.max(1), libc::PROT_READ, libc::MAP_SHARED, file.as_raw_fd(), 0) } {
+        libc::MAP_FAILED => Err(io::Error::last_os_error()),
+        start => Ok(unsafe { slice::from_raw_parts(start.cast(), size) }),
     }
 }
 
-fn main() -> Result<(), Box<dyn Error>> {
-    let words: Vec<String> = std::env::args().collect();
-    let [_, path, system, black, white] =
-        <[String; 5]>::try_from(words).map_err(|_| "usage: pictures FILE SYSTEM BLACK WHITE")?;
-    let system = System::named(&system).ok_or("system is neither NTSC nor PAL")?;
-    let levels = Levels::new(black.parse()?, white.parse()?)?;
-    let mut file = File::open(path)?;
-    let mut field = Vec::with_capacity(system.field_bytes());
-    for number in 1.. {
-        field.clear();
-        let bytes = file.by_ref().take(system.field_bytes() as u64).read_to_end(&mut field)?;
-        if bytes < system.field_bytes() {
-            if bytes > 0 {
-                eprintln!("pictures: field {number} is cut after {bytes} bytes");
-            }
-            break;
-        }
-        // Lines 17 and 18 are rows 16 and 17, counted from 0. Where they say different numbers, one was misread.
-        let row = |row: usize| &field[row * system.line_bytes()..(row + 1) * system.line_bytes()];
-        match [16, 17].map(|at| picture_of(row(at), system, levels)) {
-            [Some(one), Some(other)] if one != other => println!("field {number} doubtful"),
-            [Some(picture), _] | [None, Some(picture)] => println!("field {number} picture {picture}"),
-            [None, None] => {}
-        }
+fn place(text: &str) -> Result<Place, String> {
+    match text.split(&[':', '.'][..]).map(|part| part.parse().ok()).collect::<Option<Vec<u32>>>().as_deref() {
+        Some(&[picture]) => Ok(Place::Picture(picture)),
+        Some(&[hours, minutes, seconds, picture]) => Ok(Place::Time(hours, minutes, seconds, picture)),
+        _ => Err(format!("neither a picture nor a time: {text}")),
     }
-    Ok(())
+}
+
+fn run() -> Result<ExitCode, Box<dyn Error>> {
+    let mut words = std::env::args().skip(1);
+    let mut word = || words.next().ok_or("usage: player FILE SYSTEM BLACK WHITE search PLACE, chapter N, play ..");
+    let (bytes, system) = (map(&word()?)?, System::named(&word()?).ok_or("system is neither NTSC nor PAL")?);
+    let side = Side::new(bytes, system, Levels::new(word()?.parse()?, word()?.parse()?)?)?;
+    let (pictures, mut at) = (side.numbers(Counted::Pictures), 0);
+    while let Ok(command) = word() {
+        let found = match command.as_str() {
+            "search" => side.seek(place(&word()?)?),
+            "chapter" => side.seek(Place::Chapter(word()?.parse()?)),
+            "play" => {
+                let mut next = at; // All fields of a picture may have its stop. Those that follow are passed.
+                side.stops(at).find(|stop| {
+                    let is_same = [None, pictures[at].known()].contains(&pictures[stop.index].known());
+                    let is_passed = stop.index == next && (next == at || is_same);
+                    next += usize::from(is_passed);
+                    !is_passed
+                })
+            }
+            _ => return Err(format!("no such command: {command}").into()),
+        };
+        at = match found {
+            Some(field) => field.index,
+            None => return Ok(writeln!(io::stdout(), "{command}: not found").map(|()| ExitCode::from(1))?),
+        };
+        let picture = pictures[at].known().map_or(String::new(), |number| format!(" picture {number}"));
+        println!("{command}: field {}{picture}", at + 1);
+    }
+    Ok(ExitCode::SUCCESS)
+}
+
+fn main() -> ExitCode {
+    unsafe { libc::signal(libc::SIGPIPE, libc::SIG_DFL) }; // A closed pipe ends the program.
+    run().map_err(|fault| eprintln!("player: {fault}")).unwrap_or(ExitCode::from(2))
 }

@@ -3,7 +3,7 @@
 //! The caller owes what that header says: a pointer points to as many bytes, or readings, as the length beside it says,
 //! or to one value; only where the length is 0 it may be null.
 #![allow(clippy::missing_safety_doc)]
-use crate::c::{self, LdvbiCode, LdvbiFieldReadings, LdvbiNear, LdvbiReading};
+use crate::c::{self, LdvbiCode, LdvbiFieldReadings, LdvbiNear, LdvbiReading, LdvbiSought};
 use crate::side::{Number, Sightings};
 use std::mem::size_of;
 use std::slice::{from_raw_parts, from_raw_parts_mut};
@@ -190,6 +190,21 @@ pub unsafe extern "C" fn ldvbi_judge_field(
     number: *mut Number,
 ) -> u32 {
     c::ldvbi_judge_field(system, counted, pace, values(readings, count), field, &mut *number)
+}
+
+#[no_mangle]
+pub unsafe extern "C" fn ldvbi_seek(
+    system: u32,
+    black: u32,
+    white: u32,
+    counted: u32,
+    pace: u32,
+    bytes: *const u8,
+    length: usize,
+    number: u32,
+    sought: *mut LdvbiSought,
+) -> u32 {
+    c::ldvbi_seek(system, black, white, counted, pace, values(bytes, length), number, &mut *sought)
 }
 
 #[no_mangle]

@@ -1,63 +1,50 @@
 //! The biphase code words of LaserDiscs (IEC 60857 and IEC 60856), from fields in ld-decode's TBC format.
 //!
-//! The modules are the source of the program `ldvbi` without its contracts, which were proved of it: [`words`] (what
-//! words are and say), [`line`] (the word of a line), [`near`] (the word that is nearest to some lines), [`field`]
-//! (documents and reports of a stream), [`meta`] (settings from ld-decode's metadata), [`side`] (which number of its
-//! disc each field shows), [`c`] (the calls of the C interface, over slices) and [`cli`] (the program's commands).
-//! Nothing but metadata takes memory. What a function asks of its arguments stands in its contract, in the source;
-//! where that isn't met it panics or answers anything, but touches no memory that isn't its own.
-//!
-//! A line, a field, and what their words say:
+//! A [`Side`] is the samples of a capture in memory: its fields, the number of its disc that each one shows, where a
+//! picture, a time or a chapter is found, and where a player stops. A [`Feeder`] takes a stream in pieces. [`classify`]
+//! says what a word is, [`draw_line`] draws one.
 //!
 //! ```
-//! use ldvbi::c::{ldvbi_read_fields, LdvbiFieldReadings, LdvbiReading};
-//! use ldvbi::line::read_bytes_twice;
-//! use ldvbi::words::{classify, draw_line, Code, Levels, Outcome, System, Word24};
+//! use ldvbi::{classify, draw_line, Code, Counted, Levels, Number, Place, Side, System, Word24};
 //!
 //! # fn main() -> Result<(), Box<dyn std::error::Error>> {
-//! // A field whose line 17, which is row 16 counted from 0, shows a word. Read or map a TBC file for your own.
+//! // Black and white are black16bIre and white16bIre of the .tbc.json. Read or map a TBC file for the samples.
 //! let (system, levels) = (System::Ntsc, Levels::new(16384, 51200)?);
-//! let size = system.line_bytes();
-//! let mut file = 16384u16.to_le_bytes().repeat(system.field_bytes() / 2);
-//! draw_line(system, levels, Some(Word24::new(0xF12345)?), &mut file[16 * size..17 * size]);
+//! # let (size, mut file) = (system.line_bytes(), vec![0; 60 * system.field_bytes()]);
+//! # let mut draw = |field: usize, row: usize, word: u32| {
+//! #     let begin = field * system.field_bytes() + row * size;
+//! #     Word24::new(word).map(|word| draw_line(system, levels, Some(word), &mut file[begin..begin + size]))
+//! # };
+//! # for picture in 0..30 {
+//! #     let digits = 0xF00000 + picture / 10 * 16 + picture % 10;
+//! #     draw(2 * picture as usize, 16, if picture == 20 { 0xF79999 } else { digits })?;
+//! #     draw(2 * picture as usize + 1, 16, 0x801DDD)?;
+//! # }
+//! # draw(50, 15, 0x82CFFF)?;
+//! let side = Side::new(&file, system, levels)?;
 //!
-//! // One line: its word, or why it has none.
-//! match read_bytes_twice(&file[16 * size..17 * size], system, levels).outcome {
-//!     Outcome::Word(word) => assert_eq!(classify(word), Code::Picture(12345)),
-//!     other => panic!("no word: {other:?}"),
-//! }
+//! // Line 17 of the first field, and what it says.
+//! let [_, line_17, _] = side.fields().next().ok_or("no field")?;
+//! assert_eq!(line_17.outcome.word().map(classify), Some(Code::Picture(0)));
 //!
-//! // Lines 16, 17 and 18 of each whole field. 0 says that the arguments fit one another.
-//! let fields = file.len() / system.field_bytes();
-//! let none = LdvbiReading { cause: 0, pass: 0, column: 0, word: 0 };
-//! let mut readings = vec![LdvbiFieldReadings { lines: [none; 3] }; fields];
-//! let whole = &file[..fields * system.field_bytes()];
-//! assert_eq!(ldvbi_read_fields(1, 16384, 51200, whole, &mut readings), 0);
-//! assert_eq!(readings[0].lines.map(|line| line.word), [0, 0xF12345, 0]);
+//! // Of picture 20 another number was read. Fields are counted from 0.
+//! assert_eq!(side.numbers(Counted::Pictures)[40], Number::Due(20));
+//! assert_eq!(side.seek(Place::Picture(20)).map(|field| field.index), Some(40));
+//! assert_eq!(side.seek(Place::Picture(79999)), None);
+//!
+//! // From there the player stops at picture 25.
+//! assert_eq!(side.stops(41).next().map(|field| field.index), Some(50));
 //! # Ok(())
 //! # }
 //! ```
 //!
-//! Which number of its disc each field shows, judged by the fields around it:
+//! Errors: [`Levels::new`] returns [`LevelsFault`], [`Word24::new`] [`WordFault`], and [`Error`] is that of bytes that
+//! are no side or no line. Two calls panic on what they can't take: [`draw_line`] on less than a line, and
+//! [`Word24::half`] from 48 on.
 //!
-//! ```
-//! use ldvbi::side::{first_of, judge, Number, Pace, Sighting, Sightings};
-//!
-//! // Picture n begins in field 2 * n. Of picture 10 another number was read.
-//! let shows = |field: u32| match field {
-//!     20 => Sighting { number: 79999, weight: 2 },
-//!     _ => Sighting { number: field / 2, weight: 2 * ((field + 1) % 2) },
-//! };
-//! let none = Sighting { number: 0, weight: 0 };
-//! let field = |field| Sightings { line_17: shows(field), line_18: none, instead: 0 };
-//! let fields: Vec<Sightings> = (0..60).map(field).collect();
-//!
-//! // It is due in its field, since the believed numbers before and behind leave no other.
-//! let mut numbers = vec![Number { number: 0, state: 0 }; fields.len()];
-//! judge(&fields, Pace::Video, &mut numbers);
-//! assert_eq!(first_of(&numbers, 10), Some(20));
-//! assert_eq!(first_of(&numbers, 79999), None);
-//! ```
+//! The calls below this interface are the source of the library for C without its contracts, which were proved of it;
+//! what they promise is in docs/PROMISES.md. This interface itself is tested. With the feature `cli` the crate has the
+//! program `ldvbi` too, which needs more crates.
 #![deny(unsafe_code)]
 // Names that contracts alone speak of
 #![allow(unused_labels, unused_variables)]
@@ -79,14 +66,45 @@
 
 #[allow(unsafe_code)]
 mod bits_above;
-pub mod c;
+#[allow(dead_code, unused_imports)]
+mod c;
+#[cfg(feature = "cli")]
 mod clap;
-pub mod cli;
+#[cfg(feature = "cli")]
+#[allow(dead_code, unused_imports)]
+mod cli;
 #[allow(unsafe_code)]
 mod exports;
-pub mod field;
-pub mod line;
-pub mod meta;
-pub mod near;
-pub mod side;
-pub mod words;
+#[cfg(feature = "cli")]
+#[allow(dead_code, unused_imports)]
+mod field;
+#[allow(dead_code, unused_imports)]
+mod line;
+mod lines;
+#[cfg(feature = "cli")]
+#[allow(dead_code, unused_imports)]
+mod meta;
+#[allow(dead_code, unused_imports)]
+mod near;
+#[allow(dead_code, unused_imports)]
+mod side;
+mod sides;
+#[allow(dead_code, unused_imports)]
+mod words;
+
+pub use crate::lines::{Error, Feeder};
+pub use crate::near::Near;
+pub use crate::side::Counted;
+pub use crate::sides::{Field, Number, Place, Side};
+pub use crate::words::{
+    classify, draw_line, format_of, Code, Format, Levels, LevelsFault, Outcome, Reading, System, Word24, WordFault,
+};
+
+/// What the program `ldvbi` needs of its crate, and no one else.
+#[cfg(feature = "cli")]
+#[doc(hidden)]
+pub mod program {
+    pub use crate::cli::{do_command, read_words, settle, status, AppFault, Input, Job, Source, WordsFault};
+    pub use crate::field::Outlet;
+    pub use crate::meta::META_LIMIT;
+}

@@ -6,9 +6,9 @@
 #[allow(unsafe_code)]
 mod system;
 
-use ldvbi::cli::{do_command, read_words, settle, status, AppFault, Input, Job, Source, WordsFault};
-use ldvbi::field::Outlet;
-use ldvbi::meta::META_LIMIT;
+use ldvbi::program::{
+    do_command, read_words, settle, status, AppFault, Input, Job, Outlet, Source, WordsFault, META_LIMIT,
+};
 use std::fs::File;
 use std::io::{ErrorKind, Read, Write};
 use system::Stream;

@@ -1,0 +1,161 @@
+//! Seeking a number in the bytes of a side, of which few fields are read.
+//!
+//! probing.rt tells where it may be, and what is answered rests on none of that: the fields around that place are read
+//! and judged, and the number is answered only of a field that has it by `ldvbi_judge` of the whole side.
+
+ghost use Rattle.std.specs.Prelude.{◌≡◌, ◌≢◌, ◌+◌, ◌-◌, ◌*◌, ◌≤◌, length, map, take, drop, IfOk};
+ghost use Rattle.std.specs.List.{range_with_len};
+ghost use Rattle.vbi_words.specs.Geometry.{field_bytes};
+ghost use Rattle.vbi_side.specs.Numbers.{AreAnswers, IsFirst};
+ghost use Rattle.vbi_c.specs.Seeking.{seek_of, shown_at, probed_most, around_most, IsGiven, IsSought, IsSoughtIn};
+ghost use Rattle.vbi_c.specs.Statuses.{status_of};
+
+use crate::judging::{Judging, asked_of, counted_of, pace_for};
+use crate::pace::pace_for_c;
+use crate::probing::{Between, NOTHING_SEEN, Seek, place_of, see_from};
+use crate::setup::setup_of;
+use crate::status::{DONE, Refusal};
+use std::mem::size_of;
+use vbi_side::{NOTHING, Number, PART, Pace, REACH, first_of, judge};
+
+/// Where a number was found.
+#[derive(Clone, Copy)]
+#[repr(C)]
+pub struct LdvbiSought {
+    /// The field, counted from 0; as many as the side has where none was found.
+    pub field: usize,
+    /// What is answered of this field: the number, believed or due.
+    pub number: Number,
+    /// The pace at which it is answered, 1 or 2; 0 where none was found.
+    pub pace: u32,
+    /// How many fields were read.
+    pub looked: u32,
+}
+
+// As include/ldvbi.h has it.
+const _: () = prove!(size_of::<LdvbiSought>() == 24);
+
+/// The number is looked for in so many fields before and behind its place.
+const BESIDE: usize = 24;
+
+/// The fields that are judged: those in which the number is looked for, and all on which their answers depend.
+const AROUND: usize = 2 * BESIDE + PART - 1;
+
+/// What is answered of a field without a number.
+const NO_NUMBER: Number = Number {
+    number: 0,
+    state: NOTHING,
+};
+
+/// What these numbers ask for, or why they are refused.
+fn seek_of(system: u32, black: u32, white: u32, counted: u32, pace: u32) -> Result<Seek, Refusal>
+    ensures { result ≡ seek_of system black white counted pace }
+{
+    let setup = setup_of(system, black, white)?;
+    let counted = counted_of(counted).ok_or(Refusal::Counted)?;
+    let asked = asked_of(pace).ok_or(Refusal::Pace)?;
+    let judging = Judging {
+        system: setup.system,
+        counted,
+        asked,
+    };
+    Ok(Seek { setup, judging })
+}
+
+/// Puts the number of each field from `first` to before `end` into its place, by what these fields show, and answers the
+/// pace at which they are.
+fn judge_from(
+    seek: &Seek,
+    bytes: &[u8],
+    count: usize,
+    first: usize,
+    end: usize,
+    numbers: &mut [Number],
+) -> Pace
+    requires whole { count * field_bytes seek.now.setup.system ≤ length bytes.now }
+    requires order { first ≤ end }
+    requires inside { end ≤ count }
+    requires few { end - first ≤ around_most }
+    requires places { length numbers.old ≡ end - first }
+    ensures given { IsGiven seek.now.judging.asked result }
+    ensures answers { AreAnswers result (map (shown_at seek.now bytes.now)
+        (range_with_len first (end - first))) numbers.new }
+{
+    let mut all_seen = [NOTHING_SEEN; AROUND];
+    let seen = &mut all_seen[..end - first];
+    see_from(seek, bytes, count, first, seen);
+    let pace = pace_for(&seek.judging, seen);
+    judge(seen, pace, numbers);
+    pace
+}
+
+/// The first of these numbers from one to before another that is this one, counted from there.
+fn first_between(numbers: &[Number], from: usize, to: usize, number: u32) -> Option<usize>
+    requires order { from ≤ to }
+    requires inside { to ≤ length numbers.now }
+    ensures { IsFirst (take (to - from) (drop from numbers.now)) number result }
+{
+    first_of(&numbers[from..to], number)
+}
+
+/// Looks for the number in the fields around its place.
+fn look_around(seek: &Seek, bytes: &[u8], count: usize, number: u32, place: Between) -> LdvbiSought
+    requires whole { count * field_bytes seek.now.setup.system ≤ length bytes.now }
+    requires inside { place.low ≤ count }
+    requires few { place.looked ≤ probed_most }
+    ensures { IsSoughtIn seek.now bytes.now count number result }
+{
+    let from = place.low.saturating_sub(BESIDE);
+    let to = place.low + (count - place.low).min(BESIDE);
+    let first = from.saturating_sub(2 * REACH);
+    let end = to + (count - to).min(2 * REACH);
+    let mut all_numbers = [NO_NUMBER; AROUND];
+    let numbers = &mut all_numbers[..end - first];
+    let pace = judge_from(seek, bytes, count, first, end, numbers);
+    let looked = place.looked + (end - first) as u32;
+    match first_between(numbers, from - first, to - first, number) {
+        // Of the field before the first one that is looked at it isn't known that it has another number.
+        Some(at) if at > 0 || from == 0 => LdvbiSought {
+            field: from + at,
+            number: numbers[from - first + at],
+            pace: pace_for_c(pace),
+            looked,
+        },
+        _ => LdvbiSought {
+            field: count,
+            number: NO_NUMBER,
+            pace: 0,
+            looked,
+        },
+    }
+}
+
+/// Seeks a number in the bytes of a side: the first of the fields in a row that have it. It is the number that
+/// `ldvbi_judge` answers of this field, by the readings of the whole side at this pace. A last field that is cut is
+/// left out. At most 400 fields are read, so where the numbers don't rise along the side it may be missed.
+#[unsafe(no_mangle)]
+pub extern "C" fn ldvbi_seek(
+    system: u32,
+    black: u32,
+    white: u32,
+    counted: u32,
+    pace: u32,
+    bytes: &[u8],
+    number: u32,
+    sought: &mut LdvbiSought,
+) -> u32
+    ensures status { result ≡ status_of (seek_of system black white counted pace) }
+    ensures seeks { IfOk (seek_of system black white counted pace) (λ seek.
+        IsSought seek bytes.now number sought.new) }
+    ensures unwritten { result ≢ 0 → sought.new ≡ sought.old }
+{
+    match seek_of(system, black, white, counted, pace) {
+        Ok(seek) => {
+            let count = bytes.len() / seek.setup.system.field_bytes();
+            let place = place_of(&seek, bytes, count, number);
+            *sought = look_around(&seek, bytes, count, number, place);
+            DONE
+        }
+        Err(refusal) => refusal.status(),
+    }
+}

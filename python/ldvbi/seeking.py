@@ -1,0 +1,38 @@
+"""Where a number is in a side, by few of its fields."""
+
+import ctypes
+import struct
+from typing import NamedTuple, Optional, Union
+
+from .judging import Number, State
+from .library import Counted, Pace, check, counted_number, later_call, number_of, pace_number
+from .stream import Stream
+
+_PACKED_SOUGHT = struct.Struct("@NIIII")  # LdvbiSought
+
+
+class Sought(NamedTuple):
+    """Where a number was found. `field` is counted from 0, `number` is what `judge` answers of it at this `pace`, and
+    `looked` is how many fields were read."""
+    field: int
+    number: Number
+    pace: Pace
+    looked: int
+
+
+def seek(stream: Stream, number: int, counted: Union[Counted, str] = Counted.pictures,
+         pace: Union[Pace, str] = Pace.find) -> Optional[Sought]:
+    """Where a number is in a stream, of which at most 400 fields are read: the field has the number as `judge` answers
+    it by what all fields of the stream show (without recovered words), and the field before it hasn't. None where none
+    was found: numbers have to rise along the side, as they do where a player runs on, so to be sure that one isn't
+    there, judge the whole side. `counted` and `pace` are as for `judge`; a pace that is to be found is found by the
+    fields around the place."""
+    call = later_call("ldvbi_seek")
+    packed = ctypes.create_string_buffer(_PACKED_SOUGHT.size)
+    system, black, white, address, length = stream.arguments()
+    check(call(system, black, white, counted_number(counted), pace_number(pace), address, length,
+               number_of("number", number), packed))
+    field, found, state, found_pace, looked = _PACKED_SOUGHT.unpack(packed)
+    if field == len(stream):
+        return None
+    return Sought(field, Number(found, State(state)), Pace(found_pace), looked)

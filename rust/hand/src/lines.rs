@@ -1,0 +1,90 @@
+//! Lines, and fields that come in pieces: what they show.
+
+use crate::c::{self, LdvbiFieldReadings, LdvbiReading};
+use crate::words::{Levels, Outcome, Reading, System, Word24};
+
+/// What was given that can't be right. Nothing was read then.
+#[derive(Clone, Copy, Debug, PartialEq, Eq, thiserror::Error)]
+pub enum Error {
+    /// Of [`Side::new`](crate::Side::new): some bytes, but fewer than a field has.
+    #[error("a field has {field} bytes, and these are {bytes}")]
+    NoField { bytes: usize, field: usize },
+    /// Of [`Side::line`](crate::Side::line): not one line. Of [`Side::nearest`](crate::Side::nearest): not 1 to 28.
+    #[error("a line has {line} bytes, and these are {bytes}")]
+    NoLine { bytes: usize, line: usize },
+}
+
+/// Whether these bytes are lines of this system, and so many at most.
+pub(crate) fn check_lines(system: System, bytes: usize, most: usize) -> Result<(), Error> {
+    let line = system.line_bytes();
+    let is_right = bytes % line == 0 && (1..=most).contains(&(bytes / line));
+    is_right.then_some(()).ok_or(Error::NoLine { bytes, line })
+}
+
+/// Takes the status of a call whose arguments are right: by their types, or since they were tested.
+pub(crate) fn done(status: u32) {
+    assert_eq!(status, 0, "the library refused what it takes");
+}
+
+/// Where lines 16, 17 and 18 lie in a field.
+pub(crate) fn rows_of(system: System) -> std::ops::Range<usize> {
+    15 * system.line_bytes()..18 * system.line_bytes()
+}
+
+/// Reads these three lines, and recovers the words of worn ones.
+pub(crate) fn recover(system: System, levels: Levels, rows: &[u8]) -> LdvbiFieldReadings {
+    let (black, white) = (levels.black().into(), levels.white().into());
+    let mut field = LdvbiFieldReadings { lines: [LdvbiReading { cause: 1, pass: 0, column: 0, word: 0 }; 3] };
+    done(c::ldvbi_recover_rows(system as u32 + 1, black, white, rows, &mut field));
+    field
+}
+
+/// What a line shows, by the library's reading of it.
+pub(crate) fn reading(line: LdvbiReading) -> Reading {
+    let outcome = match (line.cause, Word24::new(line.word)) {
+        (0, Ok(word)) => Outcome::Word(word),
+        (2, _) => Outcome::Unfinished,
+        (3, _) => Outcome::Change(line.column),
+        (4, _) => Outcome::Hold(line.column),
+        _ => Outcome::Blank,
+    };
+    Reading { outcome, pass: line.pass }
+}
+
+/// A stream of fields that comes in pieces of any length. Of the field that isn't whole it holds three lines.
+#[derive(Clone, Debug)]
+pub struct Feeder {
+    system: System,
+    levels: Levels,
+    rows: Vec<u8>,
+    at: usize,
+}
+
+impl Feeder {
+    /// Before the first byte.
+    pub fn new(system: System, levels: Levels) -> Feeder {
+        Feeder { system, levels, rows: Vec::new(), at: 0 }
+    }
+
+    /// Takes the next piece, and returns the readings of each field that is whole now, however the stream is cut.
+    pub fn feed(&mut self, mut piece: &[u8]) -> Vec<[Reading; 3]> {
+        let (size, rows, mut whole) = (self.system.field_bytes(), rows_of(self.system), Vec::new());
+        while !piece.is_empty() {
+            let (now, later) = piece.split_at(piece.len().min(size - self.at));
+            let within = |byte: usize| byte.clamp(self.at, self.at + now.len()) - self.at;
+            self.rows.extend_from_slice(&now[within(rows.start)..within(rows.end)]);
+            self.at = (self.at + now.len()) % size;
+            if self.at == 0 {
+                let rows = std::mem::take(&mut self.rows);
+                whole.push(recover(self.system, self.levels, &rows).lines.map(reading));
+            }
+            piece = later;
+        }
+        whole
+    }
+
+    /// The bytes that have come of the field that isn't whole. Where the stream ends so, it is cut.
+    pub fn cut_bytes(&self) -> usize {
+        self.at
+    }
+}

@@ -1,0 +1,298 @@
+//! The crate's own interface, on drawn sides. What is expected was drawn, or follows from include/ldvbi.h's rules.
+
+use ldvbi::{classify, draw_line, format_of, Code, Counted, Error, Feeder, Field, Format, Levels, LevelsFault, Near};
+use ldvbi::{Number, Outcome, Place, Reading, Side, System, Word24, WordFault};
+
+const STOP: u32 = 0x82CFFF;
+const CLV_MARK: u32 = 0x87FFFF;
+const BLANK: Reading = Reading { outcome: Outcome::Blank, pass: 0 };
+
+/// A system, the bytes of its lines and of its fields, the column of a drawn word, and the pictures of a second.
+const SYSTEMS: [(System, usize, usize, u32, u32); 2] =
+    [(System::Ntsc, 1820, 1820 * 263, 150, 30), (System::Pal, 2270, 2270 * 313, 190, 25)];
+
+fn levels() -> Levels {
+    Levels::new(16384, 51200).unwrap()
+}
+
+/// A decimal number as the hexadecimal one with the same digits.
+fn digits(number: u32) -> u32 {
+    u32::from_str_radix(&number.to_string(), 16).unwrap()
+}
+
+fn picture(number: u32) -> u32 {
+    0xF00000 + digits(number)
+}
+
+fn chapter(number: u32) -> u32 {
+    0x800DDD + digits(number) * 0x1000
+}
+
+/// The words of lines 16 and 17 of a picture of a CLV disc.
+fn time(hours: u32, minutes: u32, seconds: u32, picture: u32) -> [u32; 2] {
+    let second = 0x80E000 + (10 + seconds / 10) * 0x10000 + seconds % 10 * 0x100 + digits(picture);
+    [second, 0xF0DD00 + hours * 0x10000 + digits(minutes)]
+}
+
+/// Draws a field for each row of the words of lines 16, 17 and 18, of which 0 is a blank line.
+fn draw(system: System, rows: &[[u32; 3]]) -> Vec<u8> {
+    let (line, field) = (system.line_bytes(), system.field_bytes());
+    let mut bytes = vec![0; rows.len() * field];
+    for (place, row) in rows.iter().enumerate() {
+        for (y, word) in (15..).zip(row) {
+            let begin = place * field + y * line;
+            draw_line(system, levels(), Word24::new(*word).ok(), &mut bytes[begin..begin + line]);
+        }
+    }
+    bytes
+}
+
+/// What a drawn line shows: its word in pass 1, or nothing.
+fn shown(word: u32) -> Reading {
+    Word24::new(word).map_or(BLANK, |word| Reading { outcome: Outcome::Word(word), pass: 1 })
+}
+
+/// Pictures 0 to 39 of a CAV disc, two fields each: chapter 0 to picture 19, then chapter 1. Picture 30 was misread as
+/// 79999, and so was the chapter beside it, as 79. Pictures 5 and 33 have a stop, 33 on both of its fields.
+fn cav() -> Vec<[u32; 3]> {
+    let rows = (0..40).flat_map(|number| {
+        let stop = if number == 5 || number == 33 { STOP } else { 0 };
+        let also = if number == 33 { STOP } else { 0 };
+        [[stop, picture(number), picture(number)], [also, chapter(number / 20), chapter(number / 20)]]
+    });
+    let mut rows: Vec<_> = rows.collect();
+    rows[60] = [0, picture(79999), 0];
+    rows[61] = [0, chapter(79), 0];
+    rows
+}
+
+/// The pictures of a CLV disc from 0:59:59 on, for two seconds.
+fn clv(rate: u32) -> Vec<[u32; 3]> {
+    let fields = (0..2 * rate).flat_map(|number| {
+        let [second, minutes] = match number / rate {
+            0 => time(0, 59, 59, number % rate),
+            _ => time(1, 0, 0, number % rate),
+        };
+        [[second, CLV_MARK, minutes], [0, CLV_MARK, chapter(7)]]
+    });
+    fields.collect()
+}
+
+#[test]
+fn reads_what_was_drawn() {
+    for (system, line, field, ..) in SYSTEMS {
+        let rows = [[STOP, picture(12345), 0], [0, chapter(42), 0x8BA123], [0; 3]];
+        let mut bytes = draw(system, &rows);
+        assert_eq!(bytes.len(), 3 * field);
+        bytes.extend([0; 7]);
+        let side = Side::new(&bytes, system, levels()).unwrap();
+        let drawn = rows.map(|row| row.map(shown));
+        assert_eq!(side.fields().collect::<Vec<_>>(), drawn);
+        assert_eq!((side.fields().len(), side.fields().next_back(), side.cut_bytes()), (3, Some(drawn[2]), 7));
+        assert_eq!(side.line(&bytes[16 * line..17 * line]), Ok(drawn[0][1]));
+        let codes = drawn.map(|field| field[1].outcome.word().map(classify));
+        assert_eq!(codes, [Some(Code::Picture(12345)), Some(Code::Chapter(42)), None]);
+        assert_eq!(format_of(&drawn[0].map(|line| line.outcome.word())), Format::Cav);
+        assert_eq!(format!("{side:?}"), "Side { fields: 3, .. }");
+    }
+}
+
+#[test]
+fn names_why_a_line_has_no_word() {
+    for (system, line, _, _, _) in SYSTEMS {
+        let (width, longest) = (line / 2, 2 * system.half_max());
+        let mut bytes = draw(system, &[[0; 3]]);
+        // A run that is too short, one that is longer than two half cells, and one that the line's end cuts
+        for (row, begin, end) in [(15, 400, 405), (16, 300, 360), (17, width - 5, width)] {
+            bytes[row * line..][2 * begin..2 * end].fill(255);
+        }
+        let causes = [Outcome::Change(405), Outcome::Hold(300 + longest as u16), Outcome::Unfinished];
+        let wanted = causes.map(|outcome| Reading { outcome, pass: 0 });
+        let side = Side::new(&bytes, system, levels()).unwrap();
+        assert_eq!(side.fields().next(), Some(wanted));
+        for (row, reading) in (15..).zip(wanted) {
+            assert_eq!(side.line(&bytes[row * line..(row + 1) * line]), Ok(reading));
+        }
+    }
+}
+
+#[test]
+fn refuses_what_is_no_side_and_no_line() {
+    for (system, line, field, ..) in SYSTEMS {
+        let bytes = vec![0; 29 * line];
+        let side = |count: usize| Side::new(&bytes[..count], system, levels());
+        assert_eq!(side(0).map(|side| (side.fields().len(), side.cut_bytes())), Ok((0, 0)));
+        for count in [1, 28 * line] {
+            assert_eq!(side(count).err(), Some(Error::NoField { bytes: count, field }));
+        }
+        let side = side(0).unwrap();
+        for count in [0, 1, line - 1, line + 1, 2 * line] {
+            assert_eq!(side.line(&bytes[..count]), Err(Error::NoLine { bytes: count, line }));
+        }
+        for count in [0, 1, line + 1, 28 * line - 2, 29 * line] {
+            assert_eq!(side.nearest(&bytes[..count]), Err(Error::NoLine { bytes: count, line }));
+        }
+        assert!(side.nearest(&bytes[..line]).is_ok() && side.nearest(&bytes[..28 * line]).is_ok());
+        assert_eq!(side.seek(Place::Picture(0)), None);
+        assert_eq!((side.numbers(Counted::Times), side.chapters(), side.stops(0).next()), (vec![], vec![], None));
+    }
+    assert_eq!(Levels::new(7, 7), Err(LevelsFault::Order));
+    assert_eq!(Word24::new(0x7FFFFF), Err(WordFault::TopBitClear));
+    assert_eq!(Word24::new(0x1000000), Err(WordFault::TooWide));
+    let fault: Box<dyn std::error::Error> = Error::NoField { bytes: 3, field: 478660 }.into();
+    assert_eq!(fault.to_string(), "a field has 478660 bytes, and these are 3");
+    assert_eq!(Error::NoLine { bytes: 3, line: 1820 }.to_string(), "a line has 1820 bytes, and these are 3");
+}
+
+#[test]
+fn a_misread_number_is_never_answered() {
+    for (system, ..) in SYSTEMS {
+        let bytes = draw(system, &cav());
+        let side = Side::new(&bytes, system, levels()).unwrap();
+        let numbers = side.numbers(Counted::Pictures);
+        for (field, number) in numbers.iter().enumerate() {
+            let drawn = field as u32 / 2;
+            let wanted = match field {
+                60 => Number::Due(30),
+                _ if field % 2 == 0 => Number::Believed(drawn),
+                _ => Number::Nothing,
+            };
+            assert_eq!(*number, wanted, "field {field}");
+        }
+        for number in 0..40 {
+            let found = side.seek(Place::Picture(number)).map(|field| field.index);
+            assert_eq!(found, Some(2 * number as usize), "picture {number}");
+        }
+        let misread = [0, picture(79999), 0].map(shown);
+        assert_eq!(side.seek(Place::Picture(30)), Some(Field { index: 60, readings: misread }));
+        for place in [Place::Picture(40), Place::Picture(79999), Place::Chapter(79), Place::Time(0, 0, 1, 0)] {
+            assert_eq!(side.seek(place), None);
+        }
+    }
+}
+
+#[test]
+fn finds_the_pace_of_film() {
+    // Pictures with an odd number last three fields, the others two.
+    let mut rows = Vec::new();
+    for number in 0..40 {
+        rows.push([0, picture(number), picture(number)]);
+        rows.resize(rows.len() + 1 + number as usize % 2, [0; 3]);
+    }
+    let bytes = draw(System::Ntsc, &rows);
+    let side = Side::new(&bytes, System::Ntsc, levels()).unwrap();
+    let numbers = side.numbers(Counted::Pictures);
+    for number in 0..40 {
+        assert_eq!(numbers[(5 * number as usize) / 2], Number::Believed(number));
+    }
+}
+
+#[test]
+fn judges_chapters() {
+    for (system, ..) in SYSTEMS {
+        let bytes = draw(system, &cav());
+        let side = Side::new(&bytes, system, levels()).unwrap();
+        let chapters = side.chapters();
+        assert_eq!((chapters.len(), chapters[0], chapters[1]), (80, Number::Nothing, Number::Believed(0)));
+        assert_eq!((chapters[39], chapters[41]), (Number::Believed(0), Number::Believed(1)));
+        assert_eq!((chapters[61], chapters[61].known()), (Number::Doubtful(79), None));
+        assert_eq!(side.seek(Place::Chapter(0)).map(|field| field.index), Some(1));
+        assert_eq!(side.seek(Place::Chapter(1)).map(|field| field.index), Some(41));
+    }
+}
+
+#[test]
+fn counts_times_from_the_beginning() {
+    for (system, .., rate) in SYSTEMS {
+        let bytes = draw(system, &clv(rate));
+        let side = Side::new(&bytes, system, levels()).unwrap();
+        let numbers = side.numbers(Counted::Times);
+        for number in 0..2 * rate {
+            let (field, count) = (2 * number as usize, 3599 * rate + number);
+            assert_eq!((numbers[field], numbers[field + 1]), (Number::Believed(count), Number::Nothing));
+        }
+        let index = |place| side.seek(place).map(|field| field.index);
+        assert_eq!(index(Place::Time(0, 59, 59, 0)), Some(0));
+        assert_eq!(index(Place::Time(0, 59, 59, rate - 1)), Some(2 * rate as usize - 2));
+        assert_eq!(index(Place::Time(1, 0, 0, 3)), Some(2 * rate as usize + 6));
+        // What no clock shows counts to none of these, though the sum would.
+        for place in [Place::Time(0, 60, 0, 3), Place::Time(0, 59, 60, 3), Place::Time(0, 59, 59, rate)] {
+            assert_eq!(index(place), None);
+        }
+        assert_eq!(index(Place::Time(u32::MAX, 0, 0, 3)), None);
+        assert_eq!(index(Place::Picture(3599 * rate)), None);
+    }
+}
+
+#[test]
+fn a_side_of_a_few_fields_is_doubtful() {
+    let bytes = draw(System::Pal, &cav()[..2]);
+    let side = Side::new(&bytes, System::Pal, levels()).unwrap();
+    assert_eq!(side.numbers(Counted::Pictures), [Number::Doubtful(0), Number::Nothing]);
+    assert_eq!(side.seek(Place::Picture(0)), None);
+}
+
+#[test]
+fn stops_from_a_field_on() {
+    for (system, ..) in SYSTEMS {
+        let bytes = draw(system, &cav());
+        let side = Side::new(&bytes, system, levels()).unwrap();
+        let from = |field| side.stops(field).map(|stop| stop.index).collect::<Vec<_>>();
+        assert_eq!(from(0), [10, 66, 67]);
+        assert_eq!((from(10), from(11), from(67)), (vec![10, 66, 67], vec![66, 67], vec![67]));
+        assert_eq!((from(68), from(80), from(usize::MAX)), (vec![], vec![], vec![]));
+        assert_eq!(side.stops(0).next().map(|stop| stop.readings), Some([STOP, picture(5), picture(5)].map(shown)));
+    }
+}
+
+/// Makes so many samples of a line as low as a sample can be.
+fn drop_out(line: &mut [u8], column: usize, count: usize) {
+    line[2 * column..2 * (column + count)].fill(0);
+}
+
+#[test]
+fn recovers_a_worn_line() {
+    for (system, line, _, start, _) in SYSTEMS {
+        let mut bytes = draw(system, &[[0, picture(12345), 0]]);
+        let row = 16 * line..17 * line;
+        // Within the word's second half cell, which is high as its first bit is 1: more columns than smoothing bridges
+        drop_out(&mut bytes[row.clone()], start as usize + system.half_max(), 6);
+        let side = Side::new(&bytes, system, levels()).unwrap();
+        let word = Word24::new(picture(12345)).unwrap();
+        assert_eq!(side.line(&bytes[row.clone()]).map(|reading| reading.outcome.word()), Ok(None));
+        let recovered = Reading { outcome: Outcome::Word(word), pass: 3 };
+        assert_eq!(side.fields().next(), Some([BLANK, recovered, BLANK]));
+        let near = side.nearest(&bytes[row]).unwrap();
+        assert_eq!((near.word, near.start, near.distance), (Some(word), start as usize, 6 * 51200));
+        assert!(near.rival > near.distance && near.longer > near.distance);
+        let blank = Near { word: None, start: 0, distance: 0, rival: near.rival, longer: 0 };
+        let black = draw(system, &[[0; 3]]);
+        let nothing = side.nearest(&black[15 * line..18 * line]).unwrap();
+        assert_eq!(Near { rival: near.rival, ..nothing }, blank);
+    }
+}
+
+#[test]
+fn pieces_of_any_length_are_the_same_side() {
+    for (system, _, field, ..) in SYSTEMS {
+        let mut bytes = draw(system, &cav()[58..62]);
+        bytes.extend(vec![0; field - 1]);
+        let fields: Vec<_> = Side::new(&bytes, system, levels()).unwrap().fields().collect();
+        for lengths in [[1, 1], [4095, 4097], [field, field], [field - 1, 2], [3 * field + 1, 17], [bytes.len(); 2]] {
+            let (mut feeder, mut fed, mut rest) = (Feeder::new(system, levels()), Vec::new(), &bytes[..]);
+            for length in lengths.iter().cycle() {
+                let (piece, later) = rest.split_at(rest.len().min(*length));
+                fed.extend(feeder.feed(piece));
+                assert_eq!((fed.len() * field, feeder.cut_bytes()), {
+                    let come = bytes.len() - later.len();
+                    (come - come % field, come % field)
+                });
+                if later.is_empty() {
+                    break;
+                }
+                rest = later;
+            }
+            assert_eq!(fed, fields);
+        }
+    }
+}
