@@ -222,7 +222,7 @@ manual|share/man/ldvbi-side.1|s/at most 26 lines/at most 30 lines/
 manual|share/man/ldvbi-side.1|s/; it isn't found/; it is found/
 manual|share/completions/ldvbi-side.bash|s/--html --again/--html/
 manual|share/completions/_ldvbi-side|s/white, from 0 to 65535/white, from 1 to 65535/
-manual|python/ldvbi_side/command/main.py|s/side without lead-in or lead-out/side with lead-in or lead-out/
+manual|python/ldvbi_side/command/parsers.py|s/side without lead-in or lead-out/side with lead-in or lead-out/
 manual|texts/completions.py|s/FOLDER: "_files -.",/FOLDER: "_files",/
 manual|texts/completions.py|s/if len(option.names) == 1:/if len(option.names) < 3:/
 manual|texts/pages.py|s/for wanted in (False, True))/for wanted in (False, False))/

@@ -104,8 +104,11 @@ def form(schema: Schema, whole: Schema) -> str:
     if found.get("type") == "array" and "prefixItems" not in found:
         return form(found["items"], whole)
     if "prefixItems" in found:
-        return code("[%s]" % ", ".join(one["$ref"].rpartition("/")[2] if "$ref" in one else "how"
-                                       for one in found["prefixItems"]))
+        items = found["prefixItems"]
+        forms = {form(one, whole) for one in items}
+        if len(forms) == 1 and forms != {""}:
+            return "%d of %s" % (len(items), forms.pop())
+        return code("[%s]" % ", ".join(one["$ref"].rpartition("/")[2] if "$ref" in one else "how" for one in items))
     parts = found.get("properties", {})
     forms = {form(part, whole) for part in parts.values()}
     if len(parts) > 1 and len(forms) == 1 and forms != {""}:

@@ -10,7 +10,7 @@ from typing import Dict, List, NamedTuple, Optional, Tuple
 TOP = os.path.dirname(os.path.dirname(os.path.abspath(__file__)))
 sys.path.insert(0, os.path.join(TOP, "python"))
 COMMANDS_OF_LDVBI = "crates/vbi_cli/src/commands.rt"
-PARSERS = "python/ldvbi_side/command"
+PARSERS = "python/ldvbi_side/command/parsers.py"
 
 # What an option or a word takes
 NOTHING, FILE, FOLDER, ANYTHING = "nothing", "file", "folder", "anything"
@@ -153,9 +153,9 @@ def command_of(name: str, parser: argparse.ArgumentParser) -> Command:
 
 
 def ldvbi_side() -> Program:
-    from ldvbi_side.command.main import parsers
+    from ldvbi_side.command.parsers import parsers
     from ldvbi_side.command.statuses import statuses_of
-    commands = [command_of(name, parser) for name, parser in parsers().items()]
+    commands = [command_of(name, parser) for name, parser in parsers("ldvbi-side").items()]
     merged: Dict[int, List[str]] = {}
     for command in commands:
         for status, texts in statuses_of(command.name).items():

@@ -2,7 +2,7 @@
 
 import unittest
 
-from ldvbi_side.command.main import parsers
+from ldvbi_side.command.parsers import parsers
 from ldvbi_side.command.statuses import statuses_of
 
 # The statuses of each command, and of none: yes or done, no, a fault, a cut field, can't tell, and those of signals
@@ -13,7 +13,7 @@ STATUSES = {"": [0, 1, 2, 3, 4, *SIGNALS], "compare": [0, 2, 3, *SIGNALS], "join
 
 class Parsers(unittest.TestCase):
     def test_each_says_its_statuses(self):
-        found = parsers()
+        found = parsers("ldvbi-side")
         self.assertEqual(set(found), set(STATUSES))
         for command, parser in found.items():
             self.assertEqual(list(statuses_of(command)), STATUSES[command], command)
@@ -24,7 +24,7 @@ class Parsers(unittest.TestCase):
 
     def test_texts_of_options_are_parts_of_sentences(self):
         """So the manual page makes sentences of them, and zsh shows their first clause."""
-        for command, parser in parsers().items():
+        for command, parser in parsers("ldvbi-side").items():
             for action in parser._actions:
                 if action.dest not in ("help", "version"):
                     self.assertRegex(action.help, "^[a-z-].*[^.]$", (command, action.dest))
