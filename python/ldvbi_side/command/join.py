@@ -13,17 +13,19 @@ from ..judge.readings import Answer
 from ..outside import printable
 from ..side import Side
 from .outputs import refuse_inputs, whole_file
+from .statuses import statuses_text
 from .summary import listed, named
 
 DESCRIPTION = """Joins two or more captures of one side by their numbers. It says which numbers they have together,
-which of these each one lacks and who has them, which all lack, and where two of them disagree about a number."""
+which of these each one lacks and who has them, which all lack, and where two of them disagree about a number. Captures
+that can't be of one disc are refused. """ + statuses_text("join")
 TAKEN_COLUMNS = ("number", "source", "field", "frame", "how")
 RANGE_COLUMNS = ("first", "last", "source", "first field", "last field")
 
 
 def run_join(program: str, words: List[str], load: Callable[[str], Side]) -> int:
     """Prints what the captures that these words name have together. `load` makes the side of a file."""
-    parser = _parser(program)
+    parser = parser_of_join(program)
     options = parser.parse_args(words)
     if options.html == "":
         parser.error("a file has to have a name")
@@ -45,7 +47,8 @@ def run_join(program: str, words: List[str], load: Callable[[str], Side]) -> int
     return 0
 
 
-def _parser(program):
+def parser_of_join(program: str) -> argparse.ArgumentParser:
+    """What reads the words behind `join`."""
     parser = argparse.ArgumentParser(prog=program + " join", description=DESCRIPTION)
     parser.add_argument("sides", nargs="+", metavar="SIDE", action=_TwoOrMore,
                         help="a document, or a TBC file with its metadata beside it; two or more of them")
