@@ -61,7 +61,8 @@
     clippy::needless_range_loop,
     clippy::question_mark,
     clippy::redundant_closure,
-    clippy::single_match
+    clippy::single_match,
+    clippy::too_many_arguments
 )]
 
 #[allow(unsafe_code)]
