@@ -15,7 +15,7 @@ def sentences_of():
     from ldvbi_side import levels
     from ldvbi_side.command import summary
     from ldvbi_side.draw import page
-    from ldvbi_side.judge import answer, believed, chain, clock, ends, lines, missing
+    from ldvbi_side.judge import answer, believed, between, chain, clock, ends, lines, missing
     from ldvbi_side.judge import order, paces, parts, readings, sparse, times, whole
     one, picture, ten, many = map(paces.price, (1, 2, 20, 20000))
     chapter, ntsc, pal = paces.ChapterPace, paces.RATES["NTSC"], paces.RATES["PAL"]
@@ -45,8 +45,9 @@ def sentences_of():
         f"At least {order.LEAST} numbers that go on by {steps} or {order.STEPS[-1]} to a picture",
         f"There are at most {believed.APART} fields from one of them to the next.",
         f"and than {one} for each end.",
-        f"is at most {order.TURN} off the believed ones around, and has {order.SIGNS} such breaks or pictures within "
-        f"{order.TURNED} fields.",
+        f"between two losses, if {CARDINALS[between.OTHER]} of its digits or more are others",
+        f"is at most {order.TURN} off the believed ones around, and has {order.SIGNS} such breaks, stills or pictures "
+        f"within {order.TURNED} fields.",
         f"stands on all its fields, {pal_minute:,} on PAL and {least:,} to {most:,} on NTSC.",
         f"and at least {sparse.LEAST}, are as many pictures behind",
         f"show words of their own in less than one of {lines.FEW} lines,",
