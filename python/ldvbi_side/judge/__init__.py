@@ -2,8 +2,8 @@
 data goes through the modules in one direction. None imports one that stands behind it here, or changes what another
 made. Read them in this order:
 
-readings, paces, chain, believed, doubts, order, times, numbers, sparse, minutes, clock, places, confirmed, missing,
-parts, lines, judged, ends, whole, answer
+readings, paces, chain, believed, doubts, between, order, times, numbers, sparse, minutes, clock, places, confirmed,
+missing, parts, lines, judged, ends, whole, answer
 
 Up to `numbers` the words become believed numbers. From `sparse` to `confirmed` it is found what lies between these, and
 the others say what is missing, which other parts the disc has, what the lines show, what the library's judge says, and
