@@ -135,7 +135,7 @@ install: places $(BUILT)ldvbi $(if $(wildcard $(BUILT)libldvbi.a),install-lib)
 	install -d $(DOCUMENTS)/docs/pictures $(DOCUMENTS)/examples/rust/src
 	install -m 644 README.md CHANGELOG.md $(DOCUMENTS)
 	install -m 644 $(wildcard docs/*.md) $(DOCUMENTS)/docs
-	install -m 644 $(wildcard docs/pictures/*.svg) $(DOCUMENTS)/docs/pictures
+	install -m 644 $(wildcard docs/pictures/*.svg docs/pictures/*.png) $(DOCUMENTS)/docs/pictures
 	install -m 644 $(wildcard examples/*.*) $(DOCUMENTS)/examples
 	install -m 644 examples/rust/Cargo.toml $(DOCUMENTS)/examples/rust
 	install -m 644 examples/rust/src/main.rs $(DOCUMENTS)/examples/rust/src

@@ -59,7 +59,7 @@ def kinds_in_c(classes):
 
 
 def texts_in_c(classes):
-    return "".join('    case %s: return "%s";\n' % (constant(one), one.kind) for one in by_number(classes))
+    return wrapped(['"%s"' % one.kind for one in by_number(classes)], " " * 8, ", ")
 
 
 # ---- conditions on a word's digits, in C and Python
@@ -140,7 +140,7 @@ def texts_of_page(classes):
 
 
 def patterns_of_document(classes):
-    """The table of patterns in docs/SIGNAL.md."""
+    """The table of patterns in docs/FORMATS.md."""
     return "\n| Pattern | Class | In the report |\n|---|---|---|\n" + "".join(
         "| %s | %s | `%s` |\n" % (one.words or "all else", one.meaning, one.text_of(digits_of(one.example)))
         for one in classes) + "\n"
@@ -168,8 +168,7 @@ PARTS = {
     "python/ldvbi/classes.py": {"kinds": kinds_in_python, "classes": classes_in_python,
                                 "code": code_in_python},
     "share/man/ldvbi.1": {"texts": texts_of_page},
-    "docs/SIGNAL.md": {"patterns": patterns_of_document},
-    "docs/FORMATS.md": {"lines": lines_of_document},
+    "docs/FORMATS.md": {"patterns": patterns_of_document, "lines": lines_of_document},
 }
 
 

@@ -9,7 +9,9 @@
  * misread.
  *
  *     cc -o seek seek.c -lldvbi && ./seek side.tbc NTSC 16384 51200 12345
- *     ./seek side.tbc NTSC 16384 51200 chapter 3 */
+ *     ./seek side.tbc NTSC 16384 51200 chapter 3
+ *
+ * It is C++ as well: c++ -x c++ -o seek seek.c -lldvbi */
 #define _DEFAULT_SOURCE
 #include <errno.h>
 #include <fcntl.h>
@@ -21,7 +23,7 @@
 #include <sys/stat.h>
 #include <unistd.h>
 
-enum { BLOCK = 64 };
+static const size_t BLOCK = 64; /* fields */
 
 /* ---- Words of the command line */
 
@@ -158,7 +160,7 @@ static int map_side(const char *path, Side *side) {
     side->fields = (size_t)about.st_size / field;
     side->size = side->fields * field;
     if (side->fields > 0) {
-        side->bytes = mmap(NULL, side->size, PROT_READ, MAP_SHARED, file, 0);
+        side->bytes = (uint8_t *)mmap(NULL, side->size, PROT_READ, MAP_SHARED, file, 0);
         if (side->bytes == MAP_FAILED) return fail(path);
         /* Few pages of a field are wanted, so the system shall not read ahead by itself. */
         madvise(side->bytes, side->size, MADV_RANDOM);
@@ -181,9 +183,9 @@ typedef struct {
 
 /* calloc refuses what overflows. */
 static int allocate(Room *room, size_t fields) {
-    room->readings = calloc(fields, sizeof *room->readings);
-    room->seen = calloc(fields, sizeof *room->seen);
-    room->numbers = calloc(fields, sizeof *room->numbers);
+    room->readings = (LdvbiFieldReadings *)calloc(fields, sizeof *room->readings);
+    room->seen = (LdvbiSightings *)calloc(fields, sizeof *room->seen);
+    room->numbers = (LdvbiNumber *)calloc(fields, sizeof *room->numbers);
     return room->readings != NULL && room->seen != NULL && room->numbers != NULL;
 }
 

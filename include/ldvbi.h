@@ -16,9 +16,9 @@
  *     while (field < count && stops[field] != LDVBI_BELIEVED) field++;
  *     printf("the player stops in field %zu\n", field + 1);
  *
- * Where nothing is found, `field` is `count`. The programs in examples/, which is installed as
- * share/doc/ldvbi/examples, test what the system answers, too. docs/LIBRARY.md says how to link, which line has which
- * code, and how frames, lines of other sample rates and mapped files are read; docs/PROMISES.md what is proved.
+ * Where nothing is found, `field` is `count`. The programs in examples/ test what the system answers, too. In docs/
+ * LIBRARY.md says how to link, which line has which code, and how frames, lines of other sample rates and mapped files
+ * are read; PROMISES.md what is proved. Both folders are installed in share/doc/ldvbi.
  *
  * Samples have 16 bits, the low byte first, as in ld-decode's TBC files: line after line, field after field. Black and
  * white are samples too: black16bIre and white16bIre of the .tbc.json. A sample above the middle of the two is high.
@@ -26,11 +26,10 @@
  * Numbers are uint32_t, and all of their 32 bits are tested: 257 is not taken for system 1. C cuts a wider number to
  * 32 bits before the call, so test such a number first. No call tests the following, which the caller has to ensure:
  *   - Each pointer points to as many bytes or values as the length or count beside it says, or to one value of its
- *     type. What a call writes to may hold anything before. A pointer may be null where the length or count beside it
- *     is 0, as that of an empty std::vector, and nowhere else.
+ *     type. It may be null where that length or count is 0, as that of an empty std::vector, and nowhere else.
  *   - Pointers to structs are aligned as their types are. Pointers to samples needn't be.
- *   - What a call writes overlaps nothing else that it is given. During the call no other thread touches what it
- *     writes, and none writes what it reads.
+ *   - What a call writes overlaps nothing else that it is given, and may hold anything before. During the call no other
+ *     thread touches what it writes, and none writes what it reads.
  * No call allocates, takes a lock, prints, calls back, throws, or keeps a pointer or anything else for a later call. So
  * any thread may call at any time, and so may a signal handler. */
 #ifndef LDVBI_H
@@ -54,7 +53,6 @@ extern "C" {
 #endif
 
 /* ---- Systems and sizes */
-
 enum LdvbiSystem {
     LDVBI_NTSC = 1, /* 525 lines; 910 samples to a line, 263 lines to a field */
     LDVBI_PAL = 2   /* 625 lines; 1135 samples to a line, 313 lines to a field */
@@ -66,9 +64,7 @@ size_t ldvbi_line_bytes(uint32_t system);
 size_t ldvbi_lines(uint32_t system);
 size_t ldvbi_field_bytes(uint32_t system);
 
-/* ---- Versions */
-
-/* The version of this header. As a number it has a million for each major, a thousand for each minor. */
+/* ---- Versions: that of this header. As a number it has a million for each major, a thousand for each minor. */
 #define LDVBI_VERSION_MAJOR 0
 #define LDVBI_VERSION_MINOR 1
 #define LDVBI_VERSION_PATCH 0
@@ -76,34 +72,28 @@ size_t ldvbi_field_bytes(uint32_t system);
 #define LDVBI_VERSION_TEXT "0.1.0"
 
 /* The interface that this header declares. An addition, as of a call, a status or a kind, keeps the number and the
- * library's name libldvbi.so.1. A change or a removal raises both. So a program that was built with this header runs
- * with each library of this interface whose version is the same or later. It has to expect statuses, causes, kinds and
- * formats whose numbers it doesn't know. A check at a program's start:
- *     if (ldvbi_abi() != LDVBI_ABI || ldvbi_version() < LDVBI_VERSION) .. */
+ * library's name libldvbi.so.1; a change or a removal raises both. So a program that was built with this header runs
+ * with each library of this interface of the same version or a later one. It has to expect statuses, causes, kinds and
+ * formats that it doesn't know. A check: if (ldvbi_abi() != LDVBI_ABI || ldvbi_version() < LDVBI_VERSION) .. */
 #define LDVBI_ABI 1
 
-/* Of the library that is linked: its interface, and its version as a number. */
-uint32_t ldvbi_abi(void);
-uint32_t ldvbi_version(void);
+uint32_t ldvbi_abi(void);     /* the interface of the library that is linked */
+uint32_t ldvbi_version(void); /* its version, as a number */
 
-/* ---- Statuses, in the order in which they are tested. After any other than LDVBI_DONE, all that the call could have
- * written is as it was. */
-
+/* ---- Statuses, in the order in which they are tested: a call has those of the arguments that it takes. After any
+ * other than LDVBI_DONE, all that the call could have written is as it was. */
 enum LdvbiStatus {
     LDVBI_DONE = 0,
     LDVBI_BAD_SYSTEM = 1, /* the system is neither LDVBI_NTSC nor LDVBI_PAL */
     LDVBI_BAD_LEVELS = 2, /* black is not below white, or one of them is above 65535 */
-    LDVBI_BAD_LENGTH = 3, /* fewer or more bytes than the call's lines or fields have in this system, or arrays that are
-                             not as long as one another */
+    LDVBI_BAD_LENGTH = 3, /* not the bytes of the call's lines or fields in this system; arrays of different lengths */
     LDVBI_BAD_WORD = 4,   /* a number is no code word: not from 0x800000 to 0xFFFFFF, nor 0 where 0 stands for none */
     LDVBI_BAD_COUNTED = 5, /* neither LDVBI_PICTURES nor LDVBI_TIMES */
     LDVBI_BAD_PACE = 6     /* none of LDVBI_VIDEO, LDVBI_FILM and LDVBI_FIND_PACE */
 };
 
-/* ---- Reading */
-
-/* What a line shows: a word, or the first of these causes for which it shows none. Column c is hopeless where samples 0
- * to c rule a word out, whatever follows. */
+/* ---- Reading: a line shows a word, or the first of these causes for which it shows none. Column c is hopeless where
+ * samples 0 to c rule a word out, whatever follows. */
 enum LdvbiCause {
     LDVBI_WORD = 0,
     LDVBI_BLANK = 1,      /* no sample is high */
@@ -114,60 +104,46 @@ enum LdvbiCause {
 
 typedef struct LdvbiReading {
     uint8_t cause;   /* of enum LdvbiCause */
-    uint8_t pass;    /* 1: the line's levels show the word; 2: only smoothed ones do, less surely; 0: no word
-                        3: of ldvbi_recover_rows: it is the nearest word */
+    uint8_t pass;    /* 1: its levels show the word; 2: smoothed ones do, less surely; 3: it is recovered; 0: no word */
     uint16_t column; /* of LDVBI_CHANGE and LDVBI_HOLD the first hopeless column, counted from 0; else 0 */
     uint32_t word;   /* of LDVBI_WORD the word, from 0x800000 to 0xFFFFFF; else 0 */
 } LdvbiReading;
 
-/* The readings of a field's lines 16, 17 and 18, counted from 1. */
 typedef struct LdvbiFieldReadings {
-    LdvbiReading lines[3]; /* lines[0] is of line 16 */
+    LdvbiReading lines[3]; /* of lines 16, 17 and 18 of a field, counted from 1 */
 } LdvbiFieldReadings;
 
-/* Reads a line. `length` has to be ldvbi_line_bytes(system).
- * LDVBI_BAD_SYSTEM, LDVBI_BAD_LEVELS, LDVBI_BAD_LENGTH. */
-LDVBI_RESULT LDVBI_POINTER(6)
-uint32_t ldvbi_read_line(uint32_t system, uint32_t black, uint32_t white, const void *samples, size_t length,
-                         LdvbiReading *reading);
+/* Reads a line. `length` has to be ldvbi_line_bytes(system). */
+LDVBI_RESULT LDVBI_POINTER(6) uint32_t ldvbi_read_line(uint32_t system, uint32_t black, uint32_t white,
+    const void *samples, size_t length, LdvbiReading *reading);
 
-/* Reads lines 16, 17 and 18 that lie one after the other, as one pread fetches them from a file: from byte 15 *
- * ldvbi_line_bytes(system) of their field on. `length` has to be 3 * ldvbi_line_bytes(system).
- * LDVBI_BAD_SYSTEM, LDVBI_BAD_LEVELS, LDVBI_BAD_LENGTH. */
-LDVBI_RESULT LDVBI_POINTER(6)
-uint32_t ldvbi_read_rows(uint32_t system, uint32_t black, uint32_t white, const void *samples, size_t length,
-                         LdvbiFieldReadings *readings);
+/* Reads lines 16, 17 and 18 that lie one after the other, as one pread fetches them: from byte 15 *
+ * ldvbi_line_bytes(system) of their field on. `length` has to be 3 * ldvbi_line_bytes(system). */
+LDVBI_RESULT LDVBI_POINTER(6) uint32_t ldvbi_read_rows(uint32_t system, uint32_t black, uint32_t white,
+    const void *samples, size_t length, LdvbiFieldReadings *readings);
 
-/* Reads lines 16, 17 and 18 of a field, and touches no other. `length` has to be ldvbi_field_bytes(system).
- * LDVBI_BAD_SYSTEM, LDVBI_BAD_LEVELS, LDVBI_BAD_LENGTH. */
-LDVBI_RESULT LDVBI_POINTER(6)
-uint32_t ldvbi_read_field(uint32_t system, uint32_t black, uint32_t white, const void *samples, size_t length,
-                          LdvbiFieldReadings *readings);
+/* Reads lines 16, 17 and 18 of a field, and touches no other. `length` has to be ldvbi_field_bytes(system). */
+LDVBI_RESULT LDVBI_POINTER(6) uint32_t ldvbi_read_field(uint32_t system, uint32_t black, uint32_t white,
+    const void *samples, size_t length, LdvbiFieldReadings *readings);
 
 /* The same for `count` fields, one after the other, as in a TBC file that is mapped. `length` has to be count times
- * ldvbi_field_bytes(system). Only few pages of each field are read: examples/seek.c shows how to have the system fetch
- * those of the next fields ahead.
- * LDVBI_BAD_SYSTEM, LDVBI_BAD_LEVELS, LDVBI_BAD_LENGTH. */
-LDVBI_RESULT
-uint32_t ldvbi_read_fields(uint32_t system, uint32_t black, uint32_t white, const void *samples, size_t length,
-                           LdvbiFieldReadings *readings, size_t count);
+ * ldvbi_field_bytes(system). Only few pages of each field are read: examples/seek.c has the system fetch them ahead. */
+LDVBI_RESULT uint32_t ldvbi_read_fields(uint32_t system, uint32_t black, uint32_t white, const void *samples,
+    size_t length, LdvbiFieldReadings *readings, size_t count);
 
 /* ---- The nearest word: what worn lines still bear
  *
  * A word can be drawn from each column on that leaves room for it: 224 columns of NTSC, 285 of PAL. Of all these rows,
  * and of that of no word, which is black, the nearest one has the least distance from some lines: the sum, over their
- * samples, of how far each is from the row's.
+ * samples, of how far each is from the row's. (white - black) is that of one column with the other level, in one line.
  *
  * This is proved: no row of any word, nor that of none, is nearer to the lines than the answered one, and no row of
- * another word, or of none, is nearer than `rival`. So if another word was recorded, the samples of the lines are off
- * by `rival` or more in sum.
+ * another word, or of none, is nearer than `rival`. So if another word was recorded, the samples are off by `rival` or
+ * more in sum. Where two words are as near, rival is distance, and either may be answered.
  *
- * Nothing is promised of how much real samples are off: where a dropout turns a cell over, another word is nearest. Nor
- * does the answer say that there is a word, since video, captions and sines have a nearest one too. Of most of these
- * the margin, which is rival - distance, is small. A sine of 0.5 MHz looks like a word, but it goes on beyond: there
- * `longer` is far below `distance`. Where two words are as near, rival is distance, and either may be answered. */
-
-/* Distances are sums of samples. (white - black) is that of one column with the other level, in one line. */
+ * Nothing is promised of real samples: where a dropout turns a cell over, another word is nearest. Video, captions and
+ * sines have a nearest word too, but of most the margin, which is rival - distance, is small. A sine of 0.5 MHz looks
+ * like a word, but goes on beyond it: there `longer` is far below `distance`. */
 typedef struct LdvbiNear {
     uint32_t word;     /* the nearest word, from 0x800000 to 0xFFFFFF; 0: no word is as near as the row of none */
     uint32_t start;    /* the column, counted from 0, from which on the word is drawn; 0 where there is none */
@@ -178,11 +154,9 @@ typedef struct LdvbiNear {
 } LdvbiNear;
 
 /* Finds the nearest word of 1 to 28 lines that all have one word or none, such as lines 17 and 18 of a field. They lie
- * one after the other: `length` has to be 1 to 28 times ldvbi_line_bytes(system).
- * LDVBI_BAD_SYSTEM, LDVBI_BAD_LEVELS, LDVBI_BAD_LENGTH. */
-LDVBI_RESULT LDVBI_POINTER(6)
-uint32_t ldvbi_nearest(uint32_t system, uint32_t black, uint32_t white, const void *samples, size_t length,
-                       LdvbiNear *near);
+ * one after the other: `length` has to be 1 to 28 times ldvbi_line_bytes(system). */
+LDVBI_RESULT LDVBI_POINTER(6) uint32_t ldvbi_nearest(uint32_t system, uint32_t black, uint32_t white,
+    const void *samples, size_t length, LdvbiNear *near);
 
 /* Reads lines 16, 17 and 18 as ldvbi_read_rows does, and recovers the words of worn ones: a line without a word that
  * isn't blank has its nearest word, as pass 3, where the margin is so many columns at least, of (white - black) each:
@@ -198,20 +172,15 @@ uint32_t ldvbi_nearest(uint32_t system, uint32_t black, uint32_t white, const vo
  * is so of each. A word of pass 2 stays only where its line alone says it so.
  *
  * This is proved: the answer is that of this rule, a word of pass 1 stays as it is, and a blank line stays blank. That
- * a recovered word is the recorded one is not: it is measured on simulated lines.
- * LDVBI_BAD_SYSTEM, LDVBI_BAD_LEVELS, LDVBI_BAD_LENGTH. */
-LDVBI_RESULT LDVBI_POINTER(6)
-uint32_t ldvbi_recover_rows(uint32_t system, uint32_t black, uint32_t white, const void *samples, size_t length,
-                            LdvbiFieldReadings *readings);
+ * a recovered word is the recorded one is not: it is measured on simulated lines. */
+LDVBI_RESULT LDVBI_POINTER(6) uint32_t ldvbi_recover_rows(uint32_t system, uint32_t black, uint32_t white,
+    const void *samples, size_t length, LdvbiFieldReadings *readings);
 
-/* The same for `count` fields, as ldvbi_read_fields takes them.
- * LDVBI_BAD_SYSTEM, LDVBI_BAD_LEVELS, LDVBI_BAD_LENGTH. */
-LDVBI_RESULT
-uint32_t ldvbi_recover_fields(uint32_t system, uint32_t black, uint32_t white, const void *samples, size_t length,
-                              LdvbiFieldReadings *readings, size_t count);
+/* The same for `count` fields, as ldvbi_read_fields takes them. */
+LDVBI_RESULT uint32_t ldvbi_recover_fields(uint32_t system, uint32_t black, uint32_t white, const void *samples,
+    size_t length, LdvbiFieldReadings *readings, size_t count);
 
 /* ---- What words say */
-
 enum LdvbiKind {
     /* from codes/classes.txt: kinds */
     LDVBI_OTHER = 0,
@@ -229,14 +198,12 @@ enum LdvbiKind {
     /* to here */
 };
 
-/* A word's kind and the numbers that go with it. A number that this kind doesn't have is 0. */
 typedef struct LdvbiCode {
-    uint32_t kind, first, second; /* kind: of enum LdvbiKind */
+    uint32_t kind, first, second; /* of enum LdvbiKind, and its numbers; one that this kind doesn't have is 0 */
 } LdvbiCode;
 
-/* What a word says. LDVBI_BAD_WORD, for 0 too. */
-LDVBI_RESULT LDVBI_POINTER(2)
-uint32_t ldvbi_classify(uint32_t word, LdvbiCode *code);
+/* What a word says. 0 is no word. */
+LDVBI_RESULT LDVBI_POINTER(2) uint32_t ldvbi_classify(uint32_t word, LdvbiCode *code);
 
 /* Which discs a field's codes speak of. */
 enum LdvbiFormat {
@@ -246,17 +213,15 @@ enum LdvbiFormat {
     LDVBI_BOTH = 3 /* codes of both: one of them was misread */
 };
 
-/* The format of a field whose lines 16, 17 and 18 have these words, each 0 where there is none. LDVBI_BAD_WORD. */
-LDVBI_RESULT LDVBI_POINTER(4)
-uint32_t ldvbi_format(uint32_t first, uint32_t second, uint32_t third, uint32_t *format);
+/* The format of a field whose lines 16, 17 and 18 have these words, each 0 where there is none. */
+LDVBI_RESULT LDVBI_POINTER(4) uint32_t ldvbi_format(uint32_t first, uint32_t second, uint32_t third, uint32_t *format);
 
 /* ---- Judging: which number of its disc each field shows
  *
- * A misread line shows a number like any other. So the fields around a field decide whether its number is believed.
- * They support it where their numbers fit it at the disc's pace, as picture 101 two fields later fits picture 100. A
- * word of pass 1 weighs 2, one of pass 2 or 3 weighs 1. A number is believed only where the words that support it, in
- * the field itself and in the LDVBI_REACH fields before and behind it, weigh 10 or more, and more than those that
- * support any other number of the field.
+ * A misread line shows a number like any other, so the fields around it decide whether the number is believed. They
+ * support it where theirs fit it at the disc's pace, as picture 101 two fields later fits picture 100. A word of pass 1
+ * weighs 2, one of pass 2 or 3 weighs 1. A number is believed only where the words that support it, in the field itself
+ * and in the LDVBI_REACH fields before and behind it, weigh 10 or more, and more than those for any other number of it.
  *
  * This is proved: if the disc ran on at the pace that is judged by, from LDVBI_REACH fields before a field to as many
  * behind it, and the misread words of lines 17 and 18 there weigh less than 10, a believed number is the one that was
@@ -267,16 +232,15 @@ uint32_t ldvbi_format(uint32_t first, uint32_t second, uint32_t third, uint32_t 
  * A number is due in a field of which none is believed where those of two believed fields, one before it and one
  * behind, count to it: both lie whole pictures away, and at most LDVBI_REACH fields. No believed number between the two
  * may be off from it. None is due where the field shows a code that stands in place of a number, or one number on both
- * lines in pass 1. This is proved too: if the believed numbers within LDVBI_REACH fields are right, and the disc is
- * regular there, the field has the number that is due. Regular means: where numbers of the disc before and behind the
- * field, both within LDVBI_REACH fields, count to one number in it, it has that one.
+ * lines in pass 1. This is proved too: if the believed numbers within LDVBI_REACH fields are right, the field has the
+ * one that is due where the disc is regular: where numbers of the disc before and behind the field, both within
+ * LDVBI_REACH fields, count to one number in it, it has that one.
  *
  * Nothing is promised where the player jumped, the capture lost a field, or the clock of an NTSC CLV disc leaves out a
  * number, within LDVBI_REACH fields, nor where film stands still, nor at a pace that is not the disc's, though errors
  * are rare there too. Minutes without their seconds and lost fields are not judged here: `ldvbi-side` judges them. */
 
-/* How many fields before a field, and how many behind it, are looked at. */
-enum { LDVBI_REACH = 24 };
+enum { LDVBI_REACH = 24 }; /* so many fields before a field, and as many behind it, are looked at */
 
 enum LdvbiCounted {
     LDVBI_PICTURES = 1, /* the picture numbers of a CAV disc */
@@ -286,29 +250,24 @@ enum LdvbiCounted {
 enum LdvbiPace {
     LDVBI_VIDEO = 1,    /* a picture lasts two fields */
     LDVBI_FILM = 2,     /* a picture lasts two and three fields by turns, as film does on NTSC */
-    LDVBI_FIND_PACE = 3 /* that of film if pictures of NTSC are counted, and over a tenth more of their numbers are
-                           believed with it; else that of video */
+    LDVBI_FIND_PACE = 3 /* of film where over a tenth more numbers of NTSC pictures are believed by it, else of video */
 };
 
-/* A number that a line shows. */
 typedef struct LdvbiSighting {
-    uint32_t number;
+    uint32_t number; /* that a line shows */
     uint32_t weight; /* 2: in pass 1; 1: in pass 2 or 3; 0: the line shows no number, and `number` is 0 */
 } LdvbiSighting;
 
-/* What a field shows: the numbers of lines 17 and 18. The seconds of a time are those of line 16. */
 typedef struct LdvbiSightings {
-    LdvbiSighting line_17, line_18;
+    LdvbiSighting line_17, line_18; /* what a field shows there; the seconds of a time are those of line 16 */
     uint32_t instead; /* 1: line 17 or 18 shows a chapter, lead-in, lead-out or the other kind of number; else 0 */
 } LdvbiSightings;
 
 enum LdvbiState {
     LDVBI_NOTHING = 0,  /* the field shows no number, and none is due; the number is 0 */
     LDVBI_BELIEVED = 1, /* the field shows the number, and it is believed */
-    LDVBI_DOUBTFUL = 2, /* the field shows the number (of two, that of line 17), none of the field is believed, and none
-                           is due */
-    LDVBI_DUE = 3       /* none of the field is believed, and the believed numbers before and behind it count to this
-                           one, whether the field shows it or not */
+    LDVBI_DOUBTFUL = 2, /* the field shows the number (of two, that of line 17); none is believed of it, none is due */
+    LDVBI_DUE = 3       /* none is believed of the field, and those before and behind count to this one, shown or not */
 };
 
 typedef struct LdvbiNumber {
@@ -316,86 +275,67 @@ typedef struct LdvbiNumber {
     uint32_t state; /* of enum LdvbiState */
 } LdvbiNumber;
 
-/* Judges the numbers of `count` fields that follow each other. Two arrays of `count` values are the caller's, and may
- * hold anything before. `numbers` gets the answers. `seen` is room for the call: it gets what each field shows, since
- * each field is looked at from 48 others. If a capture goes on, judge it again with its new fields. At one pace these
- * may change what is believed of the last LDVBI_REACH fields, and what is due in the last 2 * LDVBI_REACH; before those
- * all answers stay. With LDVBI_FIND_PACE the pace may turn, and with it any answer: ldvbi_find_pace says which it is.
- * LDVBI_BAD_SYSTEM, LDVBI_BAD_LENGTH, LDVBI_BAD_COUNTED, LDVBI_BAD_PACE. */
-LDVBI_RESULT
-uint32_t ldvbi_judge(uint32_t system, uint32_t counted, uint32_t pace, const LdvbiFieldReadings *readings, size_t count,
-                     LdvbiSightings *seen, size_t seen_count, LdvbiNumber *numbers, size_t number_count);
+/* Judges the numbers of `count` fields that follow each other. `numbers` gets the answers. `seen` is room for the call,
+ * and gets what each field shows. Both have `count` values. If a capture goes on, judge it again with its new fields:
+ * at one pace these may change what is believed of the last LDVBI_REACH fields, and what is due in twice as many.
+ * Before those all answers stay. With LDVBI_FIND_PACE the pace may turn, and with it any answer. */
+LDVBI_RESULT uint32_t ldvbi_judge(uint32_t system, uint32_t counted, uint32_t pace, const LdvbiFieldReadings *readings,
+    size_t count, LdvbiSightings *seen, size_t seen_count, LdvbiNumber *numbers, size_t number_count);
 
-/* The pace that ldvbi_judge takes for these readings with LDVBI_FIND_PACE: LDVBI_VIDEO or LDVBI_FILM. `seen` is room
- * for the call, and gets the same as there. To judge a capture that goes on by one pace, find it where enough is read.
- * LDVBI_BAD_SYSTEM, LDVBI_BAD_LENGTH, LDVBI_BAD_COUNTED. */
-LDVBI_RESULT LDVBI_POINTER(7)
-uint32_t ldvbi_find_pace(uint32_t system, uint32_t counted, const LdvbiFieldReadings *readings, size_t count,
-                         LdvbiSightings *seen, size_t seen_count, uint32_t *pace);
+/* The pace that ldvbi_judge takes for these readings with LDVBI_FIND_PACE: LDVBI_VIDEO or LDVBI_FILM. `seen` gets the
+ * same as there. To judge a capture that goes on by one pace, find it where enough is read. */
+LDVBI_RESULT LDVBI_POINTER(7) uint32_t ldvbi_find_pace(uint32_t system, uint32_t counted,
+    const LdvbiFieldReadings *readings, size_t count, LdvbiSightings *seen, size_t seen_count, uint32_t *pace);
 
-/* How many fields the answer of one depends on: itself, and 2 * LDVBI_REACH on either side. */
-enum { LDVBI_PART = 97 };
+enum { LDVBI_PART = 97 }; /* the answer of a field depends on itself and 2 * LDVBI_REACH on either side */
 
-/* Judges the field `field`, counted from 0, of at most LDVBI_PART that follow each other, for a player that jumps about:
- * it reads the fields around one alone, and has no room to give. This is proved: if the readings have 2 * LDVBI_REACH
- * fields before it, or begin with the side, and as many behind it, or end with the side, `number` is what ldvbi_judge
- * answers of it in the whole side at the same pace. `pace` is LDVBI_VIDEO or LDVBI_FILM, as ldvbi_find_pace answers of
- * the side: a few fields have none of their own. LDVBI_BAD_LENGTH is also for a `field` that isn't below `count`.
- * LDVBI_BAD_SYSTEM, LDVBI_BAD_LENGTH, LDVBI_BAD_COUNTED, LDVBI_BAD_PACE. */
-LDVBI_RESULT LDVBI_POINTER(7)
-uint32_t ldvbi_judge_field(uint32_t system, uint32_t counted, uint32_t pace, const LdvbiFieldReadings *readings,
-                           size_t count, size_t field, LdvbiNumber *number);
+/* Judges the field `field`, counted from 0, of at most LDVBI_PART that follow each other, for a player that jumps about
+ * and has no room to give. This is proved: if the readings have 2 * LDVBI_REACH fields before it, or begin with the
+ * side, and as many behind it, or end with the side, `number` is what ldvbi_judge answers of it in the whole side at
+ * the same pace. `pace` is LDVBI_VIDEO or LDVBI_FILM, as ldvbi_find_pace answers of the side: a few fields have none of
+ * their own. LDVBI_BAD_LENGTH is also for a `field` that isn't below `count`. */
+LDVBI_RESULT LDVBI_POINTER(7) uint32_t ldvbi_judge_field(uint32_t system, uint32_t counted, uint32_t pace,
+    const LdvbiFieldReadings *readings, size_t count, size_t field, LdvbiNumber *number);
 
-/* ---- Seeking a number */
-
-/* Where a number was found. */
+/* ---- Seeking a number, and where it was found */
 typedef struct LdvbiSought {
     size_t field;       /* counted from 0; as many as the side has where none was found */
     LdvbiNumber number; /* what is answered of this field: the number, LDVBI_BELIEVED or LDVBI_DUE */
     uint32_t pace;      /* the pace at which it is answered; 0 where none was found */
     uint32_t looked;    /* how many fields were read, LDVBI_LOOKED at most */
 } LdvbiSought;
+enum { LDVBI_LOOKED = 400 };
 
-#define LDVBI_LOOKED 400
-
-/* Seeks a number in the `length` bytes of a side, as a mapped file: by halving, so few fields are read. `pace` is as for
- * ldvbi_judge; one that is to be found is found by the fields around the place. A last field that is cut is left out.
+/* Seeks a number in the `length` bytes of a side, as a mapped file: by halving, so few fields are read. `pace` is as
+ * for ldvbi_judge; one that is to be found is found by the fields around the place. A cut last field is left out.
  *
- * This is proved: the field that is answered has the number as ldvbi_judge answers it by what ldvbi_read_fields reads of
- * all fields, at this pace, and the field before it hasn't. Whether a number is found is not proved: numbers have to
- * rise along the side, as they do where a player runs on. To be sure that a number isn't there, judge the whole side.
- * LDVBI_BAD_SYSTEM, LDVBI_BAD_LEVELS, LDVBI_BAD_COUNTED, LDVBI_BAD_PACE. */
-LDVBI_RESULT LDVBI_POINTER(9)
-uint32_t ldvbi_seek(uint32_t system, uint32_t black, uint32_t white, uint32_t counted, uint32_t pace,
-                    const void *bytes, size_t length, uint32_t number, LdvbiSought *sought);
+ * This is proved: the field that is answered has the number as ldvbi_judge answers it, at this pace, by what
+ * ldvbi_read_fields reads of all fields, and the field before it hasn't. Whether a number is found is not proved: they
+ * have to rise along the side, as where a player runs on. To be sure that one isn't there, judge the whole side. */
+LDVBI_RESULT LDVBI_POINTER(9) uint32_t ldvbi_seek(uint32_t system, uint32_t black, uint32_t white, uint32_t counted,
+    uint32_t pace, const void *bytes, size_t length, uint32_t number, LdvbiSought *sought);
 
 /* ---- Judging chapters
  *
- * The fields around a field decide on its chapter too. A chapter is believed only where the codes that say it, in the
- * field itself and in the LDVBI_REACH fields before and behind it, weigh 10 or more, and more than those that say any
- * other chapter of the field. Those that speak against it have to weigh less than 10: codes of later chapters before
- * the field or in it, and of earlier chapters behind the field or in it.
+ * A chapter is believed only where the codes that say it, in the field itself and in the LDVBI_REACH fields before and
+ * behind it, weigh 10 or more, and more than those that say any other chapter of the field. Those that speak against it
+ * have to weigh less than 10: codes of later chapters before the field or in it, and of earlier ones behind or in it.
  *
  * This is proved, whatever the disc and the player do: if the chapter codes within LDVBI_REACH fields of a field that
  * aren't what the disc has there weigh less than 10, a believed chapter is one that the disc has within these fields.
  * And where the codes of one chapter weigh 10 or more within LDVBI_REACH fields before a field, and 10 or more within
  * as many behind it, no other chapter is believed of it.
  *
- * So a chapter that is far away on the disc, or not on it at all, is not believed where less than that is misread. A
- * code can be misread as the next chapter shortly before that begins, or as the last one shortly after that has ended:
- * then a chapter seems longer by a few fields. Where a player goes back to an earlier chapter, none may be believed for
- * LDVBI_REACH fields before and behind. */
+ * So a chapter can seem longer by a few fields, where codes near its ends are misread as its. Where a player goes back
+ * to an earlier chapter, none may be believed for LDVBI_REACH fields before and behind. */
 
-/* Judges the chapters of `count` fields that follow each other, as ldvbi_judge does their numbers. `chapters` gets the
- * answers: the number is the chapter, and the state is never LDVBI_DUE. Most fields have no code of a chapter: these
- * have LDVBI_NOTHING, and are of the chapter that was believed last. `seen` gets the chapters that lines 17 and 18
- * show, with `instead` 0. ldvbi_first_of finds the first field of a chapter.
- * LDVBI_BAD_LENGTH. */
-LDVBI_RESULT
-uint32_t ldvbi_judge_chapters(const LdvbiFieldReadings *readings, size_t count, LdvbiSightings *seen, size_t seen_count,
-                              LdvbiNumber *chapters, size_t chapter_count);
+/* Judges the chapters of fields as ldvbi_judge does their numbers. `chapters` gets the answers: the number is the
+ * chapter, and the state is never LDVBI_DUE. Most fields have no code of one: these have LDVBI_NOTHING, and are of the
+ * chapter that was believed last. `seen` gets the chapters that lines 17 and 18 show, with `instead` 0. */
+LDVBI_RESULT uint32_t ldvbi_judge_chapters(const LdvbiFieldReadings *readings, size_t count, LdvbiSightings *seen,
+    size_t seen_count, LdvbiNumber *chapters, size_t chapter_count);
 
-/* The first field, counted from 0, whose number is believed or due and is this one; `count` where there is none. */
+/* The first field, counted from 0, whose number or chapter is believed or due and is this one; else `count`. */
 size_t ldvbi_first_of(const LdvbiNumber *numbers, size_t count, uint32_t number);
 
 /* ---- Judging stops
@@ -404,89 +344,53 @@ size_t ldvbi_first_of(const LdvbiNumber *numbers, size_t count, uint32_t number)
  * whatever pass. Other fields have no say, since a stop may stand anywhere on a side.
  *
  * This is proved: if the disc has no stop in a field, and one is believed of it, a word of pass 1 was misread on its
- * lines 16 and 17, or both words were. One line of pass 2 or 3 alone never makes a stop. A stop that the disc has is
- * believed where one line was read right in pass 1, or both were read right. */
+ * lines 16 and 17, or both words were. A stop that the disc has is believed where one line was read right in pass 1, or
+ * both were read right. */
 
 /* Judges the stops of `count` fields, each by itself, so it may be one field alone. `stops` gets of each field
  * LDVBI_BELIEVED; LDVBI_DOUBTFUL where line 16 or 17 shows a stop that isn't believed; or LDVBI_NOTHING. A player stops
- * at the first field behind its own of which a stop is believed. Both fields of a picture may have one.
- * LDVBI_BAD_LENGTH. */
-LDVBI_RESULT
-uint32_t ldvbi_judge_stops(const LdvbiFieldReadings *readings, size_t count, uint32_t *stops, size_t stop_count);
+ * at the first field behind its own that has LDVBI_BELIEVED. All fields of a picture may have its stop. */
+LDVBI_RESULT uint32_t ldvbi_judge_stops(const LdvbiFieldReadings *readings, size_t count, uint32_t *stops,
+    size_t stop_count);
 
-/* ---- Drawing */
-
-/* Writes the samples of a line that shows the word, in black and white, or of a blank line for 0. `length` has to be
- * ldvbi_line_bytes(system).
- * LDVBI_BAD_SYSTEM, LDVBI_BAD_LEVELS, LDVBI_BAD_LENGTH, LDVBI_BAD_WORD. */
-LDVBI_RESULT
-uint32_t ldvbi_draw_line(uint32_t system, uint32_t black, uint32_t white, uint32_t word, void *samples, size_t length);
+/* ---- Drawing: writes the samples of a line that shows the word, in black and white, or of a blank line for 0.
+ * `length` has to be ldvbi_line_bytes(system). */
+LDVBI_RESULT uint32_t ldvbi_draw_line(uint32_t system, uint32_t black, uint32_t white, uint32_t word, void *samples,
+    size_t length);
 
 /* ---- Texts: never null, and "unknown" for any other number. Causes are as in the document of `ldvbi extract`, where
  * "change" and "hold" are followed by a space and the column; kinds and formats as in the report of `ldvbi show`. */
-
 static inline const char *ldvbi_status_text(uint32_t status) {
-    switch (status) {
-    case LDVBI_DONE: return "done";
-    case LDVBI_BAD_SYSTEM: return "system is neither NTSC nor PAL";
-    case LDVBI_BAD_LEVELS: return "black is not below white, or one of them is above 65535";
-    case LDVBI_BAD_LENGTH: return "length does not fit the system";
-    case LDVBI_BAD_WORD: return "number is no code word";
-    case LDVBI_BAD_COUNTED: return "neither pictures nor times are counted";
-    case LDVBI_BAD_PACE: return "pace is neither that of video nor of film, nor to be found";
-    default: return "unknown";
-    }
+    static const char *const texts[] = {
+        "done", "system is neither NTSC nor PAL", "black is not below white, or one of them is above 65535",
+        "length does not fit the system", "number is no code word", "neither pictures nor times are counted",
+        "pace is neither that of video nor of film, nor to be found"};
+    return status <= LDVBI_BAD_PACE ? texts[status] : "unknown";
 }
 
 static inline const char *ldvbi_cause_text(uint32_t cause) {
-    switch (cause) {
-    case LDVBI_WORD: return "word";
-    case LDVBI_BLANK: return "blank";
-    case LDVBI_UNFINISHED: return "unfinished";
-    case LDVBI_CHANGE: return "change";
-    case LDVBI_HOLD: return "hold";
-    default: return "unknown";
-    }
+    static const char *const texts[] = {"word", "blank", "unfinished", "change", "hold"};
+    return cause <= LDVBI_HOLD ? texts[cause] : "unknown";
 }
 
 static inline const char *ldvbi_kind_text(uint32_t kind) {
-    switch (kind) {
-    /* from codes/classes.txt: texts */
-    case LDVBI_OTHER: return "other";
-    case LDVBI_PICTURE: return "picture";
-    case LDVBI_CHAPTER: return "chapter";
-    case LDVBI_TIME: return "time";
-    case LDVBI_CLV_PICTURE: return "clv picture";
-    case LDVBI_CX_ON: return "cx on";
-    case LDVBI_CX_OFF: return "cx off";
-    case LDVBI_USERS: return "users";
-    case LDVBI_LEAD_IN: return "lead-in";
-    case LDVBI_LEAD_OUT: return "lead-out";
-    case LDVBI_PICTURE_STOP: return "picture stop";
-    case LDVBI_CLV_MARK: return "clv";
-    /* to here */
-    default: return "unknown";
-    }
+    static const char *const texts[] = {
+        /* from codes/classes.txt: texts */
+        "other", "picture", "chapter", "time", "clv picture", "cx on", "cx off", "users", "lead-in", "lead-out",
+        "picture stop", "clv"
+        /* to here */
+    };
+    return kind <= LDVBI_CLV_MARK ? texts[kind] : "unknown";
 }
 
 static inline const char *ldvbi_state_text(uint32_t state) {
-    switch (state) {
-    case LDVBI_NOTHING: return "nothing";
-    case LDVBI_BELIEVED: return "believed";
-    case LDVBI_DOUBTFUL: return "doubtful";
-    case LDVBI_DUE: return "due";
-    default: return "unknown";
-    }
+    static const char *const texts[] = {"nothing", "believed", "doubtful", "due"};
+    return state <= LDVBI_DUE ? texts[state] : "unknown";
 }
 
 static inline const char *ldvbi_format_text(uint32_t format) {
-    switch (format) {
-    case LDVBI_NEITHER: return "neither";
-    case LDVBI_CAV: return "cav";
-    case LDVBI_CLV: return "clv";
-    case LDVBI_BOTH: return "both";
-    default: return "unknown";
-    }
+    static const char *const texts[] = {"neither", "cav", "clv", "both"};
+    return format <= LDVBI_BOTH ? texts[format] : "unknown";
 }
 
 #ifdef __cplusplus

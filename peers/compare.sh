@@ -1,6 +1,6 @@
 #!/bin/sh
 # Has MAME's decoder, libzvbi's bit slicer and a reader by edges read what `ldvbi` and its library read (see
-# compare.py), and prints the tables of docs/PEERS.md. It needs Debian's packages mame-tools and libzvbi-dev, a C
+# compare.py), and prints the tables of docs/MEASURED.md. It needs Debian's packages mame-tools and libzvbi-dev, a C
 # compiler, python3, and libldvbi.so beside the program, or at the top of the repository (`make lib`).
 # usage: sh peers/compare.sh PROGRAM [FIELDS]
 set -eu

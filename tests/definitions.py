@@ -1,28 +1,25 @@
 #!/usr/bin/env python3
-"""Prints into docs/DEFINITIONS.md what one has to believe: each definition of specs/ on which the contracts of SECTIONS
-rest, as it stands in its source, behind those on which it rests itself.
+"""Prints what one has to believe: the definitions of specs/ on which the contracts of SECTIONS rest, as they stand in
+their source.
 
-A section has the definitions that no section before it has, file by file. What it has between `<!-- from specs: MARK
--->` and `<!-- to here -->` is what --write writes; so are the table of the sections, the words of the standard library
-that the definitions use, but for operators, and the types of the code that they name. In place of a function of
-RELATIONS (definition_sources.py) stands a relation, of which a law says that it is the same.
+Into docs/PROMISES.md, between `<!-- from specs: MARK -->` and `<!-- to here -->`, go for a section of WHOLE the
+definitions on which its contracts rest, each behind those on which it rests itself; for one of SHOWN those that its
+contracts name. A line behind them counts all of these, and says how to print them. In place of a function of RELATIONS
+(definition_sources.py) stands a relation, of which a law says that it is the same.
 
-Each DOCUMENT is compared with what would be written into it. It has to say three counts, as `N in M lines` and `N in
-M`: of the definitions on which the contract of `extract` rests, the headline; of these with the meaning of a reading;
-and with that of the counts too. One that names the law `sound_still` has to say two counts of the judge's theorem as
-well, in numbers and in words.
+--all prints every definition, or those of some sections, file by file, with the words of the standard library and the
+types of the code that they name. --check compares the page with what would be written into it.
 
-usage: python3 tests/definitions.py [--write] [DOCUMENT..]     (at the top of the repository)
+usage: python3 tests/definitions.py --write | --check | --all [MARK..]     (at the top of the repository)
 """
 import re
 import sys
 import textwrap
 
-from definition_sources import Definitions, read
+from definition_sources import RELATIONS, Definitions, contract, read
 
-PAGE = "docs/DEFINITIONS.md"
+PAGE = "docs/PROMISES.md"
 WIDTH = 120
-# Where the contracts stand that the counts are about
 EXTRACT = [("crates/vbi_field/src/run.rt", ("extract",))]
 # Those that say what is counted: failed calls of a device, and samples looked at
 COUNTING = [
@@ -60,8 +57,9 @@ SECTIONS = {
         ("crates/vbi_side/src/stop_laws.rt", ("stops_in_words",)),
     ]),
 }
-# By the last section that each is for, the marks of the lists of words of the standard library
-WORDS = {"counts": "words of std", "stops": "further words of std"}
+# The section that the page has whole, and those of which it has what the contracts name
+WHOLE = ("line",)
+SHOWN = ("belief",)
 
 
 def marked(mark):
@@ -73,9 +71,9 @@ def filled(text):
     return textwrap.fill(text, WIDTH, break_long_words=False, break_on_hyphens=False)
 
 
-def printed(module, keys, is_new):
-    """Returns the lines of these definitions of a file, behind the comment at the file's head where it is new."""
-    lines, around = ([*module.head, ""] if is_new else []), []
+def printed(module, keys, with_head):
+    """Returns the lines of these definitions of a file, behind the comment at the file's head."""
+    lines, around = ([*module.head, ""] if with_head else []), []
     for key in keys:
         definition = module.definitions[key[2]]
         lines += definition.around if definition.around != around else []
@@ -84,49 +82,64 @@ def printed(module, keys, is_new):
     return lines[:-1]
 
 
-class Page:
-    """What stands in the page, by its marks."""
+class Sections:
+    """The sections in their order: of each all on which its contracts rest, and what no section above has."""
 
     def __init__(self, definitions):
         self.definitions = definitions
-        self.texts, self.above, listed = {}, [], 0
-        rows = ["| Section | The contracts of | Rest on | Printed there |", "|---|---|---|---|"]
-        for mark, (title, contracts) in SECTIONS.items():
-            rests_on = definitions.order(contracts)
-            own = [key for key in rests_on if key not in self.above]
-            self.texts[mark] = self.section(own)
-            rows.append(self.row(title, contracts, rests_on, own))
-            if mark in WORDS:
-                self.texts[WORDS[mark]] = filled(self.words_of_std(self.above[listed:]))
-                listed = len(self.above)
-        self.texts["types"] = filled(self.types())
-        self.texts["sections"] = "\n".join(rows)
+        self.rests_on, self.own, self.above = {}, {}, []
+        for mark, (_, contracts) in SECTIONS.items():
+            self.rests_on[mark] = definitions.order(contracts)
+            self.own[mark] = [key for key in self.rests_on[mark] if key not in self.above]
+            self.above += self.own[mark]
 
-    def section(self, keys):
-        blocks = []
+    def named(self, mark):
+        """Returns what the contracts of a section name themselves, of what is its own."""
+        named = {self.definitions.relation(key) if key in RELATIONS else key
+                 for path, functions in SECTIONS[mark][1] for function in functions
+                 for key in self.definitions.cited(*contract(path, function))}
+        return [key for key in self.own[mark] if key in named]
+
+    def block(self, keys, with_heads):
+        """Returns these definitions as a block, file by file, with the comments at the heads of the files."""
+        lines, above = [], set()
         for file, own in self.definitions.by_file(keys).items():
-            module = self.definitions.module(*file)
-            is_new = not any(key[:2] == file for key in self.above)
             for key in own:
-                above = [other for other in self.definitions.rests_on(key, True) if other not in self.above]
-                if above:
-                    raise SystemExit(f"definitions: {key[2]} stands above {above[0][2]}, on which it rests")
-                self.above.append(key)
-            lines = "\n".join(printed(module, own, is_new))
-            blocks.append(f"### {file[0]}/specs/{file[1]}.antt\n\n```agda\n{lines}\n```")
-        return "\n\n".join(blocks)
+                below = [other[2] for other in self.definitions.rests_on(key, True)
+                         if other in keys and other not in above]
+                if below:
+                    raise SystemExit(f"definitions: {key[2]} stands above {below[0]}, on which it rests")
+                above.add(key)
+            module = self.definitions.module(*file)
+            lines += [f"-- {file[0]}/specs/{file[1]}.antt", *printed(module, own, with_heads), ""]
+        return "\n".join(["```agda", *lines[:-1], "```", "", ""])
 
-    def row(self, title, contracts, rests_on, own):
-        link = re.sub(r"[^\w-]", "", title.lower().replace(" ", "-"))
-        names = "; ".join(", ".join(f"`{one}`" for one in functions) + f" (`{path.partition('/')[2]}`)"
-                          for path, functions in contracts)
-        count = f"{len(rests_on)} in {self.definitions.lines(rests_on)} lines"
-        return f"| [{title}](#{link}) | {names} | {count} | {len(own) if own != rests_on else 'all'} |"
+    def counted(self, mark):
+        """Says on how many definitions the contracts of a section rest, and how they are printed."""
+        names = [f"`{function}`" for _, functions in SECTIONS[mark][1] for function in functions]
+        rests_on = self.rests_on[mark]
+        return filled(f"{', '.join(names)} {'rest' if names[1:] else 'rests'} on {len(rests_on)} definitions in "
+                      f"{self.definitions.lines(rests_on)} lines: `python3 tests/definitions.py --all {mark}`.")
 
-    def words_of_std(self, keys):
-        """Returns the words of the standard library that these definitions use, by their module, but for operators."""
+    def texts(self):
+        """Returns what stands in the page, by its marks."""
+        texts = {}
+        for mark in SECTIONS:
+            shown = self.own[mark] if mark in WHOLE else self.named(mark) if mark in SHOWN else []
+            texts[mark] = (self.block(shown, False) if shown else "") + self.counted(mark)
+        return texts
+
+    def whole(self, marks):
+        """Returns all definitions on which these sections rest, or all, in their order, for one who reads each."""
+        keys = {mark: self.rests_on[mark] for mark in marks} or self.own
+        parts = [f"# {SECTIONS[mark][0]}\n\n{self.block(keys[mark], True)}".rstrip() for mark in keys]
+        return "\n\n".join([*parts, "# Words of the standard library\n\n" + filled(self.words_of_std()),
+                            "# Types of the code\n\n" + filled(self.types())])
+
+    def words_of_std(self):
+        """Returns the words of the standard library that the definitions use, by their module, but for operators."""
         found = {}
-        for place, name in self.definitions.places(keys):
+        for place, name in self.definitions.places(self.above):
             if place.startswith("Rattle.std.specs.") and name.isidentifier() and name not in "ℕ⊤⊥":
                 found.setdefault(place.replace("Rattle.std.specs.", "", 1), set()).add(name)
         return "; ".join("of `" + place + "` " + ", ".join(f"`{name}`" for name in sorted(names, key=str.lower))
@@ -142,53 +155,42 @@ class Page:
         return "; ".join(", ".join(f"`{name}`" for name in sorted(names)) + f" (`{path}`)"
                          for path, names in sorted(found.items())) + "."
 
-    def written(self, text):
-        """Returns the page's text with what stands behind its marks made anew."""
-        for mark, new in self.texts.items():
-            text, times = marked(mark).subn(lambda found, new=new: f"{found[1]}\n{new}\n\n{found[3]}", text)
-            if times != 1:
-                raise SystemExit(f"definitions: {PAGE} has {times} places with the mark {mark}")
-        return text
+
+def written(text, texts):
+    """Returns the page's text with what stands behind its marks made anew."""
+    for mark, new in texts.items():
+        text, times = marked(mark).subn(lambda found, new=new: f"{found[1]}\n{new}\n\n{found[3]}", text)
+        if times != 1:
+            raise SystemExit(f"definitions: {PAGE} has {times} places with the mark {mark}")
+    return text
 
 
-def counts_of(definitions):
-    """Returns the counts that documents say: of the contract of `extract`, and of the judge's theorem."""
-    def count(contracts, with_meaning=True):
-        order = definitions.order(contracts, with_meaning)
-        return f"{len(order)} in {definitions.lines(order)}"
-
-    contract = [count(EXTRACT, False) + " lines", count(EXTRACT), count(EXTRACT + COUNTING)]
-    return contract, [count(BELIEF) + " lines", count(FROM_WORDS)]
-
-
-def fault_of(document, page, contract, judge):
-    """Says what this document has otherwise than the source, or nothing."""
-    text = read(document)
-    for count in contract + judge * ("`sound_still`" in text):
-        if not re.search(rf"\b{count}\b", text.replace("\n", " ")):
-            return f"doesn't say {count}"
-    wanted = page.written(text) if document == PAGE else text
+def fault_of(text, wanted):
+    """Says what the page has otherwise than the source, or nothing."""
     for number, (one, other) in enumerate(zip(text.split("\n"), wanted.split("\n")), 1):
         if one != other:
-            return f"has in line {number}\n{one}\nand the source\n{other}"
-    return None if len(text) == len(wanted) else "doesn't end as the source does"
+            return f"definitions: {PAGE} has in line {number}\n{one}\nand the source\n{other}"
+    return None if len(text) == len(wanted) else f"definitions: {PAGE} doesn't end as the source does"
 
 
 def main():
-    names = [word for word in sys.argv[1:] if word != "--write"]
-    definitions = Definitions()
-    page = Page(definitions)
-    contract, judge = counts_of(definitions)
-    print(f"definitions: {contract[0]} for the contract alone, {contract[1]} with the meaning of a reading, "
-          f"{contract[2]} with the meaning of the counts; {judge[0]} for a believed number, {judge[1]} in words; "
-          f"{len(page.above)} in all")
-    if "--write" in sys.argv[1:]:
-        written = page.written(read(PAGE))
+    is_all = sys.argv[1:2] == ["--all"] and set(sys.argv[2:]) <= set(SECTIONS)
+    if not is_all and sys.argv[1:] not in (["--write"], ["--check"]):
+        raise SystemExit(f"usage: python3 tests/definitions.py --write | --check | --all [{' | '.join(SECTIONS)}]..")
+    sections = Sections(Definitions())
+    if is_all:
+        print(sections.whole(sys.argv[2:]))
+        return 0
+    text = read(PAGE)
+    wanted = written(text, sections.texts())
+    print(f"definitions: {len(sections.above)} in all")
+    if sys.argv[1] == "--write":
         with open(PAGE, "w", encoding="utf-8") as file:
-            file.write(written)
-    faults = [f"definitions: {name} {fault}" for name in names if (fault := fault_of(name, page, contract, judge))]
-    print("\n".join(faults), file=sys.stderr, end="\n" * bool(faults))
-    return 1 if faults else 0
+            file.write(wanted)
+        return 0
+    fault = fault_of(text, wanted)
+    print(fault or "", file=sys.stderr, end="\n" * bool(fault))
+    return 1 if fault else 0
 
 
 if __name__ == "__main__":

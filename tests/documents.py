@@ -5,14 +5,12 @@ on standard error, and then the status is 1.
 links   what a document links to is there, a heading (`#..`) too; a link to the net is one of NET
 paths   the files and folders that CONTRIBUTING.md names are there, of the repository or of a crate
 names   the functions, clauses, definitions and fields that PROMISES.md names are in the source, and so are the names
-        and files in the prose of DECISIONS.md and SIGNAL.md, and in the pages for callers
+        and files in the prose of DECISIONS.md and FORMATS.md, and in the pages for callers
 faults  the fault texts of FORMATS.md are those of the source, in its order, and those of the manual page among them
-causes  the names of causes in FORMATS.md, SIGNAL.md and the manual page are those of the source
-sizes   the sizes in README.md, FORMATS.md, LIBRARY.md, RECIPES.md, SIGNAL.md, ldvbi.h and the manual page are those of
-        the source, each in its sentence
-rules   the numbers in the rules of SIDES.md are those of the Python package, each in its sentence
-numbers other numbers and columns are those of their source (document_numbers.py): wrong bodies, the gate's time,
-        glitches and blur, statuses and columns of `ldvbi-side`
+causes  the names of causes in FORMATS.md are those of the source
+sizes   the sizes in the documents stand behind their names, by which texts/write.py writes them, and ldvbi.h has them
+columns an example of a table begins with the columns that `ldvbi-side` writes
+pictures the picture of damaged rows in FORMATS.md is as the definitions say
 changes the rows of CONTRIBUTING.md name each file that changes with a fault text, a class of codes or an option, and
         their cells are short (document_rows.py)
 crates  crates.txt and CONTRIBUTING.md have what each crate stands on, and the source uses it (document_crates.py)
@@ -25,19 +23,25 @@ import re
 import sys
 
 import document_crates
-import document_numbers
 import document_rows
 import source_names
-from side_sentences import sentences_of
 from source_names import read
 
+sys.path.insert(0, "texts")
+import numbers_of  # noqa: E402
+
 # The least that each check has to look at. A check that finds less no longer understands the documents.
-LEAST = {"links": 40, "paths": 95, "names": 475, "faults": 28, "causes": 20, "sizes": 28, "rules": 31, "numbers": 22,
+LEAST = {"links": 40, "paths": 95, "names": 475, "faults": 28, "causes": 10, "sizes": 90, "columns": 3, "pictures": 5,
          "changes": 65, "crates": 18}
 # The links to the net, of which nothing else is looked at
 NET = ["https://github.com/happycube/ld-decode"]
 PAGE = "share/man/ldvbi.1"
 HEADER = "include/ldvbi.h"
+# The rules of SIDES.md, the numbers in them that are no constant of a rule, and the greatest number that a line has
+RULES, EXAMPLES, LAST_LINE = "## Which numbers are believed", ("29.97", "10,000"), 18
+SIZES = ("width_of", "height_of", "line_bytes", "field_bytes")
+# Documents of definitions as they are, of measured figures, and of what has changed
+FIGURES = ("docs/MEASURED.md", "CHANGELOG.md")
 # A number in the texts of faults and causes
 NUMBER = r"(?:[1-9]\d*|0)"
 
@@ -49,20 +53,6 @@ def documents():
 def prose(path):
     """Returns a document without its blocks."""
     return re.sub(r"^```.*?^```$", "", read(path), flags=re.M | re.S)
-
-
-def one_line(text):
-    return re.sub(r"\s+", " ", text)
-
-
-def page_text():
-    """Returns the manual page as one line of words, without its macros."""
-    return one_line(re.sub(r"^\.\w+ ?", "", read(PAGE), flags=re.M))
-
-
-def header_text():
-    """Returns the comments of the library's header as one line of words."""
-    return one_line(re.sub(r"^ \* ", "", " ".join(re.findall(r"/\*(.*?)\*/", read(HEADER), re.S)), flags=re.M))
 
 
 def section(path, heading):
@@ -175,17 +165,13 @@ def faults_of_documents(faults):
 # ---- causes
 
 def causes(faults):
-    """Each list of causes is the source's, in its order; the manual page's has those of a line without a word."""
+    """Each list of causes is the source's, in its order."""
     body = read(glob.glob("crates/*/src/cause_texts.rt")[0])
     wanted = [text.strip() for text in re.findall(r'push_str\("([a-z ]+)"\)', body)]
-    bullet = re.search(r"^- `vbiCause`:(.*?)^- ", read("docs/FORMATS.md"), re.M | re.S)
-    outcome = section("docs/SIGNAL.md", "## The outcome of a line")
-    page = read(PAGE).partition("A line without a word is\n")[2].partition(".Sh ")[0]
+    outcome = section("docs/FORMATS.md", "### The outcome of a line")
     lists = {
-        "FORMATS.md, vbiCause": codes(bullet[1] if bullet else ""),
         "FORMATS.md, the examples": [row[2] for row in tables(section("docs/FORMATS.md", "### A real example"))[0][2:]],
-        "SIGNAL.md, the outcome of a line": codes(outcome),
-        "the manual page": wanted[:1] + re.findall(r"^\.Sq (\w+)", page, re.M),
+        "FORMATS.md, the outcome of a line": codes(outcome),
     }
     for place, found in lists.items():
         names = [text.strip("` ").split(" ")[0] for text in found]
@@ -197,140 +183,69 @@ def causes(faults):
 
 # ---- sizes
 
-def geometry():
-    """Returns the numbers of the two systems by the names of their definitions, limits of a run, and wrong bodies."""
-    text = "".join(read(path) for path in glob.glob("crates/vbi_words/specs/*.antt"))
-    numbers = {f"{name}.{system.lower()}": int(number)
-               for name, system, number in re.findall(r"^(\w+) (Ntsc|Pal) = (\d+)$", text, re.M)}
-    for system in ("ntsc", "pal"):
-        width, height = numbers[f"width_of.{system}"], numbers[f"height_of.{system}"]
-        numbers[f"line_bytes.{system}"], numbers[f"field_bytes.{system}"] = 2 * width, 2 * width * height
-    for path in glob.glob("crates/*/src/*.rt"):
-        limits = re.findall(r"pub const (META_LIMIT|MAX_FIELDS_LIMIT): \w+ = ([\d_]+);", read(path))
-        numbers.update((name, int(number)) for name, number in limits)
-    numbers["number_of_edits"] = len(glob.glob("crates/*/must-fail/*.edit"))
-    return numbers
-
-
-# The sentences with sizes. `{name n}` is a number of the source for NTSC, `{name p}` for PAL, `{name}` of both; with a
-# comma behind the name its thousands are parted.
-SENTENCES = {
-    "docs/PROMISES.md": [
-        "Of {number_of_edits} wrong bodies, one for each public function at least",
-    ],
-    "docs/SIGNAL.md": [
-        "| Samples of a line | {width_of, n} | {width_of, p} |",
-        "| Lines of a field | {height_of, n} | {height_of, p} |",
-        "| Bytes of a line | {line_bytes, n} | {line_bytes, p} |",
-        "| Bytes of a field | {field_bytes, n} | {field_bytes, p} |",
-        "| Fewest samples of a half cell (own) | {half_min n} | {half_min p} |",
-        "| Most samples of a half cell (own) | {half_max n} | {half_max p} |",
-        "| Column at which a drawn word starts (own) | {start_of n} | {start_of p} |",
-        "is one half cell long or two: {half_min n} to {half_max n} columns or",
-    ],
-    "docs/FORMATS.md": [
-        "they must be the system's: {width_of n} and {height_of n}, or {width_of p} and {height_of p} |",
-        "a `fieldWidth` of `{width_of n}.0` differs from {width_of n}.",
-        "Metadata may have {META_LIMIT,} bytes",
-        "| it has more than {META_LIMIT,} bytes |",
-        "| `max fields is not from 1 to {MAX_FIELDS_LIMIT}` | `--max-fields` is 0, or more than {MAX_FIELDS_LIMIT,} |",
-        "of {line_bytes n} bytes` | `line`: the input ended early |",
-    ],
-    "docs/RECIPES.md": [
-        "A field has {field_bytes, n} bytes (NTSC) or {field_bytes, p} (PAL).",
-        "of {line_bytes, n} bytes ({line_bytes, p} in PAL, which has {height_of p} lines for {height_of n})",
-    ],
-    HEADER: [
-        "525 lines; {width_of n} samples to a line, {height_of n} lines to a field",
-        "625 lines; {width_of p} samples to a line, {height_of p} lines to a field",
-    ],
-    "docs/LIBRARY.md": [
-        "may have {half_min n} to {half_max n} samples, read as PAL {half_min p} to {half_max p}.",
-        "1. Take at most {width_of n} samples.",
-        "and take the rest, or the first {width_of n} of it.",
-        "leave out nothing, and take its first {width_of n} samples.",
-        "3. Fill up to {width_of n} samples with black",
-        "keeps its {half_min n} to {half_max n} samples.",
-    ],
-    PAGE: [
-        "It reads the bytes of one line ({line_bytes n} for NTSC, {line_bytes p} for PAL)",
-        "NTSC (fields of {width_of n}x{height_of n} samples) or PAL ({width_of p}x{height_of p})",
-        "The most fields of a run, 1 to {MAX_FIELDS_LIMIT}; {MAX_FIELDS_LIMIT} where it isn't given.",
-    ],
-}
-# Columns of a half cell, of which one has the number of NTSC's lines
-COLUMNS = "| low 250 to 263 (14) |"
-PLACE = re.compile(r"\{(\w+)(,?) ?([np]?)\}")
-
-
 def sizes(faults):
-    numbers = geometry()
-
-    def number(place):
-        name, comma, system = place.groups()
-        value = numbers[name + {"n": ".ntsc", "p": ".pal", "": ""}[system]]
-        return f"{value:,}" if comma else str(value)
-
-    sizes_of_systems = {value for name, value in numbers.items()
-                        if value >= 100 and not name.startswith(("start_of", "number_of"))}
+    """Each size of a line or a field in the prose of a document has its name before it (texts/numbers_of.py), by which
+    it is written; the header, which has no such names, has each width and height in its comments."""
+    numbers = {name: size for name, size in numbers_of.sizes().items() if name.startswith(SIZES)}
     looked_at = 0
-    for path, sentences in SENTENCES.items():
-        text = {PAGE: page_text, HEADER: header_text}.get(path, lambda: one_line(prose(path)))()
-        named = 0
-        for sentence in sentences:
-            wanted = PLACE.sub(number, sentence)
-            looked_at += 1
-            if text.count(wanted) != 1:
-                faults.append(f"{path} hasn't, or not once: {wanted}")
-            named += len(whole_numbers(wanted, sizes_of_systems))
-        found = whole_numbers(text.replace(COLUMNS, ""), sizes_of_systems)
-        if len(found) != named:
-            faults.append(f"{path} has {len(found)} sizes in its prose ({', '.join(found)}), and {named} are looked at")
-    print(f"sizes: {looked_at} sentences in {len(SENTENCES)} texts")
+    for path in documents():
+        text = re.sub(r"`[^`]*`|\]\([^)]*\)", "", prose(path))
+        looked_at += len(numbers_of.MARK.findall(text))
+        for number in re.findall(r"(?<![\d,.x@-])\d[\d,]*\d(?![\d@]|\.\d)", numbers_of.MARK.sub("", text)):
+            if path not in FIGURES and int(number.replace(",", "")) in numbers.values():
+                faults.append(f"{path} has the size {number} without its name before it")
+    in_rules = numbers_of.MARK.sub("", re.sub(r"`[^`]*`", "", section("docs/SIDES.md", RULES)))
+    for number in re.findall(r"(?<![\w.,-])\d[\d,.]*\d\b", in_rules):
+        if number not in EXAMPLES and float(number.replace(",", "")) > LAST_LINE:
+            faults.append(f"docs/SIDES.md has {number} in its rules without a name before it")
+    comments = " ".join(re.findall(r"/\*(.*?)\*/", read(HEADER), re.S))
+    for name in ("width_of.ntsc", "width_of.pal", "height_of.ntsc", "height_of.pal"):
+        looked_at += 1
+        if not re.search(rf"\b{numbers[name]}\b", comments):
+            faults.append(f"{HEADER} hasn't the size {name}, which is {numbers[name]}")
+    print(f"sizes: {looked_at} numbers in {len(documents())} documents and in {HEADER}")
     return looked_at
 
 
-def whole_numbers(text, wanted):
-    """Returns the numbers in a text that are among these, with commas or without."""
-    return [number for number in re.findall(r"(?<![\d,.])\d[\d,]*\d(?![\d])", text)
-            if int(number.replace(",", "")) in wanted]
+# ---- columns
+
+def columns(faults):
+    """An example of a table begins with the columns that the Python command writes."""
+    sys.path.insert(0, "python")
+    from ldvbi_side.command import join, map as side_map, rows, tables as side_tables
+    known = [",".join(names) for names in (
+        side_map.COLUMNS, join.TAKEN_COLUMNS, join.RANGE_COLUMNS, rows.COLUMNS, side_tables.FIELD_COLUMNS,
+        side_tables.BAD_LINE_COLUMNS)]
+    heads = [(path, head) for path in documents() for head in
+             re.findall(r"^```text\n([a-z]+(?:,[a-z ]+){3,})$", read(path), re.M)]
+    faults += [f"{path}: no table has the columns {head}" for path, head in heads if head not in known]
+    print(f"columns: {len(heads)} examples of tables")
+    return len(heads)
 
 
-# ---- rules
+# ---- pictures
 
-RULES = "## Which numbers are believed"
-LAST_LINE = 18  # numbers up to here are lines of a field, or counts that the formats fix
-
-
-def rules(faults):
-    text = one_line(prose("docs/SIDES.md"))
-    sentences = sentences_of()
-    for sentence in sentences:
-        if text.count(sentence) != 1:
-            faults.append(f"docs/SIDES.md hasn't, or not once: {sentence}")
-    in_rules = one_line(section("docs/SIDES.md", RULES))
-    found, named = (sorted(number for text in texts for number in re.findall(r"(?<![\w.])\d[\d,.]*\d\b", text)
-                           if float(number.replace(",", "")) > LAST_LINE)
-                    for texts in ([in_rules], [sentence for sentence in sentences if sentence in in_rules]))
-    if found != named:
-        faults.append(f"docs/SIDES.md has {', '.join(found)} in its rules, and {', '.join(named)} are looked at")
-    print(f"rules: {len(sentences)} sentences of docs/SIDES.md, {len(found)} numbers in its rules")
-    return len(sentences)
-
-
-# ---- numbers
-
-def numbers_of_documents(faults):
-    looked_at = document_numbers.numbers(faults, geometry())
-    print(f"numbers: {looked_at} numbers, columns and pictures")
-    return looked_at
+def pictures(faults):
+    """The picture of damaged rows in FORMATS.md shows as many columns as the definitions say."""
+    most = numbers_of.all_numbers()["glitch.most"]
+    rows = dict(re.findall(r"^(drawn|early|late|glitch|too long) +([.#]+)", read("docs/FORMATS.md"), re.M))
+    gaps = {name: len(gap[1]) for name, gap in
+            ((name, re.search(r"#(\.+)#", row)) for name, row in rows.items()) if gap}
+    starts = {name: row.index("#") - rows["drawn"].index("#") for name, row in rows.items()}
+    for what, found, wanted in (
+            ("columns turned over", gaps, {"glitch": most, "too long": most + 1}),
+            ("columns from the drawn change", [starts.get("early"), starts.get("late")], [-1, 1])):
+        if found != wanted:
+            faults.append(f"docs/FORMATS.md, the picture of damaged rows: {what}: {found}, and by the source {wanted}")
+    print(f"pictures: {len(rows)} damaged rows")
+    return len(rows)
 
 
 # ---- names
 
-# Documents whose prose names what is in the source, and the form of such a name: a path, a name with its crate or type,
-# one of several words, or that of a type
-PROSE = ["docs/PROMISES.md", "docs/DECISIONS.md", "docs/SIGNAL.md"]
+# Documents, or a section of one, whose prose names what is in the source, and the form of such a name: a path, a name
+# with its crate or type, one of several words, or that of a type
+PROSE = {"docs/PROMISES.md": "", "docs/DECISIONS.md": "", "docs/FORMATS.md": "## What a line shows"}
 # Pages whose tables are looked at as their prose is
 PAGES = ["crates/vbi_words/CALLING.md", "crates/vbi_line/CALLING.md", "crates/vbi_near/CALLING.md"]
 # A sentence that says what a record has: each field stands first in its parentheses, up to the end of the paragraph
@@ -368,8 +283,10 @@ def names(faults):
                 elif head[0] == "Crate" and code in codes(row[1]) and not source.is_in(code, crate):
                     faults.append(f"PROMISES.md: {code} isn't in {crate}")
     in_prose = fields_of_records(source, faults)
-    for path in PROSE + PAGES:
-        for code in codes(prose(path) if path in PAGES else re.sub(r"^\|.*", "", prose(path), flags=re.M)):
+    for path in [*PROSE, *PAGES]:
+        text = section(path, PROSE[path]) if PROSE.get(path) else prose(path)
+        text = re.sub(r"^```.*?^```$", "", text, flags=re.M | re.S)
+        for code in codes(text if path in PAGES else re.sub(r"^\|.*", "", text, flags=re.M)):
             if IS_NAME.fullmatch(code):
                 in_prose += 1
                 if not source.has_somewhere(code):
@@ -380,7 +297,7 @@ def names(faults):
 
 
 CHECKS = {"links": links, "paths": paths, "names": names, "faults": faults_of_documents, "causes": causes,
-          "sizes": sizes, "rules": rules, "numbers": numbers_of_documents,
+          "sizes": sizes, "columns": columns, "pictures": pictures,
           "changes": lambda faults: document_rows.changes(faults, source_faults()), "crates": document_crates.crates}
 
 

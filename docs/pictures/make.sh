@@ -1,5 +1,5 @@
 #!/bin/sh
-# Makes the pictures of docs/SIGNAL.md: a drawn 82CFFF, and three things that can happen to it.
+# Makes the pictures of docs/FORMATS.md: a drawn 82CFFF, and three things that can happen to it.
 # usage: sh docs/pictures/make.sh PROGRAM FOLDER
 set -eu
 

@@ -2,16 +2,32 @@
 and the piece behind it."""
 
 import json
+import math
 import re
 from typing import Any, Iterator, Optional, TextIO
 
 PIECE = 1 << 18  # characters
-LONGEST = 1 << 28  # the characters of a value; the program takes no longer metadata
+LONGEST = 1 << 28  # the characters of a value
+MOST = 1 << 28  # those of a text; the program takes no longer metadata
+DEEPEST = 127  # lists and objects, one in the other; the program takes no deeper ones
 
 _SPACE = re.compile(r"[ \t\n\r]*")
 # What may look wrong only because it ends with what has been read: at most an escape of two parts, \ud834\udd1e
 _CUT = 12
-_DECODER = json.JSONDecoder()
+
+
+def _float(text):
+    number = float(text)
+    if math.isinf(number):
+        raise ValueError("%s is too large" % text)
+    return number
+
+
+def _constant(name):
+    raise ValueError("%s is no number" % name)
+
+
+_DECODER = json.JSONDecoder(parse_float=_float, parse_constant=_constant)
 
 
 class NotJson(ValueError):
@@ -30,6 +46,7 @@ class Scanner:
         self._held = ""  # what has been read, from some place before the next value on
         self._before = 0  # how many characters there were before that
         self._at = 0  # what comes next, a place in what is held
+        self._depth = 0  # of lists and objects, inside of which that is
         self.begin, self.text = 0, ""
 
     def comes(self, mark: str) -> bool:
@@ -62,12 +79,14 @@ class Scanner:
     def _parts(self, begin: str, end: str) -> Iterator[None]:
         """Goes past these two marks, and past the commas between them; yields where a part comes next."""
         self._past(begin)
+        self._depth += 1
         if not self.comes(end):
             yield
             while self.comes(","):
                 self._at += 1
                 yield
         self._past(end)
+        self._depth -= 1
 
     def _past(self, mark: str) -> None:
         if not self.comes(mark):
@@ -90,12 +109,13 @@ class Scanner:
             except json.JSONDecodeError as error:
                 may_go_on, wrong, wanted = error.msg.startswith("Unterminated"), error.pos, "a value"
             except (RecursionError, ValueError):
-                raise NotJson("nested too deep, or with too long a number, at character %d" % (
-                    self._before + self._at)) from None
+                raise self._beyond() from None
             else:
                 may_go_on, wrong = False, _past_space(self._held, end)
                 wanted = "a colon" if ends == ":" else "a comma or an end"
                 if self._held[wrong:wrong + 1] and self._held[wrong] in ends:
+                    if self._is_deep(end, value):
+                        raise self._beyond()
                     self.begin, self.text, self._at = self._before + self._at, self._held[self._at:end], wrong
                     return value
             fault = self._fault(wanted, wrong)
@@ -106,6 +126,8 @@ class Scanner:
         """Reads more: as much again as there is, so that a long value isn't begun too often. False at the end."""
         if len(self._held) - self._at > LONGEST:
             raise NotJson("too long: what begins at character %d" % (self._before + self._at))
+        if self._before + self._at > MOST:
+            raise NotJson("too long")
         try:
             read = self._file.read(max(self._piece, len(self._held) - self._at))
         except UnicodeDecodeError:
@@ -114,6 +136,14 @@ class Scanner:
         self._before += self._at
         self._at = 0
         return bool(read)
+
+    def _is_deep(self, end: int, value: Any) -> bool:
+        """Whether the value that ends there is nested too deep; few have so many marks at all."""
+        marks = self._held.count("[", self._at, end) + self._held.count("{", self._at, end)
+        return self._depth + marks > DEEPEST and self._depth + _depth_of(value) > DEEPEST
+
+    def _beyond(self) -> NotJson:
+        return NotJson("nested too deep, or with too large a number, at character %d" % (self._before + self._at))
 
     def _fault(self, wanted: str, place: Optional[int] = None) -> NotJson:
         return NotJson("not JSON at character %d, where %s has to stand" % (
@@ -124,3 +154,14 @@ def _past_space(text: str, at: int) -> int:
     match = _SPACE.match(text, at)
     assert match is not None
     return match.end()
+
+
+def _depth_of(value: Any) -> int:
+    """How many lists and objects of a value are in each other."""
+    depth, level = 0, [value]
+    while True:
+        level = [one for one in level if isinstance(one, (dict, list))]
+        if not level:
+            return depth
+        depth += 1
+        level = [inner for one in level for inner in (one.values() if isinstance(one, dict) else one)]

@@ -3,16 +3,23 @@
 import sys
 from typing import List, Optional
 
+from .outside import INTERRUPTED, drop_standard_output, end_at_once, end_in_order, open_streams
+
 
 def main(words: Optional[List[str]] = None) -> int:
-    """What these words ask for, or those of the command line. The answer is the exit status."""
+    """What these words ask for; without any, as a process has it, those of the command line. The answer is the exit
+    status."""
+    if words is None:
+        end_at_once()
+        open_streams()
     try:
         from .command.main import main as command
+        if words is None:
+            end_in_order()
         return command(words)
-    except KeyboardInterrupt:
-        from .command.outputs import drop_standard_output
+    except KeyboardInterrupt as stop:
         drop_standard_output()
-        return 130  # as a shell has it for a program that Ctrl-C ended
+        return getattr(stop, "status", INTERRUPTED)
 
 
 if __name__ == "__main__":

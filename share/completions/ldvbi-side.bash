@@ -1,7 +1,8 @@
-# Completion of ldvbi-side's command line, for bash 4 or later.
+# Completion of ldvbi-side's command line, for bash 4 or later. Written by texts/write.py.
 
 _ldvbi_side() {
-    local word=${COMP_WORDS[COMP_CWORD]} before=${COMP_WORDS[COMP_CWORD - 1]} answers=
+    local word=${COMP_WORDS[COMP_CWORD]} before=${COMP_WORDS[COMP_CWORD - 1]} command=${COMP_WORDS[1]}
+    local options='' answers=''
     COMPREPLY=()
 
     # bash cuts --system=PAL into three words
@@ -10,23 +11,48 @@ _ldvbi_side() {
     elif [ "$before" = = ]; then
         before=${COMP_WORDS[COMP_CWORD - 2]}
     fi
+    [ "$COMP_CWORD" != 1 ] || command=
 
-    case $before in
-        --system) answers='NTSC PAL' ;;
-        --black | --white | --seek | --jobs | -j) return ;;
-        --meta | --svg | --html | --map | --into | --output | -o) compopt -o default ;;
+    case $command in
+        compare)
+            options='--help --json --system --black --white'
+            case $before in
+                --system) answers='NTSC PAL' ;;
+                --black | --white) return ;;
+            esac
+            ;;
+        join)
+            options='--help --csv --ranges --json --html'
+            case $before in
+                --html) compopt -o default; return ;;
+            esac
+            ;;
+        index)
+            options='--help'
+            ;;
+        scan)
+            options='--help --jobs --csv --json --html --again'
+            case $before in
+                --html) compopt -o dirnames; return ;;
+                -j | --jobs) return ;;
+            esac
+            ;;
         *)
-            case $word in
-                -*)
-                    answers='--help --version --meta --system --black --white --no-recover --csv --json --bad-lines'
-                    answers="$answers --seek --summary --document --recovered --strict --output --svg --html --map --into"
-                    [ "${COMP_WORDS[1]}" != scan ] || answers='--help --jobs --csv --json --html --again'
-                    [ "${COMP_WORDS[1]}" != join ] || answers='--help --csv --ranges --json --html'
-                    ;;
-                *) compopt -o default ;;
+            options='--help --version --meta --system --black --white --no-recover --csv --json --bad-lines --seek'
+            options="$options "'--summary --document --recovered --strict --output --svg --html --map --into'
+            case $before in
+                --system) answers='NTSC PAL' ;;
+                --meta | -o | --output | --svg | --html | --map | --into) compopt -o default; return ;;
+                --black | --white | --seek) return ;;
             esac
             ;;
     esac
+    if [ -z "$answers" ]; then
+        case $word in
+            -*) answers=$options ;;
+            *) compopt -o default ;;
+        esac
+    fi
     if [ -n "$answers" ]; then
         # shellcheck disable=SC2207
         COMPREPLY=($(compgen -W "$answers" -- "$word"))

@@ -1,7 +1,8 @@
-# Completion of ldvbi's command line, for bash 4 or later.
+# Completion of ldvbi's command line, for bash 4 or later. Written by texts/write.py.
 
 _ldvbi() {
-    local word=${COMP_WORDS[COMP_CWORD]} before=${COMP_WORDS[COMP_CWORD - 1]} answers=
+    local word=${COMP_WORDS[COMP_CWORD]} before=${COMP_WORDS[COMP_CWORD - 1]} command=${COMP_WORDS[1]}
+    local options='' answers=''
     COMPREPLY=()
 
     # bash cuts --system=PAL into three words
@@ -10,22 +11,27 @@ _ldvbi() {
     elif [ "$before" = = ]; then
         before=${COMP_WORDS[COMP_CWORD - 2]}
     fi
+    [ "$COMP_CWORD" != 1 ] || command=
 
-    if [ "$COMP_CWORD" = 1 ]; then
-        answers='line extract show draw help --help --version'
-    elif [ "${COMP_WORDS[1]}" = help ]; then
-        [ "$COMP_CWORD" = 2 ] && answers='line extract show draw'
-    else
-        case $before in
-            --system) answers='NTSC PAL' ;;
-            --black | --white | --max-fields) return ;;
-            --meta) compopt -o default ;;
-            *)
-                case $word in
-                    -*) answers='--meta --system --black --white --max-fields --help' ;;
-                    *) compopt -o default ;;
-                esac
-                ;;
+    case $command in
+        '') answers='line extract show draw help --help --version' ;;
+        help)
+            [ "$COMP_CWORD" = 2 ] || return
+            answers='line extract show draw'
+            ;;
+        *)
+            options='--meta --system --black --white --max-fields --help'
+            case $before in
+                --system) answers='NTSC PAL' ;;
+                --meta) compopt -o default; return ;;
+                --black | --white | --max-fields) return ;;
+            esac
+            ;;
+    esac
+    if [ -z "$answers" ]; then
+        case $word in
+            -*) answers=$options ;;
+            *) compopt -o default ;;
         esac
     fi
     if [ -n "$answers" ]; then

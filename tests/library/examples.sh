@@ -10,19 +10,7 @@
 # shellcheck source=tests/library/library_helpers.sh
 . "$here/library_helpers.sh"
 
-LDVBI_LIBRARY=$built/libldvbi.so.1
-PYTHONPATH=$top/python
-PYTHONDONTWRITEBYTECODE=1
-export LDVBI_LIBRARY PYTHONPATH PYTHONDONTWRITEBYTECODE
-
-# refuses TEXT COMMAND..: checks that a command ends with status 2, and writes this line to standard error alone
-refuses() {
-    printf '%s\n' "$1" > wanted
-    shift
-    status=0
-    bounded "$@" < empty > out 2> err || status=$?
-    [ "$status" = 2 ] && [ ! -s out ] && cmp -s err wanted
-}
+with_python
 
 # prints_and_says TEXT LINE COMMAND..: checks that a command writes this text, and this line to standard error
 prints_and_says() {
@@ -36,8 +24,10 @@ prints_and_says() {
 finds_in_lines() {
     text=$1
     shift
-    printf '%s: no number of this side is supported by those around it, so this is what the lines say\n' \
-        "$(basename "${seek##* }")" > wanted_line
+    kind=number
+    case $* in *' chapter '*) kind=chapter ;; esac
+    printf '%s: no %s of this side is supported by those around it, so this is what the lines say\n' \
+        "$(basename "${seek##* }")" $kind > wanted_line
     prints 3 "$text" "$@" && cmp -s err wanted_line
 }
 
@@ -58,34 +48,11 @@ refuses_with() {
     [ "$status" = "$wanted_status" ] && grep -q 'not found$' out && cmp -s err wanted
 }
 
-# refuses_in_a_line NAME COMMAND..: the same for any line that begins with this name and a colon
-refuses_in_a_line() {
-    name=$1
-    shift
-    status=0
-    bounded "$@" < empty > out 2> err || status=$?
-    [ "$status" = 2 ] && [ ! -s out ] && [ "$(grep -c "^$name: " err)" = 1 ] && [ "$(wc -l < err)" = 1 ]
-}
-
 discs
 
 # Discs by the standards' lines: stops and marks where the number is on line 18 alone, and lines 17 and 18 that differ,
 # on a side whose numbers can be judged, and on two that have too few for that
-run_inheriting draw $ntsc - << 'WORDS'
-- F00001 F00001
-- 800DDD 800DDD
-- F00002 F00007
-- 800DDD 800DDD
-82CFFF 82CFFF F00003
-- 801DDD 801DDD
-- F00004 -
-82CFFF 801DDD 801DDD
-82CFFF F00005 F00005
-- 802DDD 802DDD
-- - 82CFFF
-80EEEE 80EEEE 80EEEE
-WORDS
-cp out stops.tbc
+disc_with_stops
 run_inheriting draw $pal - << 'WORDS'
 8AE000 87FFFF F0DD00
 - 800DDD 800DDD
@@ -106,13 +73,12 @@ cp out few.tbc
 check 'seek is built' does $cc -std=c99 $strict -o seek "$top/examples/seek.c" $linked
 check 'stops is built' does $cxx -std=c++17 $strict -o stops "$top/examples/stops.cpp" $linked
 check 'stops.c is built' does $cc -std=c99 $strict -o stops_alone "$top/examples/stops.c" $linked
-check 'pixels is built' does $cc -std=c99 $strict -o pixels "$top/examples/pixels.c" $linked
-check 'player is built' does $cxx -std=c++17 $strict -o player "$top/examples/player.cpp" $linked
 for seek in ./seek "python3 $top/examples/seek.py"; do
     check "$seek: a CAV disc" prints 0 'field 7' $seek cav.tbc $on_cav 3
     check "$seek: no such picture" prints 1 'not found' $seek cav.tbc $on_cav 5
     check "$seek: a CLV disc" finds_in_lines 'field 7' $seek clv.tbc $on_clv 0:01:00.00
     check "$seek: a time without zeros" finds_in_lines 'field 7' $seek clv.tbc $on_clv 0:1:0.0
+    check "$seek: a chapter of a CLV disc" finds_in_lines 'field 8' $seek clv.tbc $on_clv chapter 1
     check "$seek: no such time" prints 1 'not found' $seek clv.tbc $on_clv 0:02:00.00
     check "$seek: the number on line 18 alone" prints 0 'field 5' $seek stops.tbc $on_cav 3
     check "$seek: the number on line 17 alone" prints 0 'field 7' $seek stops.tbc $on_cav 4
@@ -122,6 +88,8 @@ for seek in ./seek "python3 $top/examples/seek.py"; do
     check "$seek: minutes that differ" prints 1 'not found' $seek marks.tbc $on_clv 0:00:00.02
     check "$seek: hours" finds_in_lines 'field 5' $seek marks.tbc $on_clv 1:09:00.03
     check "$seek: no field" prints 1 'not found' $seek empty.tbc $on_cav 3
+    check "$seek: no chapter" prints 1 'not found' $seek stops.tbc $on_cav chapter 3
+    check "$seek: a time of a disc of pictures" prints 1 'not found' $seek cav.tbc $on_cav 0:00:00.03
     check "$seek: the greatest picture" prints 1 'not found' $seek cav.tbc $on_cav 79999
     check "$seek: the greatest time" prints 1 'not found' $seek clv.tbc $on_clv 9:59:59.99
     while read -r file system black white picture; do
@@ -165,8 +133,6 @@ for fields in 63 65 127 129; do
     for seek in ./seek "python3 $top/examples/seek.py"; do
         check "$seek: the last of $fields fields" prints 0 "field $fields" $seek part.tbc $on_cav $(((fields + 1) / 2))
     done
-    check "player: the last of $fields fields" prints 0 "search: field $fields picture $(((fields + 1) / 2))" \
-        ./player part.tbc $on_cav search $(((fields + 1) / 2))
 done
 for fields in 64 128; do
     head -c $((478660 * fields)) long.tbc > part.tbc
@@ -217,50 +183,9 @@ check 'stops: lines 17 and 18 differ' prints 0 'field 1
 field 2 picture 3
 2 stops' sh -c "printf '82CFFF F00002 F00007\n82CFFF F00003 F00003\n' | '$program' draw $ntsc - |
     ./stops NTSC 16384 51200"
-check 'player: a search, two stops, a chapter and a stop' prints 0 'search: field 7 picture 4
-play: field 8
-play: field 9 picture 5
-chapter: field 6
-play: field 8' ./player stops.tbc $on_cav search 4 play play chapter 1 play
-check 'player: the first picture' prints 0 'search: field 1 picture 1' ./player stops.tbc $on_cav search 1
-check 'player: the last one' prints 0 'search: field 9 picture 5' ./player stops.tbc $on_cav search 5
-check 'player: the last chapter' prints 0 'chapter: field 10' ./player stops.tbc $on_cav chapter 2
-check 'player: lines 17 and 18 differ' prints 1 'search: not found' ./player few.tbc $on_cav search 2
-check 'player: no chapter' prints 1 'chapter: not found' ./player stops.tbc $on_cav chapter 3
-check 'player: no stop ahead' prints 1 'search: field 9 picture 5
-play: not found' ./player stops.tbc $on_cav search 5 play
-check 'player: a CLV disc' prints 1 'search: not found' ./player clv.tbc $on_clv search 3
-run_inheriting draw $ntsc - << 'WORDS'
-- F00001 F00001
-- F00002 F00002
-- F79999 F79999
-- F00004 F00004
-- F00005 F00005
-WORDS
-cp out misread.tbc
-check 'player: a number that was misread leads nobody astray' prints 0 'search: field 4 picture 4
-search: field 5 picture 5' ./player misread.tbc $on_cav search 4 search 5
-# Both fields of pictures 3 and 5 have the stop, and line 16 of picture 2 has one in pass 2, since a run in it is black
-run_inheriting draw $ntsc - << 'WORDS'
-- F00001 F00001
-- 800DDD 800DDD
-82CFFF F00002 F00002
-- 800DDD 800DDD
-82CFFF 82CFFF F00003
-82CFFF 82CFFF 800DDD
-- F00004 F00004
-- 800DDD 800DDD
-82CFFF 82CFFF F00005
-82CFFF 82CFFF 800DDD
-- F00006 F00006
-WORDS
-cp out once.tbc
-printf '\000\100\000\100' | dd of=once.tbc bs=1 seek=$((2 * 478660 + 15 * 1820 + 2 * 170)) conv=notrunc 2> dd.err
+disc_with_a_doubtful_stop
 run extract $ntsc once.tbc
 check 'one stop is of pass 2' [ "$(jq -c '[.fields[2] | .vbi.vbiData[0], .vbiPass[0]]' out)" = '[8572927,2]' ]
-check 'player: it stops once at a picture, and at none for a line of pass 2' prints 1 'play: field 5 picture 3
-play: field 9 picture 5
-play: not found' ./player once.tbc $on_cav play play play
 check 'stops: each field of a picture' prints 0 'field 5 picture 3
 field 6
 field 9 picture 5
@@ -300,16 +225,10 @@ check 'stops: those of a worn side' prints 0 'field 3 picture 2
 field 21 picture 11
 field 39 picture 20
 3 stops' sh -c './stops NTSC 16384 51200 < worn.tbc'
-check 'player: a picture, two stops and a chapter of a worn side' prints 0 'search: field 19 picture 10
-play: field 21 picture 11
-play: field 39 picture 20
-chapter: field 26' ./player worn.tbc $on_cav search 10 play play chapter 1
 rm clean.tbc worn.tbc
 while read -r system black white; do
     check "stops: $system $black $white" refuses_in_a_line stops \
         sh -c "./stops $system $black $white < cav.tbc"
-    check "player: $system $black $white" refuses_in_a_line player \
-        ./player cav.tbc $system $black $white search 3
 done << 'WORDS'
 NTSC 51200 16384
 SECAM 16384 51200
@@ -343,72 +262,6 @@ said_line "seek: $cut"
 check 'seek: a number in a cut field' refuses_with 1 ./seek part.tbc $on_cav 3
 said_line "seek.py: $cut"
 check 'seek.py: a number in a cut field' refuses_with 1 python3 "$top/examples/seek.py" part.tbc $on_cav 3
-said_line "player: $cut"
-check 'player: a stop in a cut field' refuses_with 1 ./player part.tbc $on_cav play
-check 'player: a number in a cut field' refuses_with 1 ./player part.tbc $on_cav search 3
-
-# Lines at 13.5 MHz, drawn here by the standards alone: cells of two microseconds that change in their middle, upwards
-# for a one, with edges of a quarter of a half cell and a little noise. Each word begins at another part of a pixel.
-cat > pixels.py << 'END'
-import random, sys
-BEFORE = {"NTSC": 122, "PAL": 132}  # pixels of a line before those of active video
-chance = random.Random(60856)
-
-def level(word, time):
-    """From 0 to 1, this many half cells behind the word's begin."""
-    halves = [half for bit in format(word, "024b") for half in ((0, 1) if bit == "1" else (1, 0))]
-    at = lambda place: halves[place] if 0 <= place < 48 else 0
-    here, part = int(time // 1), time % 1
-    if part < 0.125:
-        return at(here - 1) + (at(here) - at(here - 1)) * (part / 0.25 + 0.5)
-    if part > 0.875:
-        return at(here) + (at(here + 1) - at(here)) * ((part - 0.875) / 0.25)
-    return at(here)
-
-def pixels(system, half_cell, word):
-    begin = 10.5 + chance.uniform(-0.25, 0.25)
-    for place in range(720):
-        here = level(word, ((BEFORE[system] + place) / 13.5 - begin) / half_cell) if word else 0
-        yield round(16 + 219 * here + chance.uniform(-12, 12)) % 256 if here else 16
-
-for row in sys.stdin:
-    for word in row.split()[:3]:
-        sys.stdout.buffer.write(bytes(pixels(sys.argv[1], float(sys.argv[2]), 0 if word == "-" else int(word, 16))))
-END
-cat > pixels.txt << 'END'
-- F00001 F00001
-- - -
-82CFFF 82CFFF F00003 stop
-82CFFF F00004 F00004 stop
-- F79999 82CFFF
-8AE712 87FFFF F0DD09
-8BA0A1 807DDD 807DDD
-- 88FFFF 88FFFF
-AAAAAA 800000 FFFFFF
-END
-# As the disc has them, and nearly as short as the library takes them, where samples that lie too far apart read nothing
-for half_cell in 1 0.82; do
-    for system in NTSC PAL; do
-        bounded python3 pixels.py $system $half_cell < pixels.txt > lines.y8
-        check "pixels: lines of $system at 13.5 MHz, half cells of $half_cell microseconds" \
-            prints 0 "$(cat pixels.txt)" sh -c "./pixels $system 16 235 < lines.y8"
-    done
-done
-check 'pixels: no line' [ -z "$(bounded ./pixels NTSC 16 235 < empty 2>&1)" ]
-head -c 2159 lines.y8 > part.y8
-check 'pixels: a field that is cut' refuses 'pixels: the last field is cut' sh -c './pixels PAL 16 235 < part.y8'
-while read -r system black white; do
-    check "pixels: $system $black $white" refuses_in_a_line pixels ./pixels $system $black $white
-done << 'WORDS'
-NTSC 51200 16384
-SECAM 16 235
-NTSC 235 16
-NTSC 16 16
-NTSC 16 256
-NTSC -1 235
-NTSC 16 x
-NTSC 16
-WORDS
 
 # The stops alone, in C, as soon as each is read
 check 'stops.c: a CAV disc' prints 0 'field 7
@@ -434,31 +287,22 @@ NTSC 16384
 WORDS
 
 # How each is called
-player_usage='player: usage: player FILE NTSC|PAL BLACK WHITE search N|chapter N|play ..'
-check 'player: without words' refuses "$player_usage" ./player
-check 'player: without a command' refuses "$player_usage" ./player cav.tbc $on_cav
-check 'player: without levels' refuses "$player_usage" ./player cav.tbc NTSC play
 stops_usage='stops: usage: stops NTSC|PAL BLACK WHITE < FILE'
 check 'stops: without words' refuses "$stops_usage" ./stops
 check 'stops: with a word too many' refuses "$stops_usage" ./stops $on_cav cav.tbc
-seek_usage='usage: seek FILE NTSC|PAL BLACK WHITE NUMBER|H:MM:SS.PP'
-for words in '' "cav.tbc $on_cav" "cav.tbc $on_cav 3 4" "cav.tbc $on_cav 3 chapter" "cav.tbc $on_cav chapter 3 4"; do
-    check "seek: with the words '$words'" refuses "seek: $seek_usage|chapter N" ./seek $words
+for seek in ./seek "python3 $top/examples/seek.py"; do
+    name=$(basename "${seek##* }")
+    usage="$name: usage: $name FILE NTSC|PAL BLACK WHITE NUMBER|H:MM:SS.PP|chapter N"
+    for words in '' "cav.tbc $on_cav" "cav.tbc $on_cav 3 4" "cav.tbc $on_cav 3 chapter" \
+        "cav.tbc $on_cav chapter 3 4"; do
+        check "$seek: with the words '$words'" refuses "$usage" $seek $words
+    done
+    for chapter in 80 -1 3x 256 4294967299 0:00:00.00; do
+        check "$seek: chapter $chapter" refuses \
+            "$name: neither a picture from 0 to 79999, a time as 0:59:29.07, nor a chapter from 0 to 79" \
+            $seek cav.tbc $on_cav chapter $chapter
+    done
 done
-for chapter in 80 -1 3x 256 4294967299; do
-    check "seek: chapter $chapter" refuses \
-        'seek: neither a picture from 0 to 79999, a time as 0:59:29.07, nor a chapter from 0 to 79' \
-        ./seek cav.tbc $on_cav chapter $chapter
-done
-seek_usage="seek.py: $(echo "$seek_usage" | sed 's/seek/seek.py/')"
-check 'seek.py: without words' refuses "$seek_usage" python3 "$top/examples/seek.py"
-check 'seek.py: with a word too many' refuses "$seek_usage" python3 "$top/examples/seek.py" cav.tbc $on_cav 3 4
-check 'player: no such command' refuses 'player: no such command: stop' ./player cav.tbc $on_cav stop
-check 'player: a search for nothing' refuses 'player: no such command: search' ./player cav.tbc $on_cav search
-check 'player: a picture that is no number' refuses 'player: search is not a whole number' \
-    ./player cav.tbc $on_cav search 3x
-check 'player: no file' refuses "player: can't open nowhere.tbc" ./player nowhere.tbc $on_cav play
-check 'player: no field' refuses 'player: no field in empty.tbc' ./player empty.tbc $on_cav play
 
 # The program of which README has five lines
 program_in_readme

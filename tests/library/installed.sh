@@ -126,7 +126,7 @@ head -c 12345 cav.tbc > beginning.tbc
 on_cav='NTSC 16384 51200'
 examples=usr/share/doc/ldvbi/examples
 found_there=-Wl,-rpath,$work/usr/lib
-for name in seek.c pixels.c stops.c stops.cpp player.cpp; do
+for name in seek.c pixels.c stops.c stops.cpp player.c player.cpp; do
     command="$cc -std=c99"
     [ "${name#*.}" = c ] || command="${CXX:-c++} -std=c++17"
     check "$name is built" does sh -c \
@@ -164,9 +164,12 @@ field 8
 check 'stops: a cut field is named' says_of 0 "$stops" "stops: $cut" sh -c "./stops $on_cav < cut.tbc"
 check 'stops: no field is cut' says_of 0 "$stops" '' sh -c "./stops $on_cav < cav.tbc"
 check 'stops: a folder' says_of 2 '' 'stops: standard input: Is a directory' sh -c "./stops $on_cav < usr"
-check 'player: a cut field is named' says_of 0 'search: field 9 picture 4' "player: $cut" \
-    ./player cut.tbc $on_cav search 4
-check 'player: a folder' says_of 2 '' 'player: usr is no file that can be mapped' ./player usr $on_cav play
+player_py="env PYTHONPATH=usr/share/ldvbi/python python3 $examples/player.py"
+for player in ./player "$player_py"; do
+    check "$player: a cut field is none" says_of 1 'search: field 9 picture 4
+play: not found' '' $player cut.tbc $on_cav search 4 play
+done
+check 'player: a folder' says_of 2 '' 'player: no field of usr can be mapped' ./player usr $on_cav play
 unset PKG_CONFIG_PATH
 
 # The commands that are installed, by a link as well

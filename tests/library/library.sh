@@ -28,7 +28,7 @@ check 'the library needs memcpy and memset at most' is_among_both $undefined
 undefined=$(nm -u "$built/libldvbi.a" 2> err | sed -n 's/^ *U //p' | tr '\n' ' ')
 check 'the archive needs memcpy and memset at most' is_among_both $undefined
 nm -D --defined-only "$built/libldvbi.so.1" | sed 's/.* //' | sort > exported
-sed -n 's/^[a-z0-9_]* \(ldvbi_[a-z_]*\)(.*/\1/p' "$top/include/ldvbi.h" | sort > declared
+sed -n 's/^\(LDVBI_[A-Z0-9()]* \)*[a-z0-9_]* \(ldvbi_[a-z_]*\)(.*/\2/p' "$top/include/ldvbi.h" | sort > declared
 check 'the library gives what the header declares, and nothing else' cmp -s exported declared
 check 'the name of the library has the number of its interface' \
     sh -c "readelf -d '$built/libldvbi.so.1' | grep -q 'SONAME.*\[libldvbi.so.1\]'"

@@ -1,7 +1,7 @@
 /* Judges the numbers of sides whose lines are worn, by the words that are read and by those that are recovered, and
    holds both against what was recorded. In the tests each number has to be found on sides with noise of half of the way
    from black to white.
-   usage: library_sides [PICTURES]     so many pictures of each side, and a row of docs/SIDES.md for each damage */
+   usage: library_sides [PICTURES]     so many pictures of each side, and a row of docs/MEASURED.md for each damage */
 #include "library.h"
 #include "worn.h"
 

@@ -1,6 +1,6 @@
 #!/bin/sh
-# Runs the examples in C and C++ on drawn sides in which numbers were misread, so that the library has to judge them: of
-# video, of film, and of a CLV disc.
+# Runs the examples in C, C++ and Python on drawn sides in which numbers were misread, so that the library has to judge
+# them: of video, of film, and of a CLV disc.
 # Needs libldvbi.so.1 beside the program, or at the top of the repository (`make lib`).
 # usage: sh tests/library/misread.sh PROGRAM
 # shellcheck disable=SC2086,SC2317
@@ -10,6 +10,8 @@
 # shellcheck source=tests/library/library_helpers.sh
 . "$here/library_helpers.sh"
 
+with_python
+
 # draws NAME < WORDS: draws NAME.tbc
 draws() {
     run_inheriting draw $ntsc -
@@ -18,7 +20,8 @@ draws() {
 
 check 'seek is built' does $cc -std=c99 $strict -o seek "$top/examples/seek.c" $linked
 check 'stops is built' does $cxx -std=c++17 $strict -o stops "$top/examples/stops.cpp" $linked
-check 'player is built' does $cxx -std=c++17 $strict -o player "$top/examples/player.cpp" $linked
+check 'player is built' does $cc -std=c99 $strict -o player_c "$top/examples/player.c" $linked
+check 'player is built in C++' does $cxx -std=c++17 $strict -o player_cpp "$top/examples/player.cpp" $linked
 
 # Pictures 94 to 157, of which 100 reads 79999 and 151 reads 5, on line 17 alone, 110 reads 7 on line 18, where line 17
 # is right, and 140 reads 9 on both, in place of which no other number is due; with a stop at 100, 120 and 151; and a
@@ -120,10 +123,11 @@ times 12345 1 not found
 times 1:00:00.03 1 not found
 video 0:00:03.10 1 not found
 END
-while read -r side number ended text; do
-    check "player: a search for $number of $side" prints $ended "search: $text" \
-        ./player $side.tbc $on_cav search $number
-done << 'END'
+for player in ./player_c ./player_cpp "python3 $top/examples/player.py"; do
+    while read -r side number ended text; do
+        check "$player: a search for $number of $side" prints $ended "search: $text" \
+            $player $side.tbc $on_cav search $number
+    done << 'END'
 video 100 0 field 13 picture 100
 video 151 0 field 115 picture 151
 video 79999 1 not found
@@ -137,14 +141,16 @@ film 5 0 field 11 picture 5
 film 6 0 field 13 picture 6
 film 79999 1 not found
 END
-check 'player: the stops' prints 0 'play: field 13 picture 100
+    check "$player: the stops" prints 0 'play: field 13 picture 100
 play: field 53 picture 120
 play: field 73
-play: field 115 picture 151' ./player video.tbc $on_cav play play play play
+play: field 115 picture 151' $player video.tbc $on_cav play play play play
+done
 # A chapter is found where it begins, and one that was misread isn't, on a line or on both.
 while read -r side number ended text; do
-    check "player: chapter $number of $side" prints $ended "chapter: $text" ./player $side.tbc $on_cav chapter $number
-    check "seek: chapter $number of $side" prints $ended "${text% picture *}" ./seek $side.tbc $on_cav chapter $number
+    check "seek: chapter $number of $side" prints $ended "$text" ./seek $side.tbc $on_cav chapter $number
+    check "seek.py: chapter $number of $side" prints $ended "$text" \
+        python3 "$top/examples/seek.py" $side.tbc $on_cav chapter $number
 done << 'END'
 video 3 0 field 2
 video 2 1 not found

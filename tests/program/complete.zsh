@@ -21,7 +21,7 @@ zpty -r shell text '*<begin>*'
 while IFS= read -r words; do
     zpty -w -n shell "$words"$'\t'
     zpty -r shell text '*<end>*'
-    matches=$(print -r -- "$text" | grep -o '<[^<>]*>' | grep -v '<end>' | tr -d '<>' | sort | paste -s -d ' ')
+    matches=$(print -r -- "$text" | grep -o '<[^<>]*>' | grep -v '<end>' | tr -d '<>' | sort -u | paste -s -d ' ')
     print -r -- "$words|$matches"
     zpty -w -n shell $'\025'
 done

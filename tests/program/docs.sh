@@ -76,9 +76,13 @@ prints() {
 # folder NAME: makes a folder in which commands of documents run, with what they name of the repository
 folder() {
     mkdir "$1"
-    for part in contrib docs examples python share $library; do
+    for part in contrib docs examples include python share; do
         ln -s "$top/$part" "$1/$part"
     done
+    # What README has `make rust` build
+    mkdir "$1/rust"
+    ln -s "$program" "$1/rust/ldvbi"
+    [ ! "$library" ] || ln -s "$built/$library" "$1/rust/$library"
     ln -s "$program" "$1/ldvbi"
 }
 
@@ -147,13 +151,16 @@ check 'the statuses of FORMATS.md are those of the help' cmp out help.statuses
 in_folder "$top" python3 codes/write.py --check
 check 'the table of classes and what is written from it' [ "$status" = 0 ]
 
+in_folder "$top" python3 texts/write.py --check docs
+check 'the source and what the documents have of it' [ "$status" = 0 ]
+
 # What the documents say, compared with the source
-for what in links paths names faults causes sizes rules numbers changes crates; do
+for what in links paths names faults causes sizes columns pictures changes crates; do
     in_folder "$top" python3 tests/documents.py $what
     check "the documents and the source: $what" [ "$status" = 0 ]
 done
-in_folder "$top" python3 tests/definitions.py docs/DEFINITIONS.md docs/PROMISES.md docs/DECISIONS.md
-check 'the definitions of DEFINITIONS.md are those of the source' [ "$status" = 0 ]
+in_folder "$top" python3 tests/definitions.py --check
+check 'the definitions of PROMISES.md are those of the source' [ "$status" = 0 ]
 
 # The real examples of causes in FORMATS.md, of which these are the lines in the order of its rows
 signal NTSC 1 << 'END' | ntsc_samples > causes.tbc
@@ -165,15 +172,15 @@ output_of extract $ntsc causes.tbc | jq -r '.fields[] | [.vbi.vbiData, .vbiCause
 sed -n '/^### A real example/,/^## /s/^|[^|]*\(| [0-9].*\)/\1/p' "$top/docs/FORMATS.md" > out
 check 'the examples of causes in FORMATS.md are those of the program' cmp out causes
 
-# The classes of SIGNAL.md in the report, each of a word with its pattern
+# The classes of FORMATS.md in the report, each of a word with its pattern
 for word in 88FFFF 80EEEE F92345 82CFFF 887DDD 87FFFF F1DD09 8AE712 8DC0A1 8BA0A1 83D0A1 FFFFFF; do
     echo "$word - -"
 done > classes.words
 output_of draw $ntsc classes.words > classes.tbc
 output_of show $ntsc classes.tbc | sed -n 's/^16 ...... //p' > classes
 # shellcheck disable=SC2016
-sed -n '/^| Pattern |/,/^$/s/^| [8Fa].*| `\(.*\)` |$/\1/p' "$top/docs/SIGNAL.md" > out
-check 'the classes of SIGNAL.md are those of the report' cmp out classes
+sed -n '/^| Pattern |/,/^$/s/^| [8Fa].*| `\(.*\)` |$/\1/p' "$top/docs/FORMATS.md" > out
+check 'the classes of FORMATS.md are those of the report' cmp out classes
 
 for document in README RECIPES; do
     folder $document
@@ -195,19 +202,6 @@ shows() {
 sed -n '/^```c$/,/^```$/{/^```/d;p;}' "$top/README.md" > out
 check 'README has five lines of C' [ "$(wc -l < out)" = 5 ]
 check 'they are of examples/say.c' shows "$top/examples/say.c" < out
-# shellcheck disable=SC2016
-in_rust=$(grep -o 'classify(read[^`]*' "$top/README.md")
-check 'what README has of Rust is of examples/rust' grep -qF "${in_rust:-none}" "$top/examples/rust/src/main.rs"
-
-# What README has of other programs, right and wrong words, is of PEERS.md
-counts='\([0-9]*\), \([0-9]*\) |'
-from="^| .* | $counts $counts not tried | $counts $counts\$"
-to='| \1/\2/.* | \3/\4/.* | .* | \5/\6/.* | .* | \7/\8/'
-sed -n "s@$from@$to@p" "$top/README.md" > rows
-while read -r row; do
-    grep -c "$row" "$top/docs/PEERS.md"
-done < rows > out
-check 'the counts in README are those of PEERS.md' [ "$(paste -s -d ' ' out)" = '1 1 1 1' ]
 
 # The pages for callers: their example is a caller that is proved, with imports that this has, and each public function
 # has a row
@@ -236,9 +230,14 @@ for crate in vbi_words vbi_line vbi_near; do
     check 'it has a row for each public function' cmp found functions
 done
 
-# The examples of the manual page, one script; the last line that it prints is of the drawn field
-mandoc -T ascii -O width=200 "$top/share/man/ldvbi.1" | sed 's/.'"$(printf '\010')"'//g' |
-    sed -n '/^EXAMPLES/,/^DIAGNOSTICS/s/^           //p' > page.sh
+# The examples of the manual pages, each page one script; the last line that the one of ldvbi prints is of the drawn
+# field
+# examples_of PAGE: makes page.sh of a page's examples
+examples_of() {
+    mandoc -T ascii -O width=200 "$top/share/man/$1" | sed 's/.'"$(printf '\010')"'//g' |
+        sed -n '/^EXAMPLES/,/^[DS]/s/^           //p' > page.sh
+}
+examples_of ldvbi.1
 check 'the manual page has examples' [ "$(grep -c ldvbi page.sh)" = 6 ]
 folder page
 sides page
@@ -247,6 +246,26 @@ check 'the examples of the manual page' prints absent
 tail -n 1 out > last
 echo '[8572927,15803205,15803205]' > last.wanted
 check 'the words of the drawn field of the manual page' cmp last last.wanted
+
+# Those of ldvbi-side, of a side that is whole; where the library isn't built, the ones that have documents
+examples_of ldvbi-side.1
+[ "$library" ] || sed -i '/side.tbc/d' page.sh
+check 'the manual page of ldvbi-side has examples' [ "$(grep -c ldvbi-side page.sh)" -ge 3 ]
+folder side_page
+sides side_page
+for picture in 01 02 03 04 05 06 07 08 09 10 11 12 13 14 15 16; do
+    printf '%s\n' "- F000$picture F000$picture" '- - -'
+done > whole.words
+output_of draw $ntsc whole.words > side_page/side.tbc
+mkdir side_page/captures
+for name in side first second captures/side; do
+    output_of extract $ntsc side_page/side.tbc > side_page/$name.vbi.json
+done
+in_folder side_page sh ../strictly sh ../page.sh
+check 'the examples of the manual page of ldvbi-side' prints absent
+for name in side.svg both.html pages/index.html; do
+    check "an example writes $name" [ -s side_page/$name ]
+done
 
 # The examples of the help texts; one of them has a disc of PAL
 for command in '' line extract show draw; do

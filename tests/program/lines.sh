@@ -132,7 +132,7 @@ FFFFFF/14/47 H22|FFFFFF
 FFFFFF/14/47 H23|hold 680
 END
 
-# How near lines are that are read as different words, as docs/SIGNAL.md has it. The last two cells of 800000 are as
+# How near lines are that are read as different words, as docs/FORMATS.md has it. The last two cells of 800000 are as
 # wide as they may be, and with the change between them later they are those of 800001: four columns (NTSC) or six (PAL)
 # where both words are of pass 1, one or two where the second is of pass 2, and one where both are. So many columns
 # turned over behind the change leave no four equal ones before 517 (NTSC), or 658 (PAL).

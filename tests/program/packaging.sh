@@ -52,7 +52,7 @@ usr/share/bash-completion/completions/ldvbi-side
 usr/share/doc/ldvbi/CHANGELOG.md
 usr/share/doc/ldvbi/README.md
 END
-    (cd tree && git ls-files 'docs/*.md' 'docs/pictures/*.svg' examples | sed 's/^/usr\/share\/doc\/ldvbi\//')
+    (cd tree && git ls-files 'docs/*.md' 'docs/pictures/*.[ps]*g' examples | sed 's/^/usr\/share\/doc\/ldvbi\//')
     cat << 'END'
 usr/share/ldvbi/ldvbi-join.schema.json
 usr/share/ldvbi/ldvbi-recovered.schema.json

@@ -1,5 +1,5 @@
 #!/bin/sh
-# Makes the pictures of docs/SIGNAL.md again and compares them with those that stand there; and has contrib/plot_line.py
+# Makes the pictures of docs/FORMATS.md again and compares them with those that stand there; and has contrib/plot_line.py
 # draw lines of each kind, and compares what it marks with what the lines are made of.
 # usage: sh tests/program/plots.sh PROGRAM
 # shellcheck disable=SC2016,SC2086
@@ -13,7 +13,7 @@ mkdir made
 bounded sh "$pictures/make.sh" "$program" made < empty > out 2> err || status=$?
 for name in word second-reading change-170 nearest; do
     check "the picture $name" cmp "made/$name.svg" "$pictures/$name.svg"
-    check "SIGNAL.md shows $name" grep -q "(pictures/$name.svg)" "$top/docs/SIGNAL.md"
+    check "FORMATS.md shows $name" grep -q "(pictures/$name.svg)" "$top/docs/FORMATS.md"
 done
 
 # The row of the last picture is that of the nearest word, by the definition: for each start and each bit, by how much
@@ -45,7 +45,7 @@ dd if=drawn.tbc bs=1820 skip=15 count=1 2> dd | python3 "$pictures/worn_line.py"
 check 'the nearest word of the worn line' [ "$(cat near)" = '82CFFF@150 280.8 289.7' ]
 check 'the picture has its row' grep -q '>no word: .*; the row of 82CFFF from column 150 on is 280.8 columns away<' \
     "$pictures/nearest.svg"
-check "SIGNAL.md has its distance, and its rival's" grep -q '280\.8 columns.* 289\.7 ' "$top/docs/SIGNAL.md"
+check "FORMATS.md has its distance, and its rival's" grep -q '280\.8 columns.* 289\.7 ' "$top/docs/FORMATS.md"
 
 # What a picture of a whole line has: its title, digits and bits, the columns at which cells begin and end, the columns
 # that are marked, and what reaches out of the frame. It is read as XML.
@@ -105,16 +105,16 @@ plotted() {
     } < empty 2> err || status=$?
 }
 
-# The cells of the drawn line, where the table of SIGNAL.md has them; or a column off, where two half cells of one level
+# The cells of the drawn line, each second half cell of FORMATS.md; or a column off, where two half cells of one level
 # meet
 echo 82CFFF | signal NTSC 0 | ntsc_samples > line.raw
 plotted 910 $ntsc
-sed -n 's/^| [0-9]* | [01] | [a-z]* \([0-9]*\) to .* to \([0-9]*\) (.*/\1 \2/p' "$top/docs/SIGNAL.md" |
-    awk '{ print $1; last = $2 } END { print last + 1 }' > starts
-check 'the table has 24 cells and an end' [ "$(wc -l < starts)" = 25 ]
+sed -n '/^### Drawn rows/,/^### /{/^[0-9 ]*$/p;}' "$top/docs/FORMATS.md" | tr -s ' ' '\n' | sed '/^$/d' |
+    sed -n 'p;n' > starts
+check 'FORMATS.md has the beginnings of 24 cells and an end' [ "$(wc -l < starts)" = 25 ]
 sed -n 's/^cells //p' found | tr ' ' '\n' > cells
 paste -d ' ' starts cells | awk '{ off = $1 - $2 } off < -1 || 1 < off || NF != 2 { print }' > off
-check 'cells where SIGNAL.md has them' cmp off empty
+check 'cells where FORMATS.md has them' cmp off empty
 check 'their bits' grep -qx 100000101100111111111111 found
 check 'the digits' grep -qx 82CFFF found
 

@@ -8,6 +8,8 @@ import functools
 
 from ldvbi import Cause, FieldReadings, Reading, System
 from ldvbi.readings import Levels
+from ldvbi_side.join.captures import capture_of
+from ldvbi_side.join.joined import join
 from ldvbi_side.judge.answer import analyse
 from ldvbi_side.judge.readings import Fields
 from ldvbi_side.side import Side
@@ -43,6 +45,14 @@ def pictures(numbers):
     return rows
 
 
+def disc(count=40, **changed):
+    """The fields of pictures from 1 on, with other rows for some: `f5` is field 5."""
+    rows = pictures(range(1, count + 1))
+    for field, row in changed.items():
+        rows[int(field[1:]) - 1] = row
+    return rows
+
+
 def film(numbers, odd=1):
     """The same of film: pictures with an odd number have 3 fields, or, with `odd` 0, those with an even one."""
     rows = []
@@ -59,6 +69,14 @@ def times(numbers, rate=25):
         seconds, part = divmod(number, rate)
         at = minutes(seconds // 3600, seconds // 60 % 60)
         rows += ["%s %s %s" % (second(seconds % 60, part), CLV_MARK, at), "8BA000 %s 800DDD" % CLV_MARK]
+    return rows
+
+
+def damaged(rows, places, change):
+    """These rows with others at these places."""
+    rows = list(rows)
+    for place in places:
+        rows[place] = change(rows[place])
     return rows
 
 
@@ -93,3 +111,8 @@ def side(rows, system="PAL", first=None, cut=None):
     """The `Side` with these rows, read with the levels 16384 and 51200."""
     readings = [FieldReadings(*map(_reading, row.split(" "))) for row in rows]
     return Side(System[system], readings, cut, Levels(16384, 51200), first)
+
+
+def joined(*captures, system="PAL"):
+    """What sides with these rows, named a, b, c, have together."""
+    return join([capture_of(side(rows, system), name) for name, rows in zip("abc", captures)])

@@ -173,7 +173,7 @@ check 'the summary is printed too' grep -qx 'system: NTSC, CAV' out
 check 'its status' [ "$status" = 1 ]
 told side.vbi.json --svg absent/side.svg
 check 'a drawing that cannot be written' [ "$status $(wc -l < err)" = '2 1' ]
-check 'what is said of it' grep -q 'ldvbi-side: .* No such file or directory: .*absent/side.svg' err
+check 'what is said of it' grep -qx 'ldvbi-side: absent/side.svg: No such file or directory' err
 
 # A CLV disc of PAL: 40 fields, 24 pixels each, from 0:59:59.15 to 1:00:00.09. Its mark is on line 17, the minutes of
 # one field are wrong, those of another no clock shows, the picture of a third no clock shows, and three times are lost.

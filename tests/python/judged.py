@@ -1,5 +1,5 @@
 #!/usr/bin/env python3
-"""The tables of docs/SIDES.md that have the library's judge beside the package: both on simulated sides. Whatever they
+"""Tables of docs/MEASURED.md that have the library's judge beside the package: both on simulated sides. Whatever they
 say of a field is held against the truth, and where the judge promises to be right, it has to be.
 
 usage: judged.py FROM TO [--kind KIND]... [--show N]     the seeds FROM to TO - 1

@@ -1,5 +1,5 @@
 #!/usr/bin/env python3
-"""The table of docs/SIDES.md that has the library's judge of chapters beside the package: both on simulated sides.
+"""The table of docs/MEASURED.md that has the library's judge of chapters beside the package: both on simulated sides.
 Whatever they say of a field is held against the truth, and where the judge promises something, it has to be so.
 
 usage: judged_chapters.py FROM TO [--kind KIND]... [--show N]     the seeds FROM to TO - 1

@@ -1,5 +1,5 @@
 #!/usr/bin/env python3
-"""The table of docs/SIDES.md: simulated sides, analysed, and the answers beside the truth.
+"""The table of docs/MEASURED.md: simulated sides, analysed, and the answers beside the truth.
 
 usage: measure.py FROM TO [--kind KIND]... [--parity] [--show N]     the seeds FROM to TO - 1
 

@@ -16,21 +16,6 @@ from streams import NTSC, write_stream
 COMMAND = [sys.executable, "-m", "ldvbi_side", "scan"]
 DEADLINE = 300  # seconds: for what hangs, not for what is slow
 LEAD_IN, LEAD_OUT, BLANK = [0, 0x88FFFF, 0x88FFFF], [0, 0x80EEEE, 0x80EEEE], [0, 0, 0]
-# Of each side of `twelve` its row without its name: whole, lost, unread, format, from, to, fields, and how `why` begins
-ROWS = {
-    "a/broken.vbi.json": ("fault", "", "", "", "", "", "", "not JSON: "),
-    "a/cut.tbc": ("no", "0", "0", "cav", "1", "30", "60", "field 61 is cut"),
-    "a/database.tbc": ("yes", "0", "0", "cav", "1", "30", "60", ""),
-    "a/joined.tbc": ("no", "0", "0", "cav", "1", "30", "128", ""),
-    "a/levels.tbc": ("can't tell", "0", "0", "neither", "", "", "60", "no picture number and no time"),
-    "a/lost.tbc": ("no", "2", "0", "cav", "1", "30", "56", "4 fields lost; 2 pictures lost"),
-    "b/minutes.vbi.json": ("yes", "0", "0", "clv", "0:00", "0:02", "9000", ""),
-    "b/missing.tbc": ("fault", "", "", "", "", "", "", "no missing.tbc.json or missing.tbc.db beside it"),
-    "b/no codes.tbc": ("can't tell", "0", "0", "neither", "", "", "60", "no picture number and no time"),
-    "b/packed.tbc": ("fault", "", "", "", "", "", "", "it is compressed (gzip): unpack it first"),
-    "b/unread.tbc": ("yes", "0", "1", "cav", "1", "30", "60", ""),
-    "b/whole.tbc": ("yes", "0", "0", "cav", "1", "30", "60", ""),
-}
 
 
 def fields_of(numbers):
@@ -54,6 +39,56 @@ def write_minutes(path, count):
             words = (0x87FFFF, 0xF0DD00 | int(str(field // 3000), 16)) if field % 2 == 0 else (0x87FFFF, 0x800DDD)
             rows.append(RECORD % (field + 1, 0, *words, "blank", "word", "word", 0, 1, 1))
         file.write(",\n".join(rows) + tail_of(None))
+
+
+def write_database(path):
+    """Metadata in SQLite."""
+    database = sqlite3.connect(path)
+    database.execute("CREATE TABLE capture (system TEXT, black_16b_ire INTEGER, white_16b_ire INTEGER)")
+    database.execute("INSERT INTO capture VALUES ('NTSC', 16384, 51200)")
+    database.commit()
+    database.close()
+
+
+def add_with_database(test, name):
+    write_stream(test.path(name), NTSC, WHOLE)
+    write_database(test.path(name + ".db"))
+
+
+def add_packed(test, name):
+    test.write(name, gzip.compress(b"video"))
+    test.add_metadata(name + ".json")
+
+
+# White is less than the middle of the metadata's levels.
+DARK = ("NTSC", 16384, 30000)
+JOINED = 2 * ([LEAD_IN] * 2 + WHOLE + [LEAD_OUT] * 2)
+# A folder with a side of every kind, in the order of the table: the side's name, what adds it to a test's folder, and
+# its row behind the name: whole, lost, unread, format, from, to, fields, and how `why` begins
+TWELVE = (
+    ("a/broken.vbi.json", lambda test, name: test.write(name, b'{"version":2,"videoParameters":{'),
+     ("fault", "", "", "", "", "", "", "not JSON: ")),
+    ("a/cut.tbc", lambda test, name: test.add(name, WHOLE, 12345),
+     ("no", "0", "0", "cav", "1", "30", "60", "field 61 is cut")),
+    ("a/database.tbc", add_with_database, ("yes", "0", "0", "cav", "1", "30", "60", "")),
+    ("a/joined.tbc", lambda test, name: test.add(name, JOINED),
+     ("no", "0", "0", "cav", "1", "30", "128", "two sides joined")),
+    ("a/levels.tbc", lambda test, name: test.add(name, WHOLE, setup=DARK),
+     ("can't tell", "0", "0", "neither", "", "", "60", "no picture number and no time")),
+    ("a/lost.tbc", lambda test, name: test.add(name, fields_of([*range(1, 12), *range(14, 31)])),
+     ("no", "2", "0", "cav", "1", "30", "56", "4 fields lost; 2 pictures lost")),
+    ("b/minutes.vbi.json", lambda test, name: write_minutes(test.path(name), 3),
+     ("yes", "0", "0", "clv", "0:00", "0:02", "9000", "")),
+    ("b/missing.tbc", lambda test, name: write_stream(test.path(name), NTSC, WHOLE),
+     ("fault", "", "", "", "", "", "", "no missing.tbc.json or missing.tbc.db beside it")),
+    ("b/no codes.tbc", lambda test, name: test.add(name, [BLANK] * 60),
+     ("can't tell", "0", "0", "neither", "", "", "60", "no picture number and no time")),
+    ("b/packed.tbc", add_packed, ("fault", "", "", "", "", "", "", "it is compressed (gzip): unpack it first")),
+    ("b/unread.tbc", lambda test, name: test.add(name, fields_of([*range(1, 12), None, *range(13, 31)])),
+     ("yes", "0", "1", "cav", "1", "30", "60", "")),
+    ("b/whole.tbc", lambda test, name: test.add(name, WHOLE), ("yes", "0", "0", "cav", "1", "30", "60", "")),
+)
+ROWS = {name: row for name, _, row in TWELVE}
 
 
 class Scans(unittest.TestCase):
@@ -87,24 +122,10 @@ class Scans(unittest.TestCase):
         self.add_metadata(name + ".json")
 
     def add_twelve(self):
-        self.add("a/cut.tbc", WHOLE, 12345)
-        self.add("a/joined.tbc", [LEAD_IN] * 2 + WHOLE + [LEAD_OUT] * 2 + [LEAD_IN] * 2 + WHOLE + [LEAD_OUT] * 2)
-        self.add("a/levels.tbc", WHOLE, setup=("NTSC", 16384, 30000))  # white is less than the middle of the metadata's
-        self.add("a/lost.tbc", fields_of([*range(1, 12), *range(14, 31)]))
-        self.add("b/no codes.tbc", [BLANK] * 60)
-        self.add("b/unread.tbc", fields_of([*range(1, 12), None, *range(13, 31)]))
-        self.add("b/whole.tbc", WHOLE)
-        write_stream(self.path("b/missing.tbc"), NTSC, WHOLE)
-        write_minutes(self.path("b/minutes.vbi.json"), 3)
-        self.write("a/broken.vbi.json", b'{"version":2,"videoParameters":{')
-        self.write("b/packed.tbc", gzip.compress(b"video"))
-        self.add_metadata("b/packed.tbc.json")
-        write_stream(self.path("a/database.tbc"), NTSC, WHOLE)
-        database = sqlite3.connect(self.path("a/database.tbc.db"))
-        database.execute("CREATE TABLE capture (system TEXT, black_16b_ire INTEGER, white_16b_ire INTEGER)")
-        database.execute("INSERT INTO capture VALUES ('NTSC', 16384, 51200)")
-        database.commit()
-        database.close()
+        for folder in ("a", "b"):
+            os.mkdir(self.path(folder))
+        for name, add, _ in TWELVE:
+            add(self, name)
 
     def scan(self, *words):
         """The status of a scan in the folder, and what it writes to standard output and standard error."""

@@ -13,7 +13,7 @@ from streams import TOP
 
 BLOCK = 4096  # words that tests/python/all_codes.c writes at once
 
-# Patterns of docs/SIGNAL.md: words in each, with the numbers read off their digits, and words next to it
+# Patterns of docs/FORMATS.md: words in each, with the numbers read off their digits, and words next to it
 ROWS = [
     (0x88FFFF, Kind.lead_in, 0, 0), (0x88FFFE, Kind.other, 0, 0),
     (0x80EEEE, Kind.lead_out, 0, 0), (0x81EEEE, Kind.other, 0, 0),

@@ -262,5 +262,23 @@ class Drawings(unittest.TestCase):
         self.assertNotIn("undecided: 0", of_class(drawn(discs.pictures([1])), "count"))
 
 
+class Legend(unittest.TestCase):
+    def test_it_fits_on_a_narrow_page(self):
+        """A page 900 pixels wide shows 850 of the drawing. Letters are 7 pixels wide, or less."""
+        rows = discs.pictures(range(1, 9))
+        rows[4] = "- F00003^ F00003^"
+        texts = [(float(text.get("x")), float(text.get("y")), text.text)
+                 for text in xml.fromstring(drawing_of(discs.side(rows), "side")).iter(SPACE + "text")]
+        wanted = ["change", "hold", "unfinished", "recovered", "read only after smoothing", "word", "blank",
+                  "lead-in, lead-out", "doubtful number"]
+        found = [one for one in texts if one[2] in wanted]
+        self.assertEqual([text for _, _, text in found], wanted)
+        for (x, y, text), (after, below, _) in zip(found, found[1:] + [(850, found[-1][1], "")]):
+            end = x + 7 * len(text)
+            self.assertLessEqual(end, 850, text)
+            # a box, or a ring, stands before the next one; or that begins another line
+            self.assertTrue(end <= after - 20 or below - y >= 16, text)
+
+
 if __name__ == "__main__":
     unittest.main()

@@ -11,9 +11,9 @@ import sys
 import time
 import unittest
 
+from command_runs import DEADLINE, LEVELS, NO_METADATA, SIZE, Runs
 from streams import NTSC, pictures, worn_line, write_stream
 from test_into_rows import FORM
-from test_run import DEADLINE, LEVELS, NO_METADATA, SIZE, Runs
 
 PARAMETERS = {"system": "NTSC", "black16bIre": 16384.0, "white16bIre": 51200, "sampleRate": 14318181.818181818}
 MEMORY = 50 << 20  # bytes

@@ -4,8 +4,8 @@ import json
 import shutil
 import unittest
 
+from command_runs import NO_METADATA, Runs
 from streams import NTSC, pictures, write_stream
-from test_run import NO_METADATA, Runs
 
 
 class Joins(Runs):

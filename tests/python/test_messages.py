@@ -8,8 +8,8 @@ import sqlite3
 import unittest
 
 from ldvbi_side.command.faults import naming
+from command_runs import LEVELS, NO_METADATA, Runs
 from streams import NTSC, write_stream
-from test_run import LEVELS, NO_METADATA, Runs
 
 PARAMETERS = {"system": "NTSC", "black16bIre": 16384, "white16bIre": 51200}
 SETTINGS = "give --meta, or --system, --black and --white"

@@ -95,9 +95,11 @@ class Json(Metadata):
                 ("no black level given", {"system": "PAL"}),
                 ("black level is no number", {"system": "PAL", "black16bIre": True}),
                 ("black level is no number", {"system": "PAL", "black16bIre": "1"}),
-                ("black level is no number", {"system": "PAL", "black16bIre": float("nan")}),
+                ("FILE is no metadata with videoParameters", {"system": "PAL", "black16bIre": float("nan")}),
                 ("no white level given", {"system": "PAL", "black16bIre": 1}),
-                ("white level is no number", {"system": "PAL", "black16bIre": 1, "white16bIre": float("inf")})]
+                ("white level is no number", {"system": "PAL", "black16bIre": 1, "white16bIre": []}),
+                ("FILE is no metadata with videoParameters",
+                 {"system": "PAL", "black16bIre": 1, "white16bIre": float("inf")})]
         for text, parameters in rows:
             with self.subTest(parameters):
                 self.refused(text, self.write(**parameters))

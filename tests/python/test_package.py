@@ -81,8 +81,7 @@ class Package(unittest.TestCase):
         found = [(name, imported) for name in modules() for imported in imported_by(name)
                  if order.index(room_of(imported)) > order.index(room_of(name))]
         # the command's entry, which hands over to the room above
-        self.assertEqual(found, [("ldvbi_side/__main__.py", "ldvbi_side.command.main"),
-                                 ("ldvbi_side/__main__.py", "ldvbi_side.command.outputs")])
+        self.assertEqual(found, [("ldvbi_side/__main__.py", "ldvbi_side.command.main")])
 
     def test_each_room_is_read_in_the_order_of_its_imports(self):
         """What the head of a room names, in this order, are its modules, and none imports one that is named later."""

@@ -1,7 +1,10 @@
 """The page of a side, and the index of many: parsed, and compared with the answer."""
 
+import json
 import os
 import re
+import subprocess
+import sys
 import tempfile
 import unittest
 import unittest.mock
@@ -12,16 +15,18 @@ from ldvbi_side.command.summary import summary
 from ldvbi_side.draw.index import index_of
 from ldvbi_side.draw.page import LISTS, MOST_PLOTS, page_of
 from ldvbi_side.draw.plotting import plotter
+from scanned import DEADLINE
+from streams import NTSC, PROGRAM, TOP, worn_line, write_stream
 
 VOID = ("meta", "br")
 
 
 class Page(HTMLParser):
-    """The parts of a page: its tags, well nested; the rows of each list; the texts of its folds, terms and items."""
+    """The parts of a page: its tags, well nested; of each list the heads and the rows; the texts of all elements."""
 
     def __init__(self, text):
         super().__init__()
-        self.open, self.tags, self.rows, self.links, self.texts = [], [], {}, [], {}
+        self.open, self.tags, self.heads, self.rows, self.texts = [], [], {}, {}, {}
         self.list = None
         self.feed(text)
         self.close()
@@ -54,10 +59,41 @@ class Page(HTMLParser):
             self.texts[self.open[-1]][-1] += data
             if self.open[-1] == "td" and self.list:
                 self.rows[self.list][-1][-1] += data
+            if self.open[-1] == "th" and self.list:
+                self.heads.setdefault(self.list, []).append(data)
 
 
-def page(one, plot=None, title="side.tbc"):
-    return page_of(one, title, summary(one.answer, lambda *line: "dd"), plot)
+def page(one, plot=None, title="side.tbc", command="dd"):
+    return page_of(one, title, summary(one.answer, lambda *line: command), plot)
+
+
+def schema():
+    with open(os.path.join(TOP, "share", "schema", "ldvbi-side.schema.json"), encoding="utf-8") as file:
+        return json.load(file)
+
+
+def heads_of_schema(whole):
+    """The heads that each list of the answer has: the members of its items, as the schema names them."""
+    for name, one in whole["properties"].items():
+        items = one.get("items", {})
+        items = whole["$defs"][items["$ref"].rpartition("/")[2]] if "$ref" in items else items
+        if "properties" in items:
+            yield name, set(items["properties"])
+        elif "prefixItems" in items:
+            yield name, ["number", "first", "last"]
+        elif one.get("type") == "array":
+            yield name, ["field"]
+
+
+def cell(value):
+    """What a cell says of a value of the answer."""
+    if isinstance(value, dict):
+        return "%s in field %s" % (value["number"], value["field"])
+    if isinstance(value, list):
+        return ", ".join(map(str, value))
+    if value is None:
+        return ""
+    return ("no", "yes")[value] if isinstance(value, bool) else str(value)
 
 
 def damaged():
@@ -80,6 +116,38 @@ class Pages(unittest.TestCase):
                 self.assertEqual(max(len(read.rows.get(name, [])) - 1, 0), len(one.answer[name]), name)
             self.assertEqual({name for name, value in one.answer.items() if isinstance(value, list)},
                              set(LISTS) | {"reasons"})
+
+    def test_each_cell_stands_under_its_head(self):
+        wanted = dict(heads_of_schema(schema()))
+        del wanted["reasons"]
+        seen = set()
+        for one in (damaged(), side(times([0, 1, 2, 4, 5] * 4), "NTSC"), side(["- 87FFFF %s" % minutes(0, 9)] * 9)):
+            read = Page(page(one))
+            for name, heads in read.heads.items():
+                seen.add(name)
+                self.assertEqual(type(wanted[name])(heads), wanted[name], name)
+                self.assertEqual(len(heads), len(wanted[name]), name)
+                for row, item in zip(read.rows[name][1:], one.answer[name]):
+                    values = [item[head] for head in heads] if isinstance(item, dict) else \
+                        item if isinstance(item, list) else [item]
+                    self.assertEqual(row, list(map(cell, values)), name)
+        self.assertLessEqual({"missing", "lost", "unread", "breaks", "doubtful", "conflicts", "chapters", "showings",
+                              "badLines", "users", "programmeStatus", "unknown"}, seen)
+
+    def test_terms_are_the_lines_of_the_summary(self):
+        one = damaged()
+        read = Page(page(one))
+        self.assertEqual(list(map(": ".join, zip(read.texts["dt"], read.texts["dd"]))),
+                         list(summary(one.answer, lambda *line: "dd"))[1:])
+        self.assertIn("system", read.texts["dt"][0])
+
+    def test_the_head_says_how_it_is_read(self):
+        for text, title in ((page(damaged()), "side.tbc"), (index_of("index.html", []), "LaserDisc sides")):
+            read = Page(text)
+            self.assertTrue(text.startswith('<!DOCTYPE html>\n<html lang="en"><head><meta charset="utf-8"><title>'))
+            self.assertEqual(read.texts["title"][0], title)
+            self.assertEqual([tag for tag, _ in read.tags[:4]], ["html", "head", "meta", "title"])
+            self.assertIn(("meta", {"name": "viewport", "content": "width=device-width, initial-scale=1"}), read.tags)
 
     def test_numbers_are_those_of_the_answer(self):
         one = damaged()
@@ -119,8 +187,14 @@ class Pages(unittest.TestCase):
         self.assertEqual(set(re.findall("https?://[^\"' ]*", text)), {"http://www.w3.org/2000/svg"})
 
     def test_names_are_escaped(self):
-        read = Page(page(side([BLANK]), title='<b>"&\u00fc</b>.tbc'))
-        self.assertEqual(read.texts["h1"], ['<b>"&\u00fc</b>.tbc'])
+        name = '<b>"&\u00fc</b>.tbc'
+        one = side([BLANK] * 60)
+        one.answer["<b>&later</b>"] = [{"<b>&first": "<b>&one</b>"}]
+        read = Page(page(one, title=name, command="dd if='%s'" % name))
+        self.assertEqual([read.texts["h1"], read.texts["title"][:2]], [[name], [name, name]])
+        self.assertIn("dd if='%s'" % name, " ".join(read.texts["dd"]))
+        self.assertEqual(read.rows["<b>&later</b>"][1], ["<b>&one</b>"])
+        self.assertEqual(read.heads["<b>&later</b>"], ["<b>&first"])
         self.assertNotIn("b", [tag for tag, _ in read.tags])
 
     def test_bad_lines_are_drawn_up_to_a_count(self):
@@ -138,13 +212,57 @@ class Pages(unittest.TestCase):
         for text in (page(one), page(side(pictures([1])), plot)):
             self.assertNotIn("<h2>", text)
 
-
     def test_nothing_is_drawn_without_the_script(self):
         with unittest.mock.patch("ldvbi_side.draw.plot._PLACES", ()):
             self.assertIsNone(plotter(side(["? - -"]), "side.tbc"))
 
 
+class Plots(unittest.TestCase):
+    def test_each_is_that_of_plot_line_for_the_same_bytes(self):
+        """The words of worn lines are drawn from column 150, and the row of each is the one that is drawn behind it."""
+        words = {(1, 17): 0xF00001, (3, 17): 0xF00002, (3, 18): 0xF00002, (6, 16): 0x8DC0A1}
+        fields = [[0, 0, 0] for _ in range(7)]
+        for place, ((field, line), word) in enumerate(words.items()):
+            fields[field - 1][line - 16] = worn_line(word, NTSC, 7 + place, 10 + place)
+        name = "a <b>&.tbc"
+        with tempfile.TemporaryDirectory() as folder:
+            write_stream(os.path.join(folder, name), NTSC, fields)
+            system, black, white = NTSC
+            options = ["--system", system, "--black", str(black), "--white", str(white)]
+            run = [sys.executable, "-m", "ldvbi_side", name, *options, "--html", "page.html"]
+            subprocess.run(run, cwd=folder, check=True, timeout=DEADLINE)
+            with open(os.path.join(folder, "page.html"), encoding="utf-8") as file:
+                text = file.read()
+            folds = re.findall(r"<details><summary>field (\d+), line (\d+): .*?</summary>\n(.*?)</details>", text, re.S)
+            self.assertEqual([tuple(map(int, fold[:2])) for fold in folds], list(words))
+            for (place, word), fold in zip(words.items(), folds):
+                line = os.path.join(folder, "line.raw")
+                with open(line, "wb") as file:
+                    file.write(fields[place[0] - 1][place[1] - 16])
+                run = [sys.executable, os.path.join(TOP, "contrib", "plot_line.py"), line, *options, "--program",
+                       PROGRAM, "--title", "%s, field %d, line %d" % (name, *place), "--near", "%06X@150" % word]
+                drawn = subprocess.run(run, check=True, timeout=DEADLINE, capture_output=True)
+                self.assertEqual(fold[2], drawn.stdout.decode())
+
+
 class Indexes(unittest.TestCase):
+    def test_links_from_another_folder(self):
+        title = "<b>&one</b>.tbc"
+        with tempfile.TemporaryDirectory() as folder:
+            for name in ("pages", "indexes"):
+                os.mkdir(os.path.join(folder, name))
+            page_there = os.path.join(folder, "pages", "<b>&.html")
+            with open(page_there, "w", encoding="utf-8") as file:
+                file.write(page(side(pictures([1, 2])), title=title))
+            read = Page(index_of(os.path.join(folder, "indexes", "all.html"), [page_there],
+                                 [("<b>&bad</b>", "<b>&fault</b>")]))
+            self.assertEqual([known["href"] for tag, known in read.tags if tag == "a"],
+                             ["../pages/%3Cb%3E%26.html"])
+            self.assertEqual(read.texts["a"], [title])
+            self.assertEqual(read.texts["th"], ["side", "whole", "fields", "numbers", "lost", "why"])
+            self.assertEqual(read.texts["td"][:6], ["<b>&bad</b>", "fault", "", "", "", "<b>&fault</b>"])
+            self.assertNotIn("b", [tag for tag, _ in read.tags])
+
     def test_an_index(self):
         with tempfile.TemporaryDirectory() as folder:
             names = []

@@ -140,11 +140,14 @@ class Interrupted(Ends):
 
     def test_while_a_page_is_written(self):
         for signals, status in ((lambda one: os.killpg(one.pid, signal.SIGINT), 130),
+                                (lambda one: os.killpg(one.pid, signal.SIGHUP), 129),
+                                (lambda one: os.kill(one.pid, signal.SIGTERM), 143),
                                 (lambda one: os.kill(children(one.pid)[0], signal.SIGKILL), 2)):
-            process = self.writing_a_page()
-            signals(process)
-            self.assertEqual(len(self.ended(process, status).split("\n")), 2 if status == 130 else 3)
-            self.assertEqual(os.listdir(self.path("pages")), [] if status == 130 else ["index.html"])
+            with self.subTest(status):
+                process = self.writing_a_page()
+                signals(process)
+                self.assertEqual(len(self.ended(process, status).split("\n")), 3 if status == 2 else 2)
+                self.assertEqual(os.listdir(self.path("pages")), ["index.html"] if status == 2 else [])
 
     def writing_a_page(self):
         """A run that has begun to write a page, with drawings of many lines."""

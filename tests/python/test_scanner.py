@@ -139,7 +139,7 @@ class Refused(unittest.TestCase):
         self.assertEqual(text.reads, 1)
 
     def test_nested_and_long(self):
-        deep = "nested too deep, or with too long a number, at character 1"
+        deep = "nested too deep, or with too large a number, at character 1"
         self.refused("[" + "[" * 100000, deep, [1 << 18])
         self.refused('[{"a":' * 50000, deep, [1 << 18])
         if hasattr(sys, "set_int_max_str_digits"):
@@ -147,6 +147,42 @@ class Refused(unittest.TestCase):
         with mock.patch.object(scanner, "LONGEST", 20):
             self.assertEqual(len(scanned('["%s"]' % ("a" * 18), 1)), 1)
             self.refused('["%s"]' % ("a" * 100), "too long: what begins at character 1", [1, 5])
+
+    def test_as_deep_as_the_program_has_it(self):
+        """127 lists and objects in each other, also those that are gone through one by one."""
+        deep = "nested too deep, or with too large a number, at character %d"
+        for depth, is_taken in ((126, True), (127, False)):
+            for text, place in (("[%s]" % ("[" * depth + "]" * depth), 1),
+                                ("[1, %s]" % ('{"a":[' * (depth // 2) + "[" * (depth % 2) + "]" * (depth % 2)
+                                              + "]}" * (depth // 2)), 4)):
+                if is_taken:
+                    self.assertEqual(len(scanned(text, 50)), 2 if place == 4 else 1)
+                else:
+                    self.refused(text, deep % place, [50])
+        self.assertEqual(len(scanned("[%s]" % ",".join(["[[]]"] * 200), 50)), 200)  # many, and none deep
+
+    def test_numbers_without_an_end(self):
+        for text in ("NaN", "Infinity", "-Infinity", "1e999", "-1e999", '{"a":[NaN]}'):
+            self.refused("[%s]" % text, "nested too deep, or with too large a number, at character 1", [1 << 18])
+        self.assertEqual([value for _, value, *_ in scanned("[1e308,-1e-999]", 50)], [1e308, 0])
+
+    def test_a_text_without_an_end(self):
+        class Endless:
+            def __init__(self, begin, part):
+                self.next, self.part = begin, part
+
+            def read(self, count):
+                text, self.next = self.next or self.part, ""
+                return text
+
+        with mock.patch.object(scanner, "MOST", 10000):
+            for begin, part in (("[", " " * 300), ("[1", ",1" * 300), ("{", '"a":1,' * 50),
+                                ('{"a":[]', ' ,"b":{}' * 50)):
+                with self.assertRaises(NotJson) as caught:
+                    one = Scanner(Endless(begin, part), 700)
+                    for _ in one.members() if begin.startswith("{") else one.items():
+                        one.value()
+                self.assertEqual(str(caught.exception), "too long", (begin, part[:8]))
 
     def test_other_bytes(self):
         for data in (b'["\xff"]', b'["\xc3"]', b'["\xed\xa0\x80"]', "[]".encode("utf-16")):

@@ -6,7 +6,7 @@ import shutil
 import unittest
 
 import ldvbi
-from ldvbi_side.command.main import _parser
+from ldvbi_side.command.parsers import parser_of_side
 from scanned import BLANK, WHOLE, Scans, fields_of
 from streams import TOP
 
@@ -104,7 +104,8 @@ class Statuses(Scans):
                  for names, *cells in rows[2:] for name in names.split(", ")}
         wanted = {name: set(statuses) - {2} for name, (_, statuses) in [*OPTIONS.items(), *COMMANDS.items()]}
         self.assertEqual(found, {**wanted, **dict.fromkeys(PRINTED, {0})})
-        options = {name for action in _parser()._actions for name in action.option_strings if name.startswith("--")}
+        options = {name for action in parser_of_side("ldvbi-side")._actions for name in action.option_strings
+                   if name.startswith("--")}
         self.assertEqual({name for name in found if name.startswith("--")}, options - WITH_OTHERS)
 
 

@@ -15,7 +15,7 @@ def fault_text(error: Exception) -> str:
         return str(error)
     # What is opened or written elsewhere has its name.
     name = STANDARD_OUTPUT if error.filename is None else error.filename
-    return "%s: %s" % (STANDARD_INPUT if name == 0 else os.fsdecode(name), error.strerror)
+    return "%s: %s" % (STANDARD_INPUT if name == 0 else os.fsdecode(name) or "a file without a name", error.strerror)
 
 
 @contextlib.contextmanager

@@ -5,6 +5,7 @@ import os
 from typing import Dict, Iterable, List, NamedTuple, Optional
 
 TBC, DOCUMENT = ".tbc", ".vbi.json"
+MOST_OF_NAME = 200  # bytes; a name with all that comes to it may have 255
 # A compressed TBC file is a side that can't be read.
 _PACKED = tuple(TBC + end for end in (".gz", ".zst", ".flac"))
 
@@ -47,10 +48,12 @@ def _is_side(name, beside):
 
 def page_name(path: str) -> str:
     """The name of a side's page: that of its file, and eight digits that are made of its folder, so that two sides of
-    one name have two pages."""
-    folder = os.path.realpath(os.path.dirname(path))
-    digits = hashlib.sha256(os.fsencode(folder)).hexdigest()[:8]
-    return "%s-%s.html" % (os.path.basename(path), digits)
+    one name have two pages. Of a long name it has the beginning, and the digits are made of all of it, too."""
+    name, whole = os.path.basename(path), os.path.realpath(os.path.dirname(path))
+    begin = os.fsdecode(os.fsencode(name)[:MOST_OF_NAME])
+    if begin != name:
+        whole = os.path.join(whole, name)
+    return "%s-%s.html" % (begin, hashlib.sha256(os.fsencode(whole)).hexdigest()[:8])
 
 
 def files_of(path: str) -> List[str]:

@@ -10,19 +10,25 @@ from ..draw.marks import SKIPPED, fields_text
 from ..join.captures import capture_of
 from ..join.joined import join
 from ..judge.readings import Answer
+from ..outside import printable
 from ..side import Side
 from .outputs import refuse_inputs, whole_file
+from .statuses import statuses_text
 from .summary import listed, named
 
 DESCRIPTION = """Joins two or more captures of one side by their numbers. It says which numbers they have together,
-which of these each one lacks and who has them, which all lack, and where two of them disagree about a number."""
+which of these each one lacks and who has them, which all lack, and where two of them disagree about a number. Captures
+that can't be of one disc are refused. """ + statuses_text("join")
 TAKEN_COLUMNS = ("number", "source", "field", "frame", "how")
 RANGE_COLUMNS = ("first", "last", "source", "first field", "last field")
 
 
 def run_join(program: str, words: List[str], load: Callable[[str], Side]) -> int:
     """Prints what the captures that these words name have together. `load` makes the side of a file."""
-    options = _parser(program).parse_args(words)
+    parser = parser_of_join(program)
+    options = parser.parse_args(words)
+    if options.html == "":
+        parser.error("a file has to have a name")
     refuse_inputs([1, options.html], options.sides)
     # one side at a time, so that no more than one is held as a whole
     joined = join([capture_of(load(path), path) for path in options.sides])
@@ -37,11 +43,12 @@ def run_join(program: str, words: List[str], load: Callable[[str], Side]) -> int
     elif options.json:
         print(json.dumps(joined))
     elif not options.html:
-        print(*joined_text(joined), sep="\n")
+        print(*map(printable, joined_text(joined)), sep="\n")
     return 0
 
 
-def _parser(program):
+def parser_of_join(program: str) -> argparse.ArgumentParser:
+    """What reads the words behind `join`."""
     parser = argparse.ArgumentParser(prog=program + " join", description=DESCRIPTION)
     parser.add_argument("sides", nargs="+", metavar="SIDE", action=_TwoOrMore,
                         help="a document, or a TBC file with its metadata beside it; two or more of them")

@@ -1,6 +1,5 @@
 """The command `ldvbi-side`: what the words of a side mean."""
 
-import argparse
 import contextlib
 import csv
 import json
@@ -8,13 +7,14 @@ import os
 import sys
 from typing import List, Optional
 
-from ldvbi import Stream, System, __version__, field_bytes
+from ldvbi import Stream, field_bytes
 from ldvbi.document import is_document, write_document
 from ldvbi.metadata import beside, read_metadata, settings_of
 from ldvbi.packed import refuse_packed
 from ldvbi.stream import cut_of
 from ..draw.plot import plot_command
-from ..seek import seek, text_of, wanted_of
+from ..outside import NAME, bytes_of_document, drop_standard_output, flush, flush_or_drop, printable, say
+from ..seek import seek, text_of
 from ..judge.readings import Answer
 from ..side import Side, side_of_document, side_of_stream
 from .compare import compare, comparison_text
@@ -22,81 +22,14 @@ from .faults import SETTINGS, STANDARD_INPUT, fault_text, naming, no_metadata, r
 from .into import Into
 from .join import run_join
 from .map import COLUMNS as MAP_COLUMNS, map_rows
-from .outputs import drop_standard_output, refuse_inputs, whole_file
+from .outputs import refuse_inputs, whole_file
+from .parsers import parser_of_compare, parser_of_index, parser_of_side
 from .progress import Progress
 from .recovered import write_recovered
 from .statuses import FAULT, OF_SIDE, of_many
-from .summary import MOST_LINES, summary
+from .summary import summary
 from .tables import BAD_LINE_COLUMNS, FIELD_COLUMNS, bad_line_rows, field_rows
 
-NAME = "ldvbi-side"
-DESCRIPTION = """Reads a side from a TBC file, or from a document that `ldvbi extract` wrote, and says what its words
-mean. A file is taken for a document if its name ends with .json or its text begins as a document does. Statuses: 0
-yes: the side is whole, what is sought is found, or all else is done, 1 no: it isn't whole, or nothing is found, 2 a
-fault or a refused command line, 3 done and the last field is cut, 4 it can't be told whether the side is whole, 130
-ended by Ctrl-C. The words `compare SIDE SIDE` compare two sides, and `join SIDE SIDE..` joins captures of one; `index
-FILE PAGE..` writes a file that links pages of --html; `scan PATH..` prints a table of the sides in folders."""
-COMPARISON = """Compares two captures of one side by their numbers. It says which numbers only one of them has, and
-which of those that both have one of them shows better: by more lines, or by lines read without smoothing instead of
-others. Statuses: 0 done, 2 a fault, or sides that can't be of one disc, 3 done and the last field of one is cut."""
-LEVELS = "the sample of %s, from 0 to 65535; black is below white"
-
-
-def _wanted(text):
-    try:
-        return wanted_of(text)
-    except ValueError as error:
-        raise argparse.ArgumentTypeError(str(error)) from None
-
-
-def _parser():
-    parser = argparse.ArgumentParser(prog=NAME, description=DESCRIPTION)
-    parser.add_argument("side", help="the TBC file, or the document; - is standard input, for a document")
-    parser.add_argument("--version", action="version", version="%s %s" % (NAME, __version__))
-    parser.add_argument("--meta", metavar="FILE", help="take system and levels of a TBC file from this .tbc.json or "
-                        ".tbc.db of ld-decode, and not from the one beside the file. Levels with decimals are rounded "
-                        "to the next whole number. The count of fields in it is compared with the side. Its "
-                        "isFirstField shows single lost fields, of a document as well")
-    _add_settings(parser)
-    parser.add_argument("--no-recover", action="store_true", help="leave out the words that are recovered from worn "
-                        "lines of a TBC file, those of pass 3")
-    output = parser.add_mutually_exclusive_group()
-    output.add_argument("--csv", action="store_true", help="print a row for each field with any word")
-    output.add_argument("--json", action="store_true", help="print all that is known of the side, every list in full")
-    output.add_argument("--bad-lines", action="store_true", help="print a row for each line that shows no word of "
-                        "its own and isn't blank, with its cause, its offset in the TBC file, and the word "
-                        "that its samples are nearest to")
-    output.add_argument("--seek", metavar="WANTED", type=_wanted, help="print the first field of a picture (its "
-                        "number, or a CLV time h:mm:ss.pp), of a minute h:mm, of a second h:mm:ss, or of a chapter, as "
-                        "'chapter 3'; status 1 if there is none")
-    output.add_argument("--summary", action="store_true", help="print in at most %d lines whether the side is whole, "
-                        "and what to look at first (the default); "
-                        "status 0 if it is whole, 1 if it isn't, 4 if that can't be told" % MOST_LINES)
-    output.add_argument("--document", action="store_true", help="print the document of the TBC file, byte for byte as "
-                        "`ldvbi extract` writes it")
-    parser.add_argument("--recovered", action="store_true", help="copy with --into the recovered words, too; print "
-                        "with --document the one that has the recovered "
-                        "words, too, of version 3")
-    parser.add_argument("--strict", action="store_true", help="say that a side without lead-in or lead-out, or with an "
-                        "unread number, isn't whole")
-    parser.add_argument("-o", "--output", metavar="FILE", help="print into this file, which gets its name only when it "
-                        "is complete")
-    parser.add_argument("--svg", metavar="FILE", help="draw the side into this file; print only what another option "
-                        "asks for")
-    parser.add_argument("--html", metavar="FILE", help="write a page with all that is known of the side into this "
-                        "file, with drawings of the bad lines of a TBC file; print only what another option asks for")
-    parser.add_argument("--map", metavar="FILE", help="write into this file where each number, chapter and picture "
-                        "stop is, for a player to seek by; print only what another option asks for")
-    parser.add_argument("--into", metavar="FILE", help="write a copy of ld-decode's metadata into this file, of --meta "
-                        "or beside the TBC file, in which each field has its words as vbi.vbiData (in a .tbc.db a row "
-                        "of the table vbi); print only what another option asks for")
-    return parser
-
-
-def _add_settings(parser):
-    parser.add_argument("--system", choices=list(System.__members__))
-    parser.add_argument("--black", type=int, help=LEVELS % "black")
-    parser.add_argument("--white", type=int, help=LEVELS % "white")
 
 
 def _settings(options):
@@ -128,7 +61,7 @@ def _source(options, on_field=None):
         refuse_packed(_name_of(options), begin)
         side = None
         if is_standard_input or is_document(options.side, begin):
-            side = side_of_document(file.read())
+            side = side_of_document(bytes_of_document(file, begin))
     metadata = _metadata(options, on_field)
     return side or _stream(options, metadata), metadata
 
@@ -148,7 +81,7 @@ def _stream(options, metadata):
     with naming(metadata.path if metadata else options.side):
         settings = settings_of(metadata, *_settings(options))
     for note in settings.notes:
-        _note("%s: %s" % (options.side, note))
+        say("%s: %s" % (options.side, note))
     with naming(options.side):
         return Stream(options.side, settings.system, settings.black, settings.white, not options.no_recover)
 
@@ -184,16 +117,12 @@ def _add_fields(side, name, metadata, is_all):
     if metadata.fields is not None and metadata.fields != count:
         rest = " and %d bytes" % side.cut.bytes if side.cut else ""
         unused = ", so its isFirstField isn't used" if metadata.first else ""
-        _note("%s: %d fields%s, %s says %d%s: another system, or another file's metadata?" % (
+        say("%s: %d fields%s, %s says %d%s: another system, or another file's metadata?" % (
             name, count, rest, metadata.path, metadata.fields, unused))
         return
     side.first = metadata.first
     if is_all and side.first is None:
-        _note("%s has no isFirstField of each field" % metadata.path)
-
-
-def _note(text):
-    print("%s: %s" % (NAME, text), file=sys.stderr)
+        say("%s has no isFirstField of each field" % metadata.path)
 
 
 def _print_table(columns, rows, file=None):
@@ -206,7 +135,7 @@ def _cut_status(cut, system, name):
     """The status of what is printed of all whole fields of a side: 3 where the last one is cut, which is said then."""
     if cut is None:
         return 0
-    _note("%s: the last field is cut: field %d has %d of %d bytes" % (name, *cut, field_bytes(system)))
+    say("%s: the last field is cut: field %d has %d of %d bytes" % (name, *cut, field_bytes(system)))
     return 3
 
 
@@ -255,10 +184,12 @@ def _is_judged(options):
 
 def _options(words):
     """The options of these words, with the metadata beside the TBC file where they leave something open."""
-    parser = _parser()
+    parser = parser_of_side(NAME)
     options = parser.parse_args(words)
     if not (_is_printed(options) or any(_files(options))):
         options.summary = True
+    if "" in (options.meta, options.output, *_files(options)):
+        parser.error("a file has to have a name")
     if options.recovered and (not (options.document or options.into) or options.no_recover):
         parser.error("--recovered is of --document or --into, and not with --no-recover")
     is_open = options.into or None in _settings(options)
@@ -287,12 +218,7 @@ def _join(words):
 
 def _compare(words):
     """Prints what two sides have of each other's numbers."""
-    parser = argparse.ArgumentParser(prog=NAME + " compare", description=COMPARISON)
-    parser.add_argument("sides", nargs=2, metavar="SIDE", help="a document, or a TBC file with its metadata beside "
-                        "it or with the options below")
-    parser.add_argument("--json", action="store_true", help="print all stretches, as JSON")
-    _add_settings(parser)
-    options = parser.parse_args(words)
+    options = parser_of_compare(NAME).parse_args(words)
     refuse_inputs([1], options.sides)
     given = ["--%s=%s" % pair for pair in zip(("system", "black", "white"), _settings(options)) if pair[1] is not None]
     of_each = [_options([*given, "--", path]) for path in options.sides]
@@ -300,16 +226,13 @@ def _compare(words):
     _refuse_settings(options, options.sides, [source for source, _ in sources])
     sides = [_loaded(*source, one) for source, one in zip(sources, of_each)]
     found = compare(*sides, options.sides)
-    print(json.dumps(found) if options.json else "\n".join(comparison_text(found, options.sides)))
+    print(*[json.dumps(found)] if options.json else map(printable, comparison_text(found, options.sides)), sep="\n")
     return of_many(_cut_status(side.cut, side.system, path) for side, path in zip(sides, options.sides))
 
 
 def _index(words):
     """Writes a page that links those of many sides."""
-    parser = argparse.ArgumentParser(prog=NAME + " index", description="Writes a page that links these pages.")
-    parser.add_argument("index", metavar="FILE", help="the page to write")
-    parser.add_argument("pages", nargs="+", metavar="PAGE", help="a page that --html wrote")
-    options = parser.parse_args(words)
+    options = parser_of_index(NAME).parse_args(words)
     refuse_inputs([options.index], options.pages)
     from ..draw.index import index_of
     text = index_of(options.index, options.pages)
@@ -367,7 +290,7 @@ def _answer(options):
         print(text_of(found))
         return int(found is None)
     if options.summary:
-        print(*summary(side.answer, _plot_command(side, options)), sep="\n")
+        print(*map(printable, summary(side.answer, _plot_command(side, options))), sep="\n")
         return OF_SIDE[side.answer["whole"]]
     if options.json:
         json.dump(side.answer, sys.stdout)
@@ -383,12 +306,16 @@ def main(words: Optional[List[str]] = None) -> int:
     words = sys.argv[1:] if words is None else words
     try:
         command = {"compare": _compare, "join": _join, "index": _index, "scan": _scan}.get(words[0] if words else "")
-        status = command(words[1:]) if command else _run(_options(words))
-        sys.stdout.flush()
+        try:
+            status = command(words[1:]) if command else _run(_options(words))
+        except SystemExit:
+            flush()  # of --help, or of a refused command line
+            raise
+        flush()
         return status
     except BrokenPipeError:
         drop_standard_output()
-        return FAULT
     except (OSError, ValueError) as error:
-        _note(fault_text(error))
-        return FAULT
+        say(fault_text(error))
+        flush_or_drop()
+    return FAULT

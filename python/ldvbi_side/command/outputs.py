@@ -2,13 +2,14 @@
 
 import contextlib
 import errno
+import hashlib
 import os
 import shutil
 import stat
-import sys
 from typing import IO, Iterable, Iterator, Optional, Sequence, Union
 
 Place = Union[str, int, None]  # a file: its path, the number of an open one, or none
+_LONGEST_NAME = 255  # bytes of a file's name
 
 
 @contextlib.contextmanager
@@ -63,7 +64,7 @@ def whole_path(path: str, ends: Sequence[str]) -> Iterator[str]:
 def _opened(path, name, mode):
     """The file of this name, in the place of the one that was asked for: what goes wrong is said of that."""
     try:
-        return open(name, mode, encoding="utf-8")
+        return open(name, mode, encoding="utf-8", errors="surrogateescape")  # a name may be no text
     except OSError as error:
         error.filename = path
         raise
@@ -83,10 +84,21 @@ def _named_where_written(path):
 def _part_of(target):
     """What a part of a file is called until it is whole. There may be none yet, of an earlier process with this number:
     so what is there later is ours, from the moment on in which it is made."""
-    part = "%s.%d.part" % (target, os.getpid())
+    part = _part_by(target, os.getpid())
     if os.path.lexists(part):
         raise FileExistsError(errno.EEXIST, os.strerror(errno.EEXIST), part)
     return part
+
+
+def _part_by(target, process):
+    """What this process calls the part. Of a long name it has the beginning, and digits that are made of all of it."""
+    folder, name = os.path.split(target)
+    end = ".%d.part" % process
+    data = os.fsencode(name)
+    if len(data) + len(end) > _LONGEST_NAME:
+        end = ".%s%s" % (hashlib.sha256(data).hexdigest()[:8], end)
+        name = os.fsdecode(data[:_LONGEST_NAME - len(end)])
+    return os.path.join(folder, name + end)
 
 
 def _rename(part, target):
@@ -100,7 +112,7 @@ def drop_part(path: str, process: int) -> None:
     """Removes what a process, which has ended, left of a file that it was to write to this path: nothing, if it could
     see to that itself."""
     with contextlib.suppress(FileNotFoundError):
-        os.unlink("%s.%d.part" % (os.path.realpath(path), process))
+        os.unlink(_part_by(os.path.realpath(path), process))
 
 
 def refuse_inputs(outputs: Iterable[Place], inputs: Iterable[Place]) -> None:
@@ -113,11 +125,6 @@ def refuse_inputs(outputs: Iterable[Place], inputs: Iterable[Place]) -> None:
             raise ValueError("%s would be written in the place of an input or of another output"
                              % ("standard output" if place == 1 else place))
         known |= {identity} - {None}
-
-
-def drop_standard_output() -> None:
-    """Lets go of what was printed and isn't written yet, since nobody reads it: nothing is written at the end."""
-    os.dup2(os.open(os.devnull, os.O_WRONLY), sys.stdout.fileno())
 
 
 def _identity(place):

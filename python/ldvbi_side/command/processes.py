@@ -90,6 +90,8 @@ def _without_interrupts():
 def _run(job, task, connection):
     """Runs the job in its process."""
     signal.signal(signal.SIGTERM, _leave)
+    if signal.getsignal(signal.SIGHUP) != signal.SIG_IGN:  # as it is behind nohup
+        signal.signal(signal.SIGHUP, _leave)
     with contextlib.suppress(BrokenPipeError):  # nobody listens any longer
         job(task, connection.send)
 

@@ -1,10 +1,11 @@
 """The table of `scan`: a row for each side, as text, as CSV or as JSON."""
 
 import csv
-import io
 import json
 import sys
 from typing import Any, Dict, List, Optional, Sequence
+
+from ..outside import legible, printable
 
 VERSION = 1  # of the form of the JSON
 COLUMNS = ("side", "whole", "lost", "unread", "format", "from", "to", "fields", "why")
@@ -23,7 +24,8 @@ def row_of(path: str, said: Dict[str, Any], page: Optional[str]) -> Row:
 
 def fault_row(path: str, fault: str) -> Row:
     """The row of a side that wasn't read, and why."""
-    return {**dict.fromkeys(COLUMNS[:-1]), "side": path, "reasons": [], "fault": " ".join(fault.split()), "page": None}
+    return {**dict.fromkeys(COLUMNS[:-1]), "side": path, "reasons": [], "fault": legible(" ".join(fault.split())),
+            "page": None}
 
 
 def _cells(row):
@@ -51,7 +53,7 @@ class Text(Table):
         self._print(COLUMNS)
 
     def add(self, row: Row) -> None:
-        self._print(["-" if cell is None else _printable(str(cell)) for cell in _cells(row)])
+        self._print(["-" if cell is None else printable(str(cell)) for cell in _cells(row)])
 
     def _print(self, cells):
         first, second, *others = cells
@@ -60,17 +62,10 @@ class Text(Table):
         print("  ".join(texts + [cells[-1]]).rstrip(), flush=True)
 
 
-def _printable(text):
-    """A text for a terminal: a name may have a line end in it, or what is no text."""
-    return "".join(one if one.isprintable() else "?" for one in text)
-
-
 class Csv(Table):
     """Rows for scripts."""
 
     def __init__(self) -> None:
-        if isinstance(sys.stdout, io.TextIOWrapper):
-            sys.stdout.reconfigure(errors="surrogateescape")  # a name that is no text is printed as it is
         self._table = csv.writer(sys.stdout, lineterminator="\n")
         self._table.writerow(COLUMNS)
 

@@ -7,7 +7,6 @@ import io
 import itertools
 import os
 import signal
-import sys
 import time
 from typing import Callable, List, Optional
 
@@ -17,18 +16,18 @@ from ldvbi.packed import refuse_packed
 from ..draw.index import head_of, index_of
 from ..draw.page import said_of
 from ..judge.readings import Answer
+from ..outside import say
 from .faults import fault_text, no_metadata
 from .folders import files_of, page_name, sides_in
 from .outputs import drop_part, refuse_inputs, whole_file
 from .processes import Ended, SideBySide
 from .progress import SidesProgress, heard_by
 from .rows import Csv, Json, Text, fault_row, row_of
-from .statuses import FAULT, OF_SIDE, of_many
+from .statuses import FAULT, OF_SIDE, of_many, statuses_text
 
 DESCRIPTION = """Prints a table with a row for each side in these files and folders, which are gone through whole: its
-.tbc files, with their metadata beside them, and its .vbi.json documents without a .tbc beside them. Statuses: 0 all
-sides are whole, 1 some aren't, 2 a fault, of a side or of the command line, 4 none is known not to be whole, but of
-some it can't be told, 130 ended by Ctrl-C."""
+.tbc files, with their metadata beside them, and its .vbi.json documents without a .tbc beside them. A side that can't
+be read has a row with its fault, and the others go on. """ + statuses_text("scan")
 INDEX = "index.html"
 MOST_JOBS = 4  # where the command line doesn't say
 # About how many bytes of a file there are to a field
@@ -42,7 +41,8 @@ def _jobs(text):
     return int(text)
 
 
-def _options(words):
+def parser_of_scan() -> argparse.ArgumentParser:
+    """What reads the words behind `scan`."""
     parser = argparse.ArgumentParser(prog="ldvbi-side scan", description=DESCRIPTION)
     parser.add_argument("paths", nargs="+", metavar="PATH", help="a TBC file, a document, or a folder")
     parser.add_argument("-j", "--jobs", metavar="N", type=_jobs, default=min(os.cpu_count() or 1, MOST_JOBS),
@@ -54,7 +54,14 @@ def _options(words):
     parser.add_argument("--html", metavar="FOLDER", help="write a page for each side into this folder, and %s, which "
                         "links them. A side whose page is newer than its files isn't read again" % INDEX)
     parser.add_argument("--again", action="store_true", help="read each side, and write its page anew")
+    return parser
+
+
+def _options(words):
+    parser = parser_of_scan()
     options = parser.parse_args(words)
+    if options.html == "":
+        parser.error("a folder has to have a name")
     if options.again and not options.html:
         parser.error("--again is of --html")
     return options
@@ -80,7 +87,7 @@ def scan(words: List[str], read: Read) -> int:
         for row, notes in _in_order(itertools.chain(kept.items(), _results(messages, progress, sides, left))):
             progress.clear()
             for note in notes:
-                print("ldvbi-side: " + note, file=sys.stderr)
+                say(note)
             table.add(row)
             rows.append(row)
     table.end()

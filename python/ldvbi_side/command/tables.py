@@ -9,9 +9,21 @@ from ..judge.paces import minute_text
 from ..near import measured
 from ..side import Side
 
-FIELD_COLUMNS = ("field", "frame", "format", "picture", "chapter", "time", "stop", "doubt", "status", "users",
-                 "unknown")
-BAD_LINE_COLUMNS = ("field", "line", "cause", "offset", "nearest", "distance", "rival")
+# The columns with what they hold, which docs/SIDES.md has from here
+FIELD_COLUMNS = {
+    "field": "a field with a word", "frame": "its frame", "format": "by the field's own codes, as `show` has it",
+    "picture": "as believed: a doubtful field has none", "chapter": "likewise", "time": "likewise",
+    "stop": "`stop` where one is believed", "doubt": "each word that was set aside, and why",
+    "status": "line 16's programme status, as `show` has it", "users": "its users' code, likewise",
+    "unknown": "the words that are no code",
+}
+BAD_LINE_COLUMNS = {
+    "field": "the line's field", "line": "16, 17 or 18", "cause": "as in the document",
+    "offset": "the line's first byte in the TBC file",
+    "nearest": "the word that is nearest to the line alone, or `-` where that of none, black, is as near as any",
+    "distance": "how far the line is from it, in hundredths of a column: 100 is a column with the other level",
+    "rival": "how far it is from any other word, likewise",
+}
 NONE = "-"  # of a line to which the row of no word is as near as any
 
 

@@ -23,16 +23,15 @@ HEIGHT, STEP = 28, 34  # of a band, and from band to band, in pixels
 LEAST_SHARE = 4  # pixels of a band for what is neither a word of pass 1 nor blank
 
 
-def draw_legend(svg: Svg, x: int, y: int, is_recovered: bool) -> int:
-    """The colours with their names, from left to right, that of recovered words where there are some. The answer is
-    where the next one would stand."""
+def draw_legend(svg: Svg, x: int, y: int, is_recovered: bool) -> None:
+    """The colours with their names, from left to right, that of recovered words where there are some. All of them stand
+    within what a page 900 pixels wide shows of the drawing."""
     for name, fill in SHOWN.items():
         if name == "recovered" and not is_recovered:
             continue
         svg.box(x, y - 11, 14, 14, fill)
         svg.text(x + 20, y + 1, name)
-        x += 7 * len(name) + 44
-    return x
+        x += 7 * len(name) + 34
 
 
 def draw_bands(svg: Svg, fields: Fields, axis: Axis, top: int) -> None:

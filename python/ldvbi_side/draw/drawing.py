@@ -11,7 +11,7 @@ from .svg import Svg, shortened, text_width
 
 # The drawing's own measures, in pixels; those of its axis are in axis.py
 RIGHT = 30
-TITLE_Y, SYSTEM_Y, LEGEND_Y = 28, 50, 76
+TITLE_Y, SYSTEM_Y, BANDS_LEGEND_Y, LEGEND_Y = 28, 46, 66, 84
 BANDS_TOP = 94
 DISC_TOP, DISC_HEIGHT = 200, 18
 STOPS_TOP, STOPS_HEIGHT = 224, 12
@@ -47,7 +47,7 @@ def drawing_of(side: Side, title: str) -> str:
 
 
 def _draw_head(svg, answer, title):
-    """The side's name, its system and format, and the colours of the bands."""
+    """The side's name, its system and format, the colours of the bands, and what else is drawn."""
     svg.text(LEFT, TITLE_Y, shortened(title, WIDTH, 17), title, class_="title", font_size=17, font_weight="bold")
     cut = answer["cutField"]
     parts = [answer["system"], {"neither": "no code of CAV or CLV"}.get(answer["format"], answer["format"].upper())]
@@ -60,12 +60,11 @@ def _draw_head(svg, answer, title):
             answer["numbers"]["count"], name, "" if answer["numbers"]["count"] == 1 else "s",
             answer["numbers"]["least"], answer["numbers"]["greatest"]))
     svg.text(LEFT, SYSTEM_Y, ", ".join(parts), class_="system")
-    x = bands.draw_legend(svg, LEFT, LEGEND_Y, any(rates["near"] for rates in answer["lines"].values()))
-    svg.box(x, LEGEND_Y - 11, 14, 14, END_COLOUR)
-    svg.text(x + 20, LEGEND_Y + 1, "lead-in, lead-out")
-    x += 160
-    curve.draw_ring(svg, x + 7, LEGEND_Y - 4)
-    svg.text(x + 20, LEGEND_Y + 1, "doubtful number")
+    bands.draw_legend(svg, LEFT, BANDS_LEGEND_Y, any(rates["near"] for rates in answer["lines"].values()))
+    svg.box(LEFT, LEGEND_Y - 11, 14, 14, END_COLOUR)
+    svg.text(LEFT + 20, LEGEND_Y + 1, "lead-in, lead-out")
+    curve.draw_ring(svg, LEFT + 167, LEGEND_Y - 4)
+    svg.text(LEFT + 180, LEGEND_Y + 1, "doubtful number")
 
 
 def _draw_no_numbers(svg, answer):

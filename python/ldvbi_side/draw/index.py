@@ -1,5 +1,6 @@
 """A page that links the pages of many sides, with what each says of itself."""
 
+import contextlib
 import html
 import json
 import os
@@ -11,9 +12,10 @@ from urllib.parse import quote
 from ..judge.answer import VERSION
 from ..judge.readings import Answer
 from ..judge.whole import NO, OPEN, YES, counted
-from .page import MARK, STYLE
+from .page import MARK, STYLE, escaped
 
 PART = 65536  # characters of a page that are read at once
+MOST_PARTS = 64  # in which the head of a page has an end
 
 
 class _Head(HTMLParser):
@@ -41,26 +43,44 @@ class _Head(HTMLParser):
 def _parsed(text):
     """What a page says of itself, or None where it is no page of a side."""
     try:
-        said = json.loads(text)
+        said = json.loads(text, parse_constant=_no_number)
     except (ValueError, RecursionError):
         return None
     return said if isinstance(said, dict) else None
+
+
+def _no_number(name):
+    raise ValueError(name)
+
+
+def _is_said(said):
+    """Whether these are the members that a page has of its side."""
+    try:
+        numbers, counts = said["numbers"], said.get("counts", {"lost": 0, "unread": 0})
+        known = [numbers["count"], said["fields"], counts["lost"], counts["unread"]]
+        texts = [said["format"], said["lost"], *(one["text"] for one in said["reasons"])]
+        return (said["whole"] in (NO, OPEN, YES) and {"least", "greatest"} <= numbers.keys()
+                and all(type(one) is int for one in known) and all(isinstance(one, str) for one in texts))
+    except (AttributeError, KeyError, TypeError):
+        return False
 
 
 def head_of(page: str) -> Tuple[str, Answer]:
     """The title of a page, and what it says of itself. Of its body, which may be long, little is read. A ValueError
     where it is no page of a side, or has another form."""
     head = _Head()
-    with open(page, encoding="utf-8", errors="replace") as file:
-        while not head.is_read:
+    with open(page, encoding="utf-8", errors="replace") as file, contextlib.suppress(AssertionError):
+        for _ in range(MOST_PARTS):  # of what isn't HTML the parser asserts that it is
             part = file.read(PART)
-            if not part:
+            if head.is_read or not part:
                 break
             head.feed(part)
     if head.said is None:
         raise ValueError("%s is no page that --html wrote" % page)
     if head.said.get("version") != VERSION:
         raise ValueError("%s is a page of another version: write it again" % page)
+    if not _is_said(head.said):
+        raise ValueError("%s is no page that --html wrote" % page)
     return head.title, head.said
 
 
@@ -71,7 +91,7 @@ def index_of(path: str, pages: Iterable[str], faults: Sequence[Tuple[str, str]] 
     rows = []
     for page in pages:
         title, said = head_of(page)
-        link = quote(os.path.relpath(page, os.path.dirname(os.path.abspath(path))).replace(os.sep, "/"))
+        link = quote(os.fsencode(os.path.relpath(page, os.path.dirname(os.path.abspath(path)))))
         rows.append((said, link, title))
     rows.sort(key=lambda row: (NO, OPEN, YES).index(row[0]["whole"]))
     counts = Counter(said["whole"] for said, _, _ in rows)
@@ -87,7 +107,7 @@ def index_of(path: str, pages: Iterable[str], faults: Sequence[Tuple[str, str]] 
 
 
 def _fault_row(fault):
-    title, text = map(html.escape, fault)
+    title, text = map(escaped, fault)
     return "<tr><td>%s</td><td>fault</td><td></td><td></td><td></td><td>%s</td></tr>" % (title, text)
 
 
@@ -98,4 +118,4 @@ def _row(row):
     reasons = "; ".join(one["text"] for one in said["reasons"])
     cells = (said["whole"], said["fields"], span, said["lost"], reasons)
     return '<tr><td><a href="%s">%s</a></td>%s</tr>' % (
-        html.escape(link), html.escape(title), "".join("<td>%s</td>" % html.escape(str(cell)) for cell in cells))
+        escaped(link), escaped(title), "".join("<td>%s</td>" % escaped(cell) for cell in cells))

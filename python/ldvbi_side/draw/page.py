@@ -3,11 +3,12 @@ answer behind a fold, and its bad lines drawn, where the TBC file is there."""
 
 import html
 import json
-from typing import Callable, Iterable, Optional
+from typing import Any, Callable, Iterable, Optional
 
 from ldvbi.codes import LINES
 from ..judge.readings import Answer
 from ..judge.whole import NO, OPEN, YES, counted, counted_by, lost_fields_text
+from ..outside import shown
 from ..side import Side
 from .bands import SHOWN
 from .drawing import drawing_of
@@ -44,9 +45,9 @@ def page_of(side: Side, title: str, summary: Iterable[str], plot: Optional[Calla
     as an SVG; it is None where the TBC file isn't there."""
     answer = side.answer
     facts = [line.partition(": ") for line in summary][1:]
-    parts = [_head(title, answer), "<h1>%s</h1>" % _escaped(title), _verdict(answer),
+    parts = [_head(title, answer), "<h1>%s</h1>" % escaped(title), _verdict(answer),
              '<div class="wide">%s</div>' % drawing_of(side, title),
-             "<dl>%s</dl>" % "".join("<dt>%s</dt><dd>%s</dd>" % (_escaped(name), _escaped(text))
+             "<dl>%s</dl>" % "".join("<dt>%s</dt><dd>%s</dd>" % (escaped(name), escaped(text))
                                      for name, _, text in facts)]
     parts += [_fold(name, answer[name]) for name in LISTS]
     # a list that a later answer has is on the page, too
@@ -56,8 +57,9 @@ def page_of(side: Side, title: str, summary: Iterable[str], plot: Optional[Calla
     return "\n".join(parts + ["</body></html>", ""])
 
 
-def _escaped(value):
-    return html.escape(str(value))
+def escaped(value: Any) -> str:
+    """A value as text of HTML."""
+    return html.escape(shown(str(value)))
 
 
 def said_of(answer: Answer) -> Answer:
@@ -70,7 +72,7 @@ def said_of(answer: Answer) -> Answer:
 def _head(title, answer):
     return ('<!DOCTYPE html>\n<html lang="en"><head><meta charset="utf-8"><title>%s</title>\n'
             '<meta name="viewport" content="width=device-width, initial-scale=1">\n<meta name="%s" content="%s">\n'
-            "<style>%s</style></head><body>" % (_escaped(title), MARK, _escaped(json.dumps(said_of(answer))), STYLE))
+            "<style>%s</style></head><body>" % (escaped(title), MARK, escaped(json.dumps(said_of(answer))), STYLE))
 
 
 def _lost_text(answer):
@@ -81,21 +83,21 @@ def _lost_text(answer):
 
 
 def _verdict(answer):
-    reasons = "".join("<li>%s</li>" % _escaped(one["text"]) for one in answer["reasons"])
+    reasons = "".join("<li>%s</li>" % escaped(one["text"]) for one in answer["reasons"])
     return '<div class="%s">whole: %s%s</div>' % (
-        CLASSES[answer["whole"]], _escaped(answer["whole"]), "<ul>%s</ul>" % reasons if reasons else "")
+        CLASSES[answer["whole"]], escaped(answer["whole"]), "<ul>%s</ul>" % reasons if reasons else "")
 
 
 def _fold(name, ones):
     """A list of the answer in full, behind its name and how many rows it has."""
     title = "%s: %d" % (LISTS.get(name, name), len(ones))
     if not ones:
-        return "<p>%s</p>" % _escaped(title)
+        return "<p>%s</p>" % escaped(title)
     columns = _COLUMNS.get(name) or list(ones[0])
-    head = "".join("<th>%s</th>" % _escaped(column) for column in columns)
+    head = "".join("<th>%s</th>" % escaped(column) for column in columns)
     rows = "\n".join("<tr>%s</tr>" % "".join("<td>%s</td>" % _cell(cell) for cell in _cells(one)) for one in ones)
     return ('<details id="%s"><summary>%s</summary><div class="wide"><table><thead><tr>%s</tr></thead>\n<tbody>%s'
-            "</tbody></table></div></details>" % (name, _escaped(title), head, rows))
+            "</tbody></table></div></details>" % (name, escaped(title), head, rows))
 
 
 def _cells(one):
@@ -109,10 +111,10 @@ def _cell(value):
     if value is None:
         return ""
     if isinstance(value, dict):
-        return _escaped("%(number)s in field %(field)d" % value)
+        return escaped("%(number)s in field %(field)d" % value)
     if isinstance(value, bool):
         return "yes" if value else "no"
-    return _escaped(", ".join(map(str, value)) if isinstance(value, list) else value)
+    return escaped(", ".join(map(str, value)) if isinstance(value, list) else value)
 
 
 def _plots(side, plot):

@@ -7,6 +7,7 @@ from typing import Callable, Optional
 
 from ..judge.readings import Answer
 from ..near import nearest_in
+from ..outside import shown
 from ..side import Side
 from .plot import script
 
@@ -24,7 +25,7 @@ def plotter(side: Side, path: str) -> Optional[Callable[[Answer], str]]:
             file.seek(bad["offset"])
             line = file.read(bad["bytes"])
         samples = [low + 256 * high for low, high in zip(line[::2], line[1::2])]
-        title = "%s, field %d, line %d" % (os.path.basename(path), bad["field"], bad["line"])
+        title = "%s, field %d, line %d" % (shown(os.path.basename(path)), bad["field"], bad["line"])
         return picture(samples, bad["cause"], SimpleNamespace(
             system=side.system.name, black=side.levels.black, white=side.levels.white, first=0, last=len(samples) - 1,
             title=title), _nearest_row(side, bad))

@@ -1,10 +1,16 @@
 """The parts of an SVG: texts, boxes, lines and paths, each with a title that a browser shows under the pointer."""
 
 from typing import Any, List, Optional
-from xml.sax.saxutils import escape, quoteattr
+from xml.sax import saxutils
+
+from ..outside import shown
 
 # About the width of a character, in pixels at a font size of 1; the widest letters are wider
 CHARACTER = 0.65
+
+
+def escape(text: str) -> str:
+    return saxutils.escape(shown(text))
 
 
 def text_width(text: str, size: float) -> float:
@@ -26,7 +32,7 @@ def _attributes(values):
     for name, value in values.items():
         if value is not None:
             value = ("%.1f" % value).replace(".0", "") if isinstance(value, float) else str(value)
-            texts.append(" %s=%s" % (name.rstrip("_").replace("_", "-"), quoteattr(value)))
+            texts.append(" %s=%s" % (name.rstrip("_").replace("_", "-"), saxutils.quoteattr(value)))
     return "".join(texts)
 
 

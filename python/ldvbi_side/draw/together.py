@@ -1,12 +1,11 @@
 """What several captures of one side have together, as one page of HTML that needs nothing else: in words, as bars, and
 in full lists."""
 
-import html
 from typing import Any, Iterable, List
 
 from ..judge.readings import Answer
 from .bars import bars_of
-from .page import STYLE
+from .page import STYLE, escaped
 
 # The lists of the answer that the page has, and how it names them
 LISTS = {
@@ -20,8 +19,8 @@ def page_of_joined(joined: Answer, lines: Iterable[str]) -> str:
     title = ", ".join(one["name"] for one in joined["captures"])
     parts = ['<!DOCTYPE html>\n<html lang="en"><head><meta charset="utf-8"><title>%s</title>\n'
              '<meta name="viewport" content="width=device-width, initial-scale=1">\n<style>%s</style></head><body>'
-             % (_escaped(title), STYLE), "<h1>%s</h1>" % _escaped(title)]
-    parts += ["<p>%s</p>" % _escaped(line) for line in lines]
+             % (escaped(title), STYLE), "<h1>%s</h1>" % escaped(title)]
+    parts += ["<p>%s</p>" % escaped(line) for line in lines]
     parts.append('<div class="wide">%s</div>' % bars_of(joined))
     for name, text in LISTS.items():
         parts.append(_fold(name, text, joined[name]))
@@ -30,17 +29,17 @@ def page_of_joined(joined: Answer, lines: Iterable[str]) -> str:
     return "\n".join(parts + ["</body></html>", ""])
 
 
-def _escaped(value: Any) -> str:
-    return html.escape(", ".join(value) if isinstance(value, list) else str(value))
-
-
 def _fold(name: str, text: str, ones: List[Answer]) -> str:
     """A list in full, behind its name and how many rows it has."""
-    title = "%s: %d" % (_escaped(text), len(ones))
+    title = "%s: %d" % (escaped(text), len(ones))
     if not ones:
         return "<p>%s</p>" % title
     head = "".join("<th>%s</th>" % column for column in ones[0])
-    rows = "\n".join("<tr>%s</tr>" % "".join("<td>%s</td>" % _escaped(value) for value in one.values())
+    rows = "\n".join("<tr>%s</tr>" % "".join("<td>%s</td>" % _cell(value) for value in one.values())
                      for one in ones)
     return ('<details id="%s"><summary>%s</summary><div class="wide"><table><thead><tr>%s</tr></thead>\n<tbody>%s'
             "</tbody></table></div></details>" % (name, title, head, rows))
+
+
+def _cell(value: Any) -> str:
+    return escaped(", ".join(value) if isinstance(value, list) else value)

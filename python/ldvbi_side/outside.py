@@ -1,0 +1,141 @@
+"""What is outside of the command, and may be otherwise than it expects: standard streams that are closed, signals, and
+names and texts of others that no terminal and no page can show. It imports little, so that signals are heeded before
+the rest of the command is loaded."""
+
+import io
+import os
+import signal
+import sys
+from types import FrameType
+from typing import IO, Optional
+
+NAME = "ldvbi-side"
+INTERRUPTED = 130  # the status after Ctrl-C, as a shell has it
+MOST_SAID = 600  # characters of a message
+MOST_BYTES = 1 << 29  # of a document; the longest that the program writes has a quarter of that
+_BEGINS = b'{["-0123456789tfn'  # what a JSON text may begin with
+_STOPPING = tuple(getattr(signal, name) for name in ("SIGINT", "SIGTERM", "SIGHUP") if hasattr(signal, name))
+
+
+# ---- Signals
+
+class Stopped(KeyboardInterrupt):
+    """A signal asked for the end. `status` is that of the process, as a shell has it for one that a signal ended."""
+
+    def __init__(self, number: int) -> None:
+        super().__init__()
+        self.status = 128 + number
+
+
+def end_at_once() -> None:
+    """Has signals that ask for the end do so as they are, for as long as nothing is written: what is loaded meanwhile
+    could take an exception for its own."""
+    _heed(lambda number, _: os._exit(128 + number))
+
+
+def end_in_order() -> None:
+    """Has the first signal that asks for the end raise `Stopped`, which leaves nothing unfinished behind; those that
+    come after it are ignored, since they could hinder just that."""
+    _heed(_stop)
+
+
+def _heed(handler):
+    for number in _STOPPING:
+        if signal.getsignal(number) != signal.SIG_IGN:  # nohup, say, wants it to stay so
+            signal.signal(number, handler)
+
+
+def _stop(number: int, _: Optional[FrameType]) -> None:
+    for one in _STOPPING:
+        signal.signal(one, signal.SIG_IGN)
+    raise Stopped(number)
+
+
+# ---- Standard streams
+
+def open_streams() -> None:
+    """Puts something in the place of standard streams that are closed, so that no file that is opened later gets their
+    numbers. What is read from such an input or printed to such an output fails; what is said is lost. A name that is no
+    text is printed as it is."""
+    for number, mode in enumerate((os.O_WRONLY, os.O_RDONLY, os.O_WRONLY)):
+        try:
+            os.fstat(number)
+        except OSError:
+            os.open(os.devnull, mode)  # it gets the least number that is free
+            os.set_inheritable(number, True)
+    sys.stdout = sys.stdout or open(1, "w", encoding="utf-8", closefd=False)
+    sys.stderr = sys.stderr or open(2, "w", encoding="utf-8", errors="backslashreplace", closefd=False)
+    if isinstance(sys.stdout, io.TextIOWrapper):
+        is_unicode = sys.stdout.encoding.lower() in ("utf-8", "utf8")
+        sys.stdout.reconfigure(errors="surrogateescape" if is_unicode else "backslashreplace")
+
+
+def drop_standard_output() -> None:
+    """Lets go of what was printed and isn't written yet, since nobody takes it: nothing is written at the end."""
+    _drop(sys.stdout)
+
+
+def _drop(stream):
+    os.dup2(os.open(os.devnull, os.O_WRONLY), stream.fileno())
+
+
+def flush() -> None:
+    """Writes what was printed and said so far. An OSError where what was printed can't be written."""
+    try:
+        sys.stderr.flush()
+    except OSError:
+        _drop(sys.stderr)
+    sys.stdout.flush()
+
+
+def flush_or_drop() -> None:
+    """Writes what was printed before a fault, where this can be written."""
+    try:
+        flush()
+    except OSError:
+        drop_standard_output()
+
+
+def say(text: str) -> None:
+    """Writes a message to standard error, in one line. Where nobody takes it, the work goes on."""
+    try:
+        print("%s: %s" % (NAME, legible(text)), file=sys.stderr)
+    except OSError:
+        pass  # `flush` sees to it
+
+
+# ---- Names and texts
+
+def bytes_of_document(file: IO[bytes], begin: bytes) -> bytes:
+    """All bytes of a document, which begins with these: a ValueError where there is no end of them. Of what begins as
+    none no more is read."""
+    if begin.strip() and not begin.lstrip()[0] in _BEGINS:
+        return begin
+    data = file.read(MOST_BYTES + 1)
+    if len(data) > MOST_BYTES:
+        raise ValueError("it is longer than any document")
+    return data
+
+
+def legible(text: str) -> str:
+    """A text for a message: escaped where it would act on a terminal, and without its middle where it is long."""
+    if not text.isprintable():
+        text = "".join(one if one.isprintable() else one.encode("unicode_escape").decode("ascii") for one in text)
+    end = MOST_SAID // 3
+    return text if len(text) <= MOST_SAID else text[:MOST_SAID - end - 3] + "..." + text[-end:]
+
+
+def printable(text: str) -> str:
+    """A text for a terminal, with a question mark for each character that isn't shown."""
+    return text if text.isprintable() else "".join(one if one.isprintable() else "?" for one in text)
+
+
+def shown(text: str) -> str:
+    """A text for a page or a drawing, with a sign in the place of each character that these can't have."""
+    return text if text.isprintable() else "".join(one if _is_shown(ord(one)) else "\ufffd" for one in text)
+
+
+def _is_shown(code):
+    """Whether this is no control character, no half of a pair (as bytes of a name are that aren't UTF-8), and none of
+    those that are set aside at the end of each plane, as U+FFFE."""
+    return 0x20 <= code < 0x7F or 0xA0 <= code < 0xD800 or code >= 0xE000 and code & 0xFFFE != 0xFFFE

@@ -1,0 +1,67 @@
+# shellcheck shell=sh disable=SC2034,SC2086,SC2154
+# What the tests of the table answers.txt share. They read this in after tests/helpers.sh and library_helpers.sh.
+
+# draws_sides: draws the side NAME.tbc of each row of sides.txt
+draws_sides() {
+    grep -v '^#' "$here/sides.txt" > sides
+    while read -r side system _; do
+        words=$top/examples/$side.words
+        [ -e "$words" ] || words=$here/$side.words
+        options=$ntsc
+        [ "$system" = NTSC ] || options=$pal
+        if [ "$side" = side ]; then
+            bounded sh "$top/examples/side.sh" "$program"
+        else
+            output_of draw $options "$words" > "$side.tbc"
+        fi
+    done < sides
+}
+
+# asks NAME ANSWERER [PATTERN]: of each row of the table, checks what a program answers that is NAME in its last column.
+# ANSWERER is a function that is called with the side, its system and levels, and the question, which is in `question`,
+# too: it leaves an answer in the file `answer`, or none there, and the status in `status`. With a pattern those rows
+# are asked whose question it matches as a whole.
+asks() {
+    sed '/^#/d; s/ *| */|/g' "$here/answers.txt" > rows
+    while IFS='|' read -r side question answer silent; do
+        [ -z "${3:-}" ] || expr "$question" : "$3\$" > number || continue
+        on_side=$on_cav
+        [ "$(awk -v side="$side" '$1 == side { print $2 }' sides)" = NTSC ] || on_side=$on_clv
+        : > answer
+        "$2" "$side" "$on_side" "$question"
+        check "$2: $side, $question" is_answered "$1" "$answer" "$silent"
+    done < rows
+}
+
+# is_answered NAME ANSWER SILENT: whether the answer is this one, or none where the table has the name among the silent
+is_answered() {
+    case " ${3%%:*} " in
+        *" $1 "* | ' all ') is_none ;;
+        *) if [ "$2" = none ]; then is_none; else [ "$(cat answer)" = "$2" ]; fi ;;
+    esac
+}
+
+# is_none: nothing was found, or the program knows no such question, and has said so
+is_none() {
+    [ ! -s answer ] || return
+    case "$question $status" in
+        'stops 0' | *[0-9]' 1') ;;
+        *' 2') [ -s err ] ;;
+        *) false ;;
+    esac
+}
+
+# finds COMMAND..: leaves as the answer what a search has found; what it has found by the lines alone has status 3
+finds() {
+    status=0
+    bounded "$@" < empty > out 2> err || status=$?
+    case $status in 0 | 3) grep -o '^field [0-9]*' out > answer ;; esac
+}
+
+# lists COMMAND..: leaves as the answer the fields that stand in the lines of what it prints
+lists() {
+    status=0
+    bounded "$@" > out 2> err || status=$?
+    [ "$status" != 0 ] || sed -n 's/^field \([0-9]*\).*/\1/p' out | paste -s -d ' ' |
+        sed -n 's/^[0-9]/field &/p' > answer
+}

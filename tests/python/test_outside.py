@@ -1,0 +1,174 @@
+"""What can't be shown as it is, and files of others: texts for messages, terminals and pages, documents without an end,
+names that are as long as names may be, and pages that another program wrote."""
+
+import io
+import json
+import os
+import tempfile
+import unittest
+from unittest import mock
+
+import discs
+from ldvbi_side import outside
+from ldvbi_side.command.folders import page_name
+from ldvbi_side.command.outputs import drop_part, whole_file, whole_path
+from ldvbi_side.draw.index import PART, head_of, index_of
+from ldvbi_side.draw.page import MARK, page_of, said_of
+from ldvbi_side.outside import bytes_of_document, legible, printable, shown
+
+# A name with Escape, a line's end, bytes that aren't UTF-8 and characters that are set aside; letters of any kind stay.
+NAME = os.fsdecode(b"\x1b[31m\n\xff\x7f\xc2\x9f") + "\ufffe\uffff\U0001ffff ü\u0416\u65e5\U0001f4bf<&>"
+
+
+class Texts(unittest.TestCase):
+    def test_in_messages(self):
+        self.assertEqual(
+            legible(NAME), r"\x1b[31m\n\udcff\x7f\x9f\ufffe\uffff\U0001ffff" + " ü\u0416\u65e5\U0001f4bf<&>")
+        self.assertEqual(legible("a" * 600), "a" * 600)
+        text = legible("a" * 400 + "b" * 400)
+        self.assertEqual(text, "a" * 397 + "..." + "b" * 200)
+
+    def test_on_a_terminal(self):
+        self.assertEqual(printable(NAME), "?[31m" + "?" * 7 + " ü\u0416\u65e5\U0001f4bf<&>")
+
+    def test_on_pages(self):
+        sign = "\ufffd"
+        self.assertEqual(shown(NAME), sign + "[31m" + sign * 7 + " ü\u0416\u65e5\U0001f4bf<&>")
+        # marks without a width belong to writing
+        self.assertEqual(shown("a\u200db\ue000\ufffd\n"), "a\u200db\ue000\ufffd" + sign)
+
+
+class Documents(unittest.TestCase):
+    def read(self, data):
+        with io.BufferedReader(io.BytesIO(data)) as file:
+            return bytes_of_document(file, file.peek(64))
+
+    def test_all_of_a_document(self):
+        for data in (b"", b" \n", b'\n{"version":2', b"[]" + b" " * 100000):
+            self.assertEqual(self.read(data), data)
+
+    def test_no_more_is_read_of_what_begins_as_none(self):
+        self.assertLess(len(self.read(bytes(100000000))), 1000000)
+
+    def test_one_without_an_end(self):
+        with mock.patch.object(outside, "MOST_BYTES", 1000):
+            self.assertEqual(len(self.read(b"{" + bytes(999))), 1000)
+            with self.assertRaisesRegex(ValueError, "^it is longer than any document$"):
+                self.read(b"{" + bytes(1000))
+
+
+class LongNames(unittest.TestCase):
+    """The longest names that there are have 255 bytes."""
+
+    def setUp(self):
+        folder = tempfile.TemporaryDirectory()
+        self.addCleanup(folder.cleanup)
+        self.folder = folder.name
+
+    def path(self, name):
+        return os.path.join(self.folder, name)
+
+    def test_files(self):
+        names = ["a" * 250, "ü" * 125 + "b", "a" * 255, os.fsdecode(b"\xff" * 254)]
+        for name in names:
+            with whole_file(self.path(name)) as file, whole_file(self.path(name[:-1])) as other:
+                file.write("whole")
+                self.assertEqual(len(os.listdir(self.folder)), 2)
+                other.write("other")
+            with open(self.path(name), encoding="utf-8") as file:
+                self.assertEqual(file.read(), "whole")
+            os.unlink(self.path(name))
+            os.unlink(self.path(name[:-1]))
+        for name in names:
+            with whole_path(self.path(name), ["-wal"]) as part, open(part, "wb"):
+                pass
+        self.assertEqual(sorted(os.listdir(self.folder)), sorted(names))
+
+    def test_what_a_process_left(self):
+        for name in ("short", "a" * 250):
+            with self.assertRaises(KeyboardInterrupt), mock.patch("os.unlink"), whole_file(self.path(name)):
+                raise KeyboardInterrupt
+            self.assertEqual(len(os.listdir(self.folder)), 1)
+            drop_part(self.path(name), os.getpid())
+            self.assertEqual(os.listdir(self.folder), [])
+
+    def test_pages(self):
+        long = "a" * 251 + ".tbc"
+        names = {page_name(self.path(name))
+                 for name in (long, long[1:], "b" * 255, "ü" * 127, os.path.join("d", long))}
+        self.assertEqual(len(names), 5)
+        for name in names:
+            self.assertLess(len(os.fsencode(name)), 220)
+            self.assertRegex(name, r"-[0-9a-f]{8}\.html$")
+
+
+class Pages(unittest.TestCase):
+    def setUp(self):
+        folder = tempfile.TemporaryDirectory()
+        self.addCleanup(folder.cleanup)
+        self.folder = folder.name
+        self.said = said_of(discs.answer(discs.pictures(range(1, 9))))
+
+    def path(self, name):
+        return os.path.join(self.folder, name)
+
+    def page(self, text, name="page.html"):
+        with open(self.path(name), "w", encoding="utf-8") as file:
+            file.write(text)
+        return self.path(name)
+
+    def page_saying(self, said):
+        content = json.dumps(said).replace("&", "&amp;").replace('"', "&quot;")
+        return self.page('<title>side</title><meta name="%s" content="%s"><body>' % (MARK, content))
+
+    def refused(self, page):
+        with self.assertRaises(ValueError) as caught:
+            index_of(self.path("index.html"), [page])
+        self.assertEqual(str(caught.exception), page + " is no page that --html wrote")
+
+    def test_what_pages_of_others_say(self):
+        self.assertEqual(head_of(self.page_saying(self.said)), ("side", self.said))
+        for name, value in (
+                ("whole", "perhaps"), ("whole", None), ("whole", ["yes"]), ("fields", None), ("fields", True),
+                ("fields", 1.5), ("numbers", None), ("numbers", []), ("numbers", {"count": 1, "least": 1}),
+                ("numbers", {"count": "1", "least": 1, "greatest": 1}), ("reasons", None), ("reasons", ["lost"]),
+                ("reasons", [{"text": 1}]), ("reasons", 5), ("lost", None), ("format", 1), ("counts", []),
+                ("counts", {"lost": 1})):
+            with self.subTest((name, value)):
+                self.refused(self.page_saying(dict(self.said, **{name: value})))
+        for name in self.said.keys() - {"version", "system", "unit", "counts"}:
+            self.refused(self.page_saying({one: value for one, value in self.said.items() if one != name}))
+
+    def test_what_is_no_page(self):
+        deep = '<meta name="%s" content="%s">' % (MARK, "[" * 100000)
+        for text in ("", "<", "<![", "<![if x", "<![[foo]]><body>", "<!doctype [<!", "<" * 100000, "\0" * 100000, deep,
+                     '<meta name="%s" content="{&quot;version&quot;:NaN}">' % MARK,
+                     '<meta name="%s" content="%s">' % (MARK, "1" * 5000)):
+            with self.subTest(text[:30]):
+                self.refused(self.page(text))
+        self.refused("/dev/zero")
+
+    def test_a_head_that_is_longer_than_what_is_read_at_once(self):
+        self.said["reasons"] = [{"why": "x", "whole": "no", "text": "a reason" * 20000}]
+        self.assertGreater(len(json.dumps(self.said)), 2 * PART)
+        self.assertEqual(head_of(self.page_saying(self.said)), ("side", self.said))
+
+    def test_names(self):
+        """A page is text in UTF-8 without control characters, whatever its side and its own file are called."""
+        side = discs.side(discs.pictures(range(1, 9)))
+        page = self.page(page_of(side, NAME, ["whole: yes", "name: " + NAME]), os.fsdecode(b"\xff <\x1b>.html"))
+        with open(page, encoding="utf-8") as file:
+            text = file.read()
+        wanted = shown(NAME).replace("&", "&amp;").replace("<", "&lt;").replace(">", "&gt;")
+        for part in ("<title>%s</title>", "<h1>%s</h1>", "<dd>%s</dd>"):
+            self.assertIn(part % wanted, text)
+        index = index_of(self.path("index.html"), [page], [(NAME, "a fault of " + NAME)])
+        self.assertIn('<a href="%%FF%%20%%3C%%1B%%3E.html">%s</a>' % wanted, index)
+        self.assertIn("<tr><td>%s</td><td>fault</td><td></td><td></td><td></td><td>a fault of %s</td></tr>" % (
+            wanted, wanted), index)
+        for one in (text, index):
+            self.assertTrue(all(letter.isprintable() for letter in one.replace("\n", "")))
+
+
+if __name__ == "__main__":
+    unittest.main()

@@ -1,0 +1,262 @@
+"""The command where what is around it isn't as usual: streams that are closed, signals at any time, names and files of
+others."""
+
+import contextlib
+import functools
+import json
+import os
+import signal
+import sqlite3
+import subprocess
+import time
+import unittest
+import xml.etree.ElementTree as xml
+
+from command_runs import COMMAND, DEADLINE, LEVELS, Runs
+from streams import NTSC, PROGRAM, pictures, worn_line, write_stream
+
+SIGNALS = ((signal.SIGTERM, 143), (signal.SIGHUP, 129), (signal.SIGINT, 130))
+PARAMETERS = {"system": "NTSC", "black16bIre": 16384, "white16bIre": 51200}
+
+
+class Edges(Runs):
+    def metadata(self, name, **more):
+        self.write(name, json.dumps({"videoParameters": {**PARAMETERS, **more}}).encode())
+
+
+class Closed(Edges):
+    """Standard streams that are closed when the command starts."""
+
+    def closed(self, numbers, *words):
+        """The status of a run for which these streams are closed, and what it writes to the others of the two."""
+        def close():
+            for number in numbers:
+                os.close(number)
+        with open(os.devnull, "rb") as nothing:
+            run = subprocess.run([*COMMAND, *words], cwd=self.folder, stdin=nothing, stdout=subprocess.PIPE,
+                                 stderr=subprocess.PIPE, timeout=DEADLINE, check=False, preexec_fn=close)
+        return run.returncode, run.stdout, run.stderr.decode()
+
+    def test_output(self):
+        self.metadata("side.tbc.json")
+        said = "ldvbi-side: standard output: Bad file descriptor\n"
+        for words in (["side.tbc"], ["side.tbc", "--csv"], ["side.tbc", "--document"], ["side.vbi.json", "--json"],
+                      ["side.vbi.json", "--seek", "3"], ["side.vbi.json", "--bad-lines"], ["--help"], ["--version"],
+                      ["compare", "side.vbi.json", "side.vbi.json"], ["join", "side.vbi.json", "side.tbc"],
+                      ["scan", "-j", "1", "side.vbi.json"]):
+            with self.subTest(words):
+                self.assertEqual(self.closed([1], *words), (2, b"", said))
+        # where nothing is printed nothing is wrong
+        self.assertEqual(self.closed([1], "side.tbc", "--svg", "side.svg"), (0, b"", ""))
+        self.assertEqual(self.closed([0, 1, 2], "side.tbc", "--csv", "--map", "side.map"), (2, b"", ""))
+        self.assertTrue(self.read("side.map").startswith(b"kind,number"))
+
+    def test_errors(self):
+        """What nobody hears is in no other file, and the statuses are the same."""
+        self.metadata("side.tbc.json", black16bIre=16383.5)
+        status, text, _ = self.closed([2], "side.tbc", "--json", "--svg", "side.svg")
+        self.assertEqual((status, json.loads(text)["fields"]), (0, 12))
+        self.assertTrue(self.read("side.svg").startswith(b"<svg"))
+        self.assertEqual(self.closed([2], "absent"), (2, b"", ""))
+        self.assertEqual(self.closed([2], "--black"), (2, b"", ""))
+        status, text, _ = self.closed([0, 2], "scan", "--csv", "absent", "side.tbc")
+        self.assertEqual((status, text.split(b"\n")[1]), (2, b"absent,fault,,,,,,,No such file or directory"))
+        self.assertEqual(text.count(b"\n"), 3)
+
+    def test_input(self):
+        self.assertEqual(self.closed([0], "-"), (2, b"", "ldvbi-side: standard input: Bad file descriptor\n"))
+        self.assertEqual(self.closed([0], "side.vbi.json", "--seek", "3"), (0, b"field 4, frame 2\n", ""))
+
+    def test_a_full_device(self):
+        for words in (["side.vbi.json"], ["--help"], ["scan", "--csv", "side.vbi.json"]):
+            with open("/dev/full", "wb") as full:
+                run = subprocess.run([*COMMAND, *words], cwd=self.folder, stdout=full, stderr=subprocess.PIPE,
+                                     timeout=DEADLINE, check=False, env=buffered())
+            self.assertEqual((run.returncode, run.stderr), (
+                2, b"ldvbi-side: standard output: No space left on device\n"), words)
+        for words in (["absent"], ["--black"]):
+            with open("/dev/full", "wb") as full:
+                run = subprocess.run([*COMMAND, *words], cwd=self.folder, stdout=subprocess.PIPE, stderr=full,
+                                     timeout=DEADLINE, check=False, env=buffered())
+            self.assertEqual((run.returncode, run.stdout), (2, b""), words)
+
+
+def buffered():
+    """The environment in which what is printed is held back for a while, as nearly everywhere."""
+    return {name: value for name, value in os.environ.items() if name != "PYTHONUNBUFFERED"}
+
+
+class Signals(Edges):
+    def started(self, *words, **more):
+        process = subprocess.Popen([*COMMAND, *words], cwd=self.folder, stdin=subprocess.DEVNULL,
+                                   stdout=subprocess.PIPE, stderr=subprocess.PIPE, env=buffered(), **more)
+        self.addCleanup(process.stdout.close)
+        self.addCleanup(process.stderr.close)
+        return process
+
+    def ended(self, process, status):
+        text, said = process.communicate(timeout=DEADLINE)
+        self.assertEqual((process.returncode, text, said), (status, b"", b""))
+
+    def test_while_it_waits(self):
+        os.mkfifo(self.path("meta.json"))
+        before = sorted(os.listdir(self.folder))
+        for number, status in SIGNALS:
+            with self.subTest(number):
+                process = self.started("side.tbc", "--meta", "meta.json", "--csv", "-o", "out")
+                with open(self.path("meta.json"), "wb"):  # opened as soon as the command opens it
+                    self.assertEqual(len(os.listdir(self.folder)), len(before) + 1)
+                    process.send_signal(number)
+                    process.send_signal(number)
+                    self.ended(process, status)
+                self.assertEqual(sorted(os.listdir(self.folder)), before)
+
+    def test_while_a_page_is_written(self):
+        worn = worn_line(0xF00001, NTSC, 20, 9)
+        write_stream(self.path("worn.tbc"), NTSC, [[worn, worn, worn]] * 80)
+        before = sorted(os.listdir(self.folder))
+        for number, status in SIGNALS:
+            with self.subTest(number):
+                process = self.started("worn.tbc", *LEVELS, "--html", "page.html")
+                while not any(name.endswith(".part") for name in os.listdir(self.folder)):
+                    self.assertIsNone(process.poll())
+                    time.sleep(0.005)
+                process.send_signal(number)
+                self.ended(process, status)
+                self.assertEqual(sorted(os.listdir(self.folder)), before)
+
+    def test_while_it_is_loaded(self):
+        """One of Python's modules, which the command wants, isn't loaded before there is a text in the pipe."""
+        self.write("argparse.py", b"with open('pipe') as file:\n    file.read()\n")
+        os.mkfifo(self.path("pipe"))
+        for number, status in SIGNALS:
+            with self.subTest(number):
+                process = self.started("side.vbi.json")
+                with open(self.path("pipe"), "wb"):
+                    process.send_signal(number)
+                    self.ended(process, status)
+
+    def test_what_is_ignored_stays_so(self):
+        """As nohup has it."""
+        os.mkfifo(self.path("meta.json"))
+        process = self.started("side.tbc", "--meta", "meta.json", "--seek", "3",
+                               preexec_fn=functools.partial(signal.signal, signal.SIGHUP, signal.SIG_IGN))
+        with open(self.path("meta.json"), "wb") as file:
+            process.send_signal(signal.SIGHUP)
+            time.sleep(0.2)
+            file.write(json.dumps({"videoParameters": PARAMETERS}).encode())
+        self.assertEqual(process.communicate(timeout=DEADLINE), (b"field 4, frame 2\n", b""))
+        self.assertEqual(process.returncode, 0)
+
+
+class Names(Edges):
+    NAME = os.fsdecode(b"s\xff\x1b[31m\xef\xbf\xbe<&>.tbc")
+
+    def test_of_sides(self):
+        worn = worn_line(0xF00001, NTSC, 20, 9)
+        write_stream(self.path(self.NAME), NTSC, [*pictures(12), [0, worn, worn]])
+        self.metadata(self.NAME + ".json", black16bIre=16383.5)
+        status, text, said = self.run_command(self.NAME, "--html", "page.html", "--svg", "side.svg", "--summary")
+        self.assertEqual((status, said), (
+            1, "ldvbi-side: s\\udcff\\x1b[31m\\ufffe<&>.tbc: black16bIre is 16383.5, rounded to 16384\n"))
+        self.assertTrue(text.decode().replace("\n", "").isprintable())
+        page = self.read("page.html").decode()
+        self.assertTrue(page.replace("\n", "").isprintable())
+        self.assertIn("<title>s\ufffd\ufffd[31m\ufffd&lt;&amp;&gt;.tbc</title>", page)
+        self.assertIn("s\ufffd\ufffd[31m\ufffd&lt;&amp;&gt;.tbc, field 13, line 17", page)
+        title = next(xml.fromstring(self.read("side.svg")).iter("{http://www.w3.org/2000/svg}text"))
+        # shown, and under the pointer
+        self.assertEqual("".join(title.itertext()), 2 * "s\ufffd\ufffd[31m\ufffd<&>.tbc")
+        self.assertEqual(self.run_command("compare", self.NAME, "side.vbi.json")[0], 0)
+
+    def test_where_output_has_few_letters(self):
+        """In a locale of ASCII, say: a letter that it lacks is escaped."""
+        self.write("\u00fc.vbi.json", self.document)
+        status, text, said = self.run_command("compare", "\u00fc.vbi.json", "side.vbi.json",
+                                              env=dict(os.environ, PYTHONIOENCODING="ascii"))
+        self.assertEqual((status, text.split(b"\n")[0], said), (
+            0, b"pictures: 12 in \\xfc.vbi.json, 12 in side.vbi.json, 12 in both", ""))
+
+    def test_in_messages(self):
+        name = os.fsdecode(b"\x1b[31m\n\xff")
+        self.refused("\\x1b[31m\\n\\udcff: No such file or directory", name)
+        self.refused("a file without a name: No such file or directory", "")
+
+    def test_outputs_without_a_name(self):
+        for words in (["side.vbi.json", "--html", ""], ["side.vbi.json", "--svg", ""], ["side.vbi.json", "-o", ""],
+                      ["side.vbi.json", "--map", ""], ["side.tbc", "--into", ""], ["side.tbc", "--meta", ""],
+                      ["scan", "--html", "", "side.vbi.json"],
+                      ["join", "--html", "", "side.vbi.json", "side.vbi.json"]):
+            with self.subTest(words):
+                status, text, said = self.run_command(*words)
+                self.assertEqual((status, text, said[:17]), (2, b"", "usage: ldvbi-side"))
+                self.assertRegex(said, "error: a (file|folder) has to have a name\n$")
+
+    def test_outputs_with_a_long_name(self):
+        name = "\u00fc" * 125  # of 250 bytes
+        for option in ("-o", "--html", "--map", "--svg"):
+            self.assertEqual(self.run_command("side.vbi.json", "--seek", "3", option, name)[0], 0)
+            self.assertIn(name, os.listdir(self.folder))
+            os.unlink(self.path(name))
+        self.write("x" * 246 + ".tbc", self.read("side.tbc"))
+        self.metadata("x" * 246 + ".tbc.json")
+        status, text, said = self.run_command("scan", "--json", "--html", "pages", "x" * 246 + ".tbc")
+        self.assertEqual((status, json.loads(text)["sides"][0]["fault"], said), (1, None, ""))
+
+
+class Others(Edges):
+    """Files of others."""
+
+    def test_a_database(self):
+        with contextlib.closing(sqlite3.connect(self.path("side.tbc.db"))) as database:
+            for number in range(300):
+                database.execute('CREATE TABLE "\x1b[31m\n%03d" (system TEXT)' % number)
+        status, text, said = self.run_command("side.tbc")
+        self.assertEqual((status, text), (2, b""))
+        self.assertTrue(said.startswith(
+            "ldvbi-side: side.tbc.db: no table capture; there are: \\x1b[31m\\n000, \\x1b[31m\\n001, "), said)
+        self.assertTrue(said[:-1].isprintable())
+        self.assertLess(len(said), 650)
+        table = self.run_command("scan", "--csv", "side.tbc")[1].decode()
+        self.assertTrue(table.replace("\n", "").isprintable())
+        self.assertLess(len(table), 750)
+
+    def test_a_document(self):
+        self.write("wrong.vbi.json", self.document.replace(b'"word"', b'"\\u001b[31m%s"' % (b"x" * 5000), 1))
+        status, text, said = self.run_command("wrong.vbi.json")
+        self.assertEqual((status, text), (2, b""))
+        self.assertTrue(said.startswith("ldvbi-side: wrong.vbi.json: field 1: \"\\u001b[31mxxx"), said)
+        self.assertTrue(said.endswith("xxx\" is no cause\n"), said)
+        self.assertLess(len(said), 650)
+
+    def test_what_has_no_end(self):
+        for words in (["/dev/zero"], ["side.tbc", "--meta", "/dev/zero"], ["index", "index.html", "/dev/zero"],
+                      ["scan", "--csv", "/dev/zero"]):
+            with self.subTest(words):
+                self.assertEqual(self.run_command(*words)[0], 2)
+        with open("/dev/zero", "rb") as zeros:
+            run = subprocess.run([*COMMAND, "-"], stdin=zeros, stdout=subprocess.PIPE, stderr=subprocess.PIPE,
+                                 timeout=DEADLINE, check=False)
+        self.assertEqual((run.returncode, run.stdout, run.stderr.decode()), (
+            2, b"", "ldvbi-side: standard input: not JSON: line 1 is wrong from column 1 on\n"))
+
+    def test_metadata_that_the_program_refuses(self):
+        """It isn't JSON: names in the place of numbers, numbers that are too large, and what is nested too deep."""
+        begin = json.dumps({"videoParameters": PARAMETERS})[:-1]
+        deep = "[" * 126 + "]" * 126
+        for value, is_taken in (("1e308", True), (deep, True), ("NaN", False), ("-Infinity", False), ("1e999", False),
+                                ("[%s]" % deep, False), ('{"a":%s}' % deep, False)):
+            with self.subTest(value[:20]):
+                self.write("meta.json", ('%s, "a": %s}' % (begin, value)).encode())
+                run = subprocess.run([PROGRAM, "extract", "--meta", "meta.json", "side.tbc"], cwd=self.folder,
+                                     stdout=subprocess.PIPE, stderr=subprocess.PIPE, check=False)
+                self.assertEqual(run.returncode == 0, is_taken, run.stderr)
+                if is_taken:
+                    self.assertEqual(self.run_command("side.tbc", "--meta", "meta.json", "--document"),
+                                     (0, self.document, ""))
+                else:
+                    self.refused("meta.json is no metadata with videoParameters", "side.tbc", "--meta", "meta.json")
+
+
+if __name__ == "__main__":
+    unittest.main()

@@ -1,0 +1,128 @@
+"""The numbers that documents have in their sentences. Such a number stands behind a comment with its name, as in
+`<!--=width_of.ntsc-->910`, and is written as the one that stands there is: with commas, or up to ten as a word."""
+
+import glob
+import os
+import re
+from typing import Any, Dict, List
+
+from program import TOP
+
+MARK = re.compile(r"(<!--=([\w.]+)-->`?)(\d+(?:,\d{3})*|[A-Za-z]+)")
+CARDINALS = "no one two three four five six seven eight nine ten".split()
+ORDINALS = "no first second third fourth fifth sixth seventh eighth ninth tenth".split()
+SMOOTH = "crates/vbi_words/specs/Smooth.antt"
+JITTER = "crates/vbi_words/specs/Jitter.antt"
+REFUSED = "tests/refused.txt"
+
+
+def read(path: str) -> str:
+    with open(os.path.join(TOP, path), encoding="utf-8") as file:
+        return file.read()
+
+
+def paths(pattern: str) -> List[str]:
+    return [os.path.relpath(path, TOP) for path in glob.glob(os.path.join(TOP, pattern))]
+
+
+def of_source(path: str, pattern: str) -> List[int]:
+    """The numbers of a source by a pattern that stands in it once."""
+    found = re.findall(pattern, read(path), re.M)
+    if len(found) != 1:
+        raise SystemExit("%s has %d times what is looked for by %s" % (path, len(found), pattern))
+    return [int(number) for number in ([found[0]] if isinstance(found[0], str) else found[0])]
+
+
+def sizes() -> Dict[str, int]:
+    """The sizes of both systems by the names of their definitions, and the bytes of a line and of a field."""
+    text = "".join(map(read, paths("crates/vbi_words/specs/*.antt")))
+    numbers = {"%s.%s" % (name, system.lower()): int(number)
+               for name, system, number in re.findall(r"^(\w+) (Ntsc|Pal) = (\d+)$", text, re.M)}
+    for system in ("ntsc", "pal"):
+        width, height = numbers["width_of." + system], numbers["height_of." + system]
+        numbers["line_bytes." + system], numbers["field_bytes." + system] = 2 * width, 2 * width * height
+    return numbers
+
+
+def refused() -> Dict[str, int]:
+    """How many wrong bodies there are, and by what the check refuses them."""
+    counts = {name: int(count) for name, count in re.findall(r"^(\w+) (\d+)$", read(REFUSED), re.M)}
+    count = len(paths("crates/*/must-fail/*.edit"))
+    if sum(counts.values()) != count:
+        raise SystemExit("%s has %d wrong bodies, and there are %d" % (REFUSED, sum(counts.values()), count))
+    return {"wrong_bodies": count, **{"refused." + name: number for name, number in counts.items()}}
+
+
+def limits() -> Dict[str, int]:
+    """The limits of a run, and the minutes that the gate takes."""
+    numbers = {name: int(number) for path in paths("crates/*/src/*.rt") for name, number in
+               re.findall(r"pub const (META_LIMIT|MAX_FIELDS_LIMIT): \w+ = ([\d_]+);", read(path))}
+    least, most = of_source("tests/gate.sh", r"^minutes='(\d+) to (\d+)'$")
+    return {**numbers, "gate.least": least, "gate.most": most}
+
+
+def glitches(size: Dict[str, int]) -> Dict[str, int]:
+    """What a glitch and a blurred edge may be."""
+    most, = of_source(SMOOTH, r"^  pub few : m ≤ (\d+)$")
+    equal, = of_source(SMOOTH, r"^  pub before : (\d+) ≤ g$")
+    lows, = of_source(JITTER, r"^  pub lows : (\d+) ≤ after$")
+    longer, shorter = of_source(JITTER, r"Spells \(half_min system \+ (\d+)\) \(half_max system - (\d+)\)")
+    numbers = {"glitch.most": most, "glitch.too_long": most + 1, "glitch.equal": equal, "glitch.drawn": equal + 1,
+               "spell.lows": lows, "spell.longer": longer, "spell.shorter": shorter}
+    for system in ("ntsc", "pal"):
+        least, greatest = size["half_min." + system], size["half_max." + system]
+        numbers["spell.least." + system], numbers["spell.most." + system] = least + longer, greatest - shorter
+        numbers["apart." + system], numbers["turned." + system] = 2 * least - greatest, 2 * least - greatest - 1
+        numbers["double.least." + system], numbers["double.most." + system] = 2 * least, 2 * greatest
+    return numbers
+
+
+def package() -> Dict[str, Any]:
+    """The constants of the rules by which `ldvbi-side` judges."""
+    from ldvbi_side import levels
+    from ldvbi_side.command import summary
+    from ldvbi_side.draw import page
+    from ldvbi_side.judge import answer, believed, chain, clock, ends, lines, missing, order, paces, parts, readings
+    from ldvbi_side.judge import sparse, times, whole
+    numbers = {"price.%d" % fields: paces.price(fields) for fields in (1, 2, 20, 20000)}
+    numbers.update(("weight.%d" % one, readings.WEIGHTS[one]) for one in (1, 2, 3))
+    numbers.update(("pictures." + system.lower(), rate) for system, rate in paces.RATES.items())
+    (least, _, most), pal = paces.MINUTE_FIELDS["NTSC"], paces.MINUTE_FIELDS["PAL"][1]
+    return {
+        **numbers, "minute.pal": pal, "minute.least": least, "minute.most": most, "version": answer.VERSION,
+        "summary.lines": summary.MOST_LINES, "summary.listed": summary.MOST_LISTED, "page.plots": page.MOST_PLOTS,
+        "chain.reach": chain.REACH, "film": paces.FILM, "carried": times.CARRIED, "chapter.all": paces.ChapterPace.ALL,
+        "chapter.many": paces.ChapterPace.MANY, "chapter.share": parts.LEAST_SHARE, "missing.far": missing.FAR,
+        "clock.places": clock.LEAST_PLACES, "clock.spacing": clock.SPACINGS[0], "clock.dropping": clock.SPACINGS[1],
+        "clock.off": clock.OFF, "clock.kept": clock.KEPT[0], "clock.of": clock.KEPT[1], "clock.wide": clock.WIDE // 2,
+        "clock.tenth": clock.TENTH_MINUTE // clock.MINUTE, "clock.short": clock.SHORT, "order.least": order.LEAST,
+        "order.apart": believed.APART, "order.turn": order.TURN, "order.signs": order.SIGNS,
+        "order.turned": order.TURNED, "sparse.least": sparse.LEAST, "lines.few": lines.FEW,
+        "levels.fields": levels.FIELDS, "levels.few": levels.FEW, "levels.step": levels.STEP,
+        "ends.longest": ends.LONGEST, "format.near": whole.NEAR, "doubtful.share": whole.SHARE,
+    }
+
+
+def all_numbers() -> Dict[str, Any]:
+    size = sizes()
+    return {**size, **limits(), **refused(), **glitches(size), **package()}
+
+
+def as_there(value: Any, there: str) -> str:
+    """A number in the form of the one that stands there."""
+    if there[0].isdigit():
+        return "{:,}".format(value) if "," in there else str(value)
+    for words in (CARDINALS, ORDINALS):
+        for end in ("", "s"):
+            if there.lower() in [word + end for word in words] and value < len(words):
+                word = words[value] + end
+                return word.capitalize() if there[0].isupper() else word
+    raise SystemExit("write: '%s' can't say the number %s: write it in figures" % (there, value))
+
+
+def with_numbers(text: str, numbers: Dict[str, Any]) -> str:
+    """A document with its named numbers as the source has them."""
+    unknown = {found[2] for found in MARK.finditer(text)} - set(numbers)
+    if unknown:
+        raise SystemExit("write: no number has the name %s" % ", ".join(sorted(unknown)))
+    return MARK.sub(lambda found: found[1] + as_there(numbers[found[2]], found[3]), text)

@@ -1,0 +1,70 @@
+#!/usr/bin/env python3
+"""Writes what people read of commands, options, statuses, members and sizes from the source that has them: the
+completions whole; of the manual pages and documents what stands between a comment `from SOURCE: PART` and `to here`,
+and the numbers of documents that stand behind their name.
+
+usage: python3 texts/write.py [--check [PATH..]]
+    --check writes nothing: it names what would change, of paths that begin so if any is named, with status 1"""
+
+import functools
+import os
+import re
+import sys
+
+import completions
+import documents
+import numbers_of
+import pages
+from program import TOP, ldvbi, ldvbi_side
+
+# What stands between these two lines is written here; each is a comment of its file's language. Other scripts have
+# such parts, too, of these sources.
+PART = re.compile(r"^([^\w\n]+ from ([\w./-]+): (\w+)\b[^\n]*\n)(.*?)(^[^\w\n]+ to here\b)", re.M | re.S)
+OF_OTHERS = ("codes/classes.txt", "specs")
+
+
+def read(path):
+    with open(os.path.join(TOP, path), encoding="utf-8") as file:
+        return file.read()
+
+
+def with_parts(path, parts):
+    """The text of a file with its parts, each a source and a function of no argument, as their source has them."""
+    text = read(path)
+    found = [(one[3], one[2]) for one in PART.finditer(text) if one[2] not in OF_OTHERS]
+    wanted = [(name, source) for name, (source, _) in parts.items()]
+    if sorted(found) != sorted(wanted):
+        raise SystemExit("write: %s has the parts %s, and not %s" % (path, sorted(found), sorted(wanted)))
+    return PART.sub(lambda one: one[0] if one[2] in OF_OTHERS else one[1] + parts[one[3]][1]() + one[5], text)
+
+
+def written():
+    """Yields each path with the text that it has to have."""
+    for program in (ldvbi(), ldvbi_side()):
+        yield "share/completions/%s.bash" % program.name, completions.bash(program)
+        yield "share/completions/_%s" % program.name, completions.zsh(program)
+        parts = {name: (program.source, functools.partial(part, program))
+                 for name, part in pages.PARTS[program.name].items()}
+        yield "share/man/%s.1" % program.name, with_parts("share/man/%s.1" % program.name, parts)
+    numbers = numbers_of.all_numbers()
+    for path in ["README.md", "CONTRIBUTING.md", *sorted(numbers_of.paths("docs/*.md"))]:
+        yield path, numbers_of.with_numbers(with_parts(path, documents.PARTS.get(path, {})), numbers)
+
+
+def main():
+    is_check, folders = sys.argv[1:2] == ["--check"], tuple(sys.argv[2:]) or ""
+    status = 0
+    for path, wanted in written():
+        if wanted == read(path) or not path.startswith(folders):
+            continue
+        if is_check:
+            print("write: %s isn't what its source says: python3 texts/write.py" % path, file=sys.stderr)
+            status = 1
+        else:
+            with open(os.path.join(TOP, path), "w", encoding="utf-8") as file:
+                file.write(wanted)
+    return status
+
+
+if __name__ == "__main__":
+    sys.exit(main())
