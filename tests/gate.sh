@@ -14,7 +14,7 @@ set -eu
 # What the gate tried when it last grew. With less of any it fails, so what is taken out is taken out here as well.
 crates=14
 unit_tests=110
-wrong_bodies=493
+wrong_bodies=506
 # Scripts on what was proved, and on the Rust program
 scripts=29
 rust_scripts=16
