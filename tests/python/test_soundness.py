@@ -104,7 +104,8 @@ class Soundness(unittest.TestCase):
 
     def test_due_where_another_code_stands(self):
         def due_in_a_chapter(one):
-            one["unread"].append({"number": one["numbers"]["least"], "field": one["chapters"][0]["field"], "read": None})
+            one["unread"].append({"number": one["numbers"]["least"], "read": None,
+                                  "field": one["chapters"][0]["field"]})
 
         for kind in ("cav-ntsc", "cav-film", "clv-pal"):
             self.check(kind, [(due_in_a_chapter, "which has another code")])
