@@ -8,11 +8,10 @@ from ..judge.readings import Answer
 # The columns with what they hold, which docs/FORMATS.md has from here
 COLUMNS = {
     "kind": "`picture`, `time` or `minute` (one of these on a side), `chapter`, `stop`",
-    "number": "`123`; a time `h:mm:ss.pp`; a minute `h:mm`; a chapter; of a stop the picture that it is in, or `-` "
-              "where none is near",
+    "number": "`123`; a time `h:mm:ss.pp`; a minute `h:mm`; a chapter; a stop's picture, or `-` where none is near",
     "field": "the first field, counted from 1", "frame": "the frame of that, counted from 1",
-    "how": "`read` where the field shows the number; `near` where it is due and is the nearest word of the field's "
-           "lines; `neighbours` where it is unread, and due there between two numbers that fit",
+    "how": "`read` where the field shows the number; else it is due there, and `near` where it is the lines' nearest "
+           "word, `neighbours` where it is unread",
 }
 NONE = "-"  # the number of a stop where no number is near
 
