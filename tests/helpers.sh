@@ -109,7 +109,7 @@ differences() {
         $1 == script && (name == "" || $2 == name) { lines++ } END { print lines + 0 }' "${DIFFERENCES:-/dev/null}"
 }
 
-# is_different NAME: whether this check has to fail of this program
+# is_different NAME: whether this check must fail for this program
 is_different() {
     [ "${DIFFERENCES:-}" ] && [ "$(differences "$1")" != 0 ]
 }

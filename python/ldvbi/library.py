@@ -120,8 +120,7 @@ def later_call(name: str) -> Any:
 # ---- Arguments and refusals
 
 def number_of(name: str, value: Any) -> int:
-    """A whole number as the library takes it. One that has no 32 bits becomes the greatest that has, which is refused
-    like it."""
+    """A whole number as the library takes it. Anything outside 32 bits becomes 2^32 - 1, which is refused as well."""
     number = whole_number(name, value)
     return number if 0 <= number <= _MOST else _MOST
 

@@ -1,5 +1,5 @@
 """What the words of a side mean: its numbers, what is missing, lost, repeated or doubtful, and where. Plain data in,
-plain data out; docs/SIDES.md has the rules and the form of the answer. All else that speaks of a side prints this.
+plain data out; docs/SIDES.md has the rules and the form of the answer. Every output is a view of this answer.
 
 Where the rules of docs/SIDES.md are: 1, 2, 4 and 7 in paces.py, 3 and 11 in readings.py, 5, 6 and 8 in chain.py, 9 in
 times.py, 10 in parts.py, 12 in places.py and missing.py, 13 in clock.py, 14, 15 and the loops of 6 in order.py, the end

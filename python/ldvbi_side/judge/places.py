@@ -19,11 +19,11 @@ Due = List[Tuple[int, int]]
 class Places(NamedTuple):
     """Where the numbers of a side are. `showings` are lists of a number, its first and its last field; `joins` are the
     readings between which another side begins; `due` are pairs of a number that isn't there and the field that it
-    belongs to; `without_field` are numbers that aren't there, where no field is too few, and whose field isn't known;
-    `open` are those in whose place another number was played, and `unshown` those that the disc doesn't show.
-    `clock` judges the numbers of an NTSC disc that may have been left out by its clock. `number_of` has the number of
-    each field that shows one or in which one is due. `confirmed` are the fields whose number was due, and counts as
-    shown since it is the nearest word of their lines."""
+    belongs to; `without_field` are missing numbers whose field is unknown although no field was lost; `open` are those
+    in whose place another number was played, and `unshown` those that the disc doesn't show. `clock` judges the numbers
+    of an NTSC disc that may have been left out by its clock. `number_of` has the number of each field that shows one or
+    in which one is due. `confirmed` are the fields whose number was due, and counts as shown since it is the nearest
+    word of their lines."""
     numbers: Numbers
     showings: List[List[int]]
     breaks: List[Answer]
