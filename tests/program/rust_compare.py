@@ -18,6 +18,7 @@ import sys
 import tempfile
 
 from random_lines import SYSTEMS, random_line, worn_rows
+from random_metadata import random_metadata
 
 COMMANDS = ["line", "extract", "show", "draw"]
 OPTIONS = ["--meta", "--system", "--black", "--white", "--max-fields", "--help", "--version", "-h", "-V"]
@@ -174,35 +175,6 @@ def compare_rows(programs, choose, count):
         yield words + [text], programs.run(words, text.encode())
 
 
-MEMBERS = {
-    "system": ['"NTSC"', '"PAL"', '"ntsc"', "3", "null"],
-    "isSourcePal": ["true", "false", "0", '"true"'],
-    "black16bIre": ["16384", "0", "65535", "65536", "-1", "1e3", "16384.0", '"5"', "18446744073709551616", "[]"],
-    "white16bIre": ["51200", "16384", "16385", "65536", "5.5", "-0", "1e400", "null"],
-    "fieldWidth": ["910", "1135", "911", "910.0"],
-    "fieldHeight": ["263", "313", "1e2"],
-    "other": ['"\\ud800"', '"\\u0000"', '"\\x"', "[[[]]]", '{"a":1,"a":2}', "NaN", "01", "1.", '"a\tb"', '"\x7f"'],
-}
-
-
-def random_metadata(choose):
-    names = choose.sample(list(MEMBERS)[:-1], choose.randrange(2, 7))
-    names += ["other"] if choose.random() < 0.15 else []
-    names += [choose.choice(names)] if choose.random() < 0.1 else []
-    members = []
-    for name in names:
-        value = choose.choice(MEMBERS[name][:2] if choose.random() < 0.7 else MEMBERS[name])
-        members.append(f'"{name}":{value}')
-    text = '{"videoParameters":{' + ",".join(members) + choose.choice(["}}", "}}", "}}\n ", '},"fields":[]}'])
-    data = bytearray(text.encode())
-    if choose.random() < 0.2:
-        data[choose.randrange(len(data))] = choose.randrange(256)
-    if choose.random() < 0.05:
-        depth = choose.choice([126, 127, 128, 129])
-        data = bytearray(b'{"videoParameters":{},"a":' + b"[" * (depth - 1) + b"]" * (depth - 1) + b"}")
-    return bytes(data)
-
-
 def compare_metadata(programs, choose, count):
     for _ in range(count):
         data = random_metadata(choose)
@@ -296,6 +268,21 @@ def compare_stops(call, choose):
     yield call("ldvbi_judge_stops", readings, size(count), ..., size(count + off), room=4 * count + 16)
 
 
+def compare_seek(call, choose, draw):
+    """A number sought in the bytes of a few fields, not all of which show theirs."""
+    number, size = ctypes.c_uint32, ctypes.c_size_t
+    code, width, height = SYSTEMS[choose.choice(list(SYSTEMS))]
+    first, begin, side = (number(code), number(16384), number(51200)), choose.randrange(79000), b""
+    for field in range(choose.randrange(14)):
+        shows = field % 2 == 0 and choose.random() < 0.9
+        line = ctypes.create_string_buffer(2 * width)
+        draw(*first, number(shows and 0xF00000 | decimal(begin + field // 2)), line, size(2 * width))
+        side += bytes(2 * width * 16) + 2 * line.raw + bytes(2 * width * (height - 18))
+    asked = number(choose.choice([1, 1, 1, 2, 3])), number(choose.choice([1, 2, 3, 3, 4]))
+    yield call("ldvbi_seek", *first, *asked, side, size(max(0, len(side) - choose.choice([0, 0, 1]))),
+               number(begin + choose.randrange(8)), ..., room=24)
+
+
 def compare_near(call, choose):
     """The nearest word of lines, and the words of three worn ones, alone and as fields of a stream."""
     number, size = ctypes.c_uint32, ctypes.c_size_t
@@ -358,6 +345,7 @@ def compare_library(paths, choose, count):
             yield call("ldvbi_read_field", *first, field, size(len(field)), ..., room=24)
             count_of = choose.choice([1, 2, 3, 2 ** 40])
             yield call("ldvbi_read_fields", *first, field * 2, size(2 * len(field)), ..., size(count_of), room=72)
+            yield from compare_seek(call, choose, libraries[0].ldvbi_draw_line)
         yield from compare_judge(call, choose)
         yield from compare_chapters(call, choose)
         yield from compare_stops(call, choose)
