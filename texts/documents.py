@@ -67,7 +67,7 @@ def columns_of_scan() -> str:
     from ldvbi_side.command.rows import COLUMNS
     whole = read_schema(SCAN)
     members = whole["$defs"]["read"]["properties"]
-    members["why"] = {"description": "Why it isn't whole, or that can't be told, or its fault."}
+    members["why"] = {"description": "Why it isn't whole, or why that can't be told, or its fault."}
     return columns({name: member_row(name, members[name], whole)[1] for name in COLUMNS})
 
 
