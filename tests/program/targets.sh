@@ -88,7 +88,7 @@ packages='gcc libc6-dev g++ binutils python3 jq pkg-config cmake git less mandoc
 python3-jsonschema python3-venv python3-setuptools python3-wheel'
 packages=$(echo $packages)
 for_rust='rustc cargo rustfmt rust-clippy librust-arrayvec-dev librust-byteorder-dev librust-clap-dev librust-itoa-dev'
-for_rust="$for_rust librust-serde-json-dev librust-thiserror-dev"
+for_rust="$for_rust librust-libc-dev librust-serde-json-dev librust-thiserror-dev"
 sed "s,/usr/bin/python3,$work/no_module,; s,/usr/share/doc,$work/none," "$top/tests/tools.sh" > tools.sh
 stub no_module 'exit 1'
 mkdir none alone
@@ -122,7 +122,7 @@ for tool in cc c++ nm python3 jq pkg-config cmake git less mandoc mypy parallel 
     stub alone/$tool 'exit 0'
 done
 mkdir none/librust-arrayvec-dev none/librust-byteorder-dev none/librust-clap-dev none/librust-itoa-dev \
-    none/librust-serde-json-dev none/librust-thiserror-dev
+    none/librust-libc-dev none/librust-serde-json-dev none/librust-thiserror-dev
 stub no_module 'exit 0'
 for word in '' rust install; do
     tools $word
