@@ -1,5 +1,5 @@
 #!/bin/sh
-# Installs program and library as a new user does, and builds on them by the lines in README, by pkg-config and by
+# Installs program and library as a new user does, and builds on them by the lines in LIBRARY.md, by pkg-config and by
 # CMake: nothing but these tells the loader where the library is (no LD_LIBRARY_PATH). Then what `make install` refuses,
 # and what it takes from rust/, as which the proved files stand here.
 # Needs libldvbi.a and libldvbi.so.1 at the top of the repository (`make lib`).
@@ -48,19 +48,19 @@ done
 rm user/ldvbi 2> empty
 ln -s "$program" user/ldvbi
 
-# The lines of README, of somebody at home
+# The lines of LIBRARY.md, of somebody at home
 cp "$top/examples/say.c" user/say.c
 echo '- F12345 -' | bounded "$program" draw $ntsc > said.tbc
 tail -c +29121 said.tbc | head -c 1820 > user/line.raw
-sed -n '/^make install-lib /,/^```$/{/^```/d;p;}' "$top/README.md" > lines.sh
-check 'README has two lines for C' [ "$(wc -l < lines.sh)" = 2 ]
-check 'the lines in README' prints 'picture 12345' \
+sed -n '/^make install-lib /,/^```$/{/^```/d;p;}' "$top/docs/LIBRARY.md" > lines.sh
+check 'LIBRARY.md has two lines for C' [ "$(wc -l < lines.sh)" = 2 ]
+check 'the lines in LIBRARY.md' prints 'picture 12345' \
     bounded env HOME="$work/home" PATH=/usr/bin:/bin sh -c "cd user && . ../lines.sh | tail -n 1"
 check 'they have installed the library alone' [ ! -e home/.local/bin ]
 
 # Those for the commands and for Python, and an example in Python as it is installed then
-sed -n '/^make install /p;/^export PYTHONPATH=/p' "$top/README.md" > lines.sh
-check 'README has two lines for commands and Python' [ "$(wc -l < lines.sh)" = 2 ]
+sed -n '/^make install /p;/^export PYTHONPATH=/p' "$top/docs/LIBRARY.md" > lines.sh
+check 'LIBRARY.md has two lines for commands and Python' [ "$(wc -l < lines.sh)" = 2 ]
 run draw $ntsc "$top/examples/cav.words"
 cp out user/cav.tbc
 seeks='python3 $HOME/.local/share/doc/ldvbi/examples/seek.py cav.tbc NTSC 16384 51200 3'

@@ -21,11 +21,11 @@ program_in_readme
 makes() {
     does env PATH=/usr/bin:/bin make -s -C "$top" "$@"
 }
-# says_with FOLDER: what the program in README prints, built by the line in README as it stands with what this folder
-# has
-readme_line=$(sed -n '/^cc say.c /p' "$top/README.md")
+# says_with FOLDER: what the program in README prints, built by the line in LIBRARY.md as it stands with what this
+# folder has
+library_line=$(sed -n '/^cc say.c /p' "$top/docs/LIBRARY.md")
 says_with() {
-    prints 0 'picture 12345' env PKG_CONFIG_PATH="$1/pkgconfig" sh -c "$readme_line"
+    prints 0 'picture 12345' env PKG_CONFIG_PATH="$1/pkgconfig" sh -c "$library_line"
 }
 # Files of others, whose names begin as ours do; and somebody whose new files are for themselves alone
 cat > others << 'END'
@@ -46,7 +46,7 @@ check 'what is installed is for all' [ ! -s err ]
 check 'seek is built with what is installed' does $cc -std=c99 -I root/usr/include -o seek "$top/examples/seek.c" \
     -L root/usr/lib -lldvbi
 check 'seek runs with what is installed' prints 0 'field 7' env LD_LIBRARY_PATH=root/usr/lib ./seek cav.tbc $on_cav 3
-check 'the line in README' says_with "$work/root/usr/lib"
+check 'the line in LIBRARY.md' says_with "$work/root/usr/lib"
 cp -r root/usr moved
 check 'what is installed is moved' says_with "$work/moved/lib"
 check 'the description is of what is beside it' \
@@ -77,7 +77,7 @@ cat > wanted << 'END'
 ./usr/lib/x86_64-linux-gnu/pkgconfig/ldvbi.pc
 END
 check 'where a package of Debian has files' cmp -s found wanted
-check 'the line in README with them' says_with "$work/debian/usr/lib/x86_64-linux-gnu"
+check 'the line in LIBRARY.md with them' says_with "$work/debian/usr/lib/x86_64-linux-gnu"
 check "Debian's make uninstall" makes uninstall DESTDIR="$work/debian" $debian
 check 'nothing of it is left' [ -z "$(find debian -type f -o -type l)" ]
 check 'a library outside the prefix' makes install-lib DESTDIR="$work/outside" PREFIX=/usr LIBDIR=/elsewhere/lib
@@ -95,5 +95,5 @@ packs() {
 }
 check 'make dist, the wheel with it' packs
 tar -xzf "tree/dist/ldvbi-$(header_version)-x86_64-linux.tar.gz" -C unpacked --strip-components=1
-check 'the line in README with the archive' says_with "$work/unpacked/lib"
+check 'the line in LIBRARY.md with the archive' says_with "$work/unpacked/lib"
 finish

@@ -339,12 +339,12 @@ shows 'film' << 'END'
 system NTSC, CAV, film (2 and 3 fields a picture), 98 fields, 39 pictures, 1 to 39
 END
 
-# README's pictures, made again
+# The pictures of SIDES.md, made again
 mkdir made
 status=0
 bounded sh "$top/docs/pictures/make_side.sh" "$program" made < empty > out 2> err || status=$?
 for picture in side clv; do
-    check "README's picture $picture" cmp made/$picture.svg "$top/docs/pictures/$picture.svg"
-    check "README shows $picture" grep -q "(docs/pictures/$picture.svg)" "$top/README.md"
+    check "the picture $picture of SIDES.md" cmp made/$picture.svg "$top/docs/pictures/$picture.svg"
+    check "SIDES.md shows $picture" grep -q "(pictures/$picture.svg)" "$top/docs/SIDES.md"
 done
 finish
