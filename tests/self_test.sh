@@ -61,7 +61,7 @@ python_unit|tests/python/test_cav.py|s/"after": 39, "before": 42/"after": 38, "b
 python_side|out|"vbiPass"|"vbiPaSS"
 python_side|hangs
 python_side|python/ldvbi/classes.py|s/Kind.lead_in, "lead-in"/Kind.lead_in, "lead-out"/
-python_side|python/ldvbi_side/command/tables.py|s/"field", "frame", /"frame", "field", /
+python_side|python/ldvbi_side/command/tables.py|s/\("field": "a .*"\), \("frame": "its frame"\)/\2, \1/
 side_schema|share/schema/ldvbi-side.schema.json|s/"unread", "breaks"/"breaks"/
 side_schema|share/schema/ldvbi-side.schema.json|s/"enum": \[1820, 2270\]/"type": "integer"/
 side_schema|share/schema/ldvbi-scan.schema.json|s/"fault": {"type": "null"}/"fault": {}/
@@ -97,13 +97,13 @@ docs|include/ldvbi.h|s/263 lines to/262 lines to/
 docs|docs/RECIPES.md|s/^```text$/```test/
 docs|docs/RECIPES.md|s/^```sh lib$/```sh/
 docs|docs/RECIPES.md|s,](SIDES.md),](https://example.org/SIDES.md),
-docs|docs/PROMISES.md|s/](#laws)/](#by-crate)/
+docs|docs/PROMISES.md|s/](#not-promised)/](#not-proved)/
 docs|docs/PROMISES.md|s/`drawn_rows`/`drawn_lines`/
 docs|docs/PROMISES.md|s/`fetched`, `written`/`fetched`, `rewritten`/
 docs|docs/PROMISES.md|s/`Ran.consumed`/`Ran.eaten`/
 docs|docs/PROMISES.md|s/`StopsAtRow`/`StopsAtRows`/
 docs|docs/PROMISES.md|s/`StopsAtLimit`/`StopsAtLimits`/
-docs|docs/PROMISES.md|s/the drawing came (`came`)/the drawing came (`ended`)/
+docs|docs/PROMISES.md|s/how far it came (`came`)/how far it came (`ended`)/
 docs|docs/PROMISES.md|s/no level is high/no level is low/
 docs|docs/PROMISES.md|s/rests on 74 def/rests on 73 def/
 docs|docs/PROMISES.md|s/half_min Pal = 14/half_min Pal = 15/
@@ -114,7 +114,7 @@ docs|docs/DECISIONS.md|s/`Progress::add_row`/`Progress::added_row`/
 docs|CONTRIBUTING.md|s/Geometry.antt/Geometries.antt/
 docs|CONTRIBUTING.md|s/, `summary.rt`//
 docs|CONTRIBUTING.md|s/, `times.py`//
-docs|CONTRIBUTING.md|s,share/completions/ (which,share/man/ (which,
+docs|CONTRIBUTING.md|s,share/completions/ (by,share/man/ (by,
 docs|CONTRIBUTING.md|s,docs/FORMATS.md,docs/FORMAT.md,
 docs|CONTRIBUTING.md|s/ The version / & & & & & & & & & & & & & & & & & & & & & & & & & /
 docs|codes/classes.txt|s/^lines     16, 17 also 18/lines     17, 18/
@@ -123,7 +123,7 @@ docs|docs/FORMATS.md|s/`field width differs`/`field width differ`/
 docs|docs/FORMATS.md|/^. `too many fields`/d
 docs|docs/FORMATS.md|/^. `no system given`/{h;d};/^. `unknown system`/G
 docs|docs/FORMATS.md|s/ done, or help / done, or no help /
-docs|docs/FORMATS.md|s/  before, `hold` and that column/  before, `holds` and that column/
+docs|docs/FORMATS.md|s/else `hold` and that column/else `holds` and that column/
 docs|docs/FORMATS.md|s/174 black \(. 0 . `\)change 170/174 black \1change 171/
 docs|docs/FORMATS.md|s/and <!--=height_of.pal-->313/and <!--=height_of.pal-->312/
 docs|README.md|s/glibc 2[.][0-9]*/glibc 2.33/
@@ -169,7 +169,7 @@ installed|include/ldvbi-config.cmake.in|s/libldvbi.a/libldvbi.b/
 installed|Makefile|s/^install-lib: places /install-lib: /
 installed|examples/stops.cpp|s/std::ferror(stdin)/false/
 installed|README.md|s/-Wl,-rpath,/-Wl,-rpath-link,/
-installed|README.md|s/share.ldvbi.python  /share\/python  /
+installed|docs/LIBRARY.md|s/share.ldvbi.python  /share\/python  /
 lines|out|82CFFF|82CFFE
 lines|err|short line|shirt line
 lines|status|1|0
