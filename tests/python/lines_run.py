@@ -6,7 +6,9 @@ subfolder `site` on the PYTHONPATH. At its end it writes them to a file there.""
 import atexit
 import dis
 import os
+import signal
 import sys
+import time
 
 PACKAGE = os.path.join(os.path.dirname(os.path.abspath(__file__)), os.pardir, os.pardir, "python")
 PACKAGE = os.path.normpath(PACKAGE) + os.sep
@@ -59,7 +61,15 @@ def record_this_process(folder):
     """Records the lines of this process from here on, and writes them to a file of the folder at its end."""
     recorder = Recorder()
     recorder.start()
-    atexit.register(lambda: recorder.write(os.path.join(folder, "%d.lines" % os.getpid())))
+    atexit.register(_write_undisturbed, recorder, folder)
+
+
+def _write_undisturbed(recorder, folder):
+    """Writes what was recorded to a file of its own: numbers of processes come again. A signal that asks for the end
+    comes too late."""
+    for number in (signal.SIGINT, signal.SIGTERM, signal.SIGHUP):
+        signal.signal(number, signal.SIG_IGN)
+    recorder.write(os.path.join(folder, "%d-%d.lines" % (os.getpid(), time.monotonic_ns())))
 
 
 def _all_lines(path):

@@ -45,6 +45,12 @@ class Losses(unittest.TestCase):
         self.assertEqual([len(found["showings"]), found["doubtful"]], [62, []])
 
 
+    def test_one_time_behind_a_search(self):
+        """More fields passed than the time needs, so it stands between no two losses."""
+        found = answer(times(range(30)) + 500 * ["- - -"] + times([205]) + times(range(1490, 1520)))
+        self.assertEqual([len(found["showings"]), len(found["doubtful"])], [60, 1])
+
+
 class Turned(unittest.TestCase):
     """Each picture of these is shown, though two others fit by chance."""
     STEPS = (3, 3, 4, 5, 5, 6, 8, 9, 10, 10, 11, 12, 12, 11, 10, 11, 12, 13)

@@ -39,6 +39,11 @@ class Written(unittest.TestCase):
         with mock.patch.object(document, "_as_json", side_effect=AssertionError):
             return read_document(data)
 
+    def test_a_record_with_another_number(self):
+        data = written().replace(b'"seqNo":2,', b'"seqNo":4,')
+        self.assertNotEqual(data, written())
+        self.assertEqual(outcome(read_document, data), outcome(document._as_json, data))
+
     def test_as_its_json(self):
         for system in ldvbi.System:
             for version in (2, 3):

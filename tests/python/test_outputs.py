@@ -7,7 +7,7 @@ import threading
 import unittest
 from unittest import mock
 
-from ldvbi_side.command.outputs import refuse_inputs, whole_file
+from ldvbi_side.command.outputs import refuse_inputs, whole_file, whole_path
 
 
 class Outputs(unittest.TestCase):
@@ -31,6 +31,18 @@ class Outputs(unittest.TestCase):
 
 
 class WholeFiles(Outputs):
+    def test_a_fault_is_of_the_file_that_was_asked_for(self):
+        full = OSError(28, "No space left on device")
+        with self.assertRaises(OSError) as caught, whole_file(self.path):
+            raise full
+        self.assertEqual(caught.exception.filename, self.path)
+        hidden = OSError(28, "No space left on device", self.named(".part"))
+        with mock.patch("os.mkdir", side_effect=hidden), self.assertRaises(OSError) as caught, \
+                whole_path(self.path, ()):
+            self.fail("there is no folder to write to")
+        self.assertEqual(caught.exception.filename, self.path)
+        self.assertEqual(os.listdir(self.folder), [])
+
     def test_it_appears_at_the_end(self):
         with whole_file(self.path) as file:
             file.write("new ü\n")

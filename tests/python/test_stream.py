@@ -49,6 +49,12 @@ class Sequences(Streams):
                     self.assertEqual(number_of(side[index]), index % COUNT)
                     self.assertIsInstance(side[index], ldvbi.FieldReadings)
 
+    def test_rows_behind_the_end(self):
+        with self.drawn(2) as side:
+            for field in (2, -1):
+                with self.assertRaises(IndexError):
+                    side.rows_as(side.system, field)
+
     def test_one_field(self):
         for setup in (NTSC, PAL):
             for rest in (0, 1000):

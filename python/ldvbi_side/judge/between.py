@@ -41,8 +41,7 @@ def with_rest_between(numbers: Numbers, readings: List[Reading]) -> Numbers:
     lines, they fit each other, and lie between the believed ones around. A single one counts between two losses if
     three of its digits or more are others than the numbers around leave for its field: then it isn't one of these,
     misread."""
-    if not isinstance(numbers.pace, Pace):
-        return numbers
+    assert isinstance(numbers.pace, Pace)  # minutes alone have none of these
     more: List[Reading] = []
     for place, ones in _between(numbers, readings).items():
         before, after = numbers.believed[place - 1:place + 1]

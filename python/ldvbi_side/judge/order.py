@@ -25,8 +25,7 @@ def with_loops(numbers: Numbers, readings: List[Reading]) -> Numbers:
     """These numbers, with those that were shown between two showings of one number, if that is so twice or more. A few
     pictures that are played again and again weigh less than the breaks between them, so the chain takes them for a
     still; but a still has no other number in between."""
-    if numbers.pace is None or numbers.pace.kind == "minute":
-        return numbers
+    assert isinstance(numbers.pace, Pace)  # minutes alone have none
     fields, last = [one.field for one in readings], None
     found: List[List[Reading]] = []
     rounds: List[List[Reading]] = []  # of the last still
@@ -48,8 +47,7 @@ def with_loops(numbers: Numbers, readings: List[Reading]) -> Numbers:
 def with_turned(numbers: Numbers, readings: List[Reading]) -> Numbers:
     """These numbers, with those that a disc showed while it was turned by hand: near those before and behind it, among
     breaks that are as near. The chain passes over them where two others fit by chance."""
-    if not isinstance(numbers.pace, Pace):
-        return numbers
+    assert isinstance(numbers.pace, Pace)  # of pictures
     taken, near, breaks = set(numbers.fields), [], []
     for one in readings:
         around = [other for other in numbers.around(one.field) if other] if one.field not in taken else []
