@@ -2,7 +2,7 @@
 
 import unittest
 
-from discs import answer, film, picture, pictures, times
+from discs import BLANK, answer, film, picture, pictures, times
 from ldvbi_side.seek import seek, wanted_of
 from ldvbi_side.command.summary import summary
 
@@ -190,6 +190,15 @@ class Speeds(unittest.TestCase):
             rows[21 + 2 * place] = "- %s* -" % picture(300 + 3 * place)
         found = answer(rows)
         self.assertEqual((found["speeds"], found["missing"], len(found["doubtful"])), ([], [], 8))
+
+    def test_weak_numbers_before_a_jump_back_are_no_stretch(self):
+        """At twice the speed, each on one line in pass 2: they weigh less than a jump back behind them costs more. Where
+        the disc goes on behind them as far ahead, they cost no more than it does without them."""
+        for behind, is_stretch in ((26, False), (60, True)):
+            rows = pictures(range(1, 20))
+            for number in range(22, 38, 2):
+                rows += ["- %s* -" % picture(number), BLANK]
+            self.assertEqual(bool(answer(rows + pictures(range(behind, behind + 20)))["speeds"]), is_stretch, behind)
 
     def test_a_chapter_of_which_one_picture_was_shown(self):
         rows = pictures(played("-1", 90)[0])

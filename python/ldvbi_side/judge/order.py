@@ -25,7 +25,8 @@ def with_loops(numbers: Numbers, readings: List[Reading]) -> Numbers:
     """These numbers, with those that were shown between two showings of one number, if that is so twice or more. A few
     pictures that are played again and again weigh less than the breaks between them, so the chain takes them for a
     still; but a still has no other number in between."""
-    assert isinstance(numbers.pace, Pace)  # minutes alone have none
+    if numbers.pace is None or numbers.pace.kind == "minute":
+        return numbers
     fields, last = [one.field for one in readings], None
     found: List[List[Reading]] = []
     rounds: List[List[Reading]] = []  # of the last still
