@@ -168,7 +168,7 @@ wheel|contrib/plot_line.py|s/change, ldvbi.Cause.hold/change,/
 installed|include/ldvbi-config.cmake.in|s/libldvbi.a/libldvbi.b/
 installed|Makefile|s/^install-lib: places /install-lib: /
 installed|examples/stops.cpp|s/std::ferror(stdin)/false/
-installed|README.md|s/-Wl,-rpath,/-Wl,-rpath-link,/
+installed|docs/LIBRARY.md|s/-Wl,-rpath,/-Wl,-rpath-link,/
 installed|docs/LIBRARY.md|s/share.ldvbi.python  /share\/python  /
 lines|out|82CFFF|82CFFE
 lines|err|short line|shirt line

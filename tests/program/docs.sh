@@ -151,7 +151,7 @@ check 'the statuses of FORMATS.md are those of the help' cmp out help.statuses
 in_folder "$top" python3 codes/write.py --check
 check 'the table of classes and what is written from it' [ "$status" = 0 ]
 
-in_folder "$top" python3 texts/write.py --check docs
+in_folder "$top" python3 texts/write.py --check docs README.md CONTRIBUTING.md
 check 'the source and what the documents have of it' [ "$status" = 0 ]
 
 # What the documents say, compared with the source
