@@ -16,8 +16,8 @@ crates=14
 unit_tests=110
 wrong_bodies=506
 # Scripts on what was proved, and on the Rust program
-scripts=29
-rust_scripts=16
+scripts=32
+rust_scripts=20
 # The minutes that README says it takes
 minutes='40 to 80'
 # Memory in kB with which the proofs and the build can run side by side
