@@ -106,12 +106,16 @@ test: toolchain
 rust:
 	sh rust/build.sh $(TARGET)
 
+# What the last run says is gone or new becomes the list of what is run.
+ran:
+	mv .ci/ran.new .ci/ran.txt
+
 # N times the runs of the gate; RUNNER runs the program of another machine, SEED is where the random runs begin
 N := 10
 SEED := 1
 rust-compare:
 	COMPARE_RUNS=$(N) COMPARE_SEED=$(SEED) COMPARE_RUNNER="$(RUNNER)" SCRIPT_SECONDS=86400 \
-	    sh tests/scripts.sh rust/$(if $(TARGET),$(TARGET)/)ldvbi$(if $(findstring windows,$(TARGET)),.exe) rust_compare
+	    HARNESS_VERBOSE=1 sh tests/scripts.sh rust/$(if $(TARGET),$(TARGET)/)ldvbi$(if $(findstring windows,$(TARGET)),.exe) rust_compare
 
 setup:
 	sh tests/tools.sh install
@@ -226,13 +230,13 @@ bench: ldvbi lib rust
 	sh bench/all.sh ./ldvbi
 
 peers:
-	sh peers/compare.sh $(PROGRAM)
+	sh peers/compare.sh $(PROGRAM) 200 docs/measured/peers.txt
 
 clean:
-	rm -rf ldvbi libldvbi.a libldvbi.so libldvbi.so.$(ABI) dist
+	rm -rf ldvbi libldvbi.a libldvbi.so libldvbi.so.$(ABI) dist .ci/ran.new
 	rm -rf crates/*/out rust/out rust/crate rust/ldvbi rust/libldvbi.* rust/*-*-*
 
 toolchain:
 	@command -v rt > /dev/null || { echo "make: the command rt of the Rattle toolchain is not on the PATH" >&2; exit 1; }
 
-.PHONY: lib test rust rust-compare setup places install install-lib uninstall check wheel dist bench peers clean toolchain
+.PHONY: lib test ran rust rust-compare setup places install install-lib uninstall check wheel dist bench peers clean toolchain

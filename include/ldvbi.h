@@ -54,8 +54,10 @@ extern "C" {
 
 /* ---- Systems and sizes */
 enum LdvbiSystem {
+    /* from specs: systems */
     LDVBI_NTSC = 1, /* 525 lines; 910 samples to a line, 263 lines to a field */
     LDVBI_PAL = 2   /* 625 lines; 1135 samples to a line, 313 lines to a field */
+    /* to here */
 };
 
 /* The samples and the bytes of a line, the lines and the bytes of a field; 0 for any other number of a system. */

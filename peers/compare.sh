@@ -1,8 +1,9 @@
 #!/bin/sh
 # Has MAME's decoder, libzvbi's bit slicer and a reader by edges read what `ldvbi` and its library read (see
-# compare.py), and prints the tables of docs/MEASURED.md. It needs Debian's packages mame-tools and libzvbi-dev, a C
-# compiler, python3, and libldvbi.so beside the program, or at the top of the repository (`make lib`).
-# usage: sh peers/compare.sh PROGRAM [FIELDS]
+# compare.py), and prints the tables; where all was read as it has to be, also into FILE, from which texts/write.py cuts
+# those of docs/MEASURED.md. It needs Debian's packages mame-tools and libzvbi-dev, a C compiler, python3, and
+# libldvbi.so beside the program, or at the top of the repository (`make lib`).
+# usage: sh peers/compare.sh PROGRAM [FIELDS [FILE]]
 set -eu
 
 here=$(cd "$(dirname "$0")" && pwd)
@@ -32,4 +33,12 @@ built edges 'it needs the C library alone'
 built recovered 'its library is built by make lib' \
     "-I$here/../include" "-L$library" -lldvbi "-Wl,-rpath,$library"
 built zvbi 'its library is in libzvbi-dev' -lzvbi
-PYTHONDONTWRITEBYTECODE=1 python3 "$here/compare.py" "$1" "$work" "${2:-200}"
+PYTHONDONTWRITEBYTECODE=1
+export PYTHONDONTWRITEBYTECODE
+if [ -z "${3:-}" ]; then
+    python3 "$here/compare.py" "$1" "$work" "${2:-200}"
+else
+    python3 "$here/compare.py" "$1" "$work" "$2" > "$work/tables" || { cat "$work/tables"; exit 1; }
+    cat "$work/tables"
+    cp "$work/tables" "$3"
+fi

@@ -3,7 +3,7 @@
 # rust/ldvbi, rust/libldvbi.a, rust/libldvbi.so.1 and rust/libldvbi.so; for another machine, as
 # x86_64-pc-windows-gnu or aarch64-unknown-linux-gnu, they go to rust/TARGET. Needs python3 and cargo, from 1.63 on. The
 # crates that it depends on come from Debian's packages where these are installed (tests/tools.sh names them), and else
-# from the registry that cargo asks. CARGO and RUSTC name other commands.
+# from the registry that cargo asks. CARGO and RUSTC name other commands, DEBIAN_BIN the folder of Debian's.
 # usage: sh rust/build.sh [TARGET]
 set -eu
 
@@ -24,10 +24,11 @@ dependencies() {
 }
 cargo=${CARGO:-cargo}
 rustc=${RUSTC:-rustc}
+debian=${DEBIAN_BIN:-/usr/bin}
 # Debian's compiler has the library of other machines as packages, another compiler on the PATH may not.
-if [ "$target" ] && ! has_library "$rustc" && has_library /usr/bin/rustc; then
-    cargo=/usr/bin/cargo
-    RUSTC=/usr/bin/rustc
+if [ "$target" ] && ! has_library "$rustc" && has_library "$debian/rustc"; then
+    cargo=$debian/cargo
+    RUSTC=$debian/rustc
     export RUSTC
 fi
 

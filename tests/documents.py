@@ -1,53 +1,57 @@
 #!/usr/bin/env python3
-"""Compares what the documents say with the source. Each CHECK prints how much it looked at; what doesn't fit it names
-on standard error, and then the status is 1.
+"""Compares what the documents name with the source. Each CHECK prints how much it looked at; what doesn't fit it names
+on standard error, and then the status is 1, as where it doesn't see one of its ALTERED. texts/write.py has the rest.
 
 links   what a document links to is there, a heading (`#..`) too; a link to the net is one of NET
-paths   the files and folders that CONTRIBUTING.md names are there, of the repository or of a crate
-names   the functions, clauses, definitions and fields that PROMISES.md names are in the source, and so are the names
-        and files in the prose of DECISIONS.md and FORMATS.md, and in the pages for callers
-faults  the fault texts of FORMATS.md are those of the source, in its order, and those of the manual page among them
-causes  the names of causes in FORMATS.md are those of the source
-sizes   the sizes in the documents stand behind their names, by which texts/write.py writes them, and ldvbi.h has them
-columns an example of a table begins with the columns that `ldvbi-side` writes
-pictures the picture of damaged rows in FORMATS.md is as the definitions say
-changes the rows of CONTRIBUTING.md name each file that changes with a fault text, a class of codes or an option, and
-        their cells are short (document_rows.py)
-crates  crates.txt and CONTRIBUTING.md have what each crate stands on, and the source uses it (document_crates.py)
+paths   the files and folders that documents name are there, of the repository or of a crate
+names   the functions, definitions and types that documents name are in the source; in the tables of PROMISES.md also
+        clauses and fields, of the functions and records in their row
+faults  the fault texts and causes of FORMATS.md are those of the source, and those of the manual page are among them
 
-usage: python3 tests/documents.py CHECK..     (at the top of the repository)
+usage: python3 tests/documents.py [CHECK..]     (at the top of the repository)
 """
 import glob
 import os
 import re
 import sys
 
-import document_crates
-import document_rows
-import source_names
-from source_names import read
-
-sys.path.insert(0, "texts")
-import numbers_of  # noqa: E402
-
 # The least that each check has to look at. A check that finds less no longer understands the documents.
-LEAST = {"links": 40, "paths": 95, "names": 475, "faults": 28, "causes": 10, "sizes": 90, "columns": 3, "pictures": 5,
-         "changes": 65, "crates": 18}
+LEAST = {"links": 70, "paths": 260, "names": 1300, "faults": 28}
 # The links to the net, of which nothing else is looked at
 NET = ["https://github.com/happycube/ld-decode"]
-PAGE = "share/man/ldvbi.1"
-HEADER = "include/ldvbi.h"
-# The rules of SIDES.md, the numbers in them that are no constant of a rule, and the greatest number that a line has
-RULES, EXAMPLES, LAST_LINE = "## Which numbers are believed", ("29.97", "10,000"), 18
-SIZES = ("width_of", "height_of", "line_bytes", "field_bytes")
-# Documents of definitions as they are, of measured figures, and of what has changed
-FIGURES = ("docs/MEASURED.md", "CHANGELOG.md")
-# A number in the texts of faults and causes
-NUMBER = r"(?:[1-9]\d*|0)"
+# Where a path that a document names may begin
+FOLDERS = ("", "crates/", "crates/*/", "crates/*/src/", "crates/*/specs/", "rust/hand/src/", "tests/*/",
+           "bench/*/")
+# A path in prose: one with a folder, a folder alone, or the name of a source file
+PATH = re.compile(r"(?<![\w./])(?!PREFIX)[\w.*-]*\w(?:/[\w.*-]+)+\w|[\w-]+/(?=[`, |]|$)|"
+                  r"\b\w[\w.]*\.(?:antt|rt|rs|py|sh|c|md)\b")
+# A name in code font: one word, or one with its type, file or crate
+NAME = re.compile(r"[A-Za-z]\w*(?:::\w+)*|(?:[A-Z]\w*|ldvbi\w*)(?:\.[a-z]\w+)+")
+
+
+# What each check has to see: of a document a text, and another one in its place
+ALTERED = {
+    "links": [("README.md", "](docs/", "](dogs/"), ("docs/PROMISES.md", "](#not-promised)", "](#not-proved)"),
+              ("README.md", "https://github.com", "https://example.org")],
+    "paths": [("CONTRIBUTING.md", "Geometry.antt", "Geometries.antt")],
+    "names": [("docs/DECISIONS.md", "`Progress::add_row`", "`Progress::added_row`"),
+              ("docs/PROMISES.md", "`fetched`, `written`", "`fetched`, `rewritten`")],
+    "faults": [("docs/FORMATS.md", "`field width differs`", "`field width differ`"),
+               ("docs/FORMATS.md", "`no system given`", "`unknown system`"),
+               ("docs/FORMATS.md", "else `hold` and that", "else `held` and that"),
+               ("docs/FORMATS.md", "#####...######", "#####....#####")]}
+altered = {}  # of a path the two texts
+
+
+def read(path):
+    with open(path, encoding="utf-8") as file:
+        text = file.read()
+    return text.replace(*altered[path], 1) if path in altered else text
 
 
 def documents():
-    return ["README.md", "CONTRIBUTING.md", "CHANGELOG.md"] + sorted(glob.glob("docs/*.md"))
+    return ["README.md", "CONTRIBUTING.md", "CHANGELOG.md", *sorted(glob.glob("docs/*.md")),
+            *sorted(glob.glob("crates/*/CALLING.md"))]
 
 
 def prose(path):
@@ -55,23 +59,17 @@ def prose(path):
     return re.sub(r"^```.*?^```$", "", read(path), flags=re.M | re.S)
 
 
-def section(path, heading):
-    """Returns what stands under this heading, up to the next one of its kind."""
-    hashes = re.escape(heading.split(" ")[0])
-    found = re.search(rf"^{re.escape(heading)}[^\n]*\n(.*?)(?=^{hashes} |\Z)", read(path), re.M | re.S)
-    return found[1] if found else ""
-
-
-def tables(text):
-    """Returns the tables of a text, each a list of rows, each a list of cells; the first row is the head."""
-    found = re.findall(r"((?:^\|.*\n)+)", text + "\n", re.M)
-    rows = ([re.split(r"(?<!\\)\|", line.strip("|")) for line in table.split("\n") if line] for table in found)
-    return [[[cell.strip() for cell in row] for row in table if not set("".join(row)) <= set("-: ")] for table in rows]
-
-
 def codes(text):
     """Returns what stands in code font."""
     return re.findall(r"`([^`]+)`", text)
+
+
+def rows(text):
+    """Returns the rows of a text's tables, each a list of cells, with an empty one before each table."""
+    found = []
+    for line in text.split("\n"):
+        found.append([cell.strip() for cell in re.split(r"(?<!\\)\|", line.strip("|"))] if line.startswith("|") else [])
+    return found
 
 
 # ---- links
@@ -83,231 +81,166 @@ def anchors(path):
 
 
 def links(faults):
-    looked_at = net = 0
+    looked_at = 0
     for path in documents():
         for link in re.findall(r"\]\(([^)\s]*)\)", prose(path)):
             looked_at += 1
-            if link.startswith("https://"):
-                net += 1
-                if link not in NET:
-                    faults.append(f"{path}: {link} is none of the links to the net that are known")
-                continue
             target, _, anchor = link.partition("#")
             file = os.path.normpath(os.path.join(os.path.dirname(path), target)) if target else path
-            if not os.path.exists(file):
+            if link.startswith("https://"):
+                faults += [] if link in NET else [f"{path}: {link} is none of the links to the net that are known"]
+            elif not os.path.exists(file):
                 faults.append(f"{path}: {link} isn't there")
             elif anchor and anchor not in anchors(file):
                 faults.append(f"{path}: {link} is no heading of {file}")
-    print(f"links: {looked_at} in {len(documents())} documents, of which {net} to the net are left out")
     return looked_at
 
 
 # ---- paths
 
 def paths(faults):
-    """A path begins at the top, in crates/ or in a crate; a name alone is in the folder named before it in its line."""
+    """A name alone is in the folder named before it in its line. CONTRIBUTING.md names paths without code font, too."""
     looked_at = 0
-    for line in prose("CONTRIBUTING.md").split("\n"):
-        folder = ""
-        for path in re.findall(r"[\w.*-]+(?:/[\w.*-]+)+\w|[\w-]+/(?=[`, |])|\b\w+\.(?:antt|rt)\b", line):
-            places = [path, "crates/" + path, "crates/*/" + path, os.path.join(folder, path)]
-            there = [place for place in places if glob.glob(place)]
+    for document in documents():
+        for line in prose(document).split("\n"):
+            folder = ""
+            text = line if document == "CONTRIBUTING.md" else " ".join(codes(line))
+            for path in PATH.findall(text):
+                there = [place for begin in (*FOLDERS, folder + "/") for place in glob.glob(begin + path)]
+                looked_at += 1
+                if not there:
+                    faults.append(f"{document}: {path} isn't there")
+                elif "/" in path:
+                    folder = there[0] if os.path.isdir(there[0]) else os.path.dirname(there[0])
+    return looked_at
+
+
+# ---- names
+
+# What begins an item of a source, and how deep it stands; its name is the last group
+ITEM = re.compile(r"^( *)(?:pub(?:\(\w+\))? |extern \"C\" )*(fn|struct|enum|trait|const|type|record|data|abbrev|"
+                  r"unfoldable|impl)\b(?:<[^>]*>)? (?:pub )?(?:.* for )?(\w+)", re.M)
+COMMENT = re.compile(r"(?://|--) .*")
+# Where it ends, if not with a brace as deep as it begins
+ENDS = {"fn": r"\{\}?$", "const": ";$", "type": ";$"}
+SOURCES = ("crates/*/src/*.rt", "crates/*/specs/*.antt", "include/*.h", "python/**/*.py", "rust/hand/src/*.rs",
+           "share/schema/*.json", "tests/*.sh", "tests/python/*.py", "bench/sides/*.py", "rust/build.sh",
+           "examples/*.c")
+# Words of other programs, and of the machine
+NOT_OURS = {"chdman", "console", "manylinux_2_17", "memcpy", "memset", "pipefail", "pv", "siglongjmp", "WILLNEED"}
+
+
+def words_in(text):
+    return set(re.findall(r"\w+", text))
+
+
+class Source:
+    """The words of the source, and of each item, file and crate the words that stand in it; of a function in its head
+    and its contract."""
+
+    def __init__(self):
+        self.items, self.words = {}, {*NOT_OURS, *glob.glob("*"), *map(os.path.basename, glob.glob("crates/*"))}
+        for path in (path for pattern in SOURCES for path in glob.glob(pattern, recursive=True)):
+            text = COMMENT.sub("", read(path)) if path.endswith((".rt", ".antt")) else read(path)
+            self.words |= words_in(text)
+            for name in (path.split("/")[1:2] or [path])[0], os.path.basename(path).split(".")[0]:
+                self.items.setdefault(name, []).append(words_in(text))
+            if path.endswith((".rt", ".antt")) and "_tests/" not in path:
+                self.take_items(text, path.endswith(".antt"))
+
+    def take_items(self, text, are_definitions):
+        for found in ITEM.finditer(text):
+            end = r"^ *\n" if are_definitions else ENDS.get(found[2], rf"^{found[1]}\}}")
+            ends = re.compile(end, re.M).search(text, found.end())
+            self.items.setdefault(found[3], []).append(words_in(text[found.start():ends.end() if ends else None]))
+
+    def has(self, code):
+        """Whether the source has a name, and what stands before it has it."""
+        *owners, name = re.split(r"::|\.", code)
+        within = self.items.get(owners[-1]) if owners else None
+        return any(name in words for words in within) if within else {*owners, name} <= self.words
+
+    def is_near(self, name, items):
+        """Whether a name is that of an item, or stands in one of these, as a clause or a field."""
+        return name in self.items or any(name in words for item in items for words in self.items[item])
+
+
+def names(faults):
+    """In a table of PROMISES.md a clause is one of the functions in its row, or of those in the rows above; a field is
+    one of the records in its row or in the table's head, or of `Ran`."""
+    looked_at, source = 0, Source()
+    for path in documents():
+        for code in codes(prose(path)):
+            if NAME.fullmatch(code) and not PATH.fullmatch(code):
+                looked_at += 1
+                faults += [] if source.has(code) else [f"{path}: {code} isn't in the source"]
+    above = set()
+    for row in rows(prose("docs/PROMISES.md")):
+        named = [re.match(r"[\w:.]*", code)[0] for cell in row for code in codes(cell) if re.match(r"\w", code)]
+        parts = {part for code in named for part in re.split(r"::|\.", code) if part in source.items}
+        above = above | parts if row else {"Ran"}
+        for name in (name for name in named if re.fullmatch("[a-z_]+", name)):
             looked_at += 1
-            if not there:
-                faults.append(f"CONTRIBUTING.md: {path} isn't there")
-            elif "/" in path:
-                folder = there[0] if os.path.isdir(there[0]) else os.path.dirname(there[0])
-    print(f"paths: {looked_at} in CONTRIBUTING.md")
+            if not source.is_near(name, above):
+                faults.append(f"docs/PROMISES.md: {name} isn't in the source, in the row: {' | '.join(row)[:80]}")
     return looked_at
 
 
 # ---- faults
 
 # The variants of a fault, with their texts before them, or what writes the texts
-FAULT = r"^(?:impl fmt::Display for|pub\S* enum) (?:App|Draw|Main|Meta|Run|Words)Fault \{(.*?)^\}"
+FAULT = re.compile(r"^(?:impl fmt::Display for|pub\S* enum) (?:App|Draw|Main|Meta|Run|Words)Fault \{(.*?)^\}",
+                   re.M | re.S)
 # A text that is a fault below or clap's, and that of a feeder, which the program never prints
 NO_FAULT = ("{}", "{0}", "feeder failed before")
 
 
-def source_faults():
-    """Returns the fault texts of the source, of an `impl` or before a variant, in its order, each as a pattern."""
-    found = []
-    for path in sorted(glob.glob("crates/*/src/*.rt")):
-        for body in re.findall(FAULT, read(path), re.M | re.S):
-            found += [text for text in re.findall(r'"([^"]+)"', body) if text not in NO_FAULT]
-    return [re.sub(r"\\\{\w+\\\}", lambda _: NUMBER, re.escape(text)) for text in dict.fromkeys(found)]
-
-
-def faults_of_documents(faults):
-    patterns = source_faults()
-    table = tables(section("docs/FORMATS.md", "## Input: metadata"))[1]
-    settings = [text for row in table[1:] for text in codes(row[0])]
-    others = [text for row in tables(section("docs/FORMATS.md", "## Messages"))[0][1:] for text in codes(row[0])]
-    shown = re.findall(r"^\.Sq (.+)$", read(PAGE).partition(".Sh DIAGNOSTICS")[2].partition(".Sh ")[0], re.M)
-    shown = [text.rstrip(" .") for text in shown if not text.startswith("ldvbi")]
-    places = []
-    for text in settings + others + shown:
-        fit = [place for place, pattern in enumerate(patterns) if re.fullmatch(pattern, text)]
-        if len(fit) == 1:
-            places.append(fit[0])
-        else:
-            faults.append(f"'{text}' of FORMATS.md or the manual page is no fault text of the source")
-    for place, pattern in enumerate(patterns):
-        if place not in places:
-            faults.append(f"FORMATS.md doesn't have the fault text '{pattern}'")
+def fault_texts(faults):
+    """Both tables of faults have the source's texts and no others, the first one in the source's order."""
+    texts = [text for path in sorted(glob.glob("crates/*/src/*.rt")) for body in FAULT.findall(read(path))
+             for text in re.findall(r'"([^"]+)"', body) if text not in NO_FAULT]
+    patterns = [re.sub(r"\\\{\w+\\\}", r"(?:[1-9]\\d*|0)", re.escape(text)) for text in dict.fromkeys(texts)]
+    tables = [re.search(rf"^\| {head} \|.*\n((?:\|.*\n)*)", read("docs/FORMATS.md"), re.M)[1]
+              for head in ("Fault", "Text")]
+    settings, others = ([text for row in rows(table) if row for text in codes(row[0])] for table in tables)
+    shown = re.findall(r"^\.Sq (\w[^:\n]+?) ?\.?$", read("share/man/ldvbi.1").partition(".Sh DIAGNOSTICS")[2], re.M)
+    said = settings + others + shown
+    places = [[place for place, pattern in enumerate(patterns) if re.fullmatch(pattern, text)] for text in said]
+    faults += [f"'{text}' of FORMATS.md or the manual page is no fault text of the source"
+               for text, found in zip(said, places) if len(found) != 1]
+    faults += [f"FORMATS.md doesn't have the fault text '{pattern}'"
+               for place, pattern in enumerate(patterns) if [place] not in places[:-len(shown)]]
     if places[:len(settings)] != sorted(places[:len(settings)]):
         faults.append("FORMATS.md has the faults of metadata and settings in another order than the source")
-    print(f"faults: {len(settings)} of metadata and settings, {len(others)} others, {len(shown)} in the manual page; "
-          f"{len(patterns)} in the source")
-    return len(settings) + len(others) + len(shown)
+    causes = re.findall(r'push_str\("([a-z]+) ?"\)', read("crates/vbi_field/src/cause_texts.rt"))
+    outcomes = read("docs/FORMATS.md").partition("\n### The outcome of a line")[2].partition("\n### ")[0]
+    rows_drawn = dict(re.findall(r"^(drawn|glitch|too long) +([.#]+)", read("docs/FORMATS.md"), re.M))
+    most = int(re.search(r"pub few : m ≤ (\d+)", read("crates/vbi_words/specs/Smooth.antt"))[1])
+    gaps = {name: len(gap) for name, row in rows_drawn.items() for gap in re.findall(r"#(\.+)#", row)}
+    if gaps != {"glitch": most, "too long": most + 1}:
+        faults.append(f"FORMATS.md draws the damaged rows {gaps}, and a glitch has up to {most} columns")
+    if codes(outcomes)[1:] != causes:
+        faults.append(f"FORMATS.md has the outcomes {codes(outcomes)[1:]}, and the source {causes}")
+    return len(places)
 
 
-# ---- causes
-
-def causes(faults):
-    """Each list of causes is the source's, in its order."""
-    body = read(glob.glob("crates/*/src/cause_texts.rt")[0])
-    wanted = [text.strip() for text in re.findall(r'push_str\("([a-z ]+)"\)', body)]
-    outcome = section("docs/FORMATS.md", "### The outcome of a line")
-    lists = {
-        "FORMATS.md, the examples": [row[2] for row in tables(section("docs/FORMATS.md", "### A real example"))[0][2:]],
-        "FORMATS.md, the outcome of a line": codes(outcome),
-    }
-    for place, found in lists.items():
-        names = [text.strip("` ").split(" ")[0] for text in found]
-        if names != wanted:
-            faults.append(f"{place}: the causes are {', '.join(names)}, and in the source {', '.join(wanted)}")
-    print(f"causes: {len(wanted)} in {len(lists)} places")
-    return len(wanted) * len(lists)
-
-
-# ---- sizes
-
-def sizes(faults):
-    """Each size of a line or a field in the prose of a document has its name before it (texts/numbers_of.py), by which
-    it is written; the header, which has no such names, has each width and height in its comments."""
-    numbers = {name: size for name, size in numbers_of.sizes().items() if name.startswith(SIZES)}
-    looked_at = 0
-    for path in documents():
-        text = re.sub(r"`[^`]*`|\]\([^)]*\)", "", prose(path))
-        looked_at += len(numbers_of.MARK.findall(text))
-        for number in re.findall(r"(?<![\d,.x@-])\d[\d,]*\d(?![\d@]|\.\d)", numbers_of.MARK.sub("", text)):
-            if path not in FIGURES and int(number.replace(",", "")) in numbers.values():
-                faults.append(f"{path} has the size {number} without its name before it")
-    in_rules = numbers_of.MARK.sub("", re.sub(r"`[^`]*`", "", section("docs/SIDES.md", RULES)))
-    for number in re.findall(r"(?<![\w.,-])\d[\d,.]*\d\b", in_rules):
-        if number not in EXAMPLES and float(number.replace(",", "")) > LAST_LINE:
-            faults.append(f"docs/SIDES.md has {number} in its rules without a name before it")
-    comments = " ".join(re.findall(r"/\*(.*?)\*/", read(HEADER), re.S))
-    for name in ("width_of.ntsc", "width_of.pal", "height_of.ntsc", "height_of.pal"):
-        looked_at += 1
-        if not re.search(rf"\b{numbers[name]}\b", comments):
-            faults.append(f"{HEADER} hasn't the size {name}, which is {numbers[name]}")
-    print(f"sizes: {looked_at} numbers in {len(documents())} documents and in {HEADER}")
-    return looked_at
-
-
-# ---- columns
-
-def columns(faults):
-    """An example of a table begins with the columns that the Python command writes."""
-    sys.path.insert(0, "python")
-    from ldvbi_side.command import join, map as side_map, rows, tables as side_tables
-    known = [",".join(names) for names in (
-        side_map.COLUMNS, join.TAKEN_COLUMNS, join.RANGE_COLUMNS, rows.COLUMNS, side_tables.FIELD_COLUMNS,
-        side_tables.BAD_LINE_COLUMNS)]
-    heads = [(path, head) for path in documents() for head in
-             re.findall(r"^```text\n([a-z]+(?:,[a-z ]+){3,})$", read(path), re.M)]
-    faults += [f"{path}: no table has the columns {head}" for path, head in heads if head not in known]
-    print(f"columns: {len(heads)} examples of tables")
-    return len(heads)
-
-
-# ---- pictures
-
-def pictures(faults):
-    """The picture of damaged rows in FORMATS.md shows as many columns as the definitions say."""
-    most = numbers_of.all_numbers()["glitch.most"]
-    rows = dict(re.findall(r"^(drawn|early|late|glitch|too long) +([.#]+)", read("docs/FORMATS.md"), re.M))
-    gaps = {name: len(gap[1]) for name, gap in
-            ((name, re.search(r"#(\.+)#", row)) for name, row in rows.items()) if gap}
-    starts = {name: row.index("#") - rows["drawn"].index("#") for name, row in rows.items()}
-    for what, found, wanted in (
-            ("columns turned over", gaps, {"glitch": most, "too long": most + 1}),
-            ("columns from the drawn change", [starts.get("early"), starts.get("late")], [-1, 1])):
-        if found != wanted:
-            faults.append(f"docs/FORMATS.md, the picture of damaged rows: {what}: {found}, and by the source {wanted}")
-    print(f"pictures: {len(rows)} damaged rows")
-    return len(rows)
-
-
-# ---- names
-
-# Documents, or a section of one, whose prose names what is in the source, and the form of such a name: a path, a name
-# with its crate or type, one of several words, or that of a type
-PROSE = {"docs/PROMISES.md": "", "docs/DECISIONS.md": "", "docs/FORMATS.md": "## What a line shows"}
-# Pages whose tables are looked at as their prose is
-PAGES = ["crates/vbi_words/CALLING.md", "crates/vbi_line/CALLING.md", "crates/vbi_near/CALLING.md"]
-# A sentence that says what a record has: each field stands first in its parentheses, up to the end of the paragraph
-OF_RECORD = re.compile(r"`(\w+)` in `[\w/]+\.antt`(?: says|:)(.*?)(?:\n\n|\Z)", re.S)
-IS_NAME = re.compile(r"[\w/-]+(?:\.\w+|/)|\w+(?:::\w+)+|[a-z]+_\w+|[A-Z][a-z]\w*")
-
-
-def fields_of_records(source, faults):
-    """Returns how many fields the prose of PROMISES.md names as those of one record; each has to be one of it."""
-    text = re.sub(r"^\|.*", "", prose("docs/PROMISES.md"), flags=re.M)
-    named = [(record, field) for record, text in OF_RECORD.findall(text)
-             for field in re.findall(r"\(`([a-z]\w*)`", text)]
-    faults += [f"PROMISES.md: {field} is no field of {record}" for record, field in named
-               if field not in source.members.get(record, ())]
-    return len(named)
-
-
-def names(faults):
-    """A clause is one of the functions in its row, or of those in the rows above where it has none; a field is one of
-    the records in its row or in the table's head, or of `Ran`. What stands beside a crate is in that crate."""
-    looked_at = 0
-    source = source_names.Names()
-    for head, *rows in tables(prose("docs/PROMISES.md")):
-        above, crate = [], None
-        for row in rows:
-            named = [code for cell in row for code in codes(cell)]
-            functions = [code for code in named if source.places(code)]
-            above += functions
-            types = {"Ran"} | {code.partition(".")[0] for code in named + codes(" ".join(head))}
-            crate = next((code for code in codes(row[0]) if code in source.crates), crate)
-            for code in named:
-                looked_at += 1
-                if not source.has(code, functions or above, types):
-                    faults.append(f"PROMISES.md: {code} isn't in the source, in the row: {' | '.join(row)[:80]}")
-                elif head[0] == "Crate" and code in codes(row[1]) and not source.is_in(code, crate):
-                    faults.append(f"PROMISES.md: {code} isn't in {crate}")
-    in_prose = fields_of_records(source, faults)
-    for path in [*PROSE, *PAGES]:
-        text = section(path, PROSE[path]) if PROSE.get(path) else prose(path)
-        text = re.sub(r"^```.*?^```$", "", text, flags=re.M | re.S)
-        for code in codes(text if path in PAGES else re.sub(r"^\|.*", "", text, flags=re.M)):
-            if IS_NAME.fullmatch(code):
-                in_prose += 1
-                if not source.has_somewhere(code):
-                    faults.append(f"{path}: {code} isn't in the source")
-    print(f"names: {looked_at} in the tables of PROMISES.md, {in_prose} in the prose of {len(PROSE)} documents and "
-          f"in {len(PAGES)} pages for callers")
-    return looked_at + in_prose
-
-
-CHECKS = {"links": links, "paths": paths, "names": names, "faults": faults_of_documents, "causes": causes,
-          "sizes": sizes, "columns": columns, "pictures": pictures,
-          "changes": lambda faults: document_rows.changes(faults, source_faults()), "crates": document_crates.crates}
+CHECKS = {"links": links, "paths": paths, "names": names, "faults": fault_texts}
 
 
 def main():
     status = 0
-    for check in sys.argv[1:]:
+    for check in sys.argv[1:] or CHECKS:
         faults = []
         looked_at = CHECKS[check](faults)
         if looked_at < LEAST[check]:
             faults.append(f"{check}: {looked_at} looked at, and there were {LEAST[check]}")
+        print(f"{check}: {looked_at} looked at")
+        count = len(faults)
+        for path, *texts in ALTERED[check]:
+            seen, altered[path] = [], texts
+            CHECKS[check](seen)
+            faults += [] if len(seen) > count else [f"{check}: not seen in {path}: {' > '.join(texts)}"]
+            altered.clear()
         for fault in faults:
             print(fault, file=sys.stderr)
             status = 1

@@ -1,23 +1,15 @@
 #!/bin/sh
 # The whole gate, at the top of the repository: every proof, test and stored run by `rt ci`, each wrong body by
-# tests/wrong_bodies.py, then the scripts on the built program and library, and the scripts tried themselves (this one
-# by tests/gate_trials.sh); then the same source is built by cargo, and compared with what was proved.
+# tests/wrong_bodies.py, then the scripts on the built program and library; then the same source is built by cargo, and
+# compared with what was proved. What was run is compared with the list in git (tests/ran.sh), line by line.
 #
 # `rt ci` works on a copy without must-fail/, whose edits it would try one at a time, while program and library are
 # built here; what these keep, the wrong bodies are tried over. So the program is proved and built twice, and the two
 # are compared byte for byte. The last line counts crates and wrong bodies, 'N passed, 0 failed'; the status is 0 only
-# where all of it passed. Times of the parts stand before it. With `one-by-one` `rt ci` has the edits too, and tries
-# them.
-# usage: sh tests/gate.sh [one-by-one]
+# where all of it passed. Times of the parts stand before it.
+# usage: sh tests/gate.sh
 set -eu
 
-# What the gate tried when it last grew. With less of any it fails, so what is taken out is taken out here as well.
-crates=14
-unit_tests=110
-wrong_bodies=506
-# Scripts on what was proved, and on the Rust program
-scripts=32
-rust_scripts=20
 # The minutes that README says it takes
 minutes='40 to 80'
 # Memory in kB with which the proofs and the build can run side by side
@@ -39,12 +31,6 @@ fails() {
     exit 1
 }
 
-# at_least NAME FOUND WANTED: fails where fewer of these were tried than when the gate last grew
-at_least() {
-    [ "$2" -ge "$3" ] || fails "$2 $1, and there were $3"
-    [ "$2" = "$3" ] || echo "the gate: $2 $1, more than the $3 that tests/gate.sh asks for: raise the number"
-}
-
 # part NAME: says how long the part that ends here took, and how many seconds of processors all parts so far
 began=$(date +%s)
 started=$began
@@ -56,38 +42,27 @@ part() {
     began=$now
 }
 
-# runs_scripts NAME WANTED PROGRAM [--rust]: runs the scripts, and fails where one of them does or where fewer ran
-runs_scripts() {
-    name=$1
-    wanted=$2
-    shift 2
-    sh tests/scripts.sh "$@" > "$work/scripts" || { cat "$work/scripts"; fails "of the $name one failed"; }
-    cat "$work/scripts"
-    ran=$(tail -n 1 "$work/scripts" | sed -n 's/^scripts: all \([0-9]*\) passed$/\1/p')
-    at_least "$name" "${ran:-0}" "$wanted"
-}
-
 # ends_proofs: waits for `rt ci`, and looks at its status, its last line and what it ran
 ends_proofs() {
     wait "$proofs" || { cat "$work/log"; fails 'rt ci failed'; }
     proofs=
     cat "$work/log"
+    sed -n 's/^\([a-z_]*\).*:.*/crate \1/p' crates.txt > "$work/crates"
+    crates=$(wc -l < "$work/crates")
     last=$(tail -n 1 "$work/log")
-    [ "$last" = "${last%% *} passed, 0 failed" ] || fails "rt ci ended with '$last'"
-    at_least 'crates and wrong bodies of rt ci' "${last%% *}" $((crates + tried))
-    at_least 'unit tests' "$(grep -c '^test .* \.\.\. ok$' "$work/log")" "$unit_tests"
-    passed=$((${last%% *} - tried))
+    [ "$last" = "$crates passed, 0 failed" ] || fails "rt ci ended with '$last', and there are $crates crates"
+    cat "$work/crates" >> "$work/ran"
+    sed -n 's/^\(test .*\) \.\.\. ok$/\1/p' "$work/log" >> "$work/ran"
 }
 
-without_edits="--exclude=./crates/*/must-fail"
-tried=0
-if [ "${1:-}" = one-by-one ]; then
-    without_edits=
-    tried=$wrong_bodies
-fi
+# compared COMMAND..: whether a command succeeds that compares what was run; what is gone or new is no fault until the end
+compared() {
+    "$@" || [ $? = 3 ]
+}
+
+rm -f .ci/ran.new
 mkdir "$work/copy"
-# shellcheck disable=SC2086
-tar --exclude='./.git' --exclude='./crates/*/out' --exclude='./rust/out' $without_edits -cf - . |
+tar --exclude='./.git' --exclude='./crates/*/out' --exclude='./rust/out' --exclude='./crates/*/must-fail' -cf - . |
     tar -C "$work/copy" -xf -
 # One job for each crate, which takes a quarter less of the processors' time than several, and as many crates side by
 # side as there are processors
@@ -101,8 +76,9 @@ make JOBS=1 ldvbi lib || fails 'program and library are not built'
 part 'program and library'
 python3 tests/wrong_bodies.py > "$work/wrong" || { cat "$work/wrong"; fails 'a wrong body was not refused'; }
 cat "$work/wrong"
-refused=$(tail -n 1 "$work/wrong" | sed -n 's/^wrong bodies: \([0-9]*\) refused .* 0 not$/\1/p')
-at_least 'wrong bodies' "${refused:-0}" "$wrong_bodies"
+sed -n 's,^\(\w*/\w*\): refused by a .*,wrong body \1,p' "$work/wrong" > "$work/bodies"
+# The last line says by what they were refused.
+tail -n 1 "$work/wrong" | cat "$work/bodies" - >> "$work/ran"
 python3 tests/wrong_bodies_trials.py || fails 'the script that tries wrong bodies takes what it has to refuse'
 python3 tests/public_functions.py || fails 'a public function has no wrong body'
 part 'wrong bodies'
@@ -111,11 +87,13 @@ if [ -n "$proofs" ]; then
     part 'proofs and tests, where they took longer'
 fi
 cmp ldvbi "$work/copy/crates/ldvbi/out/ldvbi" || fails 'the program was built twice, and the two differ'
-runs_scripts 'scripts' "$scripts" ./ldvbi
+compared sh tests/scripts.sh ./ldvbi || fails 'of the scripts one failed'
 part 'scripts'
 make -s rust || fails 'the Rust program is not built'
-runs_scripts 'scripts on the Rust program' "$rust_scripts" rust/ldvbi --rust
+compared sh tests/scripts.sh rust/ldvbi --rust || fails 'of the scripts on the Rust program one failed'
 part 'the Rust program and its library'
+compared sh tests/ran.sh '^(crate|test|wrong) ' < "$work/ran" || fails 'what was run is not compared'
+[ ! -e .ci/ran.new ] || { diff .ci/ran.txt .ci/ran.new || fails "what was run isn't what .ci/ran.txt has (make ran)"; }
 cat "$work/times"
 echo "time: all: $(((now - started) / 60)) minutes, and README says $minutes"
-echo "$((passed + refused)) passed, 0 failed"
+echo "$((crates + $(wc -l < "$work/bodies"))) passed, 0 failed"

@@ -1,7 +1,7 @@
 # shellcheck shell=sh disable=SC2034
 # What the scripts share that run the built program, whose path is their first word. They read this in first; it takes
-# them to an empty folder, which is removed in the end. How many checks a script has stands in scripts.txt, and nowhere
-# else.
+# them to an empty folder, which is removed in the end. A script says in TAP what its checks found, and that it came to
+# its end.
 #
 # A run of the program, or of another tool, takes RUN_SECONDS at most (300 where the environment doesn't say): a script
 # ends at the first that takes longer. Where STOP_AT_FIRST isn't empty it ends at the first check that fails.
@@ -24,9 +24,10 @@ built=$(dirname "$program")
 [ -e "$built/libldvbi.so.1" ] || built=$top
 seconds=${RUN_SECONDS:-300}
 judged=0
-passed=0
+failed=
 differed=0
-left_out=0
+newline='
+'
 work=$(mktemp -d)
 trap 'rm -rf "$work"' EXIT
 trap 'exit 1' HUP INT TERM
@@ -84,23 +85,33 @@ output_of() {
 check() {
     checked=$1
     shift
-    judged=$((judged + 1))
-    if [ -e "$work/endless" ]; then
-        echo "$script: $checked: a run before it was ended after $seconds seconds" >&2
-        stop 'a run that takes too long'
-    elif is_different "$checked"; then
+    [ ! -e "$work/endless" ] || stop "$checked: a run before it was ended after $seconds seconds"
+    holds=
+    ! "$@" || holds=yes
+    why=
+    if is_different "$checked"; then
         differed=$((differed + 1))
-        if "$@"; then
-            echo "$script: $checked: it holds, and $DIFFERENCES says that it doesn't" >&2
-        else
-            passed=$((passed + 1))
-        fi
-    elif "$@"; then
-        passed=$((passed + 1))
-    else
-        echo "$script: $checked: status $status, and on standard error: $(cat err)" >&2
-        [ -z "${STOP_AT_FIRST:-}" ] || stop 'the first check that failed'
+        [ "$holds" ] && holds= || holds=yes
+        why="it holds, and $DIFFERENCES says that it doesn't"
     fi
+    report
+}
+
+# report: says in TAP whether the check `checked` is as wanted (`holds`), else `why` on standard error. RAN, where it
+# isn't empty, names the file that gets a line for each check.
+report() {
+    judged=$((judged + 1))
+    # A number sign would begin a directive.
+    case $checked in *[#"$newline"]*) checked=$(printf %s "$checked" | tr '#\n' '+ ') ;; esac
+    [ -z "${RAN:-}" ] || printf 'check %s: %s\n' "$script" "$checked" >> "$RAN"
+    if [ "$holds" ]; then
+        printf 'ok %d - %s\n' $judged "$checked"
+        return
+    fi
+    failed=yes
+    printf 'not ok %d - %s\n' $judged "$checked"
+    echo "$script: $checked: ${why:-status $status, and on standard error: $(cat err)}" >&2
+    [ -z "${STOP_AT_FIRST:-}" ] || stop 'the first check that failed'
 }
 
 # differences [NAME]: how many lines DIFFERENCES has for this script, or for its check with this name
@@ -116,13 +127,14 @@ is_different() {
 
 # stop WHY: ends the script before its end
 stop() {
-    echo "$script: stopped at $1"
+    echo "$script: stopped at $1" >&2
     exit 1
 }
 
-# leave_out COUNT: counts checks that can't be made here, as those of a library that isn't built
+# leave_out COUNT: says that checks can't be made here, as those of a library that isn't built
 leave_out() {
-    left_out=$((left_out + $1))
+    echo "$script: $1 checks are left out" >&2
+    [ -z "${RAN:-}" ] || echo "left out $script" >> "$RAN"
 }
 
 # ended STATUS OUT ERR: whether the last run ended with this status and wrote these two files, byte for byte
@@ -152,19 +164,12 @@ judge() {
     check "$1" ended "$2" "$3" wanted
 }
 
-# finish: reports how many checks held, and ends; the status is 0 where these are all, and as many as scripts.txt has
+# finish: ends the script with the plan that TAP wants, and status 0 where all checks are as wanted
 finish() {
     [ ! -e "$work/endless" ] || stop 'a run that takes too long'
-    checks=$(awk -v name="$script" '$1 == name { print $2 }' "$tests/scripts.txt")
-    checks=$((${checks:-0} - left_out))
-    [ "$judged" = "$checks" ] || echo "$script: $judged checks, and scripts.txt has $checks for it" >&2
-    if [ "$left_out" = 0 ]; then
-        echo "$script: $passed of $checks checks as wanted"
-    else
-        echo "$script: $passed of $checks checks as wanted, $left_out left out"
-    fi
     [ "$differed" = "$(differences)" ] || stop "$differed differences, and DIFFERENCES has $(differences)"
-    [ "$judged $passed" = "$checks $checks" ]
+    echo "1..$judged"
+    [ "$judged" != 0 ] && [ -z "$failed" ]
     exit
 }
 
@@ -178,12 +183,12 @@ with_jsonschema() {
 
 # validates SCHEMA DOCUMENT..: says `valid` or `refused` of each document
 validates() {
-    bounded "$(with_jsonschema)" "$tests/validate.py" "$@" < empty
+    bounded "$(with_jsonschema)" "$tests/program/validate.py" "$@" < empty
 }
 
 # signal SYSTEM FIELDS < DESCRIPTIONS: lines (FIELDS is 0) or fields (1) as text, see signal.awk
 signal() {
-    awk -v discs="$1" -v fields="$2" -f "$tests/signal.awk"
+    awk -v discs="$1" -v fields="$2" -f "$tests/program/signal.awk"
 }
 
 # What makes bytes of that text, low byte first: samples of 16384 and 51200 (NTSC), of 16384 and 54016 (PAL), and of

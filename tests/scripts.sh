@@ -1,14 +1,16 @@
 #!/bin/sh
-# Runs the scripts of scripts.txt on the built program, as many at a time as there are processors, and then prints what
-# they said, in the order of that table. A script has failed where its status isn't 0, where its last line isn't that as
-# many checks as the table has came out as wanted, or where it took SCRIPT_SECONDS (3600 where the environment doesn't
-# say). Nothing is run where the library isn't built, where this folder or one below it has a script that the table
-# doesn't name, or where a script that is to be run isn't there or has the name of another.
+# Runs the scripts of this folder on the built program by `prove`, as many at a time as there are processors, and then
+# compares their checks with the list in git (ran.sh), or adds them to the file RAN where that is set. A script has
+# failed where a check did, where it didn't come to its end, or where it took SCRIPT_SECONDS (3600 where the environment
+# doesn't say). The status is 1 where one has, and 3 where checks are gone or new.
 #
-# With --as-built, what needs a library is left out where none is built, beside the program or by `make lib`, and so is
-# what the whole gate alone runs.
-# With --rust, what is about the Rust program and its library alone is run on these (`make rust`). Of the program in
-# rust/ the checks that rust/differences.txt names have to fail. With names, those scripts are run and no others.
+# A script says in its line `# runs:` where it is run: everywhere, where a library is built (library) or the proved one
+# (proved), by python.sh (python), or by the whole gate alone (whole); with `rust` on the Rust program, too, or on that
+# alone. `# fails where:` has an alteration that it has to see (trials.sh).
+#
+# Without a word all are run that the proved program has to pass. With --as-built, what needs a library that isn't built
+# is left out, and so is what the whole gate alone runs; with --rust, those for the Rust program are run, and with names
+# these alone. Of the program in rust/ the checks that rust/differences.txt names have to fail.
 # usage: sh tests/scripts.sh PROGRAM [--as-built | --rust | NAME..]
 set -eu
 # What `make check` was given isn't meant for the makes that scripts run.
@@ -16,114 +18,83 @@ unset MAKEFLAGS MFLAGS MAKEOVERRIDES FROM PROGRAM
 
 here=$(cd "$(dirname "$0")" && pwd)
 top=$(dirname "$here")
-program=$(cd "$(dirname "$1")" && pwd)/$(basename "$1")
-shift
-work=$(mktemp -d)
-trap 'rm -rf "$work"' EXIT
-trap 'exit 1' HUP INT TERM
 
 fault() {
     echo "scripts: $1" >&2
     exit 1
 }
 
-# rows WHERE..: the names of the table's scripts that are run there
-rows() {
-    awk -v where=" $* " '!/^#/ && index(where, " " $3 " ") { print $1 }' "$here/scripts.txt"
+# tagged WORD..: the scripts with one of these words in their line; those of python/, which take longest, come first
+tagged() {
+    for word; do
+        (cd "$here" && grep -rlw --include='*.sh' "^# runs: .*$word" .)
+    done | sort -ru
 }
 
-# checks_of NAME: how many checks a script has, by the table
-checks_of() {
-    awk -v name="$1" '$1 == name { print $2 }' "$here/scripts.txt"
+# named NAME..: the scripts with these names
+named() {
+    for name; do
+        tagged everywhere library proved python whole rust | grep "/$name\.sh\$" || fault "no script has the name $name"
+    done
 }
 
-# path_of NAME: the script with this name, from this folder on
-path_of() {
-    (cd "$here" && find . -name "$1.sh" | sed 's/^..//')
-}
-
-# is_named FILE: whether the table has it, as a script that is run somewhere or as what isn't run by itself
-is_named() {
-    awk -v file="$1" '
-        $1 ".sh" == file && $3 ~ /^(everywhere|library|proved|python|whole|rust)$/ { named = 1 }
-        $1 == file && $3 == "helper" { named = 1 }
-        END { exit !named }' "$here/scripts.txt"
-}
-
-# side_by_side < NAMES: runs these scripts. What NAME says is then in the file NAME.said, its status in NAME.status.
-side_by_side() {
-    while read -r name; do
-        path_of "$name"
-    done > "$work/paths"
-    # shellcheck disable=SC2016
-    (cd "$work" && xargs -P "$(nproc)" -n 1 sh -c '
-        name=$(basename "$4" .sh)
-        status=0
-        timeout -k 30 "$1" sh "$2/$4" "$3" > "$name.said" 2>&1 < /dev/null || status=$?
-        echo $status > "$name.status"' sh "${SCRIPT_SECONDS:-3600}" "$here" "$program" < paths)
-}
-
-# is_as_wanted NAME: whether a script ended with status 0, and its last line is that all its checks were as wanted; some
-# may have been left out where the library isn't built
-is_as_wanted() {
-    [ "$(cat "$work/$1.status")" = 0 ] || return
-    tail -n 1 "$work/$1.said" | awk -v name="$1" -v checks="$(checks_of "$1")" -v library="$library" '
-        $0 == name ": " checks " of " checks " checks as wanted" { wanted = 1 }
-        !library && $0 == name ": " $2 " of " $2 " checks as wanted, " $8 " left out" { wanted = $2 + $8 == checks }
-        END { exit !wanted }'
-}
-
-[ -x "$program" ] || fault "there is no program $program"
-# Unit tests are found by python_unit.sh, and counted there.
-find "$here" \( -name '*.sh' -o -name '*.py' \) ! -path '*/python/test_*.py' > "$work/found"
-while read -r path; do
-    is_named "$(basename "$path")" || fault "scripts.txt doesn't name $(basename "$path")"
-done < "$work/found"
+[ -x "$1" ] || fault "there is no program $1"
+untagged=$(grep -rlx --include='*.sh' finish "$here" | xargs grep -L '^# runs: ') || :
+[ -z "$untagged" ] || fault "without a line '# runs:': $untagged"
+program=$(cd "$(dirname "$1")" && pwd)/$(basename "$1")
+shift
 library=
 proved=
-[ ! -e "$(dirname "$program")/libldvbi.so.1" ] || library=yes
-[ ! -e "$top/libldvbi.so.1" ] || library=yes proved=yes
+on=
+# What the list has of the scripts, where all are run
+whole=
+[ ! -e "$(dirname "$program")/libldvbi.so.1" ] || library=library
+[ ! -e "$top/libldvbi.so.1" ] || library=library proved=proved
 if [ "$(dirname "$program")" = "$top/rust" ] || [ "${1:-}" = --rust ]; then
     DIFFERENCES=$top/rust/differences.txt
     export DIFFERENCES
+    on=' on the Rust program'
 fi
 case ${1:-} in
     '')
         [ "$proved" ] || fault 'the library is not built'
-        rows everywhere library proved > "$work/first"
-        rows whole > "$work/then"
+        scripts=$(tagged everywhere library proved whole)
+        whole="|^script [a-z_]*$on\$"
         ;;
     --as-built)
-        rows everywhere ${library:+library} ${proved:+proved} > "$work/first"
-        : > "$work/then"
-        [ "$library" ] || echo "scripts: left out, since no library is built: $(rows library | paste -s -d ' ')"
-        [ "$proved" ] || echo "scripts: left out, since \`make lib\` wasn't run: $(rows proved | paste -s -d ' ')"
+        scripts=$(tagged everywhere $library $proved)
+        [ "$proved" ] || echo 'scripts: what needs the library that make lib builds is left out'
+        [ "$library" ] || echo 'scripts: what needs any library is left out'
         ;;
     --rust)
-        awk '!/^#/ && $NF == "rust" { print $1 }' "$here/scripts.txt" > "$work/first"
-        : > "$work/then"
+        scripts=$(tagged rust)
+        whole="|^script [a-z_]*$on\$"
         ;;
-    *)
-        printf '%s\n' "$@" > "$work/first"
-        : > "$work/then"
-        ;;
+    *) scripts=$(named "$@") ;;
 esac
 
-cat "$work/first" "$work/then" > "$work/names"
-while read -r name; do
-    [ "$(path_of "$name" | wc -l)" = 1 ] || fault "no script, or more than one, has the name $name"
-done < "$work/names"
+work=$(mktemp -d)
+trap 'rm -rf "$work"' EXIT
+trap 'exit 1' HUP INT TERM
+outer=${RAN:-}
+RAN=${RAN:-$work/ran}
+export RAN
+for path in $scripts; do
+    echo "script $(basename "$path" .sh)$on" >> "$RAN"
+done
+# shellcheck disable=SC2086
+(cd "$here" && prove --timer -j "$(nproc)" -e "timeout -k 30 ${SCRIPT_SECONDS:-3600} sh" $scripts :: "$program") \
+    < /dev/null || exit 1
+[ -z "$outer" ] || exit 0
 
-# A script for the whole gate takes all processors itself.
-side_by_side < "$work/first"
-[ ! -s "$work/then" ] || side_by_side < "$work/then"
-failed=
-while read -r name; do
-    cat "$work/$name.said"
-    is_as_wanted "$name" || {
-        echo "scripts: $name failed: status $(cat "$work/$name.status"), of $(checks_of "$name") checks"
-        failed="$failed $name"
-    }
-done < "$work/names"
-[ -z "$failed" ] || fault "failed:$failed"
-echo "scripts: all $(wc -l < "$work/names") passed"
+# compared: the names of the scripts whose checks are compared: those that ran, and, where all on the proved program did,
+# those that the list alone has
+compared() {
+    sed -n 's/^script \([a-z_]*\).*/\1/p' "$RAN"
+    [ "$whole" ] && [ -z "$on" ] || return 0
+    alone=$(grep -rlx --include='*.sh' '# runs: rust' "$here" | xargs -n 1 basename -s .sh)
+    sed -n 's/^check \([a-z_]*\): .*/\1/p' "$top/.ci/ran.txt" | grep -vxF "$alone"
+}
+sed -n 's/^left out //p' "$RAN" > "$work/left"
+names=$(compared | sort -u | grep -vxFf "$work/left" | paste -s -d '|')
+sh "$here/ran.sh" "^check ($names): $whole" < "$RAN"

@@ -1,13 +1,14 @@
 #!/bin/sh
 # The tools that the tests need besides the toolchain: a C compiler with its sanitizers, a C++ compiler, binutils,
-# python3 and jq; and what the commands in the documents need. With a word, cargo as well, and the crates that the Rust
-# program depends on. Names those that are missing and fails, or installs them from Debian's packages, as root or by
-# sudo.
+# python3, jq, and perl's prove; and what the commands in the documents need. With a word, cargo as well, and the crates
+# that the Rust program depends on. Names those that are missing and fails, or installs them from Debian's packages, as
+# root or by sudo.
 # usage: sh tests/tools.sh [rust | install]
 set -eu
 
 missing=
-for pair in "${CC:-cc}:gcc libc6-dev" "${CXX:-c++}:g++" nm:binutils python3:python3 jq:jq pkg-config:pkg-config; do
+for pair in "${CC:-cc}:gcc libc6-dev" "${CXX:-c++}:g++" nm:binutils python3:python3 jq:jq prove:perl \
+    pkg-config:pkg-config; do
     command -v "${pair%%:*}" > /dev/null || missing="$missing ${pair#*:}"
 done
 for tool in cmake git less mandoc mypy parallel pv zsh; do
@@ -15,8 +16,8 @@ for tool in cmake git less mandoc mypy parallel pv zsh; do
 done
 # A command of docs/RECIPES.md is run by the system's Python, whose packages are Debian's.
 /usr/bin/python3 -c 'import jsonschema' 2> /dev/null || missing="$missing python3-jsonschema"
-# The wheel is tried by that Python, too.
-for pair in ensurepip:venv setuptools:setuptools wheel:wheel; do
+# The wheel is tried by that Python, too, and its coverage records which lines run.
+for pair in coverage:coverage ensurepip:venv setuptools:setuptools wheel:wheel; do
     /usr/bin/python3 -c "import ${pair%:*}" 2> /dev/null || missing="$missing python3-${pair#*:}"
 done
 if [ "${1:-}" ]; then

@@ -1,10 +1,14 @@
 """The tables of the documents that the source makes: statuses, columns, and what a schema has of members and
 of the words that stand in them."""
 
+import functools
 import json
 import os
 from typing import Any, Dict, Iterable, Iterator, List, Tuple
 
+import definitions
+import measured
+import numbers_of
 from program import COMMANDS_OF_LDVBI, TOP, ldvbi
 
 Schema = Dict[str, Any]
@@ -188,6 +192,7 @@ PARTS = {
         "scan": (SCAN, columns_of_scan),
         "join": (JOIN, lambda: members(JOIN)),
     },
+    "include/ldvbi.h": {"systems": ("specs", numbers_of.systems)},
     "docs/SIDES.md": {
         "answer": (SIDE, lambda: members(SIDE)),
         "no": (SIDE, lambda: whys(SIDE, "reasons", "no")),
@@ -197,4 +202,6 @@ PARTS = {
         "bad_lines": ("python/ldvbi_side/command/tables.py", columns_of_bad_lines),
         "disagreements": (JOIN, lambda: whys(JOIN, "disagreements")),
     },
+    **measured.PARTS,
+    "docs/PROMISES.md": {mark: ("specs", functools.partial(definitions.part, mark)) for mark in definitions.SECTIONS},
 }

@@ -13,7 +13,9 @@ CARDINALS = "no one two three four five six seven eight nine ten".split()
 ORDINALS = "no first second third fourth fifth sixth seventh eighth ninth tenth".split()
 SMOOTH = "crates/vbi_words/specs/Smooth.antt"
 JITTER = "crates/vbi_words/specs/Jitter.antt"
-REFUSED = "tests/refused.txt"
+RAN = ".ci/ran.txt"
+RATES = "tests/library/library_lines.c"
+READER = "docs/RECIPES.md"  # of a map, in C
 
 
 def read(path: str) -> str:
@@ -46,11 +48,8 @@ def sizes() -> Dict[str, int]:
 
 def refused() -> Dict[str, int]:
     """How many wrong bodies there are, and by what the check refuses them."""
-    counts = {name: int(count) for name, count in re.findall(r"^(\w+) (\d+)$", read(REFUSED), re.M)}
-    count = len(paths("crates/*/must-fail/*.edit"))
-    if sum(counts.values()) != count:
-        raise SystemExit("%s has %d wrong bodies, and there are %d" % (REFUSED, sum(counts.values()), count))
-    return {"wrong_bodies": count, **{"refused." + name: number for name, number in counts.items()}}
+    line = r"^wrong bodies: (\d+) refused \((\d+) by a goal, (\d+) by a written proof, (\d+) by a name alone\), 0 not$"
+    return dict(zip(("wrong_bodies", "refused.goal", "refused.proof", "refused.name"), of_source(RAN, line)))
 
 
 def limits() -> Dict[str, int]:
@@ -61,11 +60,20 @@ def limits() -> Dict[str, int]:
     return {**numbers, "gate.least": least, "gate.most": most}
 
 
+def of_tests() -> Dict[str, int]:
+    """In kHz the rates between which all words of good lines are read; the bytes of a row that a map's reader takes; the
+    lines of each file that is written by hand for the plain Rust build."""
+    rates = [int(rate) for rate in re.findall(r"^    \{(\d+), 0, 0, 0, WORDS, WORDS\}", read(RATES), re.M)]
+    row, = of_source(READER, r"char row\[(\d+)\]")
+    lines = {"lines." + os.path.basename(path)[:-3]: read(path).count("\n") for path in paths("rust/hand/src/*.rs")}
+    return {"rate.least": min(rates), "rate.most": max(rates), "map.row": row - 1, **lines}
+
+
 def glitches(size: Dict[str, int]) -> Dict[str, int]:
     """What a glitch and a blurred edge may be."""
     most, = of_source(SMOOTH, r"^  pub few : m ≤ (\d+)$")
     equal, = of_source(SMOOTH, r"^  pub before : (\d+) ≤ g$")
-    lows, = of_source(JITTER, r"^  pub lows : (\d+) ≤ after$")
+    lows, = of_source(JITTER, r"^  pub lows : (\d+) ≤ cut\.after$")
     longer, shorter = of_source(JITTER, r"Spells \(half_min system \+ (\d+)\) \(half_max system - (\d+)\)")
     numbers = {"glitch.most": most, "glitch.too_long": most + 1, "glitch.equal": equal, "glitch.drawn": equal + 1,
                "spell.lows": lows, "spell.longer": longer, "spell.shorter": shorter}
@@ -75,6 +83,14 @@ def glitches(size: Dict[str, int]) -> Dict[str, int]:
         numbers["apart." + system], numbers["turned." + system] = 2 * least - greatest, 2 * least - greatest - 1
         numbers["double.least." + system], numbers["double.most." + system] = 2 * least, 2 * greatest
     return numbers
+
+
+def systems() -> str:
+    """The values of the header's systems, with their sizes."""
+    size = sizes()
+    rows = [("LDVBI_NTSC = 1,", "ntsc"), ("LDVBI_PAL = 2", "pal")]
+    return "".join("    %-15s /* %d lines; %d samples to a line, %d lines to a field */\n" % (
+        name, 2 * size["height_of." + of] - 1, size["width_of." + of], size["height_of." + of]) for name, of in rows)
 
 
 def package() -> Dict[str, Any]:
@@ -99,13 +115,14 @@ def package() -> Dict[str, Any]:
         "order.apart": believed.APART, "order.turn": order.TURN, "order.signs": order.SIGNS,
         "order.turned": order.TURNED, "sparse.least": sparse.LEAST, "lines.few": lines.FEW,
         "levels.fields": levels.FIELDS, "levels.few": levels.FEW, "levels.step": levels.STEP,
-        "ends.longest": ends.LONGEST, "format.near": whole.NEAR, "doubtful.share": whole.SHARE,
+        "ends.longest": ends.LONGEST, "begins": len(ends.FIRST["time"]), "format.near": whole.NEAR,
+        "doubtful.share": whole.SHARE,
     }
 
 
 def all_numbers() -> Dict[str, Any]:
     size = sizes()
-    return {**size, **limits(), **refused(), **glitches(size), **package()}
+    return {**size, **limits(), **refused(), **glitches(size), **of_tests(), **package()}
 
 
 def as_there(value: Any, there: str) -> str:

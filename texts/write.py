@@ -17,10 +17,10 @@ import numbers_of
 import pages
 from program import TOP, ldvbi, ldvbi_side
 
-# What stands between these two lines is written here; each is a comment of its file's language. Other scripts have
-# such parts, too, of these sources.
+# What stands between these two lines is written here; each is a comment of its file's language. Of this source
+# codes/write.py writes such parts.
 PART = re.compile(r"^([^\w\n]+ from ([\w./-]+): (\w+)\b[^\n]*\n)(.*?)(^[^\w\n]+ to here\b)", re.M | re.S)
-OF_OTHERS = ("codes/classes.txt", "specs")
+OF_OTHERS = ("codes/classes.txt",)
 
 
 def read(path):
@@ -46,9 +46,13 @@ def written():
         parts = {name: (program.source, functools.partial(part, program))
                  for name, part in pages.PARTS[program.name].items()}
         yield "share/man/%s.1" % program.name, with_parts("share/man/%s.1" % program.name, parts)
-    numbers = numbers_of.all_numbers()
+    yield "include/ldvbi.h", with_parts("include/ldvbi.h", documents.PARTS["include/ldvbi.h"])
+    numbers, named = numbers_of.all_numbers(), set()
     for path in ["README.md", "CONTRIBUTING.md", *sorted(numbers_of.paths("docs/*.md"))]:
+        named |= {one[2] for one in numbers_of.MARK.finditer(read(path))}
         yield path, numbers_of.with_numbers(with_parts(path, documents.PARTS.get(path, {})), numbers)
+    if not {*numbers_of.of_tests(), *numbers_of.package()} <= named:
+        raise SystemExit("write: no document has %s" % ({*numbers_of.of_tests(), *numbers_of.package()} - named))
 
 
 def main():

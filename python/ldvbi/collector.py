@@ -14,4 +14,8 @@ def paused() -> Iterator[None]:
         yield
     finally:
         if was_enabled:
+            # so that it doesn't look through all that was made meanwhile at once
+            if hasattr(gc, "freeze") and not gc.get_freeze_count():
+                gc.freeze()
+                gc.unfreeze()
             gc.enable()

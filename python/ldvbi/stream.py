@@ -140,10 +140,11 @@ class Stream:
         """Has the system fetch the pages of lines 16, 17 and 18 of these fields, of all of them at once."""
         if self._file is None:
             return
-        line, page = line_bytes(self.system), mmap.PAGESIZE
-        for field in range(begin, end):
-            wanted = field * self._size + 15 * line
-            self._file.madvise(mmap.MADV_WILLNEED, wanted // page * page, wanted % page + 3 * line)
+        line, page, size = line_bytes(self.system), mmap.PAGESIZE, self._size
+        advise, length, fetch = self._file.madvise, 3 * line, mmap.MADV_WILLNEED
+        for wanted in range(begin * size + 15 * line, end * size, size):
+            over = wanted % page
+            advise(fetch, wanted - over, over + length)
 
 
 def _mapped(path: Union[str, os.PathLike]) -> Optional[mmap.mmap]:

@@ -3,6 +3,8 @@
 # drawn sides: each has to answer what the table answers.txt has.
 # Needs libldvbi.so.1 beside the program, or at the top of the repository (`make lib`).
 # usage: sh tests/answers/answers.sh PROGRAM
+# runs: library rust
+# fails where: tests/answers/answers.txt|s/field 29 /field 27 /
 # shellcheck disable=SC2016,SC2086,SC2154,SC2317
 
 # shellcheck source=tests/helpers.sh

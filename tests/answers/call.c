@@ -17,6 +17,7 @@ int main(int count, char **words)
     uint32_t counted = LDVBI_PICTURES, number = (uint32_t)strtoul(words[5], NULL, 10);
     if (sscanf(words[5], "%u:%u:%u.%u", &hours, &minutes, &seconds, &picture) == 4) {
         counted = LDVBI_TIMES;
+        if (minutes > 59 || picture >= rate) return fputs("no clock shows this time\n", stderr), 2;
         number = ((hours * 60 + minutes) * 60 + seconds) * rate + picture;
     }
     int file = open(words[1], O_RDONLY);

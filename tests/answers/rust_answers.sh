@@ -2,6 +2,8 @@
 # Asks the crate of `make rust` for pictures, times, chapters and stops of drawn sides, by the player in examples/rust
 # and the example `answers` of the crate: each answer has to be that of the table answers.txt.
 # usage: sh tests/answers/rust_answers.sh PROGRAM
+# runs: rust
+# fails where: tests/answers/answers.txt|s/field 29 /field 27 /
 # shellcheck disable=SC2086,SC2154,SC2317
 
 # shellcheck source=tests/helpers.sh

@@ -1,19 +1,24 @@
 # shellcheck shell=sh disable=SC2034,SC2086,SC2154
 # What the tests of the table answers.txt share. They read this in after tests/helpers.sh and library_helpers.sh.
 
+# draw_side NAME RATE OPTIONS: draws a side of sides.words, with so many pictures a second
+draw_side() {
+    awk -v side="$1" -v rate="$2" -f "$tests/answers/words.awk" "$tests/answers/sides.words" |
+        bounded "$program" draw $3 -
+}
+
 # draws_sides: draws the side NAME.tbc of each row of sides.txt
 draws_sides() {
     grep -v '^#' "$here/sides.txt" > sides
     while read -r side system _; do
-        words=$top/examples/$side.words
-        [ -e "$words" ] || words=$here/$side.words
         options=$ntsc
-        [ "$system" = NTSC ] || options=$pal
-        if [ "$side" = side ]; then
-            bounded sh "$top/examples/side.sh" "$program"
-        else
-            output_of draw $options "$words" > "$side.tbc"
-        fi
+        rate=30
+        [ "$system" = NTSC ] || { options=$pal; rate=25; }
+        case $side in
+            side) bounded sh "$top/examples/side.sh" "$program" ;;
+            cav | clv) output_of draw $options "$top/examples/$side.words" > "$side.tbc" ;;
+            *) draw_side $side $rate "$options" > "$side.tbc" ;;
+        esac
     done < sides
 }
 

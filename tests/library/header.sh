@@ -3,6 +3,8 @@
 # looks at or whose pointer is null, of which the compiler has to warn.
 # Needs libldvbi.a beside the program, or at the top of the repository (`make lib`).
 # usage: sh tests/library/header.sh PROGRAM
+# runs: library rust
+# fails where: include/ldvbi.h|s/^#define LDVBI_H$/#define LDVBI_H_/
 # shellcheck disable=SC2086,SC2317
 
 # shellcheck source=tests/helpers.sh
@@ -88,49 +90,38 @@ uint32_t called($taken) {
 }
 END
 }
-while read -r call; do
+# Calls, and where the last pointer of one mustn't be null, the word null before it
+while read -r pointer call; do
     called_as "return $call"
     check "$call has what it needs" compiles_in_both called.c
     called_as "$call"
     check "$call: a status that nobody looks at is warned of" is_warned_of called.c unused
-done << 'END'
-ldvbi_read_line(1, 1, 2, samples, 1820, reading)
-ldvbi_read_rows(1, 1, 2, samples, 5460, readings)
-ldvbi_read_field(1, 1, 2, samples, 478660, readings)
-ldvbi_read_fields(1, 1, 2, samples, 478660, readings, 1)
-ldvbi_read_fields(1, 1, 2, NULL, 0, NULL, 0)
-ldvbi_nearest(1, 1, 2, samples, 3640, near)
-ldvbi_recover_rows(1, 1, 2, samples, 5460, readings)
-ldvbi_recover_fields(1, 1, 2, samples, 478660, readings, 1)
-ldvbi_recover_fields(1, 1, 2, NULL, 0, NULL, 0)
-ldvbi_classify(0xF12345, code)
-ldvbi_format(0, 0xF12345, 0, format)
-ldvbi_draw_line(1, 1, 2, 0xF12345, drawn, 1820)
-ldvbi_judge(1, 1, 1, read, 9, seen, 9, numbers, 9)
-ldvbi_judge(1, 1, 1, NULL, 0, NULL, 0, NULL, 0)
-ldvbi_find_pace(1, 1, read, 9, seen, 9, format)
-ldvbi_find_pace(1, 1, NULL, 0, NULL, 0, format)
-ldvbi_judge_field(1, 1, 1, read, 9, 4, numbers)
-ldvbi_seek(1, 1, 2, 1, 1, samples, 478660, 7, sought)
-ldvbi_seek(1, 1, 2, 1, 1, NULL, 0, 7, sought)
-ldvbi_judge_chapters(read, 9, seen, 9, numbers, 9)
-ldvbi_judge_chapters(NULL, 0, NULL, 0, NULL, 0)
-ldvbi_judge_stops(read, 9, format, 9)
-ldvbi_judge_stops(NULL, 0, NULL, 0)
-END
-while read -r call; do
-    called_as "return $call"
+    [ $pointer = null ] || continue
+    called_as "return $(echo "$call" | sed 's/[a-z]*)$/NULL)/')"
     check "$call: a pointer that is null is warned of" is_warned_of called.c null
 done << 'END'
-ldvbi_read_line(1, 1, 2, samples, 1820, NULL)
-ldvbi_read_rows(1, 1, 2, samples, 5460, NULL)
-ldvbi_read_field(1, 1, 2, samples, 478660, NULL)
-ldvbi_nearest(1, 1, 2, samples, 3640, NULL)
-ldvbi_recover_rows(1, 1, 2, samples, 5460, NULL)
-ldvbi_classify(0xF12345, NULL)
-ldvbi_format(0, 0xF12345, 0, NULL)
-ldvbi_find_pace(1, 1, read, 9, seen, 9, NULL)
-ldvbi_judge_field(1, 1, 1, read, 9, 4, NULL)
-ldvbi_seek(1, 1, 2, 1, 1, samples, 478660, 7, NULL)
+null ldvbi_read_line(1, 1, 2, samples, 1820, reading)
+null ldvbi_read_rows(1, 1, 2, samples, 5460, readings)
+null ldvbi_read_field(1, 1, 2, samples, 478660, readings)
+- ldvbi_read_fields(1, 1, 2, samples, 478660, readings, 1)
+- ldvbi_read_fields(1, 1, 2, NULL, 0, NULL, 0)
+null ldvbi_nearest(1, 1, 2, samples, 3640, near)
+null ldvbi_recover_rows(1, 1, 2, samples, 5460, readings)
+- ldvbi_recover_fields(1, 1, 2, samples, 478660, readings, 1)
+- ldvbi_recover_fields(1, 1, 2, NULL, 0, NULL, 0)
+null ldvbi_classify(0xF12345, code)
+null ldvbi_format(0, 0xF12345, 0, format)
+- ldvbi_draw_line(1, 1, 2, 0xF12345, drawn, 1820)
+- ldvbi_judge(1, 1, 1, read, 9, seen, 9, numbers, 9)
+- ldvbi_judge(1, 1, 1, NULL, 0, NULL, 0, NULL, 0)
+null ldvbi_find_pace(1, 1, read, 9, seen, 9, format)
+- ldvbi_find_pace(1, 1, NULL, 0, NULL, 0, format)
+null ldvbi_judge_field(1, 1, 1, read, 9, 4, numbers)
+null ldvbi_seek(1, 1, 2, 1, 1, samples, 478660, 7, sought)
+- ldvbi_seek(1, 1, 2, 1, 1, NULL, 0, 7, sought)
+- ldvbi_judge_chapters(read, 9, seen, 9, numbers, 9)
+- ldvbi_judge_chapters(NULL, 0, NULL, 0, NULL, 0)
+- ldvbi_judge_stops(read, 9, format, 9)
+- ldvbi_judge_stops(NULL, 0, NULL, 0)
 END
 finish

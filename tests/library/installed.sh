@@ -1,79 +1,64 @@
 #!/bin/sh
 # Installs program and library as a new user does, and builds on them by the lines in LIBRARY.md, by pkg-config and by
-# CMake: nothing but these tells the loader where the library is (no LD_LIBRARY_PATH). Then what `make install` refuses,
-# and what it takes from rust/, as which the proved files stand here.
-# Needs libldvbi.a and libldvbi.so.1 at the top of the repository (`make lib`).
+# CMake: nothing but these tells the loader where the library is (no LD_LIBRARY_PATH). The same where they are moved,
+# and where they come from rust/, as which the proved files stand here. Then the wheel of the Python module, which is
+# installed without the net and brings the library; by which rule a library's wheel gets its tag; and `pip install` of
+# the source. What is installed where, and what is refused, is tried by tests/program/packaging.sh.
+# Needs libldvbi.a and libldvbi.so.1 at the top of the repository (`make lib`), and Debian's python3-venv and
+# python3-setuptools.
 # usage: sh tests/library/installed.sh PROGRAM
+# runs: proved
+# fails where: include/ldvbi-config.cmake.in|s/libldvbi.a/libldvbi.b/
 # shellcheck disable=SC2016,SC2086,SC2317
 
 # shellcheck source=tests/helpers.sh
 . "$(dirname "$0")/../helpers.sh"
+# shellcheck source=tests/library/library_helpers.sh
+. "$here/library_helpers.sh"
 
-cc=${CC:-cc}
 unset LD_LIBRARY_PATH LDVBI_LIBRARY PYTHONPATH PKG_CONFIG_PATH
 PYTHONDONTWRITEBYTECODE=1
-export PYTHONDONTWRITEBYTECODE
+PIP_NO_INDEX=1
+PIP_DISABLE_PIP_VERSION_CHECK=1
+export PYTHONDONTWRITEBYTECODE PIP_NO_INDEX PIP_DISABLE_PIP_VERSION_CHECK
 
-# does COMMAND..: runs a command, whose status is to be 0
-does() {
-    status=0
-    "$@" < empty > out 2> err || status=$?
-    [ "$status" = 0 ]
-}
-# prints TEXT COMMAND..: the same of one that writes this text alone
-prints() {
-    printf '%s\n' "$1" > wanted
-    shift
-    does "$@" && cmp -s out wanted
-}
-# refuses TEXT COMMAND..: whether it fails, and begins what it says with this
-refuses() {
-    text=$1
-    shift
-    ! does "$@" && head -n 1 err | grep -q "^$text"
-}
-# says PROGRAM: whether this program says what the line shows
-says() {
-    prints 'picture 12345' sh -c "$1 < user/line.raw"
-}
-# makes WORD..: `make` without the toolchain, in this folder, which has what the repository has
+# makes WORD..: `make` without the toolchain, in a folder that has what the repository has
 makes() {
-    bounded env PATH=/usr/bin:/bin make -s -C user "$@"
+    does env PATH=/usr/bin:/bin make -s -C user "$@"
 }
-
 mkdir user
 for part in "$top"/*; do
     case $(basename "$part") in rust | dist) ;; *) ln -s "$part" user ;; esac
 done
-rm user/ldvbi 2> empty
+rm -f user/ldvbi
 ln -s "$program" user/ldvbi
+program_in_readme
+cp say.c line.raw user
+discs
+cp cav.tbc user
+says() {
+    prints 0 'picture 12345' sh -c "$1 < line.raw"
+}
 
-# The lines of LIBRARY.md, of somebody at home
-cp "$top/examples/say.c" user/say.c
-echo '- F12345 -' | bounded "$program" draw $ntsc > said.tbc
-tail -c +29121 said.tbc | head -c 1820 > user/line.raw
-sed -n '/^make install-lib /,/^```$/{/^```/d;p;}' "$top/docs/LIBRARY.md" > lines.sh
-check 'LIBRARY.md has two lines for C' [ "$(wc -l < lines.sh)" = 2 ]
-check 'the lines in LIBRARY.md' prints 'picture 12345' \
-    bounded env HOME="$work/home" PATH=/usr/bin:/bin sh -c "cd user && . ../lines.sh | tail -n 1"
+# The lines of LIBRARY.md, of somebody at home: the library alone, then the commands and Python
+# by_lines PATTERN WANTED COMMAND: whether the two lines of LIBRARY.md from this pattern on, and then this, print that
+by_lines() {
+    sed -n "$1" "$top/docs/LIBRARY.md" > lines.sh
+    [ "$(wc -l < lines.sh)" = 2 ] &&
+        prints 0 "$2" env HOME="$work/home" PATH=/usr/bin:/bin sh -c "cd user && { . ../lines.sh; $3; } | tail -n 1"
+}
+check 'the lines in LIBRARY.md' by_lines '/^make install-lib /,/^```$/{/^```/d;p;}' 'picture 12345' :
 check 'they have installed the library alone' [ ! -e home/.local/bin ]
+lines='/^make install /p;/^export PYTHONPATH=/p'
+check 'after the others an example in Python runs' by_lines "$lines" 'field 7' \
+    'python3 $HOME/.local/share/doc/ldvbi/examples/seek.py cav.tbc NTSC 16384 51200 3'
+check 'and so does the command' by_lines "$lines" 'field 7, frame 4' \
+    'ldvbi-side cav.tbc --system NTSC --black 16384 --white 51200 --seek 3'
 
-# Those for the commands and for Python, and an example in Python as it is installed then
-sed -n '/^make install /p;/^export PYTHONPATH=/p' "$top/docs/LIBRARY.md" > lines.sh
-check 'LIBRARY.md has two lines for commands and Python' [ "$(wc -l < lines.sh)" = 2 ]
-run draw $ntsc "$top/examples/cav.words"
-cp out user/cav.tbc
-seeks='python3 $HOME/.local/share/doc/ldvbi/examples/seek.py cav.tbc NTSC 16384 51200 3'
-check 'after them the example runs' prints 'field 7' \
-    bounded env HOME="$work/home" PATH=/usr/bin:/bin sh -c "cd user && . ../lines.sh > /dev/null && $seeks"
-seeks='ldvbi-side cav.tbc --system NTSC --black 16384 --white 51200 --seek 3'
-check 'and so does the command' prints 'field 7, frame 4' \
-    bounded env HOME="$work/home" PATH=/usr/bin:/bin sh -c "cd user && . ../lines.sh > /dev/null && $seeks"
-
-# CMake, with the shared library and with the archive; then from a folder to which all of it was moved
-check 'make install' does makes install PREFIX="$work/usr"
+# Builds on a place of the library by pkg-config, as LIBRARY.md has it, and by CMake, shared and as an archive
+line=$(sed -n '/^cc say.c /p' "$top/docs/LIBRARY.md")
 mkdir project
-cp user/say.c project
+cp say.c project
 cat > project/CMakeLists.txt << 'END_OF_CMAKE'
 cmake_minimum_required(VERSION 3.13)
 project(say C)
@@ -87,129 +72,168 @@ END_OF_CMAKE
 # configures FOLDER VERSION: cmake, of a project that wants this version of what is installed there
 configures() {
     rm -rf built
-    bounded cmake -S project -B built -DCMAKE_PREFIX_PATH="$1" -DWANTED="$2" -DCMAKE_FIND_USE_PACKAGE_REGISTRY=OFF
+    does cmake -S project -B built -DCMAKE_PREFIX_PATH="$1" -DWANTED="$2" -DCMAKE_FIND_USE_PACKAGE_REGISTRY=OFF
 }
-# builds_on FOLDER: the same, and then the programs, which run
+cmake_builds() {
+    configures "$1" 0.1 && does cmake --build built && says built/say_ldvbi && says built/say_static
+}
+# builds_on NAME LIBDIR [CMAKE]: both, where libraries are in this folder; CMake looks in the prefix, or in CMAKE
 builds_on() {
-    does configures "$1" 0.1 && does bounded cmake --build built && says built/say_ldvbi && says built/say_static
+    check "$1: the line in LIBRARY.md" prints 0 'picture 12345' env PKG_CONFIG_PATH="$2/pkgconfig" sh -c "$line"
+    check "$1: the description is of what is beside it" \
+        [ "$(PKG_CONFIG_PATH=$2/pkgconfig pkg-config --variable=libdir ldvbi)" -ef "$2" ]
+    check "$1: CMake" cmake_builds "${3:-${2%/lib*}}"
 }
-check 'CMake builds on what is installed' builds_on "$work/usr"
+check 'make install' makes install PREFIX="$work/usr"
+builds_on installed "$work/usr/lib"
 check 'the one needs the shared library' sh -c 'readelf -d built/say_ldvbi | grep -q "libldvbi[.]so[.]1"'
 check 'the other none' sh -c '! readelf -d built/say_static | grep -q libldvbi'
 cp -r usr moved
 mv usr gone
-check 'and where that is moved' builds_on "$work/moved"
+builds_on moved "$work/moved/lib"
 mv gone usr
-for version in 0.1.0 0.0.9; do
-    check "version $version is there" does configures "$work/usr" $version
+for version in 0.1.0 0.0.9 '0.1.0;EXACT'; do
+    check "version $version is there" configures "$work/usr" $version
 done
-for version in 0.1.1 0.2 1.0; do
-    check "version $version is not" refuses 'CMake Error' configures "$work/usr" $version
+for version in 0.1.1 0.2 1.0 '0.0.9;EXACT'; do
+    ! configures "$work/usr" $version
+    check "version $version is not" sh -c "[ $status != 0 ] && head -n 1 err | grep -q '^CMake Error'"
 done
-debian=$work/debian
-check 'a library below its architecture' does makes install-lib PREFIX="$debian" LIBDIR="$debian/lib/x86_64-linux-gnu"
-check 'CMake builds on it' builds_on "$debian"
-check 'a library outside the prefix' does makes install-lib PREFIX="$work/apart" LIBDIR="$work/elsewhere"
-check 'CMake builds on that' builds_on "$work/elsewhere/cmake/ldvbi"
+makes install-lib PREFIX="$work/debian" LIBDIR="$work/debian/lib/x86_64-linux-gnu"
+builds_on 'below its architecture' "$work/debian/lib/x86_64-linux-gnu"
+makes install-lib PREFIX="$work/apart" LIBDIR="$work/elsewhere"
+builds_on 'outside the prefix' "$work/elsewhere" "$work/elsewhere/cmake/ldvbi"
 export PKG_CONFIG_PATH="$work/usr/lib/pkgconfig"
+check 'the version for pkg-config' [ "$(pkg-config --modversion ldvbi)" = "$(header_version)" ]
 archive='-Wl,-Bstatic $(pkg-config --static --libs ldvbi) -Wl,-Bdynamic'
-check 'the archive, by pkg-config' does sh -c "$cc -o say user/say.c \$(pkg-config --cflags ldvbi) $archive"
+check 'the archive, by pkg-config' does sh -c "$cc -o say say.c \$(pkg-config --cflags ldvbi) $archive"
 check 'it reads the line' says ./say
 check 'it needs no shared library' sh -c '! readelf -d say | grep -q libldvbi'
 
-# The examples that are installed, each on a side with a cut last field, and on what is no file
-run draw $ntsc "$top/examples/cav.words"
-cp out cav.tbc
-{ cat cav.tbc; head -c 12345 cav.tbc; } > cut.tbc
-head -c 12345 cav.tbc > beginning.tbc
-: > empty.tbc
-on_cav='NTSC 16384 51200'
+# The examples that are installed, and the commands, by a link as well
 examples=usr/share/doc/ldvbi/examples
-found_there=-Wl,-rpath,$work/usr/lib
 for name in seek.c pixels.c stops.c stops.cpp player.c player.cpp; do
     command="$cc -std=c99"
-    [ "${name#*.}" = c ] || command="${CXX:-c++} -std=c++17"
-    check "$name is built" does sh -c \
-        "$command -Wall -Wextra -Werror -o ${name%.*} $examples/$name \$(pkg-config --cflags --libs ldvbi) $found_there"
+    [ "${name#*.}" = c ] || command="$cxx -std=c++17"
+    check "$name is built" does sh -c "$command -Wall -Wextra -Werror -o ${name%.*} $examples/$name \
+        \$(pkg-config --cflags --libs ldvbi) -Wl,-rpath,$work/usr/lib"
 done
-# says_of STATUS TEXT LINE COMMAND..: whether it ends with this status, writes this text and says this line; neither is
-# said where it is empty
-says_of() {
-    for said in "$2" "$3"; do
-        [ -z "$said" ] || printf '%s\n' "$said"
-        echo
-    done > wanted
-    wanted_status=$1
-    shift 3
-    does bounded "$@"
-    [ "$status" = "$wanted_status" ] && { cat out; echo; cat err; echo; } | cmp -s - wanted
-}
-for seek in ./seek "env PYTHONPATH=usr/share/ldvbi/python python3 $examples/seek.py"; do
-    name=$(basename "${seek##* }")
-    cut="$name: the last field is cut: field"
-    check "$name: a cut field is named" says_of 0 'field 7' "$cut 13 has 12345 of 478660 bytes" $seek cut.tbc $on_cav 3
-    check "$name: a cut field is none" says_of 1 'not found' "$cut 1 has 12345 of 478660 bytes" \
-        $seek beginning.tbc $on_cav 1
-    check "$name: no field, none cut" says_of 1 'not found' '' $seek empty.tbc $on_cav 1
-    check "$name: a whole last field" says_of 0 'field 7' '' $seek cav.tbc $on_cav 3
-    for place in usr /dev/null; do
-        check "$name: $place is refused" refuses "$name: .*$place" bounded $seek $place $on_cav 3
-        check "$name: with status 2" [ "$status" = 2 ]
-    done
-done
-cut='the last field is cut: field 13 has 12345 of 478660 bytes'
-stops='field 7 picture 3
-field 8
-2 stops'
-check 'stops: a cut field is named' says_of 0 "$stops" "stops: $cut" sh -c "./stops $on_cav < cut.tbc"
-check 'stops: no field is cut' says_of 0 "$stops" '' sh -c "./stops $on_cav < cav.tbc"
-check 'stops: a folder' says_of 2 '' 'stops: standard input: Is a directory' sh -c "./stops $on_cav < usr"
-player_py="env PYTHONPATH=usr/share/ldvbi/python python3 $examples/player.py"
-for player in ./player "$player_py"; do
-    check "$player: a cut field is none" says_of 1 'search: field 9 picture 4
-play: not found' '' $player cut.tbc $on_cav search 4 play
-done
-check 'player: a folder' says_of 2 '' 'player: no field of usr can be mapped' ./player usr $on_cav play
+check 'seek finds a picture' prints 0 'field 7' ./seek cav.tbc $on_cav 3
 unset PKG_CONFIG_PATH
-
-# The commands that are installed, by a link as well
 ln -s "$work/usr/bin/ldvbi-side" linked
 for command in usr/bin/ldvbi-side ./linked; do
-    check "$command reads a TBC file" prints 'field 7, frame 4' bounded $command cav.tbc $ntsc --seek 3
+    check "$command reads a TBC file" prints 0 'field 7, frame 4' $command cav.tbc $ntsc --seek 3
 done
-check 'make uninstall' does makes uninstall PREFIX="$work/usr"
-check 'nothing is left' [ "$(find usr ! -type d | wc -l) $(ls -d usr/bin)" = '0 usr/bin' ]
+check 'the installed program' prints 0 'ldvbi 0.1.0' usr/bin/ldvbi --version
 
-# What is refused, with nothing installed
-for word in 'PREFIX=/a b' "LIBDIR=$work/c d" "DESTDIR=$work/e f"; do
-    for target in install install-lib uninstall; do
-        check "$target $word" refuses "make: PREFIX, LIBDIR and DESTDIR can't have a space" \
-            makes $target "DESTDIR=$work/stage" "$word"
-    done
-done
-check 'FROM another place' refuses "make: FROM is 'proved' or 'rust'" makes install FROM=here DESTDIR="$work/stage"
-for target in install install-lib; do
-    check "$target FROM=rust before make rust" refuses "make: rust/.* isn't there: make rust builds it" \
-        makes $target FROM=rust DESTDIR="$work/stage"
-done
-check 'nothing is installed then' [ ! -e stage ]
-
-# What `make rust` leaves is taken from there, program and library, and nothing is taken from here
-check 'make install of what is proved' does makes install DESTDIR="$work/proved"
+# What `make rust` leaves is taken from there
 mkdir user/rust
-cp "$program" "$top/libldvbi.a" "$top/libldvbi.so.1" user/rust
-mv user/rust/"$(basename "$program")" user/rust/ldvbi.built
-mv user/rust/ldvbi.built user/rust/ldvbi
+cp "$program" user/rust/ldvbi
+cp "$top/libldvbi.a" "$top/libldvbi.so.1" user/rust
 rm user/ldvbi user/libldvbi.*
-check 'make install FROM=rust' does makes install FROM=rust DESTDIR="$work/rust"
-(cd proved && find . ! -type d | sort) > wanted
-(cd rust && find . ! -type d | sort) > found
-check 'the same files' cmp wanted found
-check 'the program' cmp user/rust/ldvbi rust/usr/local/bin/ldvbi
-check 'the description names what the archive needs' \
-    grep -qx 'Libs.private: -lpthread -ldl' rust/usr/local/lib/pkgconfig/ldvbi.pc
-check 'CMake builds on it' builds_on "$work/rust/usr/local"
-rm user/rust/libldvbi.a
-check 'the program alone' does makes install FROM=rust DESTDIR="$work/alone"
-check 'is installed without a library' [ "$(cd alone/usr/local && ls)" = "$(printf 'bin\nshare')" ]
+check 'make install FROM=rust' makes install FROM=rust PREFIX="$work/rust"
+check 'CMake builds on it' cmake_builds "$work/rust"
+
+# The wheel: its name, its files, their hashes; once more the same, and from rust/
+version=$(header_version)
+processor=$(uname -m)
+wheel=ldvbi-$version-py3-none-manylinux_2_17_$processor.whl
+check 'make wheel' does env PATH=/usr/bin:/bin make -s -C "$top" wheel WHEELS="$work/wheels"
+check 'its name has the version, and the tag of a library that needs no C library' [ "$(ls wheels)" = $wheel ]
+check 'make wheel FROM=rust' makes wheel FROM=rust WHEELS="$work/again"
+check 'it is the same' cmp wheels/$wheel again/$wheel
+{
+    (cd "$top/python" && find ldvbi ldvbi_side -name '*.py')
+    printf '%s\n' ldvbi_side/contrib/plot_line.py ldvbi/libldvbi.so.1
+    echo ldvbi-$version.data/data/share/man/man1/ldvbi-side.1
+    printf "ldvbi-$version.dist-info/%s\n" METADATA RECORD WHEEL entry_points.txt
+} | sort > files
+cat > listed.py << 'END_OF_PYTHON'
+import base64, csv, hashlib, io, sys, zipfile
+with zipfile.ZipFile(sys.argv[1]) as wheel:
+    record = [name for name in wheel.namelist() if name.endswith("/RECORD")][0]
+    for name, digest, size in csv.reader(io.StringIO(wheel.read(record).decode())):
+        data = wheel.read(name)
+        found = base64.urlsafe_b64encode(hashlib.sha256(data).digest()).decode().rstrip("=")
+        is_right = [digest, size] == (["", ""] if name == record else ["sha256=" + found, str(len(data))])
+        print(name if is_right else name + " is another")
+END_OF_PYTHON
+does python3 listed.py wheels/$wheel
+sort out > found
+check 'its record has each file, with its hash' cmp found files
+
+# Installed and used
+check 'a folder for Python' does /usr/bin/python3 -m venv venv
+check 'pip installs the wheel' does venv/bin/pip install -q wheels/$wheel
+check 'its command reads a TBC file' prints 0 'field 7, frame 4' venv/bin/ldvbi-side cav.tbc $ntsc --seek 3
+check 'the library is that of the wheel' prints 0 "$work/venv/lib" venv/bin/python -c '
+from ldvbi.library import _library_file
+print(_library_file().split("/python3")[0])'
+bounded venv/bin/ldvbi-side cav.tbc --system NTSC --black 60000 --white 65535 --summary < empty > said 2> err
+sed -n 's/.*\(dd if=.* line.svg\).*/\1/p' said > plot.sh
+check 'the summary has a command that draws a line' grep -q 'python3 venv/.*/ldvbi_side/contrib/plot_line.py ' plot.sh
+check 'it runs without the program' does env PATH="$work/venv/bin:/usr/bin:/bin" sh plot.sh
+check 'it has drawn the line' grep -q '^<svg' line.svg
+# Without the program the module reads the line: the same picture of each cause and pass
+plot=$(echo venv/lib/python3*/site-packages)/ldvbi_side/contrib/plot_line.py
+while read -r description; do
+    echo "$description" | signal NTSC 0 | ntsc_samples > shown.raw
+    does python3 "$top/contrib/plot_line.py" --program "$program" $ntsc shown.raw
+    cp out wanted.svg
+    does env PATH="$work/venv/bin:/usr/bin:/bin" python3 "$plot" $ntsc shown.raw
+    check "the picture of $description by the module" sh -c 'grep -q "^<svg" out && cmp out wanted.svg'
+done << 'END_OF_LINES'
+82CFFF
+82CFFF @170-171L
+L910
+L900 H10
+82CFFF @170-174L
+L164 H746
+END_OF_LINES
+check 'the manual page comes with it' cmp venv/share/man/man1/ldvbi-side.1 "$top/share/man/ldvbi-side.1"
+check 'pip takes it away' does venv/bin/pip uninstall -q -y ldvbi
+check 'nothing of it is left' [ -z "$(find venv -name '*ldvbi*')" ]
+
+# The tags of libraries that need more, each built here: what they are, the tag before the processor, and their options
+mkdir libraries tools
+echo 'int nothing;' > nothing.c
+printf '#include <stdio.h>\nint put(void) { return puts("."); }\n' > put.c
+cat > new.c << 'END_OF_C'
+#include <pthread.h>
+int begin(pthread_t *thread, void *(*run)(void *)) { return pthread_create(thread, 0, run, 0); }
+END_OF_C
+bounded $cc -shared -fPIC -o libraries/libother.so nothing.c
+while IFS='|' read -r what tag options; do
+    rm -rf tagged
+    bounded $cc -shared -fPIC -o libraries/libldvbi.so.1 $options
+    check "the tag of a library $what" prints 0 "tagged/ldvbi-$version-py3-none-${tag}_$processor.whl" \
+        python3 "$top/packaging/make_wheel.py" libraries/libldvbi.so.1 tagged
+done << 'END'
+that needs an old C library|manylinux_2_17|put.c
+that needs a newer one|manylinux_2_34|new.c
+that needs another one|linux|-Wl,--no-as-needed nothing.c -Llibraries -lother
+for later processors alone|linux|-Wl,-z,x86-64-v3 nothing.c
+END
+ln -s "$(python3 -c 'import sys; print(sys.executable)')" tools/python3
+check 'without readelf nothing is known of a library' prints 0 "tagged/ldvbi-$version-py3-none-linux_$processor.whl" \
+    env PATH="$work/tools" python3 "$top/packaging/make_wheel.py" "$top/libldvbi.so.1" tagged
+! does python3 "$top/packaging/make_wheel.py" absent tagged
+check 'no library, no wheel' grep -q '^make_wheel: ' err
+
+# The source, by pip
+mkdir tree tree/crates
+(cd "$top" && cp -r Makefile README.md packaging pyproject.toml python contrib include share "$work/tree")
+check 'a folder that sees the system' does /usr/bin/python3 -m venv --system-site-packages --without-pip source
+check 'pip installs the source' does source/bin/python -m pip install -q --no-build-isolation "$work/tree"
+check 'its command reads a TBC file from the source' prints 0 'field 7, frame 4' \
+    env LDVBI_LIBRARY="$top/libldvbi.so.1" source/bin/ldvbi-side cav.tbc $ntsc --seek 3
+# about FOLDER: what the package that is there says of itself
+about() {
+    cat "$1"/ldvbi-*.dist-info/entry_points.txt
+    sed -n '/^$/q; /^\(Name\|Version\|Summary\|Requires.*\|Description.*\): /p' "$1"/ldvbi-*.dist-info/METADATA | sort
+}
+python3 -m zipfile -e "wheels/$wheel" wheel
+about wheel > found
+about "$(echo source/lib/python3*/site-packages)" > wanted
+check 'the wheel says of itself what pip makes of pyproject.toml' cmp found wanted
 finish

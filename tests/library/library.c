@@ -1,6 +1,6 @@
-/* Calls the library for C as its header has it: each status, numbers of systems, levels and words that are too wide,
-   20,000 words a system drawn and read, the layout of the structs, texts, and threads. Every buffer ends where no page
-   follows, so that a byte read or written past it ends the program. */
+/* Calls the library for C as its header has it: 20,000 words a system drawn and read, the layout of the structs, texts,
+   codes, and threads. Every buffer ends where no page follows, so that a byte read or written past it ends the
+   program. */
 #include "library.h"
 #include <pthread.h>
 
@@ -63,83 +63,7 @@ static void test_causes(void)
     CHECK(is_reading(reading, LDVBI_WORD, 2, 0, 0x82CFFF));
 }
 
-/* ---- Refusals */
-
-/* Reading and drawing return these statuses, having written nothing. */
-static void refused(uint32_t system, uint32_t black, uint32_t white, uint32_t word, size_t length, uint32_t reads,
-                    uint32_t draws)
-{
-    uint8_t *line = guarded(length);
-    uint8_t *reading = guarded(sizeof(LdvbiReading)), *readings = guarded(sizeof(LdvbiFieldReadings));
-    LdvbiFieldReadings *field = (LdvbiFieldReadings *)(void *)readings;
-
-    CHECK(ldvbi_draw_line(system, black, white, word, line, length) == draws);
-    if (draws != LDVBI_DONE)
-        CHECK(holds(line, length, 0xAA));
-    if (reads == LDVBI_DONE)
-        return;
-    CHECK(ldvbi_read_line(system, black, white, line, length, (LdvbiReading *)(void *)reading) == reads);
-    CHECK(ldvbi_read_rows(system, black, white, line, length, field) == reads);
-    CHECK(ldvbi_read_field(system, black, white, line, length, field) == reads);
-    CHECK(ldvbi_read_fields(system, black, white, line, length, field, 1) == reads);
-    CHECK(holds(reading, sizeof(LdvbiReading), 0xAA) && holds(readings, sizeof *field, 0xAA));
-}
-
-static void test_refusals(void)
-{
-    /* The status is that of what is tested first: the system, the levels, the length, the word. */
-    for (uint32_t system = 0; system < 256; system++)
-        if (system != LDVBI_NTSC && system != LDVBI_PAL)
-            refused(system, 2, 2, 1, 7, LDVBI_BAD_SYSTEM, LDVBI_BAD_SYSTEM);
-    refused(3, 5, 5, 0, 0, LDVBI_BAD_SYSTEM, LDVBI_BAD_SYSTEM);
-    refused(3, 5, 6, 0, 0, LDVBI_BAD_SYSTEM, LDVBI_BAD_SYSTEM);
-    refused(3, 5, 6, 1, 1820, LDVBI_BAD_SYSTEM, LDVBI_BAD_SYSTEM);
-    for (size_t i = 0; i < 2; i++) {
-        uint32_t system = televisions[i].system;
-        size_t size = 2 * televisions[i].samples;
-
-        refused(system, 2, 2, 1, 7, LDVBI_BAD_LEVELS, LDVBI_BAD_LEVELS);
-        refused(system, 5, 5, 0, 0, LDVBI_BAD_LEVELS, LDVBI_BAD_LEVELS);
-        refused(system, 65536, 65537, 1, 0, LDVBI_BAD_LEVELS, LDVBI_BAD_LEVELS);
-        refused(system, 65535, 0, 1, size, LDVBI_BAD_LEVELS, LDVBI_BAD_LEVELS);
-        refused(system, 65535, 65535, 0x800000, size, LDVBI_BAD_LEVELS, LDVBI_BAD_LEVELS);
-        refused(system, 1, 2, 1, size - 1, LDVBI_BAD_LENGTH, LDVBI_BAD_LENGTH);
-        refused(system, 1, 2, 0, size + 1, LDVBI_BAD_LENGTH, LDVBI_BAD_LENGTH);
-        refused(system, 1, 2, 0, 0, LDVBI_BAD_LENGTH, LDVBI_BAD_LENGTH);
-        refused(system, 5, 6, 1, 0, LDVBI_BAD_LENGTH, LDVBI_BAD_LENGTH);
-        refused(system, 1, 2, 0, 2 * televisions[1 - i].samples, LDVBI_BAD_LENGTH, LDVBI_BAD_LENGTH);
-        refused(system, 1, 2, 1, size, LDVBI_DONE, LDVBI_BAD_WORD);
-        refused(system, 1, 2, 0x7FFFFF, size, LDVBI_DONE, LDVBI_BAD_WORD);
-        refused(system, 1, 2, 0x1000000, size, LDVBI_DONE, LDVBI_BAD_WORD);
-        refused(system, 0, 1, 0xFFFFFF, size, LDVBI_DONE, LDVBI_DONE);
-    }
-}
-
-/* Each parameter where its number is too wide for 8 or 16 bits: a level is from 0 to 65535. */
-static void test_wide_numbers(void)
-{
-    for (size_t i = 0; i < WIDE; i++) {
-        int is_sample = wide[i] <= 65535;
-        uint32_t done = is_sample ? LDVBI_DONE : LDVBI_BAD_LEVELS, even = wide[i] == 65535 ? LDVBI_BAD_LEVELS : done;
-
-        refused(wide[i], 1, 2, 0, 1820, LDVBI_BAD_SYSTEM, LDVBI_BAD_SYSTEM);
-        refused(LDVBI_NTSC, 0, wide[i], 0, 1820, done, done);
-        refused(LDVBI_NTSC, wide[i], 65535, 0, 1820, even, even);
-        refused(LDVBI_NTSC, wide[i], UINT32_MAX, 0, 1820, LDVBI_BAD_LEVELS, LDVBI_BAD_LEVELS);
-        refused(LDVBI_NTSC, 1, 2, wide[i], 1820, LDVBI_DONE, LDVBI_BAD_WORD);
-        refused(LDVBI_NTSC, 1, 2, (wide[i] & 0xFF000000) | 0x1800000, 1820, LDVBI_DONE, LDVBI_BAD_WORD);
-    }
-    for (uint32_t system = LDVBI_NTSC; system <= LDVBI_PAL; system++) {
-        size_t size = ldvbi_line_bytes(system);
-
-        refused(256 + system, 1, 2, 0, size, LDVBI_BAD_SYSTEM, LDVBI_BAD_SYSTEM);
-        refused(65536 + system, 1, 2, 0, size, LDVBI_BAD_SYSTEM, LDVBI_BAD_SYSTEM);
-        refused((1u << 31) + system, 1, 2, 0, size, LDVBI_BAD_SYSTEM, LDVBI_BAD_SYSTEM);
-        refused(system, 65536, 65537, 0, size, LDVBI_BAD_LEVELS, LDVBI_BAD_LEVELS);
-        refused(system, 65536, 51200, 0, size, LDVBI_BAD_LEVELS, LDVBI_BAD_LEVELS);
-        refused(system, 16384, 65536 + 51200, 0, size, LDVBI_BAD_LEVELS, LDVBI_BAD_LEVELS);
-    }
-}
+/* ---- Versions and sizes */
 
 static void test_version(void)
 {
@@ -180,6 +104,14 @@ static void test_layout(void)
     CHECK(offsetof(LdvbiReading, column) == 2 && offsetof(LdvbiReading, word) == 4);
     CHECK(offsetof(LdvbiFieldReadings, lines) == 0 && offsetof(LdvbiFieldReadings, lines[2]) == 16);
     CHECK(offsetof(LdvbiCode, first) == 4 && offsetof(LdvbiCode, second) == 8);
+    CHECK(sizeof(LdvbiSighting) == 8 && offsetof(LdvbiSighting, number) == 0 && offsetof(LdvbiSighting, weight) == 4);
+    CHECK(sizeof(LdvbiSightings) == 20 && offsetof(LdvbiSightings, line_17) == 0);
+    CHECK(offsetof(LdvbiSightings, line_18) == 8 && offsetof(LdvbiSightings, instead) == 16);
+    CHECK(sizeof(LdvbiNumber) == 8 && offsetof(LdvbiNumber, number) == 0 && offsetof(LdvbiNumber, state) == 4);
+    CHECK(LDVBI_BAD_COUNTED == 5 && LDVBI_BAD_PACE == 6 && LDVBI_REACH == 24);
+    CHECK(LDVBI_PICTURES == 1 && LDVBI_TIMES == 2);
+    CHECK(LDVBI_VIDEO == 1 && LDVBI_FILM == 2 && LDVBI_FIND_PACE == 3);
+    CHECK(LDVBI_NOTHING == 0 && LDVBI_BELIEVED == 1 && LDVBI_DOUBTFUL == 2 && LDVBI_DUE == 3);
     CHECK(memcmp(&reading, hold, sizeof hold) == 0);
     draw(&televisions[0], 0xF12345, line);
     CHECK(ldvbi_read_line(LDVBI_NTSC, 16384, 51200, line, 1820, &reading) == LDVBI_DONE);
@@ -245,28 +177,35 @@ static void test_formats(void)
     }
 }
 
-/* ---- Texts; that those of causes, kinds and formats are the program's is shown by tests/library/library_texts.c */
+/* ---- Texts, and that of any other number */
+
+static void are_texts(const char *(*text_of)(uint32_t), const char *const *texts, uint32_t count)
+{
+    for (uint32_t number = 0; number < 256 + WIDE; number++) {
+        uint32_t any = number < 256 ? number : wide[number - 256];
+
+        CHECK(strcmp(text_of(any), any < count ? texts[any] : "unknown") == 0);
+    }
+}
 
 static void test_texts(void)
 {
-    static const char *statuses[] = {"done", "system is neither NTSC nor PAL",
-                                     "black is not below white, or one of them is above 65535",
-                                     "length does not fit the system", "number is no code word",
-                                     "neither pictures nor times are counted",
-                                     "pace is neither that of video nor of film, nor to be found"};
-    static const uint32_t unknown[] = {256, 257, 65536, UINT32_MAX};
+    static const char *const statuses[] = {"done", "system is neither NTSC nor PAL",
+                                           "black is not below white, or one of them is above 65535",
+                                           "length does not fit the system", "number is no code word",
+                                           "neither pictures nor times are counted",
+                                           "pace is neither that of video nor of film, nor to be found"};
+    static const char *const causes[] = {"word", "blank", "unfinished", "change", "hold"};
+    static const char *const kinds[] = {"other", "picture", "chapter", "time", "clv picture", "cx on", "cx off",
+                                        "users", "lead-in", "lead-out", "picture stop", "clv"};
+    static const char *const formats[] = {"neither", "cav", "clv", "both"};
+    static const char *const states[] = {"nothing", "believed", "doubtful", "due"};
 
-    CHECK(strcmp(ldvbi_cause_text(LDVBI_WORD), "word") == 0);
-    for (uint32_t status = 0; status <= LDVBI_BAD_PACE; status++)
-        CHECK(strcmp(ldvbi_status_text(status), statuses[status]) == 0);
-    for (uint32_t number = 0; number < 256 + 4; number++) {
-        uint32_t any = number < 256 ? number : unknown[number - 256];
-
-        CHECK((strcmp(ldvbi_status_text(any), "unknown") == 0) == (any > LDVBI_BAD_PACE));
-        CHECK((strcmp(ldvbi_cause_text(any), "unknown") == 0) == (any > LDVBI_HOLD));
-        CHECK((strcmp(ldvbi_kind_text(any), "unknown") == 0) == (any > LDVBI_CLV_MARK));
-        CHECK((strcmp(ldvbi_format_text(any), "unknown") == 0) == (any > LDVBI_BOTH));
-    }
+    are_texts(ldvbi_status_text, statuses, LDVBI_BAD_PACE + 1);
+    are_texts(ldvbi_cause_text, causes, LDVBI_HOLD + 1);
+    are_texts(ldvbi_kind_text, kinds, LDVBI_CLV_MARK + 1);
+    are_texts(ldvbi_format_text, formats, LDVBI_BOTH + 1);
+    are_texts(ldvbi_state_text, states, LDVBI_DUE + 1);
 }
 
 /* ---- Threads over the same line */
@@ -301,8 +240,6 @@ int main(void)
     test_version();
     test_sizes();
     test_layout();
-    test_refusals();
-    test_wide_numbers();
     test_texts();
     test_causes();
     test_codes();

@@ -5,7 +5,6 @@ writes. The module is found by PYTHONPATH, the library by LDVBI_LIBRARY.
 usage: library.py SYSTEM BLACK WHITE FILE < DOCUMENT"""
 
 import mmap
-import os
 import sys
 
 import ldvbi
@@ -37,22 +36,20 @@ def document(system, black, white, readings, rest):
 def check_document(system, black, white, path):
     """The file by its path, mapped, as bytes, field by field, by three lines and line by line."""
     wanted = sys.stdin.read()
-    width, height = SIZES[system]
-    field = 2 * width * height
-    assert (ldvbi.line_bytes(system), ldvbi.field_bytes(system)) == (2 * width, field)
-    rest = os.path.getsize(path) % field
+    line, field = ldvbi.line_bytes(system), ldvbi.field_bytes(system)
+    assert (line, field) == (2 * SIZES[system][0], 2 * SIZES[system][0] * SIZES[system][1])
+    on = (system, black, white)
     with open(path, "rb") as file:
         stream = file.read()
         with mmap.mmap(file.fileno(), 0, access=mmap.ACCESS_READ) as mapped:
-            all_readings = [list(ldvbi.fields(source, system, black, white)) for source in (path, mapped, stream)]
-    cuts = range(0, len(stream) - rest, field)
-    all_readings.append([ldvbi.read_field(stream[cut:cut + field], system, black, white) for cut in cuts])
-    rows = [stream[cut + 15 * 2 * width:][:3 * 2 * width] for cut in cuts]
-    all_readings.append([ldvbi.read_rows(three, system, black, white) for three in rows])
-    lines = [[stream[cut + 2 * width * row:][:2 * width] for row in (15, 16, 17)] for cut in cuts]
-    all_readings.append([[ldvbi.read_line(line, system, black, white) for line in three] for three in lines])
-    for readings in all_readings:
-        assert document(system, black, white, readings, rest) == wanted
+            ways = [list(ldvbi.fields(source, *on)) for source in (path, mapped, stream)]
+    whole = [stream[begin:begin + field] for begin in range(0, len(stream) - len(stream) % field, field)]
+    rows = [[one[line * row:line * (row + 1)] for row in (15, 16, 17)] for one in whole]
+    ways.append([ldvbi.read_field(one, *on) for one in whole])
+    ways.append([ldvbi.read_rows(b"".join(three), *on) for three in rows])
+    ways.append([[ldvbi.read_line(one, *on) for one in three] for three in rows])
+    for readings in ways:
+        assert document(*on, readings, len(stream) % field) == wanted
 
 
 if __name__ == "__main__":

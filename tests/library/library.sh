@@ -1,8 +1,10 @@
 #!/bin/sh
-# Calls the library from C and Python: tests over its border under the C compiler's sanitizers, the header's texts, and
-# the document that Python's readings make beside the one of `extract`. Before that, what the library needs and gives.
+# Calls the library from C and Python: tests over its border under the sanitizers of the C compiler, and the
+# document that Python's readings make beside the one of `extract`. Before that, what the library needs and gives.
 # Needs libldvbi.a and libldvbi.so.1 beside the program, or at the top of the repository (`make lib`).
 # usage: sh tests/library/library.sh PROGRAM
+# runs: library rust
+# fails where: include/ldvbi.h|s/LDVBI_HOLD = 4/LDVBI_HOLD = 5/
 # shellcheck disable=SC2086,SC2317
 
 # shellcheck source=tests/helpers.sh
@@ -10,10 +12,7 @@
 # shellcheck source=tests/library/library_helpers.sh
 . "$here/library_helpers.sh"
 
-LDVBI_LIBRARY=$built/libldvbi.so.1
-PYTHONPATH=$top/python
-PYTHONDONTWRITEBYTECODE=1
-export LDVBI_LIBRARY PYTHONPATH PYTHONDONTWRITEBYTECODE
+with_python
 
 # is_among_both NAME..: whether each is memcpy or memset
 is_among_both() {
@@ -45,51 +44,20 @@ check 'the version of the header is that of make' \
 check 'the interface of the header is that of make' \
     [ "$(sed -n 's/^#define LDVBI_ABI //p' "$top/include/ldvbi.h")" = "$(sed -n 's/^ABI := //p' "$top/Makefile")" ]
 
-# Calls over the border
-for sanitizer in address,undefined thread; do
-    check "the tests in C are built for $sanitizer" does $cc -std=c99 $strict -fsanitize=$sanitizer \
-        -I"$top/include" -o library "$here/library.c" "$built/libldvbi.a" -lpthread
-    check "the tests in C under $sanitizer" prints 0 '0 wrong' ./library
+# Calls over the border. Worn lines are read without the sanitizers, which would take their time over the noise; and
+# pages that can't be touched are no matter for the one that looks at addresses.
+tests_in_c() {
+    check "the tests of $1 are built" does $cc -std=c99 $strict -Wno-unused-function $2 -I"$top/include" -o "$1" \
+        "$here/$1.c" "$built/libldvbi.a" -lpthread -lm
+    check "the tests of $1${2:+ with $2}" prints 0 '0 wrong' "./$1"
+}
+for part in library library_refusals library_lines library_near library_recovered library_shown library_numbers \
+    library_chapters; do
+    tests_in_c $part -fsanitize=address,undefined
 done
-for part in fields lines recovered; do
-    check "the tests of $part are built" does $cc -std=c99 $strict -fsanitize=address,undefined -I"$top/include" \
-        -o library_$part "$here/library_$part.c" "$built/libldvbi.a"
-    check "the tests of $part" prints 0 '0 wrong' ./library_$part
-done
-for part in near sightings numbers paces chapters stops; do
-    check "the tests of $part are built" does $cc -std=c99 $strict -Wno-unused-function \
-        -fsanitize=address,undefined -I"$top/include" -o library_$part "$here/library_$part.c" "$built/libldvbi.a"
-    check "the tests of $part" prints 0 '0 wrong' ./library_$part
-done
-# 20,000 worn lines, and sides of them: without the sanitizers, which would take their time over the noise
-for part in worn sides; do
-    check "the tests of $part are built" does $cc -std=c99 $strict -Wno-unused-function -I"$top/include" \
-        -o library_$part "$here/library_$part.c" "$built/libldvbi.a" -lm
-    check "the tests of $part" prints 0 '0 wrong' ./library_$part
-done
-check 'the tests of pages are built' does $cc -std=c99 $strict -Wno-unused-function -fsanitize=undefined \
-    -I"$top/include" -o library_pages "$here/library_pages.c" "$built/libldvbi.a"
-check 'the tests of pages' prints 0 '0 wrong' ./library_pages
-
-# The header's texts: those of the report, but for its numbers, of each kind, cause and format
-{ sed -n 's/^example  *//p' "$top/codes/classes.txt" | paste -d ' ' - - -; echo '- - -'; } > words
-run_inheriting draw $ntsc - < words
-cp out texts.tbc
-signal NTSC 1 << 'WORDS' | ntsc_samples >> texts.tbc
-L900 H10|82CFFF @170-174L|L164 H746
-WORDS
-run show $ntsc texts.tbc
-sed '1d; $d; s/\( [0-9A-F:]*[0-9][0-9A-F:]*\)*$//' out > reported
-sed -n 's/^1[678] none /cause /p; s/^field [0-9]* /format /p; s/^1[678] [0-9A-F]* /kind /p' reported | sort -u > found
-{
-    printf 'cause %s\n' blank change hold unfinished
-    printf 'format %s\n' both cav clv neither
-    sed -n 's/^text  */kind /p' "$top/codes/classes.txt" | sed 's/ {.*//'
-} | sort > wanted
-check 'each kind, cause and format is in the report' cmp -s found wanted
-check 'the texts are built' does $cc -std=c99 $strict -I"$top/include" -o texts "$here/library_texts.c" \
-    "$built/libldvbi.a"
-check "the header's texts" prints 0 "$(cat reported)" sh -c "./texts $on_cav < texts.tbc"
+tests_in_c library -fsanitize=thread
+tests_in_c library_fields -fsanitize=undefined
+tests_in_c library_worn ''
 
 # The document of Python's readings: drawn discs, a cut one, and a field with each cause and pass
 discs

@@ -63,53 +63,7 @@ refuses() {
     [ "$status" = 2 ] && [ ! -s out ] && cmp -s err wanted
 }
 
-# refuses_in_a_line NAME COMMAND..: checks that a command ends with status 2, writes nothing, and says one line, which
-# begins with this name and a colon
-refuses_in_a_line() {
-    name=$1
-    shift
-    status=0
-    bounded "$@" < empty > out 2> err || status=$?
-    [ "$status" = 2 ] && [ ! -s out ] && [ "$(grep -c "^$name: " err)" = 1 ] && [ "$(wc -l < err)" = 1 ]
-}
-
-# disc_with_stops: makes stops.tbc, a disc by the standards' lines: stops where the number is on line 18 alone, and
-# lines 17 and 18 that differ
-disc_with_stops() {
-    run_inheriting draw $ntsc - << 'WORDS'
-- F00001 F00001
-- 800DDD 800DDD
-- F00002 F00007
-- 800DDD 800DDD
-82CFFF 82CFFF F00003
-- 801DDD 801DDD
-- F00004 -
-82CFFF 801DDD 801DDD
-82CFFF F00005 F00005
-- 802DDD 802DDD
-- - 82CFFF
-80EEEE 80EEEE 80EEEE
-WORDS
-    cp out stops.tbc
-}
-
-# disc_with_a_doubtful_stop: makes once.tbc, where both fields of pictures 3 and 5 have the stop, and line 16 of picture
-# 2 has one in pass 2, since a run in it is black
-disc_with_a_doubtful_stop() {
-    run_inheriting draw $ntsc - << 'WORDS'
-- F00001 F00001
-- 800DDD 800DDD
-82CFFF F00002 F00002
-- 800DDD 800DDD
-82CFFF 82CFFF F00003
-82CFFF 82CFFF 800DDD
-- F00004 F00004
-- 800DDD 800DDD
-82CFFF 82CFFF F00005
-82CFFF 82CFFF 800DDD
-- F00006 F00006
-WORDS
-    cp out once.tbc
-    printf '\000\100\000\100' |
-        dd of=once.tbc bs=1 seek=$((2 * 478660 + 15 * 1820 + 2 * 170)) conv=notrunc 2> dd.err
+# is_a_line_of NAME: whether what was said is one line, which begins with this name and a colon
+is_a_line_of() {
+    [ "$(grep -c "^$1: " err)" = 1 ] && [ "$(wc -l < err)" = 1 ]
 }

@@ -56,72 +56,46 @@ static void draw_rows(const Television *tv, const Worn *of, uint8_t *rows)
     }
 }
 
-static int is_read(const LdvbiFieldReadings *readings, const Worn *of)
+static void is_read(const Television *tv, const LdvbiFieldReadings *readings, size_t row)
 {
     for (size_t i = 0; i < 3; i++) {
         LdvbiReading reading = readings->lines[i];
-        int is_blank = of->words[i] == 0, has_word = of->read[i] != 0;
+        int is_blank = worn[row].words[i] == 0, has_word = worn[row].read[i] != 0;
 
-        if (has_word ? !is_reading(reading, LDVBI_WORD, of->passes[i], 0, of->read[i])
-                     : reading.word != 0 || reading.pass != 0 || (reading.cause == LDVBI_BLANK) != is_blank)
-            return 0;
+        if (has_word ? is_reading(reading, LDVBI_WORD, worn[row].passes[i], 0, worn[row].read[i])
+                     : reading.word == 0 && reading.pass == 0 && (reading.cause == LDVBI_BLANK) == is_blank)
+            continue;
+        fprintf(stderr, "system %u: worn rows %zu, line %zu\n", (unsigned)tv->system, row, 16 + i);
+        wrong++;
     }
-    return 1;
 }
 
+/* Each row alone, and each two that follow each other as the fields of a stream. */
 static void test_rows(const Television *tv)
 {
-    size_t length = 3 * 2 * tv->samples;
-    uint8_t *rows = guarded(length), *memory = guarded(sizeof(LdvbiFieldReadings));
-    LdvbiFieldReadings *readings = (LdvbiFieldReadings *)(void *)memory;
+    size_t line = 2 * tv->samples, field = line * tv->lines;
+    uint8_t *rows = guarded(3 * line), *stream = guarded(FIELDS * field);
+    LdvbiFieldReadings *readings = (LdvbiFieldReadings *)(void *)guarded(FIELDS * sizeof *readings);
 
-#define RECOVER(length) ldvbi_recover_rows(tv->system, tv->black, tv->white, rows, length, readings)
-    CHECK(RECOVER(length - 1) == LDVBI_BAD_LENGTH);
-    CHECK(RECOVER(length / 3) == LDVBI_BAD_LENGTH);
-    CHECK(ldvbi_recover_rows(0, 1, 2, rows, length, readings) == LDVBI_BAD_SYSTEM);
-    CHECK(ldvbi_recover_rows(tv->system, 2, 2, rows, length, readings) == LDVBI_BAD_LEVELS);
-    CHECK(holds(memory, sizeof *readings, 0xAA));
     for (size_t i = 0; i < WORN; i++) {
         draw_rows(tv, &worn[i], rows);
-        CHECK(RECOVER(length) == LDVBI_DONE);
-        if (!is_read(readings, &worn[i])) {
-            fprintf(stderr, "system %u: worn rows %zu\n", (unsigned)tv->system, i);
-            wrong++;
-        }
+        CHECK(ldvbi_recover_rows(tv->system, tv->black, tv->white, rows, 3 * line, readings) == LDVBI_DONE);
+        is_read(tv, readings, i);
     }
-#undef RECOVER
-}
-
-/* Each two of them that follow each other as the fields of a stream. */
-static void test_fields(const Television *tv)
-{
-    size_t line = 2 * tv->samples, field = line * tv->lines, room = FIELDS * sizeof(LdvbiFieldReadings);
-    uint8_t *stream = guarded(FIELDS * field), *memory = guarded(room);
-    LdvbiFieldReadings *readings = (LdvbiFieldReadings *)(void *)memory;
-
-#define RECOVER(length, count) \
-    ldvbi_recover_fields(tv->system, tv->black, tv->white, stream, length, readings, count)
-    CHECK(RECOVER(FIELDS * field - 1, FIELDS) == LDVBI_BAD_LENGTH);
-    CHECK(RECOVER(FIELDS * field, FIELDS - 1) == LDVBI_BAD_LENGTH);
-    CHECK(RECOVER(0, SIZE_MAX / field + 1) == LDVBI_BAD_LENGTH);
-    CHECK(RECOVER(0, 0) == LDVBI_DONE);
-    CHECK(ldvbi_recover_fields(tv->system, tv->black, tv->white, NULL, 0, NULL, 0) == LDVBI_DONE);
-    CHECK(holds(memory, room, 0xAA));
     for (size_t i = 0; i + FIELDS <= WORN; i += FIELDS) {
         for (size_t j = 0; j < FIELDS; j++)
             draw_rows(tv, &worn[i + j], stream + j * field + 15 * line);
-        CHECK(RECOVER(FIELDS * field, FIELDS) == LDVBI_DONE);
-        CHECK(is_read(&readings[0], &worn[i]) && is_read(&readings[1], &worn[i + 1]));
+        CHECK(ldvbi_recover_fields(tv->system, tv->black, tv->white, stream, FIELDS * field, readings, FIELDS)
+              == LDVBI_DONE);
+        for (size_t j = 0; j < FIELDS; j++)
+            is_read(tv, &readings[j], i + j);
     }
-#undef RECOVER
 }
 
 int main(void)
 {
-    for (size_t i = 0; i < sizeof televisions / sizeof *televisions; i++) {
+    for (size_t i = 0; i < 2; i++)
         test_rows(&televisions[i]);
-        test_fields(&televisions[i]);
-    }
     printf("%d wrong\n", wrong);
     return wrong != 0;
 }

@@ -4,7 +4,6 @@
    usage: library_worn [FIELDS]     so many fields of each kind, of three lines each, and their counts are printed */
 #include "library.h"
 #include "worn.h"
-#include "signals.h"
 
 /* Of each kind, where none are asked for: 20,000 lines in all. */
 enum { FIELDS = 75 };
@@ -41,38 +40,37 @@ static const WornKind worn_kinds[] = {
       .is_played = 1}, 680, 400, 150},
 };
 
-/* Of 100,000 lines so many may say a word. */
 typedef struct {
-    SignalKind kind;
-    int said;
+    Kind kind;
+    int said; /* of 100,000 lines so many may say a word */
 } OtherKind;
 
 static const OtherKind other_kinds[] = {
-    {{"blank, noise 20 %", put_nothing, 0.2}, 0},
-    {{"blank, noise 50 %", put_nothing, 0.5}, 0},
-    {{"blank, noise 90 %", put_nothing, 0.9}, 0},
-    {{"blank, noise 200 %", put_nothing, 2}, 0},
-    {{"white", put_white, 0.05}, 0},
-    {{"a ramp", put_ramp, 0.05}, 0},
-    {{"even noise", put_even_noise, 0}, 0},
-    {{"fine video", put_fine_video, 0.05}, 0},
-    {{"video of 11 columns", put_video_of_11, 0.05}, 10},
-    {{"video of 31 columns", put_video_of_31, 0.05}, 10},
-    {{"video of 11 columns, noise", put_video_of_11, 0.5}, 0},
-    {{"steps", put_steps, 0.05}, 0},
-    {{"teletext", put_teletext, 0.05}, 0},
-    {{"teletext, noise", put_teletext, 0.5}, 0},
-    {{"captions", put_captions, 0.05}, 0},
-    {{"captions, noise", put_captions, 0.5}, 0},
-    {{"time code", put_time_code, 0.05}, 0},
-    {{"time code, noise", put_time_code, 0.5}, 5},
-    {{"bits of 1 MHz", put_bits_of_1_mhz, 0.05}, 20},
-    {{"40 biphase bits of 2 MHz", put_40_bits, 0.05}, 0},
-    {{"20 biphase bits", put_20_bits, 0.05}, 0},
-    {{"26 biphase bits", put_26_bits, 0.05}, 0},
-    {{"26 biphase bits, noise", put_26_bits, 0.5}, 1500},
-    {{"a sine of 0.5 MHz", put_sine_of_a_cell, 0.05}, 0},
-    {{"a sine of 0.1 to 1.6 MHz", put_any_sine, 0.05}, 1500},
+    {{.name = "blank, noise 20 %", .noise = 0.2}, 0},
+    {{.name = "blank, noise 50 %", .noise = 0.5}, 0},
+    {{.name = "blank, noise 90 %", .noise = 0.9}, 0},
+    {{.name = "blank, noise 200 %", .noise = 2}, 0},
+    {{"white", WHITE, 0.05, 0, 0, 0, 0}, 0},
+    {{"a ramp", RAMP, 0.05, 0, 0, 0, 0}, 0},
+    {{"even noise", EVEN_NOISE, 0, 0, 0, 0, 0}, 0},
+    {{"fine video", VIDEO, 0.05, 0, 3, 0, 3}, 0},
+    {{"video of 11 columns", VIDEO, 0.05, 0, 11, 0, 11}, 10},
+    {{"video of 31 columns", VIDEO, 0.05, 0, 31, 0, 31}, 10},
+    {{"video of 11 columns, noise", VIDEO, 0.5, 0, 11, 0, 11}, 0},
+    {{"steps", STEPS, 0.05, 0, 0, 0, 0}, 0},
+    {{"teletext", BITS, 0.05, 0, 360, 0.66, 3}, 0},
+    {{"teletext, noise", BITS, 0.5, 0, 360, 0.66, 3}, 0},
+    {{"captions", CAPTIONS, 0.05, 0.5035, 19, 0, 0}, 0},
+    {{"captions, noise", CAPTIONS, 0.5, 0.5035, 19, 0, 0}, 0},
+    {{"time code", BITS, 0.05, 1.79, 90, 1, 3}, 0},
+    {{"time code, noise", BITS, 0.5, 1.79, 90, 1, 3}, 5},
+    {{"bits of 1 MHz", BITS, 0.05, 1, 52, 1, 0}, 20},
+    {{"40 biphase bits of 2 MHz", BIPHASE, 0.05, 0, 40, 0, 0}, 0},
+    {{"20 biphase bits", BIPHASE, 0.05, 0, 20, 1, 0}, 0},
+    {{"26 biphase bits", BIPHASE, 0.05, 0, 26, 1, 0}, 0},
+    {{"26 biphase bits, noise", BIPHASE, 0.5, 0, 26, 1, 0}, 1500},
+    {{"a sine of 0.5 MHz", SINE, 0.05, 0.5, 0, 0, 0}, 0},
+    {{"a sine of 0.1 to 1.6 MHz", SINE, 0.05, 0, 0, 0, 0}, 1500},
 };
 
 enum { WORN_KINDS = sizeof worn_kinds / sizeof *worn_kinds, OTHER_KINDS = sizeof other_kinds / sizeof *other_kinds };
@@ -152,37 +150,28 @@ static Counts count_worn(const Television *tv, const Wear *wear, int fields)
 
 /* ---- Signals that are no words */
 
-/* A field whose lines have the signal, each its own; in half of the fields line 18 has that of line 17. */
-static void draw_signal(const Television *tv, const SignalKind *kind, uint8_t *rows)
+/* How many lines of so many fields say a word: as they are read, and as they are recovered. Each line has the signal as
+   its own; in half of the fields line 18 has that of line 17. */
+static void count_signal(const Television *tv, const Kind *kind, int fields, int *read, int *recovered)
 {
+    size_t size = 2 * tv->samples;
+    uint8_t *rows = guarded(3 * size);
     double line[WIDEST], shown[WIDEST];
-    uint32_t is_twice = below(2);
-
-    for (size_t row = 0; row < 3; row++) {
-        if (row < 2 || !is_twice) {
-            Signal signal = signal_in(tv, line);
-
-            kind->draw(&signal);
-        }
-        memcpy(shown, line, sizeof shown);
-        if (kind->noise > 0)
-            add_noise(tv, kind->noise, 0, shown);
-        put_line(tv, shown, rows + 2 * tv->samples * row);
-    }
-}
-
-/* How many lines of so many fields say a word: as they are read, and as they are recovered. */
-static void count_signal(const Television *tv, const SignalKind *kind, int fields, int *read, int *recovered)
-{
-    size_t length = 3 * 2 * tv->samples;
-    uint8_t *rows = guarded(length);
 
     for (int i = 0; i < fields; i++) {
         LdvbiFieldReadings own, near;
+        uint32_t is_twice = below(2);
 
-        draw_signal(tv, kind, rows);
-        CHECK(ldvbi_read_rows(tv->system, tv->black, tv->white, rows, length, &own) == LDVBI_DONE);
-        CHECK(ldvbi_recover_rows(tv->system, tv->black, tv->white, rows, length, &near) == LDVBI_DONE);
+        for (size_t row = 0; row < 3; row++) {
+            if (row < 2 || !is_twice)
+                draw_signal(tv, kind, line);
+            memcpy(shown, line, sizeof shown);
+            if (kind->noise > 0)
+                add_noise(tv, kind->noise, 0, shown);
+            put_line(tv, shown, rows + row * size);
+        }
+        CHECK(ldvbi_read_rows(tv->system, tv->black, tv->white, rows, 3 * size, &own) == LDVBI_DONE);
+        CHECK(ldvbi_recover_rows(tv->system, tv->black, tv->white, rows, 3 * size, &near) == LDVBI_DONE);
         for (size_t row = 0; row < 3; row++) {
             *read += own.lines[row].word != 0;
             *recovered += near.lines[row].word != 0;
@@ -203,29 +192,22 @@ static int64_t allowed(int lines, int of_100000)
     return of_100000 == 0 ? 0 : 1 + (int64_t)lines * of_100000 / 100000;
 }
 
-static int is_as_wanted(const WornKind *kind, const Counts *counts)
-{
-    int64_t words = counts->words;
-
-    return words > 0 && 1000 * (int64_t)counts->near >= words * kind->near
-        && 1000 * (int64_t)counts->recovered >= words * kind->recovered
-        && counts->recovered_wrong <= allowed(counts->lines, kind->wrong);
-}
-
 static void test_worn(const Television *tv, size_t i, int fields, int is_shown)
 {
     const WornKind *kind = &worn_kinds[i];
 
     begin_numbers(1000 * tv->system + i);
-    Counts counts = count_worn(tv, &kind->wear, fields);
-    int is_wrong = !is_as_wanted(kind, &counts);
+    Counts c = count_worn(tv, &kind->wear, fields);
+    int64_t words = c.words;
+    int is_wrong = words == 0 || 1000 * (int64_t)c.near < words * kind->near
+        || 1000 * (int64_t)c.recovered < words * kind->recovered || c.recovered_wrong > allowed(c.lines, kind->wrong);
 
     wrong += is_wrong;
     if (is_shown || is_wrong)
         fprintf(is_shown ? stdout : stderr,
                 "%-26s %-4s %6d words: read %6d, wrong %3d; nearest %6d; recovered %6d, wrong %3d%s\n", kind->wear.name,
-                name_of(tv), counts.words, counts.read, counts.read_wrong, counts.near, counts.recovered,
-                counts.recovered_wrong, is_wrong ? " !" : "");
+                name_of(tv), c.words, c.read, c.read_wrong, c.near, c.recovered, c.recovered_wrong,
+                is_wrong ? " !" : "");
 }
 
 static void test_signal(const Television *tv, size_t i, int fields, int is_shown)

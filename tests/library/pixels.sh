@@ -2,12 +2,19 @@
 # Runs examples/pixels.c on lines of 8 bits at 13.5 MHz, as no TBC file has them, and on what it refuses.
 # Needs libldvbi.so.1 beside the program, or at the top of the repository (`make lib`).
 # usage: sh tests/library/pixels.sh PROGRAM
+# runs: library rust
+# fails where: examples/pixels.c|s/858 : 864/920 : 864/
 # shellcheck disable=SC2086,SC2317
 
 # shellcheck source=tests/helpers.sh
 . "$(dirname "$0")/../helpers.sh"
 # shellcheck source=tests/library/library_helpers.sh
 . "$here/library_helpers.sh"
+
+# is_refused_in_a_line COMMAND..: whether a command ends with status 2, writes nothing, and says one line
+is_refused_in_a_line() {
+    ! does "$@" && [ "$status" = 2 ] && [ ! -s out ] && is_a_line_of pixels
+}
 
 check 'pixels is built' does $cc -std=c99 $strict -o pixels "$top/examples/pixels.c" $linked
 
@@ -62,7 +69,7 @@ check 'pixels: no line' [ -z "$(bounded ./pixels NTSC 16 235 < empty 2>&1)" ]
 head -c 2159 lines.y8 > part.y8
 check 'pixels: a field that is cut' refuses 'pixels: the last field is cut' sh -c './pixels PAL 16 235 < part.y8'
 while read -r system black white; do
-    check "pixels: $system $black $white" refuses_in_a_line pixels ./pixels $system $black $white
+    check "pixels: $system $black $white" is_refused_in_a_line ./pixels $system $black $white
 done << 'WORDS'
 NTSC 16 256
 NTSC -1 235

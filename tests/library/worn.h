@@ -1,5 +1,6 @@
 /* Worn lines with their truth: words that are drawn and then damaged sample by sample, and words as a player plays
-   them. A sample is a number here, 0 for black and 1 for white, until the whole line is made. */
+   them; and signals that are no words, as stand on lines 16, 17 and 18 of other discs and tapes. A sample is a number
+   here, 0 for black and 1 for white, until the whole line is made. */
 #include <math.h>
 
 enum { WIDEST = 1135, HALVES = 48, TAPS = 20 };
@@ -209,4 +210,100 @@ static void draw_worn(const Television *tv, const Wear *wear, uint32_t word, uin
     if (wear->burst > 0)
         add_burst(tv, wear->burst, start, line);
     put_line(tv, line, bytes);
+}
+
+/* ---- Signals that are no words */
+
+enum Shape { NOTHING, WHITE, RAMP, EVEN_NOISE, VIDEO, STEPS, BITS, CAPTIONS, BIPHASE, SINE };
+
+/* A signal from 10 to 62 microseconds of its line. */
+typedef struct {
+    const char *name;
+    enum Shape shape;
+    double noise; /* its standard deviation */
+    double rate;  /* megahertz of bits (0: those of teletext in the system) or of a sine (0: any from 0.1 to 1.6) */
+    int count;    /* bits; or columns of video of which each has the mean */
+    double level; /* of bits, or microseconds of a half cell of biphase bits (0: any from 0.45 to 0.55) */
+    int smeared;  /* as of Wear */
+} Kind;
+
+static void hold(const Television *tv, double from, double to, double level, double *line)
+{
+    for (size_t column = (size_t)from; column < (size_t)to && column < tv->samples; column++)
+        line[column] = level;
+}
+
+/* Bits of so many columns, the first sixteen by turns, each held at its level; of captions these stand behind seven
+   cycles of run-in and three start bits, of which the last is high. */
+static void put_bits(const Television *tv, const Kind *kind, double begin, double columns, double *line)
+{
+    for (int bit = 0; bit < kind->count; bit++) {
+        double from = begin + bit * columns;
+
+        if (kind->shape == BITS)
+            hold(tv, from, from + columns, (bit < 16 ? bit % 2 == 0 : (int)below(2)) ? kind->level : 0, line);
+        else
+            hold(tv, from, from + columns, bit < 2 ? 0 : bit == 2 ? 0.5 : 0.5 * below(2), line);
+    }
+}
+
+static void put_biphase(const Television *tv, int count, double begin, double columns, double *line)
+{
+    for (int bit = 0; bit < count; bit++) {
+        double level = below(2), middle = begin + (2 * bit + 1) * columns;
+
+        hold(tv, middle - columns, middle, 1 - level, line);
+        hold(tv, middle, middle + columns, level, line);
+    }
+}
+
+/* Levels of each column by itself: random ones, a ramp, or a sine. */
+static void put_columns(const Kind *kind, size_t begin, size_t end, double microsecond, double *line)
+{
+    double rate = kind->shape != SINE || kind->rate > 0 ? kind->rate : 0.1 + 1.5 * evenly();
+    double phase = kind->shape == SINE ? turn_of_circle * evenly() : 0;
+
+    for (size_t column = begin; column < end; column++) {
+        double place = (double)(column - begin);
+
+        line[column] = kind->shape == VIDEO ? 0.5 + 0.35 * sqrt(kind->count) * normally()
+            : kind->shape == RAMP ? place / (double)(end - begin)
+            : 0.5 + 0.5 * sin(turn_of_circle * rate * place / microsecond + phase);
+    }
+}
+
+/* A line's signal, without its noise. */
+static void draw_signal(const Television *tv, const Kind *kind, double *line)
+{
+    double microsecond = samples_of_microsecond(tv), teletext = tv->system == LDVBI_PAL ? 6.9375 : 5.7273;
+    size_t begin = (size_t)(10 * microsecond), end = (size_t)(62 * microsecond);
+    double columns = microsecond / (kind->rate > 0 ? kind->rate : teletext), from = (double)begin;
+
+    end = end < tv->samples ? end : tv->samples;
+    hold(tv, 0, (double)tv->samples, 0, line);
+    if (kind->shape == WHITE)
+        hold(tv, from, (double)end, 1, line);
+    else if (kind->shape == EVEN_NOISE)
+        for (size_t column = 0; column < tv->samples; column++)
+            line[column] = evenly();
+    else if (kind->shape == STEPS)
+        for (size_t column = begin, next; column < end; column = next) {
+            next = column + 5 + below(36);
+            hold(tv, (double)column, (double)next, evenly(), line);
+        }
+    else if (kind->shape == VIDEO || kind->shape == RAMP || kind->shape == SINE)
+        put_columns(kind, begin, end, microsecond, line);
+    else if (kind->shape == BITS)
+        put_bits(tv, kind, from, columns, line);
+    else if (kind->shape == BIPHASE)
+        put_biphase(tv, kind->count, from, microsecond * (kind->level > 0 ? kind->level : 0.45 + 0.1 * evenly()), line);
+    else if (kind->shape == CAPTIONS) {
+        for (size_t column = begin; (double)column < from + 7 * columns; column++)
+            line[column] = 0.25 * (1 - cos(turn_of_circle * (double)(column - begin) / columns));
+        put_bits(tv, kind, from + 7 * columns, columns, line);
+    }
+    if (kind->smeared > 1)
+        smear(tv, kind->smeared, line);
+    if (kind->shape == VIDEO)
+        hold(tv, 0, from, 0, line);
 }

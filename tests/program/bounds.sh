@@ -2,6 +2,8 @@
 # Tries the bounds of `make bench` on made measurements, which take no time: a ratio over its bound, a line that is
 # missing and a measurement that fails each end it with status 1.
 # usage: sh tests/program/bounds.sh PROGRAM
+# runs: everywhere
+# fails where: bench/bounds.awk|s/ratio < least/ratio > least/
 
 # shellcheck source=tests/helpers.sh
 . "$(dirname "$0")/../helpers.sh"
@@ -40,19 +42,16 @@ measured > said
 held
 echo "bench: $count of $count bounds hold" > all
 check 'each ratio is the most that it may be' ended 0 all empty
+# A ratio over its bound, and a line that is missing, each in turn
 : > wrong
 while IFS='|' read -r name most; do
     measured "$name" 0.01 > said
     held_of "$name" "ratio $(awk -v most="$most" 'BEGIN { print most + 0.01 }'), which is over $most"
-done < bounds
-cp wrong err
-check 'a ratio over its bound, each in turn' [ ! -s wrong ]
-while IFS='|' read -r name most; do
     measured "$name" > said
     held_of "$name" 'not measured'
 done < bounds
 cp wrong err
-check 'a line that is missing, each in turn' [ ! -s wrong ]
+check 'a ratio over its bound, and a line that is missing' [ ! -s wrong ]
 { measured 'read_line' 1; measured; } > said
 held
 check 'of several lines the least ratio counts' ended 0 all empty
@@ -69,35 +68,29 @@ check 'a table without bounds' [ "$status" = 1 ]
 mkdir stubs
 cp "$bench/all.sh" "$bench/bounds.awk" "$bench/bounds.txt" stubs
 measured > lines
+measurements='lines fields library stream rust'
 number=0
-for name in lines fields library stream rust; do
+for name in $measurements; do
     echo "awk 'NR % 5 == $number' lines; ! grep -qx $name fails" > stubs/$name.sh
+    echo "import subprocess, sys; sys.exit(subprocess.call(['sh', 'stubs/$name.sh']))" > stubs/$name.py
     awk -v number=$number 'NR % 5 == number' lines >> in_turn
     number=$((number + 1))
 done
-for name in stream rust; do
-    echo "import subprocess, sys; sys.exit(subprocess.call(['sh', 'stubs/$name.sh']))" > stubs/$name.py
-done
-
-# whole: runs it
-whole() {
+for name in nothing $measurements; do
+    echo $name > fails
     status=0
     bounded sh stubs/all.sh "$program" > out 2> err || status=$?
-}
-: > fails
-whole
-cat in_turn all > wanted
-check 'all measurements are run, and hold' ended 0 wanted empty
-measured 'rust show' 0.01 > lines
-whole
-check 'with a ratio over its bound it fails' [ "$status" = 1 ]
-check 'with a ratio over its bound it says which' grep -qx 'bench: rust show: ratio 1.51, which is over 1.5' out
-measured > lines
-for name in lines fields library stream rust; do
-    echo $name > fails
-    whole
-    [ "$status" = 1 ] && grep -q "^bench: .*$name.* failed\$" err || echo "$name" >> wrong
+    if [ $name = nothing ]; then
+        cat in_turn all > wanted
+        check 'all measurements are run, and hold' ended 0 wanted empty
+    else
+        check "the measurement $name fails" [ "$status $(grep -c "^bench: .*$name.* failed\$" err)" = '1 1' ]
+    fi
 done
-cp wrong err
-check 'a measurement that fails, each in turn' [ ! -s wrong ]
+measured 'rust show' 0.01 > lines
+: > fails
+status=0
+bounded sh stubs/all.sh "$program" > out 2> err || status=$?
+check 'with a ratio over its bound it fails, and says which' \
+    [ "$status $(grep -cx 'bench: rust show: ratio 1.51, which is over 1.5' out)" = '1 1' ]
 finish

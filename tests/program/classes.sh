@@ -2,6 +2,8 @@
 # Compares what the table of classes (codes/classes.txt) says of words with what the built program's `show` says of
 # them: words at the corners of each pattern, and 20,000 drawn ones.
 # usage: sh tests/program/classes.sh PROGRAM
+# runs: everywhere rust
+# fails where: codes/classes.txt|s/^words     8, x, d, DDD/words     8, d, d, DDD/
 # shellcheck disable=SC2086
 
 # shellcheck source=tests/helpers.sh
@@ -12,7 +14,7 @@ grep -o 'least = 0x[0-9A-F]*; greatest = 0x[0-9A-F]*' "$top/crates/vbi_words/spe
     sed 's/[a-z]* = 0x//g; s/;//g' > patterns
 check 'there are eleven patterns' [ "$(wc -l < patterns)" = 11 ]
 
-awk -f "$tests/code_words.awk" patterns > items
+awk -f "$here/code_words.awk" patterns > items
 check 'there are 20,000 words and those of the corners' [ "$(wc -l < items)" -gt 20300 ]
 { cat items; echo -; echo -; } | paste -d ' ' - - - | sed -n '/[^ ] [^ ]* [^ ]/p' > words
 output_of draw $ntsc words | bounded "$program" show $ntsc | sed -n 's/^1[678] \([0-9A-F]\{6\} \)/\1/p' > reported

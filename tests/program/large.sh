@@ -3,6 +3,8 @@
 # numbers of bytes need more than 32 bits. The input has black fields, which take no room on a disk, a drawn one, and a
 # cut one.
 # usage: sh tests/program/large.sh PROGRAM
+# runs: everywhere rust
+# fails where: ldvbi|s/"cutField":{/"cutfield":{/g
 # shellcheck disable=SC2086
 
 # shellcheck source=tests/helpers.sh
@@ -43,31 +45,15 @@ check 'the input has more than 4 GiB' [ "$(wc -c < large.tbc)" = 4298846460 ]
     cut_field '{"seqNo":8982,"bytes":1000}'
 } > large.json
 
-echo blank > blank
-run line $ntsc large.tbc
-judge 'the first line of a file' 0 blank ''
-run_with large.tbc line $ntsc
-judge 'the first line of standard input' 0 blank ''
 run show $ntsc large.tbc
 judge 'the report of a file' 3 large.txt ''
-run_with large.tbc show $ntsc
-judge 'the report of standard input' 3 large.txt ''
-run extract $ntsc large.tbc
-judge 'the document of a file' 3 large.json ''
 run_with large.tbc extract $ntsc
 judge 'the document of standard input' 3 large.json ''
 faulty_with large.tbc '0 4298366805 error' 1 extract $ntsc
 stands 'reads fail behind 4 GiB' 1 large.begun 'ldvbi: read failed in field 8981 at byte 5' '2361742 1' '8981 0'
 
-# What isn't a row of words, and what isn't metadata, is refused as early
-run draw $ntsc large.tbc
-judge 'no rows in a file' 1 empty 'ldvbi: row 1 is malformed'
-run_with large.tbc draw $ntsc
-judge 'no rows on standard input' 1 empty 'ldvbi: row 1 is malformed'
 run line $ntsc --meta large.tbc drawn.tbc
 judge 'metadata' 1 empty 'ldvbi: metadata too large'
-run_with large.tbc line $ntsc --meta /dev/stdin drawn.tbc
-judge 'metadata from standard input' 1 empty 'ldvbi: metadata too large'
 
 # As much is drawn
 { awk 'BEGIN { for (row = 1; row <= 8980; row++) print "- - -" }'; echo '82CFFF F12345 F12345'; } > words

@@ -1,8 +1,9 @@
 #!/bin/sh
-# Looks at the manual pages and the completions, which texts/write.py makes of the source: they are what it writes, they
-# have the options that the help of the built program and of ldvbi-side has, mandoc takes the pages, and bash and zsh
-# offer what is meant.
+# Looks at the manual pages and the completions, which texts/write.py makes of the source: they have the options that the
+# help of the built program and of ldvbi-side has, mandoc takes the pages, and bash and zsh offer what is meant.
 # usage: sh tests/program/manual.sh PROGRAM
+# runs: everywhere
+# fails where: share/completions/ldvbi.bash|s/extract/extrakt/
 # shellcheck disable=SC2086
 
 # shellcheck source=tests/helpers.sh
@@ -34,9 +35,6 @@ page() {
     sed -n 's/^[.]It .*Fl -\([a-z-]*\).*/--\1/p' "$top/share/man/$1" | sort -u > found
     same "the options of $1"
 }
-
-(cd "$top" && PYTHONDONTWRITEBYTECODE=1 bounded python3 texts/write.py --check share) < empty > out 2> err
-check 'what texts/write.py writes is what stands there' [ ! -s err ]
 
 for command in '' $commands; do
     output_of $command --help | options_in_help > ${command:-none}.options

@@ -1,7 +1,10 @@
 #!/bin/sh
-# Installs the built program from a copy of the source without the toolchain, takes it away again, and packs both. Then
-# what `make` prints of the toolchain's work.
+# Installs the built program, and the library where it is built, from a copy of the source without the toolchain, takes
+# both away again, and packs them: what is there has one list of files. Then what `make` prints of the toolchain's work.
 # usage: sh tests/program/packaging.sh PROGRAM
+# runs: everywhere
+# fails where: Makefile|/install.*MANUALS/d
+# shellcheck disable=SC2046,SC2086,SC2317
 
 # shellcheck source=tests/helpers.sh
 . "$(dirname "$0")/../helpers.sh"
@@ -13,16 +16,14 @@ mkdir tree tools
         tar --exclude=.git --exclude=out --exclude=./ldvbi --exclude='./libldvbi.*' --exclude=./dist \
             --exclude='./rust/crate*' --exclude=./rust/ldvbi --exclude='./rust/libldvbi.*' --exclude='./rust/*-*-*' -cf - .
 ) | tar -xf - -C tree
-for tool in sh make install rm mkdir find cp touch git tar gzip sha256sum uname; do
+for tool in sh make install rm mkdir find cp touch git tar gzip sha256sum uname ln sed chmod; do
     ln -s "$(command -v $tool)" tools/$tool
 done
-cd tree || exit 1
-{
-    git init -q && git add . && GIT_AUTHOR_DATE='@1000000000 +0000' GIT_COMMITTER_DATE='@1000000000 +0000' \
+(
+    cd tree && git init -q && git add . && GIT_AUTHOR_DATE='@1000000000 +0000' GIT_COMMITTER_DATE='@1000000000 +0000' \
         git -c user.name=test -c user.email=test@localhost commit -qm source
-} > ../git.log 2>&1
-cp "$program" ldvbi
-cd ..
+) > git.log 2>&1
+cp "$program" tree/ldvbi
 
 # made WORD..: `make` in the copy
 made() {
@@ -36,106 +37,113 @@ made_privately() {
     made "$@"
     umask "$mask"
 }
-# are_for_all FOLDER: whether all can read what is installed there, and run what is to be run
-# shellcheck disable=SC2317
-are_for_all() {
-    find "$1" ! -type l -printf '%m %y %p\n' |
-        awk '{ wanted = $2 == "d" || $3 ~ /\/bin\// ? 755 : 644 } $1 != wanted { print; wrong = 1 } END { exit wrong }'
-}
-# What is installed, from `usr`
+
+# What is installed below a prefix: of the program, and of both
 {
-    cat << 'END'
-usr/bin/ldvbi
-usr/bin/ldvbi-side
-usr/share/bash-completion/completions/ldvbi
-usr/share/bash-completion/completions/ldvbi-side
-usr/share/doc/ldvbi/CHANGELOG.md
-usr/share/doc/ldvbi/README.md
-END
-    (cd tree && git ls-files 'docs/*.md' 'docs/pictures/*.[ps]*g' examples | sed 's/^/usr\/share\/doc\/ldvbi\//')
-    cat << 'END'
-usr/share/ldvbi/ldvbi-join.schema.json
-usr/share/ldvbi/ldvbi-recovered.schema.json
-usr/share/ldvbi/ldvbi-scan.schema.json
-usr/share/ldvbi/ldvbi-side.schema.json
-usr/share/ldvbi/ldvbi.schema.json
-usr/share/ldvbi/plot_line.py
-END
-    (cd tree && git ls-files 'python/*.py' | sed 's/^/usr\/share\/ldvbi\//')
-    cat << 'END'
-usr/share/man/man1/ldvbi-side.1
-usr/share/man/man1/ldvbi.1
-usr/share/zsh/site-functions/_ldvbi
-usr/share/zsh/site-functions/_ldvbi-side
-END
-} > files
-
+    printf 'bin/%s\n' ldvbi ldvbi-side
+    printf 'share/%s\n' bash-completion/completions/ldvbi bash-completion/completions/ldvbi-side
+    printf 'share/doc/ldvbi/%s\n' CHANGELOG.md README.md
+    (cd tree && git ls-files 'docs/*.md' 'docs/pictures/*.[ps]*g' examples | sed 's/^/share\/doc\/ldvbi\//')
+    printf 'share/ldvbi/ldvbi%s.schema.json\n' '' -join -recovered -scan -side
+    echo share/ldvbi/plot_line.py
+    (cd tree && git ls-files 'python/*.py' | sed 's/^/share\/ldvbi\//')
+    printf 'share/%s\n' man/man1/ldvbi-side.1 man/man1/ldvbi.1 zsh/site-functions/_ldvbi zsh/site-functions/_ldvbi-side
+} | sort > files
+{
+    cat files
+    echo include/ldvbi.h
+    printf 'lib/%s\n' cmake/ldvbi/ldvbi-config-version.cmake cmake/ldvbi/ldvbi-config.cmake libldvbi.a libldvbi.so \
+        libldvbi.so.1 pkgconfig/ldvbi.pc
+} | sort > files_of_both
 # Files of others, whose names begin as ours do, in each folder that has files of ours
-cat > others << 'END'
-usr/bin/ldvbi-other
-usr/share/bash-completion/completions/ldvbi-other
-usr/share/doc/ldvbi-other/README.md
-usr/share/ldvbi-other/plot_line.py
-usr/share/man/man1/ldvbi-other.1
-usr/share/zsh/site-functions/_ldvbi-other
-END
-xargs dirname < others | xargs mkdir -p
-xargs touch < others
-made install PREFIX="$work/usr"
-check 'make install without the toolchain' [ $status = 0 ]
-find usr -type f | sort | comm -13 others - > found
-check 'what is installed' cmp found files
-check 'the program is copied as it is' cmp usr/bin/ldvbi "$program"
-check 'it can be run' [ -x usr/bin/ldvbi ]
-status=0
-PYTHONDONTWRITEBYTECODE=1 bounded usr/bin/ldvbi-side --help < empty > out 2> err || status=$?
-check 'ldvbi-side finds its module where it is installed' [ "$status $(head -c 18 out)" = '0 usage: ldvbi-side ' ]
-made uninstall PREFIX="$work/usr"
-check 'make uninstall' [ $status = 0 ]
-find usr -type f | sort > found
-check 'what is left is not ours' cmp found others
-check 'no folder of ours is left' [ ! -e usr/share/ldvbi ]
-check 'no document of ours is left' [ ! -e usr/share/doc/ldvbi ]
-made uninstall PREFIX="$work/usr"
+printf '%s\n' bin/ldvbi-other include/ldvbi-other.h lib/libldvbi-other.a lib/libldvbi.so.0 \
+    lib/pkgconfig/ldvbi-other.pc share/bash-completion/completions/ldvbi-other share/doc/ldvbi-other/README.md share/ldvbi-other/plot_line.py \
+    share/man/man1/ldvbi-other.1 share/zsh/site-functions/_ldvbi-other > others
+# are_for_all FOLDER: whether all can read what is installed there, and run what is to be run
+are_for_all() {
+    (cd "$1" && xargs rm < "$work/others" && find . ! -type l -printf '%m %y %p\n') | awk '
+        { wanted = $2 == "d" || $3 ~ /\/bin\/|\.so\./ ? 755 : 644 } $1 != wanted { print; wrong = 1 } END { exit wrong }'
+}
+# installs NAME FILES FOLDER WORD..: installs with these words, and takes that away
+installs() {
+    name=$1
+    files=$2
+    folder=$3
+    shift 3
+    mkdir -p "$folder"
+    (cd "$folder" && xargs dirname < "$work/others" | xargs mkdir -p && xargs touch < "$work/others")
+    made_privately install "$@"
+    check "$name: make install" [ $status = 0 ]
+    (cd "$folder" && find . ! -type d | sed 's/^..//' | sort) | comm -23 - others > found
+    check "$name: what is installed" cmp found "$files"
+    check "$name: the program is copied as it is" cmp "$folder/bin/ldvbi" "$program"
+    cp -r "$folder" "$folder.kept"
+    check "$name: it is for all" are_for_all "$folder.kept"
+    made uninstall "$@"
+    check "$name: make uninstall" [ $status = 0 ]
+    (cd "$folder" && find . ! -type d | sed 's/^..//' | sort) > found
+    check "$name: what is left is not ours" cmp found others
+    check "$name: no folder of ours is left" [ -z "$(find "$folder" -path '*share/*' -name ldvbi)" ]
+}
+made uninstall PREFIX="$work/nothing/usr"
 check 'make uninstall where nothing of ours is' [ $status = 0 ]
-made_privately install PREFIX="$work/private/usr"
-check 'what is installed is for all' are_for_all private/usr
-made install DESTDIR="$work/stage" PREFIX=/usr
-(cd stage && find usr -type f | sort) > found
-check 'what is installed below DESTDIR' cmp found files
-made install DESTDIR="$work/local"
-(cd local/usr/local && find . -type f | sed 's/^[.]/usr/' | sort) > found
-check 'what is installed where no place is named' cmp found files
+installs 'a prefix' files one/usr PREFIX="$work/one/usr"
+installs 'a prefix below DESTDIR' files two/usr DESTDIR="$work/two" PREFIX=/usr
+installs 'no place named' files three/usr/local DESTDIR="$work/three"
+status=0
+PYTHONDONTWRITEBYTECODE=1 bounded one/usr.kept/bin/ldvbi-side --help < empty > out 2> err || status=$?
+check 'ldvbi-side finds its module where it is installed' [ "$status $(head -c 18 out)" = '0 usage: ldvbi-side ' ]
 
-# Archives of source and program, the same ones each time
+# What is refused, with nothing installed; and before `make rust` nothing is taken from there
+while IFS='|' read -r words said; do
+    (cd tree && eval "bounded env PATH=$work/tools make -s $words DESTDIR=$work/stage") < empty > out 2> err
+    check "make $words is refused" grep -q "^make: $said" err
+done << END
+install 'PREFIX=/a b'|PREFIX, LIBDIR and DESTDIR can't have a space
+install-lib 'LIBDIR=/c d'|PREFIX, LIBDIR and DESTDIR can't have a space
+uninstall 'PREFIX=/a b'|PREFIX, LIBDIR and DESTDIR can't have a space
+install FROM=here|FROM is 'proved' or 'rust'
+install FROM=rust|rust/.* isn't there: make rust builds it
+install-lib FROM=rust|rust/.* isn't there: make rust builds it
+wheel FROM=rust|rust/libldvbi.so.1 isn't there
+END
+made install DESTDIR="$work/e f"
+check 'a space in DESTDIR is refused' grep -q "^make: PREFIX, LIBDIR and DESTDIR can't have a space" err
+check 'nothing is installed then' [ ! -e stage ]
+
+# Archives of source and program, the same ones each time, whoever packs them: of somebody who isn't root, too, and
+# whose new files are for themselves alone
+made_by_another() {
+    chmod 711 "$work"
+    cp -a tree theirs
+    set -- env HOME=/nowhere PATH="$work/tools" make -s -C theirs dist
+    if [ "$(id -u)" = 0 ]; then
+        chown -R 65534:65534 theirs
+        set -- setpriv --reuid=65534 --regid=65534 --clear-groups "$@"
+    fi
+    bounded "$@" > out 2> err
+}
+# packed NAME PREFIX: what an archive of dist/ has below its folder, as it is installed
+packed() {
+    tar -tzf "tree/dist/$1" | sed "/\/\$/d; s,^$2/,,; /^\$/d" | sort
+}
+release=ldvbi-0.1.0
 made dist
-check 'make dist without the toolchain' [ $status = 0 ]
-cp -r tree/dist first
-check 'the checksums' sh -c 'cd first && sha256sum -c --quiet SHA256SUMS'
-tar -tzf first/ldvbi-0.1.0.tar.gz | sed 's/^ldvbi-0.1.0\///; /\/$/d; /^$/d' | sort > found
+check 'make dist without the toolchain' [ "$status $(wc -l < tree/dist/SHA256SUMS)" = '0 2' ]
+check 'the checksums' sh -c 'cd tree/dist && sha256sum -c --quiet SHA256SUMS'
+packed $release.tar.gz $release > found
 (cd tree && git ls-files | sort) > listed
 check 'the source archive has each file' cmp found listed
-for archive in first/*.tar.gz; do tar --numeric-owner -tvzf "$archive"; done | awk '{ print $2 }' | sort -u > owners
-check "the files in the archives are root's" [ "$(cat owners)" = 0/0 ]
-tar -tzf first/ldvbi-0.1.0-x86_64-linux.tar.gz | sed '/\/$/d; s/^ldvbi-0.1.0-x86_64-linux/usr/' | sort > found
+packed $release-x86_64-linux.tar.gz $release-x86_64-linux > found
 check 'the archive of the program has what is installed' cmp found files
+for archive in tree/dist/*.tar.gz; do tar --numeric-owner -tvzf "$archive"; done | awk '{ print $2 }' | sort -u > owners
+check "the files in the archives are root's" [ "$(cat owners)" = 0/0 ]
+cp tree/dist/SHA256SUMS sums
 sleep 1
 made_privately dist
-check 'archives made again are the same' cmp first/SHA256SUMS tree/dist/SHA256SUMS
-# Of somebody who isn't root they are the same as well: the numbers of the one who packs are in none.
-# shellcheck disable=SC2317
-made_by_another() {
-    if [ "$(id -u)" = 0 ]; then
-        chmod 711 "$work"
-        cp -a tree theirs && chown -R 65534:65534 theirs
-        bounded setpriv --reuid=65534 --regid=65534 --clear-groups env HOME=/nowhere PATH="$work/tools" \
-            make -s -C theirs dist > out 2> err
-    else
-        cp -a tree theirs && bounded env PATH="$work/tools" make -s -C theirs dist > out 2> err
-    fi
-}
+check 'archives made again are the same' cmp sums tree/dist/SHA256SUMS
 check 'make dist of one who is not root' made_by_another
-check 'their archives are the same' cmp first/SHA256SUMS theirs/dist/SHA256SUMS
+check 'their archives are the same' cmp sums theirs/dist/SHA256SUMS
 rm -rf theirs
 
 # What `make rust` leaves, as which the program stands here with a crate that has been built by cargo
@@ -146,34 +154,64 @@ echo '//! A crate' > tree/rust/crate/src/lib.rs
 touch tree/rust/crate/target/built tree/rust/crate/.cargo/config.toml
 made dist
 check 'archives of what make rust leaves' [ "$status $(wc -l < tree/dist/SHA256SUMS)" = '0 4' ]
-check 'their checksums' sh -c 'cd tree/dist && sha256sum -c --quiet SHA256SUMS'
-rust=ldvbi-0.1.0-rust-$(uname -m)-linux
-tar -tzf "tree/dist/$rust.tar.gz" | sed "/\/\$/d; s/^$rust/usr/" | sort > found
+packed $release-rust-$(uname -m)-linux.tar.gz $release-rust-$(uname -m)-linux > found
 check 'the archive of its program has what is installed' cmp found files
-tar -tzf tree/dist/ldvbi-0.1.0.crate | sed '/\/$/d' | sort > found
-printf 'ldvbi-0.1.0/%s\n' Cargo.toml src/lib.rs > listed
+packed $release.crate $release > found
+printf '%s\n' Cargo.toml src/lib.rs > listed
 check 'the crate has its files, and nothing of this machine' cmp found listed
 cp tree/dist/SHA256SUMS sums
 made_privately dist
 check 'with the crate they are the same, too' cmp sums tree/dist/SHA256SUMS
+mv tree/ldvbi kept.ldvbi
+installs 'what make rust leaves' files rusty/usr PREFIX="$work/rusty/usr" FROM=rust
+mv kept.ldvbi tree/ldvbi
 touch -d @1300000000 tree/rust/ldvbi
 made dist
 check 'nothing of it is packed that is older than its source' [ "$(wc -l < tree/dist/SHA256SUMS)" = 2 ]
-rm -r tree/rust/crate tree/rust/ldvbi
+
+# With the library: by its side, below its architecture, and as `make rust` leaves it; and packed with a wheel
+if [ -e "$built/libldvbi.a" ]; then
+    cp "$built/libldvbi.a" tree && cp "$built/libldvbi.so.1" tree && ln -s libldvbi.so.1 tree/libldvbi.so
+    installs 'both' files_of_both both/usr PREFIX="$work/both/usr"
+    made install DESTDIR="$work/debian" PREFIX=/usr LIBDIR=/usr/lib/x86_64-linux-gnu
+    (cd debian/usr && find . ! -type d | sed 's,^..,,; s,^lib/x86_64-linux-gnu,lib,' | sort) > found
+    check 'a library below its architecture' cmp found files_of_both
+    made uninstall DESTDIR="$work/debian" PREFIX=/usr LIBDIR=/usr/lib/x86_64-linux-gnu
+    check 'nothing of it is left' [ -z "$(find debian ! -type d)" ]
+    made install-lib DESTDIR="$work/apart" PREFIX=/usr LIBDIR=/elsewhere/lib
+    check 'a library apart is described by its own place' \
+        grep -qx 'libdir=/elsewhere/lib' apart/elsewhere/lib/pkgconfig/ldvbi.pc
+    (cd tree && bounded env PATH=/usr/bin:/bin make -s dist) < empty > out 2> err
+    packed $release-x86_64-linux.tar.gz $release-x86_64-linux > found
+    check 'the archive of both has what is installed' cmp found files_of_both
+    check 'a wheel beside it' [ "$(find tree/dist -name '*.whl' | wc -l)" = 1 ]
+    touch tree/crates.txt
+    (cd tree && bounded env PATH=/usr/bin:/bin make -s dist) < empty > out 2> err
+    check 'neither where they are older than their source' [ "$(wc -l < tree/dist/SHA256SUMS)" = 1 ]
+    mv tree/ldvbi kept.ldvbi
+    mv tree/libldvbi.* tree/rust
+    cp -p kept.ldvbi tree/rust/ldvbi
+    installs 'both of make rust' files_of_both rusty_both/usr PREFIX="$work/rusty_both/usr" FROM=rust
+    check 'its description names what the archive needs' \
+        grep -qx 'Libs.private: -lpthread -ldl' rusty_both/usr.kept/lib/pkgconfig/ldvbi.pc
+    mv kept.ldvbi tree/ldvbi
+else
+    leave_out 19
+fi
+rm -rf tree/rust/crate tree/rust/ldvbi tree/rust/libldvbi.* *.kept
 
 touch tree/crates.txt
 made dist
-check 'no archive of a program older than its source' [ ! -e tree/dist/ldvbi-0.1.0-x86_64-linux.tar.gz ]
+check 'no archive of a program older than its source' [ ! -e tree/dist/$release-x86_64-linux.tar.gz ]
 made install PREFIX="$work/usr"
 check 'no such program is installed' [ $status != 0 ]
 check 'the toolchain is asked for' grep -q '^make: the command rt of the Rattle toolchain is not on the PATH' err
 
 # One version
-sed -n 's/^VERSION := //p' tree/Makefile > made_version
-output_of --version | sed 's/^ldvbi //' > told_version
-check 'the version of the program and of make' cmp made_version told_version
-sed -n 's/^## \([0-9.]*\).*/\1/p' tree/CHANGELOG.md | head -n 1 > changed_version
-check 'the version of the change log' cmp changed_version told_version
+version=$(output_of --version)
+check 'the version of make is that of the program' grep -qx "VERSION := ${version#ldvbi }" tree/Makefile
+check 'and so is the latest of the change log' [ "$(sed -n '/^## /{s/^## \([0-9.]*\).*/ldvbi \1/p;q;}' tree/CHANGELOG.md)" = \
+    "$version" ]
 
 # What `make` prints: a line for each crate, and none of the toolchain's. This one says a hundred lines of a crate.
 mkdir toolchain
@@ -201,28 +239,20 @@ proved() {
 proves none ldvbi
 program_crates='vbi_words vbi_line vbi_field vbi_meta vbi_cli ldvbi'
 library_crates='vbi_words vbi_line vbi_near vbi_side vbi_c'
-# shellcheck disable=SC2086
 proved $program_crates > wanted_text
 judge 'make says one line of a crate' 0 wanted_text ''
 { echo 'rt run --jobs 1 -- --help'; seq 99; } > wanted
 check 'the log has what the toolchain said' cmp tree/crates/ldvbi/out/make.log wanted
 check 'the program is copied from where it is built' cmp tree/ldvbi tree/crates/ldvbi/out/ldvbi
-# asked: the toolchain's commands, crate by crate
-asked() {
-    for crate in $program_crates; do
-        sed -n 1p "tree/crates/$crate/out/make.log"
-    done
-}
 # On so many processors, where make has this word, each large crate is proved by so many jobs.
 while IFS='|' read -r processors word jobs; do
     rm tree/ldvbi
     printf '#!/bin/sh\necho %s\n' "$processors" > toolchain/nproc
     chmod +x toolchain/nproc
-    # shellcheck disable=SC2086
     proves none ldvbi $word
     printf "rt lib --jobs %s\n" $jobs $jobs $jobs 1 $jobs > wanted
     echo 'rt run --jobs 1 -- --help' >> wanted
-    asked > found
+    for crate in $program_crates; do sed -n 1p "tree/crates/$crate/out/make.log"; done > found
     check "$processors processors, make $word" cmp found wanted
 done << 'END'
 1||1
@@ -232,7 +262,6 @@ done << 'END'
 8|JOBS=3|3
 END
 proves none libldvbi.a
-# shellcheck disable=SC2086
 proved $library_crates > wanted_text
 judge 'make lib says one line of a crate' 0 wanted_text ''
 status=0
@@ -256,45 +285,31 @@ check 'no library that needs what nobody has' [ "$status $(grep -c 'undefined re
 cp kept.a tree/libldvbi.a
 
 # What is built is built anew after a change of any of its sources, and after no other change.
-# changed FILE: makes this file the latest of the copy, behind those that are built
-changed() {
+# is_current TARGET FILE: whether `make` finds that it needn't be built where this file is the latest of the copy, behind
+# those that are built
+is_current() {
     find tree -exec touch -h -d @1000000000 {} +
     touch -d @1100000000 tree/libldvbi.a
     touch -d @1200000000 tree/ldvbi tree/libldvbi.so.1
-    touch -d @1300000000 "tree/$1"
-}
-# is_current TARGET: whether `make` finds that it needn't be built
-# shellcheck disable=SC2317
-is_current() {
+    touch -d @1300000000 "tree/$2"
     (cd tree && bounded env PATH="$work/tools" make -q "$1") < empty > out 2>&1
 }
-# is_due TARGET FILE..: whether it is built anew after a change of any of these files
-# shellcheck disable=SC2317
-is_due() {
+# are_current TARGET CRATE..: says after a change of which file of these crates, one of each kind, it isn't built anew
+are_current() {
     target=$1
     shift
-    for file in "$@"; do
-        changed "$file"
-        ! is_current "$target" || { echo "$script: $target isn't built anew after a change of $file" >&2; return 1; }
+    for file in crates.txt $(for crate; do
+        for folder in src specs proofs; do (cd tree && git ls-files "crates/$crate/$folder" | head -n 1); done
+    done); do
+        ! is_current "$target" "$file" || echo "$file"
     done
 }
-# sources_of CRATE..: a file of each kind of these crates
-sources_of() {
-    for crate in "$@"; do
-        for folder in src specs proofs; do
-            (cd tree && git ls-files "crates/$crate/$folder") | head -n 1
-        done
-    done
-}
-# shellcheck disable=SC2046,SC2086
-check 'the program is built anew after a change of a source' is_due ldvbi crates.txt $(sources_of $program_crates)
-# shellcheck disable=SC2046,SC2086
-check 'the library is built anew after a change of a source' is_due libldvbi.a crates.txt $(sources_of $library_crates)
-check 'the shared library is built anew after the library' is_due libldvbi.so libldvbi.a
+check 'the program is built anew after a change of a source' [ -z "$(are_current ldvbi $program_crates)" ]
+check 'the library is built anew after a change of a source' [ -z "$(are_current libldvbi.a $library_crates)" ]
+check 'the shared library is built anew after the library' [ "$(is_current libldvbi.so libldvbi.a || echo due)" = due ]
 for file in README.md Makefile contrib/plot_line.py include/ldvbi.h tests/gate.sh; do
-    changed $file
-    check "the program isn't built anew after a change of $file" is_current ldvbi
-    check "the library isn't built anew after a change of $file" is_current lib
+    check "neither is built anew after a change of $file" \
+        [ "$(is_current ldvbi $file && is_current lib $file && echo current)" = current ]
 done
 
 touch tree/crates.txt
@@ -308,9 +323,9 @@ check 'the status is that of the toolchain' [ "$(sed -n '22s/.*\(Error [0-9]*\)$
 
 # What the tests need and this PATH hasn't
 made check
-missing='gcc libc6-dev g++ binutils python3 jq pkg-config cmake less mandoc mypy parallel pv zsh'
+missing='gcc libc6-dev g++ binutils python3 jq perl pkg-config cmake less mandoc mypy parallel pv zsh'
 /usr/bin/python3 -c 'import jsonschema' 2> /dev/null || missing="$missing python3-jsonschema"
-for pair in ensurepip:venv setuptools:setuptools wheel:wheel; do
+for pair in coverage:coverage ensurepip:venv setuptools:setuptools wheel:wheel; do
     /usr/bin/python3 -c "import ${pair%:*}" 2> /dev/null || missing="$missing python3-${pair#*:}"
 done
 echo "tests: missing on this machine, as Debian's packages: $missing (make setup installs them)" > wanted
@@ -321,23 +336,24 @@ check 'it runs nothing then' [ "$status $(wc -c < out)" = '2 0' ]
 # `make check` looks for its tools, then runs the scripts on the program that it is given, and fails where they do
 printf 'echo tools "$@"\n' > tree/tests/tools.sh
 printf 'echo scripts "$@"\n' > tree/tests/scripts.sh
-made check PROGRAM=/where/it/is/ldvbi
-printf '%s\n' tools 'scripts /where/it/is/ldvbi --as-built' > wanted_text
-judge 'make check of a program' 0 wanted_text ''
-made check
-printf '%s\n' tools 'scripts ./ldvbi --as-built' > wanted_text
-judge 'make check of the program that is built here' 0 wanted_text ''
-made check FROM=rust
-printf '%s\n' tools 'scripts ./rust/ldvbi --as-built' > wanted_text
-judge 'make check of the program of make rust' 0 wanted_text ''
-echo 'exit 1' >> tree/tests/scripts.sh
-made check
-check 'make check of a program that fails' [ "$status $(wc -l < out)" = '2 2' ]
-echo 'exit 1' >> tree/tests/tools.sh
-made check
-check 'make check without its tools' [ "$status $(cat out)" = '2 tools' ]
+while IFS='|' read -r words asked; do
+    made check $words
+    printf '%s\n' tools "scripts $asked --as-built" > wanted_text
+    judge "make check $words" 0 wanted_text ''
+done << 'END'
+PROGRAM=/where/it/is/ldvbi|/where/it/is/ldvbi
+|./ldvbi
+FROM=rust|./rust/ldvbi
+END
+for name in scripts tools; do
+    echo 'exit 1' >> tree/tests/$name.sh
+    made check
+    check "make check fails where $name.sh does" [ "$status $(tail -n 1 out | cut -d ' ' -f 1)" = "2 $name" ]
+done
 
 # `make clean` takes away what was built, and leaves the source
+mkdir -p tree/rust/out tree/rust/x86_64-pc-windows-gnu
+touch tree/rust/out/kept tree/rust/x86_64-pc-windows-gnu/ldvbi.exe tree/rust/ldvbi tree/rust/libldvbi.dylib
 made clean
 (cd tree && find . -type f ! -path './.git/*' | sed 's/^..//' | sort) > found
 (cd tree && git ls-files | sort) > listed

@@ -3,6 +3,8 @@
 # were drawn: where all readers read them alike the status is 0, and where one doesn't, or a tool isn't there, it is 1.
 # Then the readers that are ours read drawn lines.
 # usage: sh tests/program/peers.sh PROGRAM
+# runs: everywhere
+# fails where: peers/compare.py|s/return read == words and/return/
 
 # shellcheck source=tests/helpers.sh
 . "$(dirname "$0")/../helpers.sh"
@@ -41,16 +43,10 @@ stub bin/ldverify << 'END'
 printf 'lead-in code detected\ndetected frame 1\nlead-out code detected\nfinal frame number was %s\n' "${LAST:-100}"
 echo "${VERIFIED:-}"
 END
-stub bin/zvbi << 'END'
-#!/bin/sh
-cat > /dev/null
-tr ' ' '\n' < "$DRAWN" | sed "1s/.*/${ZVBI_READS:-&}/"
-END
-stub bin/edges << 'END'
-#!/bin/sh
-cat > /dev/null
-tr ' ' '\n' < "$DRAWN" | sed "1s/.*/${EDGES_READS:-&}/"
-END
+for name in ZVBI EDGES; do
+    printf '#!/bin/sh\ncat > /dev/null\ntr " " "\\n" < "$DRAWN" | sed "1s/.*/${%s_READS:-&}/"\n' $name |
+        stub bin/$(echo $name | tr A-Z a-z)
+done
 stub bin/recovered << 'END'
 #!/bin/sh
 cat > /dev/null
@@ -80,23 +76,23 @@ check 'it links the library at the top' grep -qF "/recovered.c -I$top/peers/../i
 around
 check 'it links the library beside the program' grep -qF "/recovered.c -I$top/peers/../include -L$work -lldvbi" out
 around python3
-check 'it ends with 1 where that does' [ "$status" = 1 ]
-while IFS='|' read -r reader why; do
-    around "/$reader.c"
-    check "it ends with 1 where $reader is not built" [ "$status $(tail -n 1 err)" = \
-        "1 peers: $reader.c can't be built ($why)" ]
+check 'it ends with 1 where the comparison does' [ "$status" = 1 ]
+# What fails, or isn't there, and what is said
+while IFS='|' read -r what said; do
+    case $what in
+        /*) around "$what" ;;
+        *) mv alone/$what away; around; mv away alone/$what ;;
+    esac
+    check "it ends with 1 for $what" [ "$status $(tail -n 1 err)" = "1 peers: $said" ]
 done << 'END'
-edges|it needs the C library alone
-recovered|its library is built by make lib
-zvbi|its library is in libzvbi-dev
+/edges.c|edges.c can't be built (it needs the C library alone)
+/recovered.c|recovered.c can't be built (its library is built by make lib)
+/zvbi.c|zvbi.c can't be built (its library is in libzvbi-dev)
+cc|cc isn't there (chdman and ldverify are in mame-tools)
+chdman|chdman isn't there (chdman and ldverify are in mame-tools)
+ldverify|ldverify isn't there (chdman and ldverify are in mame-tools)
+python3|python3 isn't there (chdman and ldverify are in mame-tools)
 END
-for tool in cc chdman ldverify python3; do
-    mv alone/$tool away
-    around
-    check "it ends with 1 without $tool" [ "$status $(tail -n 1 err)" = \
-        "1 peers: $tool isn't there (chdman and ldverify are in mame-tools)" ]
-    mv away alone/$tool
-done
 
 # The reader by edges, and that of recovered words, which needs the library: of three lines one by one, and of four of
 # which each two bear a word

@@ -2,6 +2,8 @@
 # Makes the pictures of docs/FORMATS.md again and compares them with those that stand there; and has contrib/plot_line.py
 # draw lines of each kind, and compares what it marks with what the lines are made of.
 # usage: sh tests/program/plots.sh PROGRAM
+# runs: everywhere
+# fails where: contrib/plot_line.py|s/(pass 2)/(pass 3)/
 # shellcheck disable=SC2016,SC2086
 
 # shellcheck source=tests/helpers.sh
@@ -16,33 +18,18 @@ for name in word second-reading change-170 nearest; do
     check "FORMATS.md shows $name" grep -q "(pictures/$name.svg)" "$top/docs/FORMATS.md"
 done
 
-# The row of the last picture is that of the nearest word, by the definition: for each start and each bit, by how much
-# the line's samples are off
-cat > nearest.py << 'END'
-import itertools
-import sys
-
-data, found = sys.stdin.buffer.read(), []
-samples = [low + 256 * high for low, high in zip(data[::2], data[1::2])]
-dark, light = ([0, *itertools.accumulate(abs(sample - level) for sample in samples)] for level in (16384, 51200))
-for start in range(910 - 687 + 1):
-    word, columns, turned = 0, [start + half * 315 // 22 for half in range(49)], []
-    distance = dark[columns[0]] + dark[910] - dark[columns[48]]
-    for cell in range(24):
-        begin, middle, end = columns[2 * cell:2 * cell + 3]
-        one = dark[middle] - dark[begin] + light[end] - light[middle]
-        zero = light[middle] - light[begin] + dark[end] - dark[middle]
-        bit = one < zero or cell == 0
-        word, distance = 2 * word + bit, distance + (one if bit else zero)
-        turned += [abs(one - zero)] * (cell > 0)
-    found.append((distance, word, start, distance + min(turned)))
-distance, word, start, _ = min(found)
-rival = min(least if other == word else one for one, other, _, least in found)
-print(f"{word:06X}@{start} {distance / 34816:.1f} {min(rival, dark[910]) / 34816:.1f}")
-END
-echo '82CFFF - -' | bounded "$program" draw $ntsc > drawn.tbc
-dd if=drawn.tbc bs=1820 skip=15 count=1 2> dd | python3 "$pictures/worn_line.py" | python3 nearest.py > near
-check 'the nearest word of the worn line' [ "$(cat near)" = '82CFFF@150 280.8 289.7' ]
+# The row of the last picture is that of the nearest word, as the library finds it
+if [ -e "$built/libldvbi.so.1" ]; then
+    echo '82CFFF - -' | bounded "$program" draw $ntsc > drawn.tbc
+    dd if=drawn.tbc bs=1820 skip=15 count=1 2> dd | python3 "$pictures/worn_line.py" > worn.raw
+    LDVBI_LIBRARY=$built/libldvbi.so.1 PYTHONPATH=$top/python PYTHONDONTWRITEBYTECODE=1 python3 -c '
+import ldvbi
+near = ldvbi.nearest(open("worn.raw", "rb").read(), "NTSC", 16384, 51200)
+print("%06X@%d %.1f %.1f" % (near.word, near.start, near.distance / 34816, near.rival / 34816))' > near 2> err
+    check 'the nearest word of the worn line' [ "$(cat near)" = '82CFFF@150 280.8 289.7' ]
+else
+    leave_out 1
+fi
 check 'the picture has its row' grep -q '>no word: .*; the row of 82CFFF from column 150 on is 280.8 columns away<' \
     "$pictures/nearest.svg"
 check "FORMATS.md has its distance, and its rival's" grep -q '280\.8 columns.* 289\.7 ' "$top/docs/FORMATS.md"
@@ -105,9 +92,18 @@ plotted() {
     } < empty 2> err || status=$?
 }
 
+# lined SYSTEM DESCRIPTION: makes `line.raw` of it, and `options` and `width` of its system
+lined() {
+    options=$ntsc
+    width=910
+    samples=ntsc_samples
+    [ "$1" = NTSC ] || { options=$pal; width=1135; samples=pal_samples; }
+    echo "$2" | signal "$1" 0 | $samples > line.raw
+}
+
 # The cells of the drawn line, each second half cell of FORMATS.md; or a column off, where two half cells of one level
 # meet
-echo 82CFFF | signal NTSC 0 | ntsc_samples > line.raw
+lined NTSC 82CFFF
 plotted 910 $ntsc
 sed -n '/^### Drawn rows/,/^### /{/^[0-9 ]*$/p;}' "$top/docs/FORMATS.md" | tr -s ' ' '\n' | sed '/^$/d' |
     sed -n 'p;n' > starts
@@ -135,7 +131,7 @@ for levels in '--black 0 --white 32768' '--black 50000 --white 52399'; do
     check "$levels" [ "$status $(sed -n 2p found)" = '0 82CFFF' ]
 done
 # A drawn word of PAL begins at column 190 and has 851 columns, give or take one
-echo 8AE012 | signal PAL 0 | pal_samples > line.raw
+lined PAL 8AE012
 plotted 1135 $pal
 sed -n 's/^cells \([0-9]*\) .* \([0-9]*\)$/\1 \2/p' found |
     awk '189 <= $1 && $1 <= 191 && 1040 <= $2 && $2 <= 1042' > ends
@@ -144,16 +140,11 @@ check 'where a word of PAL begins and ends' [ "$(wc -l < ends)" = 1 ]
 # What lines of each kind give: a title that begins so, the digits of a word, and what is marked. The half cells are the
 # shortest and the longest ones; a word that these samples wouldn't show by the script's own reading is a fault.
 while IFS='|' read -r system description title digits marked; do
-    echo "$description" | signal $system 0 > line.text
-    case $system in
-        NTSC) ntsc_samples < line.text > line.raw; plotted 910 $ntsc ;;
-        PAL) pal_samples < line.text > line.raw; plotted 1135 $pal ;;
-    esac
-    check "$system: $description: drawn" [ $status = 0 ]
-    check "$system: $description: title" [ "$(head -n 1 found | cut -c 1-${#title})" = "$title" ]
-    check "$system: $description: digits" [ "$(sed -n 2p found)" = "$digits" ]
-    check "$system: $description: marked" [ "$(sed -n '/^marked/s/^marked *//p' found)" = "$marked" ]
-    check "$system: $description: in its frame" grep -qx outside found
+    lined $system "$description"
+    plotted $width $options
+    { echo "$title"; echo "$digits"; echo "marked${marked:+ $marked}"; echo outside; } > wanted
+    sed -n "1s/^\(.\{${#title}\}\).*/\1/p; 2p; 5,6p" found > found_there
+    check "$system: $description" [ "$status $(cat found_there)" = "0 $(cat wanted)" ]
 done << 'END'
 NTSC|82CFFF|82CFFF, by the samples as they are (pass 1)|82CFFF|
 NTSC|82CFFF @170-171L|82CFFF, by the smoothed levels (pass 2)|82CFFF|170 171
@@ -181,12 +172,11 @@ END
 # The row of a word behind the line: what is said, the digits, and how many columns are marked. 82CFFF changes its level
 # in 42 columns, and 82CFFE is another word in the 29 columns of its last cell.
 while IFS='|' read -r description near said digits marked; do
-    echo "$description" | signal NTSC 0 | ntsc_samples > line.raw
+    lined NTSC "$description"
     plotted 910 $ntsc --near "$near"
     check "$description, $near: said" [ "$status $(head -n 1 found)" = "0 $said columns away" ]
-    check "$description, $near: digits" [ "$(sed -n 2p found)" = "$digits" ]
-    check "$description, $near: marks" [ "$(grep -c '^<rect.* class="marked"/>$' out)" = "$marked" ]
-    check "$description, $near: in its frame" grep -qx outside found
+    check "$description, $near: digits, marks, and in its frame" \
+        [ "$(sed -n '2p;$p' found | paste -s) $(grep -c '^<rect.* class="marked"/>$' out)" = "$digits	outside $marked" ]
 done << 'END'
 82CFFF|82CFFF@150|82CFFF; the row of 82CFFF from column 150 on is 0.0|82CFFF|0
 82CFFF|82CFFF@151|82CFFF; the row of 82CFFF from column 151 on is 42.0|82CFFF|42
@@ -196,10 +186,10 @@ END
 
 # Where only a part of the line is seen, nothing is drawn beside that part
 while IFS='|' read -r description columns marked; do
-    echo "$description" | signal NTSC 0 | ntsc_samples > line.raw
+    lined NTSC "$description"
     plotted 910 $ntsc $columns
-    check "$description, $columns: in its frame" [ "$status $(tail -n 1 found)" = '0 outside' ]
-    check "$description, $columns: marks" [ "$(grep -c '^<rect.* class="marked"/>$' out)" = "$marked" ]
+    check "$description, $columns: marks, and in its frame" \
+        [ "$status $(tail -n 1 found) $(grep -c '^<rect.* class="marked"/>$' out)" = "0 outside $marked" ]
 done << 'END'
 82CFFF|--first 300 --last 400|0
 82CFFF|--last 10|0
@@ -255,11 +245,7 @@ END
 } > said_words
 while IFS='|' read -r system word description ended; do
     export WORD="$word"
-    echo "$description" | signal $system 0 > line.text
-    case $system in
-        NTSC) ntsc_samples < line.text > line.raw; options=$ntsc ;;
-        PAL) pal_samples < line.text > line.raw; options=$pal ;;
-    esac
+    lined $system "$description"
     status=0
     bounded python3 "$top/contrib/plot_line.py" --program ./says_word $options line.raw < empty > out 2> err || status=$?
     [ $ended = 0 ] || echo "plot_line: these samples don't show $word" > wanted
@@ -268,7 +254,7 @@ while IFS='|' read -r system word description ended; do
 done < said_words
 
 # A title of one's own, above what is said of the line; a long one loses its middle
-echo 82CFFF | signal NTSC 0 | ntsc_samples > line.raw
+lined NTSC 82CFFF
 plotted 910 $ntsc --title 'side <1> & 2.tbc, field 7, line 16'
 check 'a title' [ "$(head -n 1 found)" = 'side <1> & 2.tbc, field 7, line 16' ]
 check 'what is said, too' grep -q '>82CFFF, by the samples as they are (pass 1)<' out
@@ -276,14 +262,10 @@ plotted 910 $ntsc --title "$(printf '%0120d' 5)"
 check 'a long title' [ "$(head -n 1 found)" = "$(printf '%041d…%041d' 0 5)" ]
 
 # What it refuses
-echo 82CFFF | signal NTSC 0 | ntsc_samples > line.raw
-for columns in '--first -1' '--first 910' '--last 910' '--first 20 --last 19'; do
-    plotted 910 $ntsc $columns
-    check "$columns" [ $status = 2 ]
-done
-for near in 82CFF@150 7FFFFF@150 1000000@150 82CFFF@224 82CFFF@-1 82CFFF '82CFFF@'; do
-    plotted 910 $ntsc --near "$near"
-    check "--near $near" [ $status = 2 ]
+for words in '--first -1' '--first 910' '--last 910' '--first 20 --last 19' '--near 82CFF@150' '--near 7FFFFF@150' \
+    '--near 1000000@150' '--near 82CFFF@224' '--near 82CFFF@-1' '--near 82CFFF' '--near 82CFFF@'; do
+    plotted 910 $ntsc $words
+    check "$words" [ $status = 2 ]
 done
 plotted 910 $ntsc --near 82CFFF@223
 check '--near 82CFFF@223' [ $status = 0 ]
@@ -292,6 +274,5 @@ check 'PAL --last 1135' [ $status = 2 ]
 head -c 1819 line.raw > short.raw
 cp short.raw line.raw
 plotted 910 $ntsc
-check 'a short line' grep -qx 'ldvbi: short line: 1819 of 1820 bytes' err
-check 'its status' [ $status = 1 ]
+check 'a short line' [ "$status $(tail -n 1 err)" = '1 ldvbi: short line: 1819 of 1820 bytes' ]
 finish

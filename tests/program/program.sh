@@ -2,6 +2,8 @@
 # Runs the built program's commands `extract`, `show` and `draw` as a user does, and `line` on a drawn field. The
 # fields and texts that are expected are made here (by signal.awk and helpers.sh), not by the program.
 # usage: sh tests/program/program.sh PROGRAM
+# runs: everywhere rust
+# fails where: tests/program/program.sh|s/too many fields/too many fielts/g
 # shellcheck disable=SC2086
 
 # shellcheck source=tests/helpers.sh
@@ -36,17 +38,19 @@ done
 head -c 478661 two.tbc > cut.tbc
 run extract $ntsc cut.tbc
 judge 'the document of a field and a cut one' 3 cut.json ''
-run extract $ntsc --max-fields 1 black.tbc
-judge 'one field of at most one' 0 black.json ''
-run extract $ntsc --max-fields 1 two.tbc
-judge 'two fields of at most one' 1 begun.json 'ldvbi: too many fields'
-run extract $ntsc --max-fields 1 /dev/zero
-judge 'endless fields of at most one' 1 begun.json 'ldvbi: too many fields'
-run extract $ntsc --max-fields 2 two.tbc
-judge 'two fields of at most two' 0 two.json ''
 { cat two.tbc; printf x; } > longer.tbc
-run extract $ntsc --max-fields 2 longer.tbc
-judge 'a byte more than two fields' 1 two_begun.json 'ldvbi: too many fields'
+while read -r most input out ended; do
+    run extract $ntsc --max-fields $most $input
+    said='ldvbi: too many fields'
+    [ $ended = 1 ] || said=
+    judge "$input, at most $most fields" $ended $out.json "$said"
+done << 'END'
+1 black.tbc black 0
+1 two.tbc begun 1
+1 /dev/zero begun 1
+2 two.tbc two 0
+2 longer.tbc two_begun 1
+END
 
 # each cause, and both passes
 signal NTSC 1 << 'END' | ntsc_samples > causes.tbc
@@ -77,74 +81,40 @@ END
 run show $ntsc causes.tbc
 judge 'the report of each cause' 0 causes.txt ''
 
-# `show`: classes of words, a cut field, and the limit of fields
-signal NTSC 1 << 'END' | ntsc_samples > classes.tbc
-82CFFF|F12345|F99999
-87FFFF|F0DD09|8AE712
-F9DD59|82CFFF|8F9DDD
-88FFFF|80EEEE|F12A45
-8DC0A1|-|83D0A1
-END
-cat > classes.txt << 'END'
-system NTSC 910x263 black 16384 white 51200
-field 1 cav
-16 82CFFF picture stop
-17 F12345 picture 12345
-18 F99999 picture 19999
-field 2 clv
-16 87FFFF clv
-17 F0DD09 time 0:09
-18 8AE712 clv picture 07 12
-field 3 both
-16 F9DD59 time 9:59
-17 82CFFF picture stop
-18 8F9DDD chapter 79
-field 4 neither
-16 88FFFF lead-in
-17 80EEEE lead-out
-18 F12A45 other
-field 5 neither
-16 8DC0A1 cx on 0A1
-17 none blank
-18 83D0A1 users 3 0A1
-fields 5 cut none
-END
-run show $ntsc classes.tbc
-judge 'the report of words of most classes' 0 classes.txt ''
-head -n 5 classes.txt > begun.txt
-run show $ntsc --max-fields 1 classes.tbc
+# `show`: a cut field, and the limit of fields (classes.sh has the texts of all classes)
+head -n 5 causes.txt > begun.txt
+run show $ntsc --max-fields 1 causes.tbc
 judge 'the report of too many fields' 1 begun.txt 'ldvbi: too many fields'
 { cat begun.txt; echo 'fields 1 cut field 2 bytes 1'; } > cut.txt
-head -c 478661 classes.tbc > cut.tbc
+head -c 478661 causes.tbc > cut.tbc
 run show $ntsc cut.tbc
 judge 'the report of a cut field' 3 cut.txt ''
 
 # `draw`: what each text of words gives
 echo '82CFFF|F12345|F12345' | signal NTSC 1 | ntsc_samples > drawn.tbc
 echo '82CFFF|-|-' | signal NTSC 1 | ntsc_samples > stop.tbc
-# drawing NAME STATUS OUT ERR TEXT [WORDS]: draws this text of words, and judges that
-drawing() {
-    printf '%b' "$5" > words
-    run draw $ntsc ${6:-} words
-    judge "drawing $1" "$2" "$3" "$4"
-}
-drawing 'nothing' 0 empty '' ''
-drawing 'a row' 0 drawn.tbc '' '82CFFF F12345 F12345\n'
-drawing 'a row of lower case' 0 stop.tbc '' '82cfff - -\n'
-drawing 'a row of upper case' 0 stop.tbc '' '82CFFF - -\n'
-drawing 'a row without a newline' 0 stop.tbc '' '82CFFF - -'
-drawing 'two rows' 0 two.tbc '' '- - -\n- - -\n'
-drawing 'a second row of two items' 1 drawn.tbc 'ldvbi: row 2 is malformed' '82CFFF F12345 F12345\n82CFFF F12345'
-drawing 'an empty row' 1 empty 'ldvbi: row 1 is malformed' '\n'
-drawing 'no word' 1 empty 'ldvbi: row 1 is malformed' '7FFFFF - -\n'
-drawing 'a carriage return' 1 empty 'ldvbi: row 1 is malformed' '82CFFF - -\r\n'
-drawing 'a long row' 1 empty 'ldvbi: row 1 is malformed' '888888888888888888888888888888'
-drawing 'two spaces' 1 empty 'ldvbi: row 1 is malformed' '82CFFF  F12345 -\n'
-drawing 'a space at the end' 1 empty 'ldvbi: row 1 is malformed' '82CFFF F12345 F12345 \n'
-drawing 'a row of at most one' 0 drawn.tbc '' '82CFFF F12345 F12345\n' '--max-fields 1'
-drawing 'an empty row past the limit' 1 drawn.tbc 'ldvbi: too many fields' '82CFFF F12345 F12345\n\n' '--max-fields 1'
+while IFS='|' read -r ended out said words text; do
+    printf '%b' "$text" > words
+    run draw $ntsc $words words
+    judge "drawing $words '$text'" "$ended" $out "${said:+ldvbi: $said}"
+done << 'END'
+0|empty|||
+0|drawn.tbc|||82CFFF F12345 F12345\n
+0|stop.tbc|||82cfff - -\n
+0|stop.tbc|||82CFFF - -
+0|two.tbc|||- - -\n- - -\n
+1|drawn.tbc|row 2 is malformed||82CFFF F12345 F12345\n82CFFF F12345
+1|empty|row 1 is malformed||\n
+1|empty|row 1 is malformed||7FFFFF - -\n
+1|empty|row 1 is malformed||82CFFF - -\r\n
+1|empty|row 1 is malformed||888888888888888888888888888888
+1|empty|row 1 is malformed||82CFFF  F12345 -\n
+1|empty|row 1 is malformed||82CFFF F12345 F12345 \n
+0|drawn.tbc||--max-fields 1|82CFFF F12345 F12345\n
+1|drawn.tbc|too many fields|--max-fields 1|82CFFF F12345 F12345\n\n
+END
 
-# a drawn field and what the other commands say of it
+# a drawn field, and what `extract` says of it
 {
     cat head.json
     record 1 8572927,15803205,15803205 '"word","word","word"' 1,1,1
@@ -152,18 +122,8 @@ drawing 'an empty row past the limit' 1 drawn.tbc 'ldvbi: too many fields' '82CF
 } > drawn.json
 run extract $ntsc drawn.tbc
 judge 'the document of a drawn field' 0 drawn.json ''
-cat > drawn.txt << 'END'
-system NTSC 910x263 black 16384 white 51200
-field 1 cav
-16 82CFFF picture stop
-17 F12345 picture 12345
-18 F12345 picture 12345
-fields 1 cut none
-END
-run show $ntsc drawn.tbc
-judge 'the report of a drawn field' 0 drawn.txt ''
 
-# the same in PAL: a field of 313 lines of 2270 bytes, whose line 17 begins 36320 bytes in
+# the same in PAL, and the other commands: a field of 313 lines of 2270 bytes, whose line 17 begins 36320 bytes in
 echo '8AE012|87FFFF|F0DD00' | signal PAL 1 | pal_samples > pal.tbc
 {
     document_head PAL 1135 313 16384 54016
@@ -193,4 +153,40 @@ judge 'a line of a field of PAL' 0 pal.line ''
 { sed '$d' pal.json; printf '],"cutField":{"seqNo":2,"bytes":710509}}\n'; } > cut.json
 run extract $pal cut.tbc
 judge 'the document of a field of PAL and a cut one' 3 cut.json ''
+# Other readers of JSON, Python's `json` and jq, find in these documents what was written of each field and the cut one.
+# Python refuses a key that comes twice in an object, and bytes that aren't UTF-8.
+cat > find.py << 'END'
+import json, sys
+
+def once(members):
+    assert len(dict(members)) == len(members), "a key comes twice"
+    return dict(members)
+
+with open(sys.argv[1], encoding="utf-8") as file:
+    document = json.load(file, object_pairs_hook=once)
+for field in document["fields"]:
+    print(field["seqNo"], *field["vbi"]["vbiData"], *field["vbiCause"], *field["vbiPass"])
+cut = document["cutField"]
+print("cut", *(["none"] if cut is None else [cut["seqNo"], cut["bytes"]]))
+END
+cat > find.jq << 'END'
+(.fields[] | [.seqNo, .vbi.vbiData[], .vbiCause[], .vbiPass[]]),
+(.cutField | ["cut"] + (if . == null then ["none"] else [.seqNo, .bytes] end)) | map(tostring) | join(" ")
+END
+while IFS='|' read -r document wanted; do
+    check "$document.json, read by python3" [ "$(python3 find.py $document.json | paste -s -d ';')" = "$wanted" ]
+    check "$document.json, read by jq" [ "$(jq -r -f find.jq $document.json | paste -s -d ';')" = "$wanted" ]
+done << 'END'
+none|cut none
+causes|1 8572927 8572927 0 word word blank 1 2 0;2 0 0 0 unfinished change 170 hold 200 0 0 0;cut none
+cut|1 9101330 8912895 15785216 word word word 1 1 1;cut 2 710509
+END
+
+# The program's own reader: the document is metadata with the settings that it was made with.
+for name in drawn pal; do
+    run extract --meta $name.json $name.tbc
+    judge "a document as metadata, $name" 0 $name.json ''
+done
+run draw --meta pal.json pal.words
+judge 'words drawn by a document as metadata' 0 pal.tbc ''
 finish

@@ -8,10 +8,9 @@
 #include <stdlib.h>
 #include <unistd.h>
 
-static unsigned long count;
-
 static int is_refused(void)
 {
+    static unsigned long count;
     const char *at = getenv("REFUSE_AT");
 
     return at != NULL && ++count == strtoul(at, NULL, 10);
@@ -28,63 +27,46 @@ static void mark(void)
     errno = ENOMEM;
 }
 
-/* What is answered in place of this block, which is NULL where it was refused. */
-static void *marked(void *block)
-{
-    if (block == NULL)
-        mark();
-    return block;
-}
+/* The function of this name behind this one, with these arguments; or NULL, which is marked, where that is refused. */
+#define REFUSABLE(name, arguments, ...)                                     \
+    static void *(*real)arguments;                                          \
+    if (real == NULL)                                                       \
+        real = (void *(*)arguments)dlsym(RTLD_NEXT, name);                  \
+    void *block = is_refused() ? NULL : real(__VA_ARGS__);                  \
+    if (block == NULL)                                                      \
+        mark();                                                             \
+    return block
 
 void *malloc(size_t size)
 {
-    static void *(*real)(size_t);
-
-    if (real == NULL)
-        real = (void *(*)(size_t))dlsym(RTLD_NEXT, "malloc");
-    return marked(is_refused() ? NULL : real(size));
+    REFUSABLE("malloc", (size_t), size);
 }
 
-void *realloc(void *block, size_t size)
+void *realloc(void *block_before, size_t size)
 {
-    static void *(*real)(void *, size_t);
-
-    if (real == NULL)
-        real = (void *(*)(void *, size_t))dlsym(RTLD_NEXT, "realloc");
     /* With no size a block is freed, and NULL is no refusal. */
-    if (size == 0)
-        return real(block, size);
-    return marked(is_refused() ? NULL : real(block, size));
+    if (size == 0) {
+        free(block_before);
+        return NULL;
+    }
+    REFUSABLE("realloc", (void *, size_t), block_before, size);
 }
 
 void *calloc(size_t number, size_t size)
 {
-    static void *(*real)(size_t, size_t);
-
-    if (real == NULL)
-        real = (void *(*)(size_t, size_t))dlsym(RTLD_NEXT, "calloc");
-    return marked(is_refused() ? NULL : real(number, size));
+    REFUSABLE("calloc", (size_t, size_t), number, size);
 }
 
 void *aligned_alloc(size_t alignment, size_t size)
 {
-    static void *(*real)(size_t, size_t);
-
-    if (real == NULL)
-        real = (void *(*)(size_t, size_t))dlsym(RTLD_NEXT, "aligned_alloc");
-    return marked(is_refused() ? NULL : real(alignment, size));
+    REFUSABLE("aligned_alloc", (size_t, size_t), alignment, size);
 }
 
 int posix_memalign(void **block, size_t alignment, size_t size)
 {
-    static int (*real)(void **, size_t, size_t);
-    int fault = ENOMEM;
+    void *made = aligned_alloc(alignment, size);
 
-    if (real == NULL)
-        real = (int (*)(void **, size_t, size_t))dlsym(RTLD_NEXT, "posix_memalign");
-    if (!is_refused())
-        fault = real(block, alignment, size);
-    if (fault == ENOMEM)
-        mark();
-    return fault;
+    if (made != NULL)
+        *block = made;
+    return made == NULL ? ENOMEM : 0;
 }

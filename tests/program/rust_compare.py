@@ -192,85 +192,72 @@ class At:
         self.bytes = count
 
 
-def decimal(number):
+def number(value):
+    return ctypes.c_uint32(value)
+
+
+def size(value):
+    return ctypes.c_size_t(value)
+
+
+def decimal(value):
     """A number whose hexadecimal digits are these decimal ones."""
-    return int(str(number), 16)
+    return int(str(value), 16)
+
+
+def rarely(choose, wrong, right):
+    """What is right, and seldom one of those that are wrong."""
+    return choose.choice(wrong) if choose.random() < 0.05 else right
 
 
 def random_readings(choose):
-    """The readings of a side's fields: a disc that runs on, with jumps, gaps and misread words."""
+    """The readings of a side's fields: a disc that runs on, with jumps, gaps, chapters, stops and misread words."""
     times, film, both = choose.random() < 0.4, choose.random() < 0.3, choose.random() < 0.2
-    number = choose.choice([0, 1, 50, 1795, 79950, choose.randrange(79999)])
+    count, chapter = choose.choice([0, 50, 1795, 79950, choose.randrange(79999)]), choose.randrange(70)
     readings = bytearray()
     for field in range(choose.choice([0, 1, 2, 24, 25, 49, 50, choose.randrange(150)])):
         first = field % 5 in (0, 2) if film else field % 2 == 0
-        number += first
-        number += choose.random() < 0.01 and choose.randrange(-3, 30)
-        second = number // 30
-        words = [0, 0xF00000 | decimal(number % 80000), 0xF80000 | decimal(number % 80000)]
+        count += first + (choose.random() < 0.01 and choose.randrange(-3, 30))
+        chapter += choose.random() < 0.06
+        second = count // 30
+        words = [0, 0xF00000 | decimal(count % 80000), 0xF80000 | decimal(count % 80000)]
         if times:
-            words = [0x80E000 + (10 + second % 60 // 10 << 16) + (second % 10 << 8) + decimal(number % 30),
-                     0xF0DD00 + (second // 3600 % 10 << 16) + decimal(second // 60 % 60)]
-            words.append(words[1])
+            words = [0x80E000 + (10 + second % 60 // 10 << 16) + (second % 10 << 8) + decimal(count % 30)]
+            words += [0xF0DD00 + (second // 3600 % 10 << 16) + decimal(second // 60 % 60)] * 2
+        if not (first or both):
+            words = [0x82CFFF * (choose.random() < 0.2)] + [0x800DDD | decimal(chapter % 80) << 12] * 2
         for line, word in enumerate(words):
-            word *= first or both
             if choose.random() < 0.15:
                 word = choose.choice([0, 0, word ^ 1 << choose.randrange(24), 0x801DDD, 0x88FFFF, 0x80EEEE, 0x82CFFF,
                                       0x87FFFF, choose.randrange(2 ** 32)])
-            passed = choose.choice([1, 1, 1, 2, choose.randrange(256)]) if word else 0
+            passed = choose.choice([1, 1, 1, 2, 3, choose.randrange(256)]) if word else 0
             readings += struct.pack("<BBHI", choose.randrange(5), passed, line, word)
     return bytes(readings)
 
 
-def compare_judge(call, choose):
-    """A side judged, and a search in answers of any kind."""
-    number, size = ctypes.c_uint32, ctypes.c_size_t
+def compare_judges(call, choose):
+    """A side judged in each way, and a search in answers of any kind."""
     readings = random_readings(choose)
     count = len(readings) // 24
-    off = (choose.random() < 0.05) * choose.randrange(3)
-    system, counted, pace = (choose.choice([*fit, *fit, *fit, *fit, 0, 4, 257]) for fit in ((1, 2), (1, 2), (1, 2, 3)))
-    yield call("ldvbi_judge", number(system), number(counted), number(pace), readings, size(count), ..., size(count),
-               At(20 * count), size(count + off), room=28 * count + 16)
-    yield call("ldvbi_find_pace", number(system), number(counted), readings, size(count), At(4), size(count + off), ...,
+    off = rarely(choose, range(3), 0)
+    system, counted, pace = (number(rarely(choose, (0, 4, 257), choose.choice(fit)))
+                             for fit in ((1, 2), (1, 2), (1, 2, 3)))
+    seen = (size(count), At(20 * count), size(count + off))
+    yield call("ldvbi_judge", system, counted, pace, readings, size(count), ..., *seen, room=28 * count + 16)
+    yield call("ldvbi_judge_chapters", readings, size(count), ..., *seen, room=28 * count + 16)
+    yield call("ldvbi_judge_stops", readings, size(count), ..., size(count + off), room=4 * count + 16)
+    yield call("ldvbi_find_pace", system, counted, readings, size(count), At(4), size(count + off), ...,
                room=20 * count + 64)
     few = choose.choice([count, 97, 97, 98])
     part = readings[:24 * few]
-    yield call("ldvbi_judge_field", number(system), number(counted), number(pace), part, size(len(part) // 24),
+    yield call("ldvbi_judge_field", system, counted, pace, part, size(len(part) // 24),
                size(choose.randrange(few + 1)), ..., room=8)
     numbers = b"".join(struct.pack("<II", choose.randrange(4), choose.randrange(6)) for _ in range(count))
     yield call("ldvbi_first_of", numbers, size(count), number(choose.randrange(4)))
 
 
-def compare_chapters(call, choose):
-    """The chapters of a side judged: such as rise, with codes that were misread and fields that were left out."""
-    size, readings, chapter = ctypes.c_size_t, bytearray(), choose.randrange(80)
-    for _ in range(choose.choice([0, 1, 9, 60, 150])):
-        chapter = (chapter + (choose.random() < 0.06)) % 80
-        for line in range(3):
-            other = choose.choice([chapter ^ 1 << choose.randrange(7), choose.randrange(80)])
-            said = chapter if choose.random() < 0.8 else other % 80
-            word = choose.choice([0, 0x800DDD | said // 10 << 16 | said % 10 << 12])
-            word = choose.randrange(2 ** 32) if choose.random() < 0.02 else word
-            readings += struct.pack("<BBHI", choose.randrange(5), choose.choice([1, 1, 2, 3, 255]), line, word)
-    count = len(readings) // 24
-    off = (choose.random() < 0.05) * choose.randrange(3)
-    yield call("ldvbi_judge_chapters", bytes(readings), size(count), ..., size(count), At(20 * count),
-               size(count + off), room=28 * count + 16)
-
-
-def compare_stops(call, choose):
-    """The stops of fields judged, on lines of which many have one."""
-    size, count = ctypes.c_size_t, choose.choice([0, 1, 9, 60])
-    words = [0, 0x82CFFF, 0x82CFFF, 0x87FFFF, choose.randrange(2 ** 32)]
-    readings = b"".join(struct.pack("<BBHI", choose.randrange(5), choose.choice([1, 2, 3, 255]), 0, choose.choice(words))
-                        for _ in range(3 * count))
-    off = (choose.random() < 0.05) * choose.randrange(3)
-    yield call("ldvbi_judge_stops", readings, size(count), ..., size(count + off), room=4 * count + 16)
-
-
 def compare_seek(call, choose, draw):
     """A number sought in the bytes of a few fields, not all of which show theirs."""
-    number, size = ctypes.c_uint32, ctypes.c_size_t
     code, width, height = SYSTEMS[choose.choice(list(SYSTEMS))]
     first, begin, side = (number(code), number(16384), number(51200)), choose.randrange(79000), b""
     for field in range(choose.randrange(14)):
@@ -283,23 +270,40 @@ def compare_seek(call, choose, draw):
                number(begin + choose.randrange(8)), ..., room=24)
 
 
-def compare_near(call, choose):
-    """The nearest word of lines, and the words of three worn ones, alone and as fields of a stream."""
-    number, size = ctypes.c_uint32, ctypes.c_size_t
+def compare_lines(call, choose, draw):
+    """Lines of any kind, read alone, as rows and as fields, and drawn; their nearest words, and the recovered ones."""
     system = choose.choice(list(SYSTEMS))
     code, width, height = SYSTEMS[system]
-    black, white = random_levels(choose) if choose.random() < 0.3 else (16384, 51200)
-    code = code if choose.random() < 0.97 else choose.choice([0, 3, 257])
-    first = (number(code), number(black), number(white))
-    lines = worn_rows(choose, system, black, white, choose.choice([1, 1, 2, 2, 3, 28, 29]))
-    yield call("ldvbi_nearest", *first, lines, size(len(lines) - choose.choice([0] * 20 + [1])), ..., room=32)
-    for _ in range(3):
+    black, white = random_levels(choose)
+    levels = number(black), number(rarely(choose, (65536, 2 ** 32 - 1), white))
+    first = (number(rarely(choose, (0, 3, 257), code)), *levels)
+    line = random_line(choose, system, black, white)
+    rows = line + random_line(choose, system, black, white) + line[::-1]
+    off = rarely(choose, range(3), 0)
+    yield call("ldvbi_read_line", *first, line, size(len(line) - off), ..., room=8)
+    yield call("ldvbi_read_rows", *first, rows, size(len(rows) - off), ..., room=24)
+    word = choose.choice([0, choose.randrange(2 ** 24), choose.randrange(2 ** 23, 2 ** 24), 2 ** 32 - 1])
+    yield call("ldvbi_draw_line", *first, number(word), ..., size(len(line) - off), room=len(line))
+    if choose.random() < 0.2:
+        worn = worn_rows(choose, system, black, white, choose.choice([1, 1, 2, 2, 3, 28, 29]))
+        yield call("ldvbi_nearest", *first, worn, size(len(worn) - off), ..., room=32)
         rows = worn_rows(choose, system, black, white, 3)
-        yield call("ldvbi_recover_rows", *first, rows, size(len(rows) - choose.choice([0] * 20 + [1])), ..., room=24)
-    if choose.random() < 0.3:
+        yield call("ldvbi_recover_rows", *first, rows, size(len(rows) - off), ..., room=24)
+    if choose.random() < 0.05:
         field = bytes(2 * width * 15) + rows + bytes(2 * width * (height - 18))
-        yield call("ldvbi_recover_fields", *first, field * 2, size(2 * len(field)), ...,
-                   size(choose.choice([1, 2, 2, 2, 3, 2 ** 40])), room=72)
+        yield call("ldvbi_read_field", *first, field, size(len(field)), ..., room=24)
+        for name in ("ldvbi_read_fields", "ldvbi_recover_fields"):
+            count = size(choose.choice([1, 2, 2, 2, 3, 2 ** 40]))
+            yield call(name, *first, field * 2, size(2 * len(field)), ..., count, room=72)
+        yield from compare_seek(call, choose, draw)
+
+
+def compare_words_alone(call, choose):
+    """Words of any kind, classified, and the formats of three."""
+    words = [choose.choice([0, 0x82CFFF, 0x87FFFF, 0xF12345, 0xF0DD09, choose.randrange(2 ** 24)]) for _ in range(3)]
+    for value in (*words, choose.randrange(2 ** 32), choose.randrange(2 ** 23, 2 ** 24)):
+        yield call("ldvbi_classify", number(value), ..., room=12)
+    yield call("ldvbi_format", *map(number, words), ..., room=4)
 
 
 def compare_library(paths, choose, count):
@@ -316,42 +320,15 @@ def compare_library(paths, choose, count):
             return done, written.raw
         return (name, *arguments), [answer(library) for library in libraries]
 
-    number, size = ctypes.c_uint32, ctypes.c_size_t
     for name in ("ldvbi_abi", "ldvbi_version"):
         yield call(name)
     for name in SIZES:
         for system in (0, 1, 2, 3, 257, 2 ** 32 - 1):
             yield call(name, number(system))
     for _ in range(count):
-        system = choose.choice(list(SYSTEMS))
-        code, width, height = SYSTEMS[system]
-        black, white = random_levels(choose)
-        line = random_line(choose, system, black, white)
-        rows = line + random_line(choose, system, black, white) + line[::-1]
-        code = code if choose.random() < 0.97 else choose.choice([0, 3, 257])
-        white = white if choose.random() < 0.97 else choose.choice([65536, 2 ** 32 - 1])
-        first = (number(code), number(black), number(white))
-        length = len(line) - (choose.random() < 0.05) * choose.randrange(3)
-        yield call("ldvbi_read_line", *first, line, size(length), ..., room=8)
-        yield call("ldvbi_read_rows", *first, rows, size(len(rows) - choose.choice([0] * 20 + [1])), ..., room=24)
-        word = choose.choice([0, choose.randrange(2 ** 24), choose.randrange(2 ** 23, 2 ** 24), 2 ** 32 - 1])
-        yield call("ldvbi_draw_line", *first, number(word), ..., size(length), room=len(line))
-        for value in (word, choose.randrange(2 ** 32), choose.randrange(2 ** 23, 2 ** 24)):
-            yield call("ldvbi_classify", number(value), ..., room=12)
-        words = [choose.choice([0, 0x82CFFF, 0x87FFFF, 0xF12345, 0xF0DD09, word]) for _ in range(3)]
-        yield call("ldvbi_format", *map(number, words), ..., room=4)
-        if choose.random() < 0.05:
-            field = bytes(2 * width * 15) + rows + bytes(2 * width * (height - 18))
-            yield call("ldvbi_read_field", *first, field, size(len(field)), ..., room=24)
-            count_of = choose.choice([1, 2, 3, 2 ** 40])
-            yield call("ldvbi_read_fields", *first, field * 2, size(2 * len(field)), ..., size(count_of), room=72)
-            yield from compare_seek(call, choose, libraries[0].ldvbi_draw_line)
-        yield from compare_judge(call, choose)
-        yield from compare_chapters(call, choose)
-        yield from compare_stops(call, choose)
-        if choose.random() < 0.2:
-            yield from compare_near(call, choose)
-    yield call("ldvbi_read_fields", number(1), number(1), number(2), None, size(0), None, size(0))
+        yield from compare_lines(call, choose, libraries[0].ldvbi_draw_line)
+        yield from compare_words_alone(call, choose)
+        yield from compare_judges(call, choose)
 
 
 SIZES = ("ldvbi_line_samples", "ldvbi_line_bytes", "ldvbi_lines", "ldvbi_field_bytes")

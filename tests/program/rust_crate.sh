@@ -3,6 +3,8 @@
 # writes (rust/crate, by `make rust`): no warning, the two ways of `bits_above`, its own interface, its package, and the
 # example project.
 # usage: sh tests/program/rust_crate.sh PROGRAM
+# runs: rust
+# fails where: rust/hand/Cargo.toml|s/^version = .*/version = "0.0.9"/
 # shellcheck disable=SC2086,SC2317
 
 # shellcheck source=tests/helpers.sh
@@ -51,6 +53,10 @@ check 'an unknown macro' stops "$levels:$line" "'print' is no macro that is know
 check 'an unknown attribute' stops "$levels:$line" "'ensures' is no attribute that is known" $levels \
     '$a#[ensures(true)]'
 
+check 'a sign of contracts' stops "$levels:$line" "'≡' is unknown here" $levels '$aconst SAME: bool = 1 ≡ 1;'
+check 'a let .. else in another place' stops "$levels:$line" 'a let .. else of another form' $levels \
+    '$afn few(word: Option<u8>) { let Some(_) = word }'
+
 version=$(sed -n 's/^version = "\(.*\)"$/\1/p' "$top/rust/hand/Cargo.toml")
 check 'the version of the crate is that of make' [ "$version" = "$(sed -n 's/^VERSION := //p' "$top/Makefile")" ]
 
@@ -72,6 +78,21 @@ check 'it is laid out by rustfmt' quiet cargo fmt --check
 check 'bits_above is the plain loop' quiet rustc --edition 2021 --test -A dead_code -O -o "$work/bits_above" \
     src/bits_above.rs
 check 'at every position and of every value' quiet "$work/bits_above"
+# The way of 64-bit ARM, with functions that do what its five instructions do
+sed 's/"x86_64"/"none"/; s/"aarch64"/"x86_64"/; s/std::arch::aarch64/crate::neon/' src/bits_above.rs > "$work/neon.rs"
+cat >> "$work/neon.rs" << 'END'
+mod neon {
+    type Lanes = [u16; 8];
+    pub unsafe fn vdupq_n_u16(one: u16) -> Lanes { [one; 8] }
+    pub unsafe fn vld1q_u16(from: *const u16) -> Lanes { *(from as *const Lanes) }
+    pub unsafe fn vcgtq_u16(a: Lanes, b: Lanes) -> Lanes { std::array::from_fn(|i| u16::from(a[i] > b[i]) * 65535) }
+    pub unsafe fn vandq_u16(a: Lanes, b: Lanes) -> Lanes { std::array::from_fn(|i| a[i] & b[i]) }
+    pub unsafe fn vaddvq_u16(a: Lanes) -> u16 { a.iter().sum() }
+}
+END
+check 'that of 64-bit ARM' quiet rustc --edition 2021 --test -A dead_code -O -o "$work/neon" "$work/neon.rs"
+check 'is the plain loop, too' quiet "$work/neon"
+check 'a panic ends the process' sh -c "cargo rustc --quiet --release --lib -- --print cfg | grep -qx 'panic=\"abort\"'"
 check 'the example in its documents' quiet cargo test --doc --quiet
 check 'its interface on drawn sides' quiet cargo test --quiet --test facade
 # is_small: whether who takes the library takes none of what the program alone needs
@@ -117,8 +138,7 @@ plays() {
     bounded "$player" "$@" < empty > out 2> err || status=$?
     ended "$wanted" played empty
 }
-# A side that skips pictures 10 to 13 and stands at 21, and whose picture 30 was misread; and one with a stop on both
-# fields of two pictures that follow one another
+# What it answers of drawn sides is tried by tests/answers/rust_answers.sh; here what it plays, and what it refuses.
 bounded sh "$top/examples/side.sh" "$program" || exit 1
 bounded "$program" draw $ntsc - > twice.tbc << 'END'
 - F00001 F00001
@@ -132,37 +152,29 @@ bounded "$program" draw $ntsc - > twice.tbc << 'END'
 - F00005 F00005
 END
 on='NTSC 16384 51200'
-check 'the player: no wrong picture' plays 0 'search: field 65 picture 30
+check 'the player: searches and stops' plays 0 'search: field 65 picture 30
 play: field 97 picture 46
 search: field 21 picture 7
-play: field 33 picture 17' side.tbc $on search 30 play search 7 play
-check 'the player: what was misread is not found' plays 1 'search: not found' side.tbc $on search 79999
-check 'the player: chapters' plays 1 'chapter: field 10
-chapter: not found' side.tbc $on chapter 0 chapter 3
+play: field 33 picture 17
+chapter: field 10' side.tbc $on search 30 play search 7 play chapter 0
 check 'the player: each picture once' plays 1 'play: field 5 picture 3
 play: field 7 picture 4
 play: not found' twice.tbc $on play play play
-awk 'BEGIN { for (i = 0; i < 60; i++) printf "8%sE%d%02d 87FFFF F0DD59\n- 87FFFF -\n", "F", 8 + int(i / 30), i % 30 }' |
-    bounded "$program" draw $ntsc - > clv.tbc
-check 'the player: a time' plays 0 'search: field 67' clv.tbc $on search 0:59:59.03
-check 'the player: no such time' plays 1 'search: not found' clv.tbc $on search 0:59:59.30
-# refuses TEXT WORD..: whether the player ends with status 2, and says this line
-refuses() {
-    said_line "player: $1"
-    shift
-    status=0
-    bounded "$player" "$@" < empty > out 2> err || status=$?
-    ended 2 empty wanted
-}
 head -c 100 side.tbc > cut.tbc
-usage='usage: player FILE SYSTEM BLACK WHITE search PLACE, chapter N, play ..'
-check 'the player: no words' refuses "$usage"
-check 'the player: nothing to seek' refuses "$usage" side.tbc $on search
-check 'the player: another system' refuses 'system is neither NTSC nor PAL' side.tbc SECAM 16384 51200 play
-check 'the player: levels' refuses 'black level is not below white level' side.tbc NTSC 51200 16384 play
-check 'the player: no place' refuses 'neither a picture nor a time: 1:2' side.tbc $on search 1:2
-check 'the player: no command' refuses 'no such command: stop' side.tbc $on stop
-check 'the player: less than a field' refuses 'a field has 478660 bytes, and these are 100' cut.tbc $on play
+while IFS='|' read -r words said; do
+    said_line "player: $said"
+    status=0
+    bounded "$player" $words < empty > out 2> err || status=$?
+    check "the player refuses: $words" ended 2 empty wanted
+done << END
+|usage: player FILE SYSTEM BLACK WHITE search PLACE, chapter N, play ..
+side.tbc $on search|usage: player FILE SYSTEM BLACK WHITE search PLACE, chapter N, play ..
+side.tbc SECAM 16384 51200 play|system is neither NTSC nor PAL
+side.tbc NTSC 51200 16384 play|black level is not below white level
+side.tbc $on search 1:2|neither a picture nor a time: 1:2
+side.tbc $on stop|no such command: stop
+cut.tbc $on play|a field has 478660 bytes, and these are 100
+END
 # The pipe is closed before the player writes.
 { sleep 1; "$player" side.tbc $on search 30 play 2> err; echo $? > piped; } | :
 check 'the player: a closed pipe' [ "$(cat piped; cat err)" = 141 ]

@@ -2,6 +2,8 @@
 # Validates documents of every kind that the built program writes by share/schema/ldvbi.schema.json, and what is made of
 # them by tables of what may stand at each place.
 # usage: sh tests/program/schema.sh PROGRAM
+# runs: everywhere
+# fails where: share/schema/ldvbi.schema.json|s/hold/held/
 # shellcheck disable=SC2086
 
 # shellcheck source=tests/helpers.sh
@@ -144,7 +146,7 @@ while read -r document record count words; do
     esac
     places $system $words > places
     status=0
-    bounded "$(with_jsonschema)" "$tests/validate_parts.py" "$schema" places one.json < empty > said 2> err || status=$?
+    bounded "$(with_jsonschema)" "$here/validate_parts.py" "$schema" places one.json < empty > said 2> err || status=$?
     cat said >> err
     check "each place of a record of $document with $words" [ "$status $(cat said)" = "0 27 places, $count documents" ]
 done << 'END'

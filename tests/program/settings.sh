@@ -1,6 +1,8 @@
 #!/bin/sh
 # Runs the built program on what is wrong before a run begins, where several things are, and on metadata.
 # usage: sh tests/program/settings.sh PROGRAM
+# runs: everywhere rust
+# fails where: tests/program/settings.sh|s/field height/field heighT/g
 # shellcheck disable=SC2086
 
 # shellcheck source=tests/helpers.sh
@@ -53,91 +55,57 @@ while IFS='|' read -r document options answer; do
     esac
 done << END
 |$all|metadata is not JSON
-{"a":NaN}||metadata is not JSON
-[]||metadata has no videoParameters
 []|$all|metadata has no videoParameters
 {"videoParameters":3}||metadata has no videoParameters
-{}||metadata has no videoParameters
 {"videoParameters":{}}||no system given
 {"videoParameters":{}}|$all|82CFFF
+{"videoParameters":{},"fields":[1e999]}|$all|metadata is not JSON
 "system":"PAL_M"||unknown system
 "system":null,"isSourcePal":true||unknown system
 "system":"NTSC","isSourcePal":"no"||unknown system
 "system":"NTSC","isSourcePal":"no"|--system NTSC|no black level given
-"system":"X","black16bIre":-1||unknown system
-"system":"PAL","isSourcePal":false||system and isSourcePal disagree
 "system":"NTSC","isSourcePal":true||system and isSourcePal disagree
-"system":"PAL"||no black level given
-"system":"PAL","black16bIre":-1||black level is not a whole number from 0 to 65535
 "system":"PAL","black16bIre":65536||black level is not a whole number from 0 to 65535
-"system":"NTSC","black16bIre":null||black level is not a whole number from 0 to 65535
 "system":"NTSC","black16bIre":8224.0||black level is not a whole number from 0 to 65535
 "system":"NTSC","black16bIre":8224e0||black level is not a whole number from 0 to 65535
 "system":"NTSC","black16bIre":8224.0,"white16bIre":16448|--black 8224|82CFFF
-"system":"NTSC","black16bIre":16448,"white16bIre":16448|--black 8224|82CFFF
-"system":"NTSC","black16bIre":8224,"white16bIre":8224|--white 16448|82CFFF
-"system":"NTSC","black16bIre":8224,"white16bIre":16448|--black 16448|black level is not below white level
 "system":"NTSC","black16bIre":8224,"white16bIre":16448|--white 8224|black level is not below white level
-"system":"NTSC","black16bIre":0,"white16bIre":1|--black 8224 --white 16448|82CFFF
 "system":"NTSC","black16bIre":8224,"white16bIre":16448|--black 0 --white 65535|blank
 "system":"PAL","black16bIre":8224,"white16bIre":16448|--system NTSC|82CFFF
-"system":"NTSC","black16bIre":8224,"white16bIre":16448|--system PAL|short line: 1820 of 2270 bytes
 "system":"NTSC","isSourcePal":true,"black16bIre":8224,"white16bIre":16448|--system NTSC|82CFFF
-"system":"PAL","black16bIre":1,"white16bIre":2|$all|82CFFF
 "system":"PAL","black16bIre":8224||no white level given
 "system":"PAL","black16bIre":8224,"white16bIre":"x"||white level is not a whole number from 0 to 65535
-"system":"PAL","black16bIre":8224,"white16bIre":8224||black level is not below white level
 "isSourcePal":true,"black16bIre":8224,"white16bIre":16448||short line: 1820 of 2270 bytes
 "isSourcePal":false,"black16bIre":8224,"white16bIre":16448||82CFFF
 "isSourcePal":true,"black16bIre":8224,"white16bIre":16448,"fieldWidth":910||field width differs
 "isSourcePal":true,"black16bIre":8224,"white16bIre":16448,"fieldHeight":312||field height differs
 "isSourcePal":true,"black16bIre":8224,"white16bIre":16448|--max-fields 0|max fields is not from 1 to 1000000
-"isSourcePal":true,"black16bIre":8224,"white16bIre":16448,"fieldWidth":910|--system NTSC|82CFFF
 "system":"NTSC","black16bIre":8224,"white16bIre":16448,"sampleRate":14318181.5||82CFFF
 "system":"NTSC","black16bIre":8224,"white16bIre":16448|--max-fields 1000000|82CFFF
 "system":"NTSC","black16bIre":8224,"white16bIre":16448|--max-fields 1000001|max fields is not from 1 to 1000000
-"system":"NTSC","black16bIre":8224,"white16bIre":16448|--max-fields 4294967295|max fields is not from 1 to 1000000
 "fieldWidth":910,"fieldHeight":263|$all|82CFFF
-"fieldWidth":909,"fieldHeight":262|$all|field width differs
 "fieldWidth":910.0|$all|field width differs
-"fieldWidth":null|$all|field width differs
-"fieldHeight":262|$all|field height differs
 "fieldHeight":"263"|$all|field height differs
 END
-printf '{"videoParameters":{"fieldWidth":911}}' > width.json
-printf '{"videoParameters":{"fieldHeight":264}}' > height.json
 for command in $commands; do
-    run $command $levels --meta width.json line.raw
-    judge "$command: a field width, where the options say all else" 1 empty 'ldvbi: field width differs'
-    run $command $levels --meta height.json line.raw
-    judge "$command: a field height, where the options say all else" 1 empty 'ldvbi: field height differs'
+    for what in 'width|911' 'height|264'; do
+        printf '{"videoParameters":{"field%s":%s}}' "$(echo ${what%|*} | sed 's/w/W/; s/^h/H/')" "${what#*|}" > row.json
+        run $command $levels --meta row.json line.raw
+        judge "$command: a field ${what%|*}, where the options say all else" 1 empty "ldvbi: field ${what%|*} differs"
+    done
 done
-# What the JSON library doesn't read, also in members that are never looked at: a number too large for it, a byte order
-# mark, UTF-16
-printf '{"videoParameters":{}}' > plain.json
-run line $levels --meta plain.json line.raw
-judge 'metadata that says nothing' 0 "$stored/stdout" ''
-printf '{"videoParameters":{},"fields":[1e999]}' > odd.json
-run line $levels --meta odd.json line.raw
-judge 'metadata with a number that is too large' 1 empty 'ldvbi: metadata is not JSON'
-{ printf '\357\273\277'; cat plain.json; } > odd.json
-run line $levels --meta odd.json line.raw
-judge 'metadata behind a byte order mark' 1 empty 'ldvbi: metadata is not JSON'
-{ printf '\377\376'; sed 's/./&@/g' plain.json | tr '@' '\000'; } > odd.json
-run line $levels --meta odd.json line.raw
-judge 'metadata in UTF-16' 1 empty 'ldvbi: metadata is not JSON'
-
-# Wrong JSON of each kind, where memory isn't wanted: short, and a mebibyte long by this byte between its two parts
+# What the JSON library doesn't read: a byte order mark, UTF-16, and wrong JSON of each kind, where memory isn't wanted:
+# short, and a mebibyte long by this byte between its two parts
 while IFS='|' read -r head fill tail; do
-    # shellcheck disable=SC2059
-    printf "$head$tail" > odd.json
-    run line $levels --meta odd.json line.raw
-    judge "short metadata of $head and $tail" 1 empty 'ldvbi: metadata is not JSON'
-    # shellcheck disable=SC2059
-    { printf "$head"; head -c 1048576 /dev/zero | tr '\000' "$fill"; printf "$tail"; } > odd.json
-    run line $levels --meta odd.json line.raw
-    judge "long metadata of $head and $tail" 1 empty 'ldvbi: metadata is not JSON'
+    for length in 0 1048576; do
+        # shellcheck disable=SC2059
+        { printf "$head"; head -c $length /dev/zero | tr '\000' "${fill:- }"; printf "$tail"; } > odd.json
+        run line $levels --meta odd.json line.raw
+        judge "metadata of $head and $tail, $length bytes between" 1 empty 'ldvbi: metadata is not JSON'
+    done
 done << 'END'
+\357\273\277{"videoParameters":{}}||
+\377\376{\000}\000||
 x|x|
 \000|\000|
 -|0|
@@ -152,9 +120,6 @@ x|x|
 {}|\040|{}
 [1,|\040|]
 END
-head -c 2000000 /dev/zero | tr '\000' x > odd.json
-run line $levels --meta odd.json line.raw
-judge 'two million bytes of x' 1 empty 'ldvbi: metadata is not JSON'
 
 # nested DEPTH: brackets that open so often, and then close
 nested() {

@@ -2,6 +2,8 @@
 # Tries what `make` runs beside building and installing, .ci/run, and the tools that tests/tools.sh asks for, with stubs
 # for the scripts, for make and for Debian's commands.
 # usage: sh tests/program/targets.sh PROGRAM     (the program is never run)
+# runs: everywhere
+# fails where: .ci/run|s/make setup test/make setup/
 # shellcheck disable=SC2086
 
 # shellcheck source=tests/helpers.sh
@@ -31,11 +33,15 @@ ran() {
     (cd "$1" && shift && PATH=$work/bin:$PATH && export PATH && bounded "$@") < empty > out 2> err
     status=$?
 }
-# Targets with their words, and what is run. There are folders with the names of most of them.
+# Targets with their words, and what is run; where the last of that fails, make does. There are folders with the names
+# of most of them.
 while IFS='|' read -r words wanted; do
     ran tree make -s $words
     echo "$wanted" | tr ',' '\n' > wanted_text
     judge "make $words" 0 wanted_text ''
+    last=$(echo "${wanted##*,}" | cut -d ' ' -f 1)
+    ran tree env FAULT="$last" make -s $words
+    check "make $words ends where $last fails" [ "$status $(tail -n 1 out | cut -d ' ' -f 1)" = "2 $last" ]
 done << 'END'
 setup|tests/tools.sh install
 test|tests/tools.sh rust,tests/gate.sh
@@ -45,26 +51,12 @@ rust TARGET=mips|rust/build.sh mips
 rust-compare|tests/scripts.sh rust/ldvbi rust_compare
 rust-compare TARGET=x-windows-y|tests/scripts.sh rust/x-windows-y/ldvbi.exe rust_compare
 bench|rust/build.sh,bench/all.sh ./ldvbi
-peers|peers/compare.sh ./ldvbi
-peers PROGRAM=/a/ldvbi|peers/compare.sh /a/ldvbi
+peers|peers/compare.sh ./ldvbi 200 docs/measured/peers.txt
+peers PROGRAM=/a/ldvbi|peers/compare.sh /a/ldvbi 200 docs/measured/peers.txt
 END
-for pair in setup:tests/tools.sh test:tests/tools.sh test:tests/gate.sh bench:bench/all.sh peers:peers/compare.sh; do
-    FAULT=${pair#*:}
-    export FAULT
-    ran tree make -s ${pair%:*}
-    check "make ${pair%:*} ends where $FAULT fails" [ "$status $(tail -n 1 out | cut -d ' ' -f 1)" = "2 $FAULT" ]
-    unset FAULT
-done
-# What the words of `make rust-compare` say reaches the script.
 stub tree/tests/scripts.sh 'echo "$COMPARE_RUNS, $COMPARE_SEED, <$COMPARE_RUNNER>"'
-while IFS='|' read -r words wanted; do
-    ran tree sh -c "make -s rust-compare $words"
-    check "make rust-compare $words" [ "$status $(cat out)" = "0 $wanted" ]
-done << 'END'
-N=3|3, 1, <>
-SEED=7|10, 7, <>
-RUNNER="qemu -L /usr"|10, 1, <qemu -L /usr>
-END
+ran tree make -s rust-compare N=3 SEED=7 RUNNER='qemu -L /usr'
+check 'the words of make rust-compare reach the script' [ "$status $(cat out)" = '0 3, 7, <qemu -L /usr>' ]
 # A file or folder with the name of a target doesn't stand for it.
 targets=$(sed -n 's/^\([a-z][a-z-]*\):.*/\1/p' "$top/Makefile" | grep -vx ldvbi | sort | paste -s -d ' ')
 sed -n 's/^\.PHONY: //p' "$top/Makefile" | tr ' ' '\n' | sort | paste -s -d ' ' > out
@@ -73,6 +65,28 @@ rm bin/rt
 ran tree env PATH=/usr/bin:/bin make -s toolchain
 check 'without the toolchain make says so' \
     [ "$status $(grep -c 'rt of the Rattle toolchain is not on the PATH' err)" = '2 1' ]
+
+# rust/build.sh for another machine: by the compiler on the PATH if that has its library, else by Debian's
+mkdir -p other/rust own/lib/rustlib/mips debian/lib/rustlib/mips
+cp "$top/rust/build.sh" other/rust
+stub bin/python3 'mkdir "$4"'
+stub bin/rustfmt 'exit 1'
+for folder in bin debian; do
+    stub $folder/rustc "echo $work/\${LIBRARY_OF_$folder:-none}"
+    stub $folder/cargo 'mkdir -p "$CARGO_TARGET_DIR/$7/release"
+cd "$CARGO_TARGET_DIR/$7/release" && touch ldvbi ldvbi.exe ldvbi.dll libldvbi.dll.a libldvbi.a libldvbi.so \
+    libldvbi.dylib
+echo "$0 ${RUSTC:-}"'
+done
+for pair in own:bin/cargo none:debian/cargo; do
+    ran other/rust env -u CARGO -u RUSTC LIBRARY_OF_bin=${pair%:*} LIBRARY_OF_debian=debian DEBIAN_BIN="$work/debian" \
+        sh build.sh mips
+    check "a compiler of ${pair%:*}: ${pair#*:}" [ "$status ${pair#*:}" = "0 $(sed "s,^$work/,,; s/ .*//" out)" ]
+done
+check 'with its own compiler' grep -qx "$work/debian/cargo $work/debian/rustc" out
+check 'what is built for another machine' [ "$(ls other/rust/mips | paste -s -d ' ')" = \
+    'ldvbi ldvbi.dll ldvbi.exe libldvbi.a libldvbi.dll.a libldvbi.dylib libldvbi.so libldvbi.so.1' ]
+rm bin/python3
 
 # .ci/run runs a command at the top, which is README's
 stub bin/make 'echo "$PWD|make $*"; exit ${FAULT:-0}'
@@ -83,9 +97,9 @@ check "README has the command that .ci/run runs" grep -q "$(cut -d '|' -f 2 out)
 ran / env FAULT=3 "$work/tree/.ci/run"
 check '.ci/run fails where that does' [ "$status" = 3 ]
 
-# tests/tools.sh where no tool is there; the system's Python is one that has no module
-packages='gcc libc6-dev g++ binutils python3 jq pkg-config cmake git less mandoc mypy parallel pv zsh
-python3-jsonschema python3-venv python3-setuptools python3-wheel'
+# tests/tools.sh where no tool is there, and where all are but one; the system's Python is one that has no module
+packages='gcc libc6-dev g++ binutils python3 jq perl pkg-config cmake git less mandoc mypy parallel pv
+zsh python3-jsonschema python3-coverage python3-venv python3-setuptools python3-wheel'
 packages=$(echo $packages)
 for_rust='rustc cargo rustfmt rust-clippy librust-arrayvec-dev librust-byteorder-dev librust-clap-dev librust-itoa-dev'
 for_rust="$for_rust librust-libc-dev librust-serde-json-dev librust-thiserror-dev"
@@ -109,16 +123,12 @@ stub alone/sudo 'echo sudo; "$@"'
 printf '%s\n' "installing: $packages $for_rust" 'apt-get update' "apt-get install -y $packages $for_rust" > wanted_text
 tools install
 judge 'setup as root' 0 wanted_text ''
-USER_NUMBER=1000
-export USER_NUMBER
+USER_NUMBER=1000 FAULT=1
+export USER_NUMBER FAULT
 tools install
-check 'setup by sudo' [ "$status $(grep -c '^sudo$' out)" = '0 2' ]
-FAULT=1
-export FAULT
-tools install
-check 'setup fails where the packages do' [ "$status" = 1 ]
-# Where all are there: each tool, each module, each crate
-for tool in cc c++ nm python3 jq pkg-config cmake git less mandoc mypy parallel pv zsh cargo rustfmt cargo-clippy; do
+check 'setup by sudo, which fails where the packages do' [ "$status $(grep -c '^sudo$' out)" = '1 1' ]
+for tool in cc c++ nm python3 jq prove pkg-config cmake git less mandoc mypy parallel pv zsh cargo rustfmt \
+    cargo-clippy; do
     stub alone/$tool 'exit 0'
 done
 mkdir none/librust-arrayvec-dev none/librust-byteorder-dev none/librust-clap-dev none/librust-itoa-dev \
@@ -128,7 +138,6 @@ for word in '' rust install; do
     tools $word
     judge "nothing is missing: '$word'" 0 empty ''
 done
-# One module that is not there
 for pair in jsonschema:jsonschema ensurepip:venv setuptools:setuptools wheel:wheel; do
     stub no_module "[ \"\$2\" != 'import ${pair%:*}' ]"
     tools ''

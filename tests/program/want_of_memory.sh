@@ -3,16 +3,13 @@
 # with status 1, nothing written, and nothing read from the input. Where no allocation was refused, that is never said,
 # whatever the length of the metadata; metadata of 10 MB is read with 20 times its bytes of memory.
 # usage: sh tests/program/want_of_memory.sh PROGRAM
+# runs: everywhere rust
+# fails where: tests/program/want_of_memory.sh|s/out of memory/out of memori/
 
 # shellcheck source=tests/helpers.sh
 . "$(dirname "$0")/../helpers.sh"
 
-compiler=${CC:-cc}
-command -v "$compiler" > /dev/null || {
-    echo "$script: there is no C compiler $compiler to build tests/program/refuse.c" >&2
-    exit 1
-}
-"$compiler" -shared -fPIC -O2 -Wall -o refuse.so "$here/refuse.c" -ldl || exit 1
+"${CC:-cc}" -shared -fPIC -O2 -Wall -o refuse.so "$here/refuse.c" -ldl || exit 1
 echo 'ldvbi: out of memory' > wanting
 
 # What each of these runs has at least. They have 50 to 150 allocations; how many it is changes with the program.
@@ -31,7 +28,8 @@ each() {
     : > wrong
     number=1
     while refused_at $number "$@" && [ ! -e endless ]; do
-        is_whole || is_wanting || echo "allocation $number refused: status $status" >> wrong
+        { ended "$whole" whole.out whole.err || { ended 1 empty wanting && cmp -s rest "$input"; }; } ||
+            echo "allocation $number refused: status $status" >> wrong
         number=$((number + 1))
     done
     cp wrong err
@@ -53,37 +51,26 @@ refused_at() {
     } < "$input"
     [ -e mark ]
 }
-is_whole() {
-    [ "$status" = "$whole" ] && cmp -s out whole.out && cmp -s err whole.err
-}
-is_wanting() {
-    ended 1 empty wanting && cmp -s rest "$input"
-}
-
-# the stored run
-# shellcheck disable=SC2046
-each 'the stored run' "$stored/stdin" $(cat "$stored/args")
-
-# words that give no job
-each 'no command' empty
-each 'help' empty line --help
-each 'a refused option' empty line --black 65536
 
 # metadata with these samples of black and white
 metadata() {
     printf '{"videoParameters":{"system":"NTSC","fieldWidth":910,"fieldHeight":263,"black16bIre":%s,' "$1"
     printf '"white16bIre":%s,"sampleRate":14318181.5},"fields":[]}' "$2"
 }
-
-# metadata that isn't JSON, and the stored run's line with metadata for it
 printf '{"a":NaN}' > nan.json
-each 'metadata that is not JSON' "$stored/stdin" line --meta nan.json
 metadata 8224 16448 > line.json
-each 'the stored run with metadata' "$stored/stdin" line --meta line.json
-
-# the joined run: a field of black samples with its metadata
-echo '-|-|-' | signal NTSC 1 | ntsc_samples > black.tbc
 metadata 16384 51200 > full.json
+echo '-|-|-' | signal NTSC 1 | ntsc_samples > black.tbc
+
+# The stored run; words that give no job; metadata that isn't JSON, and the stored run's line with metadata for it; a
+# field of black samples with its metadata
+# shellcheck disable=SC2046
+each 'the stored run' "$stored/stdin" $(cat "$stored/args")
+each 'no command' empty
+each 'help' empty line --help
+each 'a refused option' empty line --black 65536
+each 'metadata that is not JSON' "$stored/stdin" line --meta nan.json
+each 'the stored run with metadata' "$stored/stdin" line --meta line.json
 each 'the joined run' black.tbc extract --meta full.json
 
 # said_of_texts NAME TAIL SAID: checks what the program says of metadata of each length, which is a quote, letters and
@@ -109,11 +96,8 @@ said_of_texts() {
         done' sh "$program" "$work/refuse.so" "$2" < lengths > answers || status=$?
     sed "s/\$/ 1 $3/" lengths > wanted
     diff wanted answers | head -n 20 > err
-    check "$1: what is said at each length" is_said
+    check "$1: what is said at each length" [ "$status$(cat err)" = 0 ]
     check "$1: no allocation is refused" [ ! -e mark ]
-}
-is_said() {
-    [ "$status" = 0 ] && [ ! -s err ]
 }
 said_of_texts 'a text without its end' '' 'ldvbi: metadata is not JSON'
 sed -i 1,2d lengths

@@ -1,6 +1,8 @@
 #!/bin/sh
 # Runs the built program on a few words that it refuses, on each kind of path, and on words that ask for help.
 # usage: sh tests/program/words.sh PROGRAM
+# runs: everywhere rust
+# fails where: tests/program/help/draw-short.txt|s/Turns rows/Turns words/
 # shellcheck disable=SC2086
 
 # shellcheck source=tests/helpers.sh
@@ -68,46 +70,44 @@ Usage: ldvbi $command [OPTIONS] [INPUT]"
     judge "$command: a word that is not text" 2 empty 'ldvbi: arguments are not UTF-8'
 done
 
-# Paths: an input that is a dash alone is standard input, and every other word is a path
-printf '{"videoParameters":{"system":"NTSC","black16bIre":8224,"white16bIre":16448}}' > ./-
-run_with line.raw line --meta -
-judge 'metadata in a file named by a dash' 0 "$stored/stdout" ''
-run_with line.raw line $levels -
-judge 'standard input where there is a file named by a dash' 0 "$stored/stdout" ''
-run_with line.raw line $levels -- -
-judge 'standard input behind two dashes' 0 "$stored/stdout" ''
-run_with line.raw line $levels ./-
-judge 'an input named by a dash' 1 empty "ldvbi: short line: $(wc -c < ./-) of 1820 bytes"
-rm ./-
-cp line.raw 'line.raw '
-run line $levels 'line.raw '
-judge 'an input whose name ends with a space' 0 "$stored/stdout" ''
-rm 'line.raw '
-run line $levels 'line.raw '
-judge 'no input whose name ends with a space' 1 empty 'ldvbi: cannot open input'
-run line $levels ' line.raw'
-judge 'no input whose name begins with a space' 1 empty 'ldvbi: cannot open input'
-cp width.json 'width.json '
-run line $levels --meta 'width.json ' line.raw
-judge 'metadata whose name ends with a space' 1 empty 'ldvbi: field width differs'
-run line $levels '--meta=width.json ' line.raw
-judge 'the same behind an equals sign' 1 empty 'ldvbi: field width differs'
-rm 'width.json '
-run line $levels --meta 'width.json ' line.raw
-judge 'no metadata whose name ends with a space' 1 empty 'ldvbi: cannot read metadata'
-run_with line.raw line $levels --meta -
-judge 'no metadata in a file named by a dash' 1 empty 'ldvbi: cannot read metadata'
-run line $levels --meta '' line.raw
-judge 'metadata named by nothing' 1 empty 'ldvbi: cannot read metadata'
-run_with line.raw line $levels ''
-judge 'an input named by nothing' 1 empty 'ldvbi: cannot open input'
-cp line.raw ./--black
-run line $levels -- --black
-judge 'an input behind two dashes' 0 "$stored/stdout" ''
-run_with line.raw line $levels -- --white
-judge 'no input behind two dashes' 1 empty 'ldvbi: cannot open input'
-run line $levels line.raw/line.raw
-judge 'an input in a folder that is a file' 1 empty 'ldvbi: cannot open input'
+# Paths: an input that is a dash alone is standard input, and every other word is a path. What is there when the row is
+# run, the answer, and the words as a shell has them: 82CFFF, or what is said.
+videos='{"videoParameters":{"system":"NTSC","black16bIre":8224,"white16bIre":16448}}'
+while IFS='|' read -r there answer words; do
+    rm -rf paths
+    mkdir paths
+    case $there in
+        line*) cp line.raw "paths/${there#line }" ;;
+        width*) cp width.json "paths/${there#width }" ;;
+        videos*) printf '%s' "$videos" > "paths/${there#videos }" ;;
+    esac
+    cp line.raw paths
+    cd paths || exit 1
+    eval "run_with ../line.raw line $words"
+    mv out err ..
+    cd ..
+    case $answer in
+        82CFFF) judge "line $words, beside $there" 0 "$stored/stdout" '' ;;
+        *) judge "line $words, beside $there" 1 empty "ldvbi: $answer" ;;
+    esac
+done << END
+videos -|82CFFF|--meta -
+videos -|82CFFF|$levels -
+videos -|82CFFF|$levels -- -
+videos -|short line: 76 of 1820 bytes|$levels ./-
+line line.raw |82CFFF|$levels 'line.raw '
+|cannot open input|$levels 'line.raw '
+|cannot open input|$levels ' line.raw'
+width width.json |field width differs|$levels --meta 'width.json ' line.raw
+width width.json |field width differs|$levels '--meta=width.json ' line.raw
+|cannot read metadata|$levels --meta 'width.json ' line.raw
+|cannot read metadata|$levels --meta -
+|cannot read metadata|$levels --meta '' line.raw
+|cannot open input|$levels ''
+line --black|82CFFF|$levels -- --black
+|cannot open input|$levels -- --white
+|cannot open input|$levels line.raw/line.raw
+END
 
 # helped FILE: whether the last run printed this help. Of the Rust program, whose clap may be of any version, the words
 # have to be the same, but for what clap says of its own options.
@@ -151,32 +151,22 @@ judge 'the version' 0 version ''
 run -V
 judge 'the version in short' 0 version ''
 
-# Help that goes nowhere isn't a fault; a word that is refused is one, wherever that is said.
-status=0
-output_of --help > /dev/full 2> err || status=$?
-cp empty out
-judge 'no room for the help' 0 empty ''
-status=0
-output_of --help >&- 2> err || status=$?
-judge 'the help where standard output is closed' 0 empty ''
-
-# unsaid NAME STATUS WORD..: checks the status of a run that is a fault, where standard error has no room to say so, and
-# where it is closed
-unsaid() {
-    name=$1
-    wanted_status=$2
-    shift 2
-    status=0
-    output_of "$@" > out 2> /dev/full || status=$?
-    : > err
-    judge "no room for $name" "$wanted_status" empty ''
-    status=0
-    output_of "$@" > out 2>&- || status=$?
-    judge "$name where standard error is closed" "$wanted_status" empty ''
-}
-unsaid 'a word that is refused' 2 lines
-unsaid 'a word that is not text' 2 line "$(printf '\377')"
-unsaid 'metadata that is not there' 1 line --meta absent.json line.raw
-unsaid 'an input that is not there' 1 line $levels absent.raw
-unsaid 'settings that are refused' 1 line $levels --meta width.json line.raw
+# Help that goes nowhere isn't a fault; a word that is refused is one, wherever that is said. The status of each, and
+# which stream has no room, or is closed.
+while IFS='|' read -r ended full words; do
+    for place in /dev/full '&-'; do
+        status=0
+        eval "output_of $words $full>$place $((3 - full))> said" || status=$?
+        : > out
+        : > err
+        check "$words, where stream $full goes to $place" [ "$status$(cat said)" = $ended ]
+    done
+done << 'END'
+0|1|--help
+2|2|lines
+2|2|line "$(printf '\377')"
+1|2|line --meta absent.json line.raw
+1|2|line $levels absent.raw
+1|2|line $levels --meta width.json line.raw
+END
 finish

@@ -1,10 +1,10 @@
 # shellcheck shell=sh disable=SC2034,SC2086,SC2154
 # What the tests of the Python package share. They read this in after tests/helpers.sh. The package is found by
-# PYTHONPATH, the library beside the program, or at the top of the repository. Where LDVBI_LINES names a folder, the lines
-# of the package that run are written to it (tests/python/python.sh).
+# PYTHONPATH, the library beside the program, or at the top of the repository. Where tests/python/python.sh runs them,
+# the lines of the package that run are recorded (site/).
 
 LDVBI_LIBRARY=$built/libldvbi.so.1
-PYTHONPATH=$top/python${LDVBI_LINES:+:$here/site}
+PYTHONPATH=$top/python:$top/bench/sides${COVERAGE_PROCESS_START:+:$here/site}
 # What is compiled once serves all runs of a script, and nothing is written beside the package.
 PYTHONPYCACHEPREFIX=$work/compiled
 export LDVBI_LIBRARY PYTHONPATH PYTHONPYCACHEPREFIX

@@ -1,8 +1,10 @@
 #!/bin/sh
-# Compares what the Python module says of words with what `show` says, from TBC files and documents alike, and runs its
-# command on drawn discs: what each option prints, its status, and what is refused.
+# Runs the command of the Python package on drawn discs: what each option prints, its status, and what is refused. Then
+# the pictures of docs/SIDES.md are made again.
 # Needs libldvbi.so.1 at the top of the repository (`make lib`).
 # usage: sh tests/python/python_side.sh PROGRAM
+# runs: python
+# fails where: docs/pictures/clv.svg|s/class="run"/class="ran"/
 # shellcheck disable=SC2086
 
 # shellcheck source=tests/helpers.sh
@@ -19,36 +21,6 @@ tells() {
     told "$@"
     judge "$name" "$wanted_status" wanted_text ''
 }
-# options_of OPTIONS: those of a TBC file that has these levels, as tests/python/python_side.py takes them
-options_of() {
-    echo "$1" | sed 's/--[a-z]* //g'
-}
-# alike NAME OPTIONS: checks that side.tbc and side.vbi.json give what the file `wanted` holds
-alike() {
-    for source in side.tbc side.vbi.json; do
-        settings=
-        [ $source = side.vbi.json ] || settings=$(options_of "$2")
-        status=0
-        bounded python3 "$here/python_side.py" $source $settings < empty > out 2> err || status=$?
-        check "$1, $source" cmp out wanted
-    done
-}
-
-# Every word's meaning: words at the corners of the patterns and 20,000 drawn ones, as the report of `show` has them
-grep -o 'least = 0x[0-9A-F]*; greatest = 0x[0-9A-F]*' "$top/crates/vbi_words/specs/Codes.antt" |
-    sed 's/[a-z]* = 0x//g; s/;//g' > patterns
-check 'there are eleven patterns' [ "$(wc -l < patterns)" = 11 ]
-awk -f "$tests/code_words.awk" patterns > items
-check 'there are 20,000 words and those of the corners' [ "$(wc -l < items)" -gt 20300 ]
-{ cat items; echo -; echo -; } | paste -d ' ' - - - | sed -n '/[^ ] [^ ]* [^ ]/p' > all_words
-split -l 1000 all_words part.
-for part in part.*; do
-    side_of "$ntsc" < $part
-    output_of show $ntsc side.tbc | sed '1d;$d' > wanted
-    cat wanted >> reports
-    alike "the words of $part" "$ntsc"
-done
-check 'each word was compared' [ "$(grep -c '^1[678] [0-9A-F]\{6\} ' reports)" = "$(wc -l < items)" ]
 
 # A CAV disc with a stop on lines 16 and 17, a chapter beside a picture, and a number that is wrong on line 18
 cat > cav_words << 'END'
@@ -172,5 +144,13 @@ judge 'refused: --system of a document' 2 empty \
 for wrong in '--seek x' '--seek -1' '--csv --seek 1' '--system SECAM' '--black 1.0'; do
     told side.tbc $wrong
     check "refused: $wrong" [ $status = 2 ]
+done
+# The pictures of SIDES.md, made again
+mkdir made
+status=0
+bounded sh "$top/docs/pictures/make_side.sh" "$program" made < empty > out 2> err || status=$?
+for picture in side clv; do
+    check "the picture $picture of SIDES.md" cmp made/$picture.svg "$top/docs/pictures/$picture.svg"
+    check "SIDES.md shows $picture" grep -q "(pictures/$picture.svg)" "$top/docs/SIDES.md"
 done
 finish

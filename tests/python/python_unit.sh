@@ -3,6 +3,8 @@
 # unittest says it ran, so that none of either gets lost.
 # Needs libldvbi.so.1 at the top of the repository (`make lib`).
 # usage: sh tests/python/python_unit.sh PROGRAM
+# runs: python
+# fails where: tests/python/test_cav.py|s/lost 39-42 3 number/lost 38-42 3 number/
 
 # shellcheck source=tests/helpers.sh
 . "$(dirname "$0")/../helpers.sh"
@@ -13,17 +15,26 @@ LDVBI_PROGRAM=$program
 export LDVBI_PROGRAM
 # A file has the runs of many tests, and may run beside other scripts on a machine with few processors.
 seconds=$((5 * seconds))
+export seconds
+# As many files at a time as there are processors, up to one that fails where that ends the script. What NAME says is
+# then in NAME.err, its status in NAME.status. Of some, which run the same lines millions of times, and no line alone,
+# the lines aren't recorded.
+# shellcheck disable=SC2016
+basename -s .py "$here"/test_*.py | (cd "$here" && xargs -P "$(nproc)" -n 1 sh -c '
+    case $2 in test_classes | test_joined_sets | test_judged | test_simulated) COVERAGE_PROCESS_START= ;; esac
+    status=0
+    timeout -k 5 "$seconds" python3 -m unittest -v "$2" < /dev/null > "$1/$2.out" 2> "$1/$2.err" || status=$?
+    echo "$status $(tail -n 1 "$1/$2.err")" > "$1/$2.status"
+    [ "$status" = 0 ] || [ -z "${STOP_AT_FIRST:-}" ] || exit 255' sh "$work")
 for test in "$here"/test_*.py; do
     name=$(basename "$test" .py)
-    lines=${LDVBI_LINES:-}
-    # these run the same lines millions of times, and no line alone
-    case $name in test_classes | test_joined_sets | test_judged | test_simulated) lines= ;; esac
-    status=0
-    (cd "$here" && LDVBI_LINES=$lines && bounded python3 -m unittest "$name") < empty > out 2> err || status=$?
-    check "$name" [ "$status $(tail -n 1 err)" = '0 OK' ]
-    ran=$(sed -n 's/^Ran \([0-9]*\) tests* in .*/\1/p' err)
-    echo "$name: ${ran:-0} tests"
-    judged=$((judged + ${ran:-0}))
-    [ "$status" != 0 ] || passed=$((passed + ${ran:-0}))
+    cp "$name.err" err
+    check "$name" [ "$(cat "$name.status")" = '0 OK' ]
+    # The head of a test's line: its name, then in brackets its module and class
+    sed -n 's/^\(test_[a-z_0-9]*\) (\([a-z_0-9]*\.\w*\).*/\2.\1/p' err > names
+    [ "$(cat "$name.status")" = '0 OK' ] || : > names
+    while read -r one; do
+        check "$one" true
+    done < names
 done
 finish

@@ -128,8 +128,9 @@ class Scans(unittest.TestCase):
             add(self, name)
 
     def scan(self, *words):
-        """The status of a scan in the folder, and what it writes to standard output and standard error."""
-        return self.run_words("scan", *words)
+        """The status of a scan in the folder, and what it writes to standard output and standard error; one text has
+        all words."""
+        return self.run_words("scan", *(words[0].split() if len(words) == 1 else words))
 
     def run_words(self, *words):
         """The same of any words."""

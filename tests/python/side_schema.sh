@@ -4,6 +4,8 @@
 # by share/schema/ldvbi-recovered.schema.json, the table of scan --json by share/schema/ldvbi-scan.schema.json, and what
 # join --json prints by share/schema/ldvbi-join.schema.json and join_schema.txt.
 # usage: sh tests/python/side_schema.sh PROGRAM
+# runs: python
+# fails where: share/schema/ldvbi-side.schema.json|s/"unread", "breaks"/"breaks"/
 
 # shellcheck source=tests/helpers.sh
 . "$(dirname "$0")/../helpers.sh"
@@ -33,7 +35,7 @@ sed -n 's/^text  *//p' "$top/codes/classes.txt" | sed 's/ {.*//; s/.*/"&"/; $d' 
 echo >> places
 cat "$here/side_schema.txt" >> places
 status=0
-bounded "$(with_jsonschema)" "$tests/validate_parts.py" "$schema" places answers/*.json < empty > said 2> err ||
+bounded "$(with_jsonschema)" "$tests/program/validate_parts.py" "$schema" places answers/*.json < empty > said 2> err ||
     status=$?
 cat said >> err
 check 'what may stand at each place, and what may not' [ "$status $(cat said)" = '0 235 places, 3950 documents' ]
@@ -144,8 +146,8 @@ status=0
 validates "$join" together/*.json > said 2> err || status=$?
 check 'what captures have together is valid' [ "$status $(grep -c '^valid ' said)" = '0 5' ]
 status=0
-bounded "$(with_jsonschema)" "$tests/validate_parts.py" "$join" "$here/join_schema.txt" together/*.json < empty > said \
-    2> err || status=$?
+bounded "$(with_jsonschema)" "$tests/program/validate_parts.py" "$join" "$here/join_schema.txt" together/*.json \
+    < empty > said 2> err || status=$?
 cat said >> err
 check 'what may stand at each place of it' [ "$status $(cat said)" = '0 68 places, 1220 documents' ]
 finish

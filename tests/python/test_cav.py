@@ -2,318 +2,159 @@
 
 import unittest
 
-from discs import BLANK, LEAD_IN, LEAD_OUT, STOP, answer, film, picture, pictures, times
+from compact import check, of_member, rows
+from discs import answer, picture
+from ldvbi_side.judge.answer import analyse
+from ldvbi_side.judge.readings import Fields
 
 
-def missing(found):
-    return [(one["first"], one["last"], one["why"]) for one in found["missing"]]
-
-
-def doubtful(found):
-    return [(one["field"], one["line"], one["number"], one["why"]) for one in found["doubtful"]]
-
-
-def breaks(found):
-    members = "kind", "after", "before", "from", "to", "fields"
-    return [tuple(one[member] for member in members) for one in found["breaks"]]
-
-
-def numbered(rows, number, line17, line18):
-    """Rows of `pictures` from 1 on, where this picture has other words on lines 17 and 18."""
-    rows = list(rows)
-    rows[2 * number - 2] = "- %s %s" % (line17, line18)
-    return rows
-
-
-class Sound(unittest.TestCase):
-    def test_a_whole_side(self):
-        found = answer([LEAD_IN] * 2 + pictures(range(1, 51)) + [LEAD_OUT] * 4)
-        self.assertEqual([found[name] for name in ("system", "format", "unit", "pace", "fields")],
-                         ["PAL", "cav", "picture", "video", 106])
-        self.assertEqual(found["numbers"], {"count": 50, "least": 1, "greatest": 50})
-        self.assertEqual(found["showings"][:2], [[1, 3, 3], [2, 5, 5]])
-        for name in ("missing", "unread", "lost", "breaks", "stills", "repeated", "doubtful", "conflicts", "stray",
-                     "secondRows", "leftOut", "completed", "confirmed", "badLines"):
-            self.assertEqual(found[name], [], name)
-        self.assertEqual(found["leadIn"], [{"first": 1, "last": 2, "count": 2}])
-        self.assertEqual(found["leadOut"], [{"first": 103, "last": 106, "count": 4}])
+class Cav(unittest.TestCase):
+    def test_sound(self):
+        check(self, """
+    whole | Lx2 1..50 Ox4 | system PAL | format cav | unit picture | pace video | fields 106 | numbers 50 1 to 50
+        | no missing unread lost breaks stills repeated doubtful conflicts stray secondRows leftOut completed confirmed
+        | no badLines | leadIn 1-2 2 | leadOut 103-106 4
+    where they stand | Lx2 1..3 | showings 1@3, 2@5, 3@7
+    far on | NTSC 31000..31039 | numbers 40 31000 to 31039 | no missing breaks doubtful
+    on both fields | NTSC b1..3 | showings 1@1-2, 2@3-4, 3@5-6
+    on both | NTSC b1..30 | pace both | no missing breaks stills
+    film | NTSC f1..60 | pace film | count 60 | no missing breaks stills lost
+    the other film | NTSC e1..60 | pace film | count 60 | no missing breaks stills lost
+    of PAL there is none | f1..60 | pace video
+    one picture | NTSC 1 | pace video
+    """)
 
     def test_sides_of_no_field_one_and_around_a_block_of_the_library(self):
         for count in (0, 1, 2, 1024, 1025):
-            found = answer(pictures(range(1, 600))[:count])
-            self.assertEqual(found["fields"], count)
-            self.assertEqual(found["numbers"]["count"], (count + 1) // 2)
+            found = answer(rows("1..600")[:count])
+            self.assertEqual((found["fields"], found["numbers"]["count"]), (count, (count + 1) // 2))
             self.assertEqual(found["missing"] + found["doubtful"], [])
-
-    def test_a_disc_that_does_not_begin_at_1(self):
-        found = answer(pictures(range(31000, 31040)), "NTSC")
-        self.assertEqual(found["numbers"], {"count": 40, "least": 31000, "greatest": 31039})
-        self.assertEqual(found["missing"] + found["breaks"] + found["doubtful"], [])
-
-    def test_numbers_on_both_fields(self):
-        rows = ["- %s %s" % (picture(number), picture(number)) for number in range(1, 31) for _ in range(2)]
-        found = answer(rows, "NTSC")
-        self.assertEqual(found["pace"], "both")
-        self.assertEqual(found["showings"][:2], [[1, 1, 2], [2, 3, 4]])
-        self.assertEqual(found["missing"] + found["breaks"] + found["stills"], [])
-
-    def test_film_repeats_and_misses_nothing(self):
-        for odd in (0, 1):
-            found = answer(film(range(1, 61), odd), "NTSC")
-            self.assertEqual(found["pace"], "film")
-            self.assertEqual(found["numbers"]["count"], 60)
-            self.assertEqual(found["missing"] + found["breaks"] + found["stills"] + found["lost"], [])
 
     def test_film_has_a_picture_of_3_fields_in_ten_at_least(self):
         for every, pace in ((10, "film"), (11, "video"), (15, "video")):
-            rows = []
-            for number in range(1, 6 * every + 2):  # the last picture's fields don't count: none comes behind it
-                rows += pictures([number]) + ["- 800DDD 800DDD"] * (number % every == 0)
-            self.assertEqual(answer(rows, "NTSC")["pace"], pace, every)
-        self.assertEqual(answer(pictures([1]), "NTSC")["pace"], "video")
+            # the last picture's fields don't count: none comes behind it
+            side = " ".join("%d%s" % (number, " C" * (number % every == 0)) for number in range(1, 6 * every + 2))
+            self.assertEqual(answer(rows(side), "NTSC")["pace"], pace, every)
 
-    def test_film_of_pal_is_no_such_thing(self):
-        self.assertEqual(answer(film(range(1, 61)))["pace"], "video")
-
-
-class Damage(unittest.TestCase):
-    def test_one_wrong_number_of_600(self):
-        found = answer(numbered(pictures(range(1, 601)), 400, "F79999", "F79999"))
-        self.assertEqual(missing(found), [(400, 400, "unread")])
-        self.assertEqual(found["unread"], [])  # since its field shows another one on both lines
-        self.assertEqual(doubtful(found), [(799, 17, 79999, "neighbours"), (799, 18, 79999, "neighbours")])
-        self.assertEqual(found["doubtful"][0]["before"], {"field": 797, "number": 399})
-        self.assertEqual(found["doubtful"][0]["after"], {"field": 801, "number": 401})
-        self.assertEqual(found["breaks"], [])
-
-    def test_a_wrong_number_on_one_line_is_a_conflict(self):
-        rows = numbered(numbered(pictures(range(1, 31)), 7, picture(17), picture(7)), 9, picture(9), picture(8) + "*")
-        found = answer(rows)
-        self.assertEqual(missing(found), [])
-        self.assertEqual(found["conflicts"], [{"field": 13, "line17": 17, "line18": 7, "taken": 7},
-                                              {"field": 17, "line17": 9, "line18": 8, "taken": 9}])
-        self.assertEqual(doubtful(found), [(13, 17, 17, "lines"), (17, 18, 8, "lines")])
-
-    def test_a_conflict_that_the_neighbours_do_not_settle(self):
-        rows = pictures([1, 2, 3]) + ["- %s %s" % (picture(4), picture(5))]
-        rows[2] = rows[4] = BLANK
-        found = answer([rows[-1]])
-        self.assertEqual(found["conflicts"], [{"field": 1, "line17": 4, "line18": 5, "taken": None}])
-        self.assertEqual(found["numbers"]["count"], 0)
-        self.assertEqual(doubtful(found), [(1, 17, 4, "lines"), (1, 18, 5, "lines")])
-
-    def test_pass_1_is_taken_before_pass_2_where_nothing_else_decides(self):
-        found = answer(["- %s %s*" % (picture(4), picture(5))])
-        self.assertEqual(found["conflicts"], [{"field": 1, "line17": 4, "line18": 5, "taken": 4}])
-
-    def test_a_scratch_over_several_pictures(self):
-        rows = pictures(range(1, 101))
-        for field in range(60, 74):
-            rows[field] = "- ? !"
-        found = answer(rows)
-        self.assertEqual(missing(found), [(31, 37, "unread")])
-        self.assertEqual([one["field"] for one in found["unread"]], list(range(61, 74, 2)))
-        self.assertEqual(found["lost"], [])
-        self.assertEqual(len(found["badLines"]), 28)
-
-    def test_a_scratch_that_makes_words_of_other_pictures(self):
-        rows = pictures(range(1, 101))
-        for field in range(60, 70, 2):  # the next digit up, the same on each picture: they fit one another
-            rows[field] = "- %s ?" % picture(field // 2 + 1 + 40)
-        found = answer(rows)
-        self.assertEqual(missing(found), [(31, 35, "unread")])
-        self.assertEqual({one["why"] for one in found["doubtful"]}, {"neighbours"})
-        self.assertEqual(len(found["doubtful"]), 5)
-
-    def test_a_whole_line_without_words(self):
-        for line in (1, 2):
-            rows = [row.split(" ") for row in pictures(range(1, 101))]
-            for row in rows:
-                row[line] = "?"
-            found = answer([" ".join(row) for row in rows])
-            self.assertEqual(found["numbers"]["count"], 100)
-            self.assertEqual(missing(found), [])
-            self.assertIsNone(found["levels"])
+    def test_damage(self):
+        """Picture n stands in field 2n - 1. Where both lines say another number, none is due there."""
+        check(self, """
+    one wrong number | 1..600 799=79999 | missing 400 unread | unread | no breaks
+        | doubtful 799/17 79999 neighbours, 799/18 79999 neighbours
+    on one line | 1..30 13=-/#17/#7 17=-/#9/#8* | no missing | conflicts 13 17|7 7, 17 9|8 9
+        | doubtful 13/17 17 lines, 17/18 8 lines
+    which nothing settles | -/#4/#5 | conflicts 1 4|5 None | count 0 | doubtful 1/17 4 lines, 1/18 5 lines
+    but pass 1 does | -/#4/#5* | conflicts 1 4|5 4
+    a scratch | 1..100 61:74=-/?/! | missing 31-37 unread | no lost | badLines x28
+        | unread 31@61, 32@63, 33@65, 34@67, 35@69, 36@71, 37@73
+    a scratch that makes other words, which fit one another | 1..100 61=-/#71/? 63=-/#72/? 65=-/#73/? 67=-/#74/?
+        69=-/#75/? | missing 31-35 unread | doubtful 61/17 71 neighbours, 63/17 72 neighbours, 65/17 73 neighbours,
+        67/17 74 neighbours, 69/17 75 neighbours
+    line 17 without words | 1..100 1:200.17=? | count 100 | no missing | levels
+    line 18 without words | 1..100 1:200.18=? | count 100 | no missing | levels
+    """)
+        before, after = ({"field": 797, "number": 399}, {"field": 801, "number": 401})
+        one = answer(rows("1..600 799=79999"))["doubtful"][0]
+        self.assertEqual((one["before"], one["after"]), (before, after))
 
     def test_a_line_on_which_a_digit_is_always_wrong(self):
-        rows = ["- %s %s" % (picture(number), picture(number + 1000)) if place % 2 == 0 else BLANK
+        side = ["- %s %s" % (picture(number), picture(number + 1000)) if place == 0 else "- - -"
                 for number in range(1, 101) for place in range(2)]
-        found = answer(rows)
-        row, = found["secondRows"]
-        self.assertEqual((row["count"], row["weight"], row["against"]), (100, 200, 200))
+        found, = answer(side)["secondRows"]
+        self.assertEqual((found["count"], found["weight"], found["against"]), (100, 200, 200))
         # with line 18 read on half of the side alone, line 17 has the greater weight
-        rows[100:] = [row[:row.rindex(" ")] + " -" for row in rows[100:]]
-        found = answer(rows)
-        self.assertEqual(found["numbers"], {"count": 100, "least": 1, "greatest": 100})
-        self.assertEqual(found["secondRows"], [{"first": 1001, "last": 1050, "field": 1, "lastField": 99, "count": 50,
-                                                "weight": 100, "against": 100}])
+        found = answer(side[:100] + [row[:row.rindex(" ")] + " -" for row in side[100:]])
+        self.assertEqual(of_member(found, "numbers"), "100 1 to 100")
+        self.assertEqual(of_member(found, "secondRows"), "1001-1050@1-99 50 100:100")
 
     def test_random_wrong_numbers_are_no_second_row(self):
-        rows = pictures(range(1, 3001))
+        side = rows("1..3000")
         for place, number in enumerate(range(10, 3000, 20)):
-            wrong = picture(number + (2, 200, -7, 5000, 40, 8)[place % 6])
-            rows = numbered(rows, number, wrong, wrong)
-        found = answer(rows)
-        self.assertEqual(found["secondRows"], [])
-        self.assertEqual(found["numbers"]["count"], 2850)
+            side[2 * number - 2] = rows("%d" % (number + (2, 200, -7, 5000, 40, 8)[place % 6]))[0]
+        found = answer(side)
+        self.assertEqual((found["secondRows"], found["numbers"]["count"]), ([], 2850))
 
-
-class Breaks(unittest.TestCase):
-    def test_lost_fields(self):
-        rows = pictures(range(1, 61))
-        found = answer(rows[:40] + rows[43:])  # both fields of picture 21, and the first one of 22
-        self.assertEqual(missing(found), [(21, 22, "lost")])
-        self.assertEqual(found["lost"], [{"after": 39, "before": 42, "fields": 3, "by": "number"}])
-        self.assertEqual(breaks(found), [("lost", 39, 42, 20, 23, 3)])
-
-    def test_a_lost_second_field(self):
-        rows = pictures(range(1, 61))
-        found = answer(rows[:39] + rows[40:])
-        self.assertEqual(missing(found), [])
-        self.assertEqual(found["lost"], [{"after": 39, "before": 40, "fields": 1, "by": "number"}])
-
-    def test_a_jump_ahead(self):
-        found = answer(pictures(range(1, 31)) + pictures(range(5001, 5031)))
-        self.assertEqual(missing(found), [(31, 5000, "lost")])
-        self.assertEqual(breaks(found), [("lost", 59, 61, 30, 5001, 9940)])
-        self.assertEqual(found["doubtful"], [])
-
-    def test_a_jump_back(self):
-        found = answer(pictures(range(1, 31)) + pictures(range(21, 61)))
-        self.assertEqual(missing(found), [])
-        self.assertEqual(breaks(found), [("back", 59, 61, 30, 21, 20)])
-        self.assertEqual(found["repeated"],
-                         [{"first": 21, "last": 30, "field": 61, "lastField": 79, "before": 41}])
-
-    def test_a_stretch_that_is_shown_again_with_damage_is_one(self):
-        rows = pictures(range(1, 31)) + pictures(range(21, 61))
-        rows[50] = rows[66] = "- ? ?"  # picture 26 in the first showing, 24 in the second
-        found = answer(rows)
-        self.assertEqual(found["repeated"],
-                         [{"first": 21, "last": 30, "field": 61, "lastField": 79, "before": 41}])
-        self.assertEqual([(one["number"], one["field"]) for one in found["unread"]], [(26, 51), (24, 67)])
-        self.assertEqual(missing(found), [])
-
-    def test_a_still(self):
-        found = answer(pictures(list(range(1, 31)) + [30] * 9 + list(range(31, 61))))
-        self.assertEqual(found["stills"], [{"number": 30, "first": 59, "last": 77}])
-        self.assertEqual(missing(found) + found["doubtful"] + found["breaks"], [])
-        self.assertEqual(found["repeated"], [{"first": 30, "last": 30, "field": 61, "lastField": 77, "before": 59}])
-
-    def test_a_still_of_numbers_on_both_fields(self):
-        rows = ["- %s %s" % (picture(number), picture(number)) for number in
-                list(range(1, 31)) + [30] * 9 + list(range(31, 61)) for _ in range(2)]
-        found = answer(rows)
-        self.assertEqual(found["stills"], [{"number": 30, "first": 59, "last": 78}])
-        self.assertEqual(missing(found) + found["doubtful"] + found["lost"], [])
-
-    def test_fields_that_come_twice(self):
-        rows = pictures(range(1, 61))
-        found = answer(rows[:40] + rows[38:])
-        self.assertEqual(found["stills"], [{"number": 20, "first": 39, "last": 41}])
-        self.assertEqual(missing(found) + found["doubtful"], [])
+    def test_breaks(self):
+        check(self, """
+    both fields of picture 21, and the first one of 22, are lost | 1..60 -41:43 | missing 21-22 lost
+        | lost 39-42 3 number | breaks lost 39-42 20 to 23, 3
+    a second field | 1..60 -40 | no missing | lost 39-40 1 number
+    ahead | 1..30 5001..5030 | missing 31-5000 lost | breaks lost 59-61 30 to 5001, 9940 | no doubtful
+    back | 1..30 21..60 | no missing | breaks back 59-61 30 to 21, 20 | repeated 21-30@61-79 after 41
+    back, with damage | 1..30 21..60 51=? 67=? | no missing | repeated 21-30@61-79 after 41 | unread 26@51, 24@67
+    a still | 1..30 30x9 31..60 | stills 30@59-77 | no missing doubtful breaks | repeated 30@61-77 after 59
+    of numbers on both fields | b1..30 b30x9 b31..60 | stills 30@59-78 | no missing doubtful lost
+    fields that come twice | 1..60 +41=20 | stills 20@39-41 | no missing doubtful
+    """)
 
     def test_a_lost_field_beside_pictures_that_were_read_in_one_field(self):
-        rows = ["- %s %s" % (picture(number), picture(number)) for number in range(1, 31) for _ in range(2)]
-        for field in (17, 19):  # the second fields of pictures 9 and 10
-            rows[field] = "- ? ?"
-        found = answer(rows[:24] + rows[25:])  # the first field of picture 13
-        self.assertEqual(found["lost"], [{"after": 24, "before": 26, "fields": 1, "by": "number"}])
-        del rows[20]  # the first field of picture 11: fields 17 to 20 may be either ones of 9 and 10
-        found = answer(rows)
-        self.assertEqual(found["lost"], [{"after": 16, "before": 22, "fields": 1, "by": "number"}])
+        """Of what was read in one field it isn't known which field it is: with one lost behind it, or before it."""
+        check(self, """
+    the first one of 13, behind 9 and 10 | b1..30 18=? 20=? -25 | lost 24-26 1 number
+    the first one of 11 | b1..30 18=? 20=? -21 | lost 16-22 1 number
+    the second one of 11, before 12 and 13 | b1..30 23=? 25=? -22 | lost 20-26 1 number
+    picture 21, of which 20 has one, and 19 is no part | b1..30 40=? -41:42 | lost 39-41 2 number
+    """)
 
-    def test_a_lost_field_before_pictures_that_were_read_in_one_field(self):
-        rows = ["- %s %s" % (picture(number), picture(number)) for number in range(1, 31) for _ in range(2)]
-        for field in (22, 24):  # the first fields of pictures 12 and 13
-            rows[field] = "- ? ?"
-        del rows[21]  # the second field of picture 11
-        found = answer(rows)
-        # the fields read of pictures 12 and 13 may be their first ones, with one lost behind them; the one of picture
-        # 11 may be its second one, with the first one lost
-        self.assertEqual(found["lost"], [{"after": 20, "before": 26, "fields": 1, "by": "number"}])
-
-
-    def test_more_lost_fields_beside_a_picture_that_was_read_in_one_field(self):
-        rows = ["- %s %s" % (picture(number), picture(number)) for number in range(1, 31) for _ in range(2)]
-        rows[39] = "- ? ?"  # the second field of picture 20, of which picture 19 is no part
-        found = answer(rows[:40] + rows[42:])  # picture 21
-        self.assertEqual(found["lost"], [{"after": 39, "before": 41, "fields": 2, "by": "number"}])
+    def test_other_formats_and_lines(self):
+        check(self, """
+    stray marks | 1..30 39=-/M/#20 6=8AE000/-/- | format cav | no missing
+        | stray 6/16 clv picture format, 39/17 clv format
+    codes on lines that aren't theirs | 1..30 39=-/8DC0A1/#20 1=#77/#1/#1 | no missing doubtful
+        | stray 1/16 picture line, 39/17 cx on line
+    """)
 
 
 class Parity(unittest.TestCase):
+    TURNS = [True, False] * 32
+
+    def lost(self, side, first, wanted, system="PAL"):
+        found = answer(rows(side, 30 if system == "NTSC" else 25), system, first)
+        self.assertEqual(of_member(found, "lost"), wanted)
+        return found
+
     def test_frames_begin_with_the_first_field_that_begins_one(self):
-        rows = pictures(range(1, 31))
-        self.assertEqual(answer(rows, first=[True, False] * 30)["frameBegin"], 1)
-        found = answer(rows[1:] + [STOP + " - -"], first=[False, True] * 30)
+        self.assertEqual(self.lost("1..30", self.TURNS[:60], "")["frameBegin"], 1)
+        found = self.lost("1..30 -1 S/-/-", self.TURNS[1:61], "")
         self.assertEqual(found["frameBegin"], 2)
         self.assertEqual(found["stops"], [{"field": 60, "frame": 30, "number": None, "lines": [16]}])
-        self.assertEqual(found["lost"], [])
 
     def test_two_fields_of_one_parity(self):
-        rows, first = pictures(range(1, 31)), [True, False] * 30
-        found = answer(rows[:39] + rows[40:], first=first[:39] + first[40:])  # the second field of picture 20
-        self.assertEqual(found["lost"], [{"after": 39, "before": 40, "fields": 1, "by": "both"}])
+        """What was lost by numbers and parity is known by both; of more than one it isn't known where."""
+        turns = self.TURNS[:60]
+        self.lost("1..30 -40", turns[:39] + turns[40:], "39-40 1 both")
+        self.lost("1..30 -41:43", turns[:40] + turns[43:], "39-42 3 both")
+        self.lost("1..30 -41:43", turns[:40] + [False, False] + turns[44:59], "39-42 3 both")  # and in these once more
+        self.lost("1..30 -41:43", None, "39-42 3 number")
+        # a clock may have left out a number
+        self.lost("t0..1 t3..4", [True, False, True, False] + [False, True] * 2, "3-5 2 undecided", "NTSC")
+        self.lost("1 Bx4 4", [True, False, True, True] + [False, True] * 2, "3-4 None parity")  # no number is near
 
-    def test_three_lost_fields_by_both(self):
-        """Of more than one it isn't known between which two fields they are."""
-        rows, first = pictures(range(1, 31)), [True, False] * 30
-        rows = rows[:40] + rows[43:]  # picture 21, and the first field of picture 22
-        lost = {"after": 39, "before": 42, "fields": 3}
-        self.assertEqual(answer(rows, first=first[:40] + first[43:])["lost"], [dict(lost, by="both")])
-        twice = first[:40] + [False, False] + first[44:59]  # and once more in these fields
-        self.assertEqual(answer(rows, first=twice)["lost"], [dict(lost, by="both")])
-        self.assertEqual(answer(rows)["lost"], [dict(lost, by="number")])
-
-    def test_parity_where_a_clock_may_leave_out_a_number(self):
-        found = answer(times([0, 1, 3, 4], 30), "NTSC", first=[True, False, True, False] + [False, True] * 2)
-        self.assertEqual(found["lost"], [{"after": 3, "before": 5, "fields": 2, "by": "undecided"}])
-
-    def test_parity_of_fields_that_were_not_read(self):
-        """Metadata of more fields than the side has: two of one parity behind its end, and at its end."""
+    def test_at_the_ends(self):
+        """Of the first and the last two fields; of fields that weren't read, as the side has fewer than metadata; and
+        before the first number or behind the last, where what is lost makes no side less whole."""
+        for place in (1, 59):
+            first = self.TURNS[:place] + [self.TURNS[place - 1]] + [not one for one in self.TURNS[place - 1:58]]
+            self.lost("b1..30", first, "%d-%d None parity" % (place, place + 1))
         for more in ([True, True], [False, True]):
-            self.assertEqual(answer(pictures(range(1, 31)), first=[True, False] * 30 + more)["lost"], [])
-
-    def test_parity_of_the_first_and_of_the_last_two_fields(self):
-        for place, (after, before) in ((1, (1, 2)), (59, (59, 60))):
-            first = [True, False] * 30
-            first = first[:place] + [first[place - 1]] + [not one for one in first[place - 1:-2]]
-            found = answer(["- %s %s" % (picture(number), picture(number)) for number in range(1, 31) for _ in (1, 2)],
-                           first=first)
-            self.assertEqual([(one["after"], one["before"], one["by"]) for one in found["lost"]],
-                             [(after, before, "parity")])
-
-    def test_parity_alone_where_no_number_is_near(self):
-        rows, first = pictures([1]) + [BLANK] * 4 + pictures([4]), [True, False, True, True] + [False, True] * 2
-        self.assertEqual(answer(rows, first=first)["lost"], [{"after": 3, "before": 4, "fields": None, "by": "parity"}])
-
-    def test_parity_outside_the_numbers(self):
-        """What is lost before the first number or behind the last one makes no side less whole."""
-        first = [True, True] + [False, True] * 31
-        for rows in ([LEAD_IN] * 4 + pictures(range(1, 31)), [LEAD_IN] * 64, [BLANK] * 64):
-            self.assertEqual(answer(rows, first=first)["lost"], [])
-        behind = [True, False] * 31 + [False, True]
-        self.assertEqual(answer(pictures(range(1, 31)) + [LEAD_OUT] * 4, first=behind)["lost"], [])
+            self.lost("1..30", self.TURNS[:60] + more, "")
+        for side in ("Lx4 1..30", "Lx64", "Bx64"):
+            self.lost(side, [True, True] + [False, True] * 31, "")
+        self.lost("1..30 Ox4", self.TURNS[:62] + [False, True], "")
 
 
-class OtherFormat(unittest.TestCase):
-    def test_a_stray_mark_leaves_a_cav_side_cav(self):
-        rows = numbered(pictures(range(1, 31)), 20, "87FFFF", picture(20))
-        rows[5] = "8AE000 - -"
-        found = answer(rows)
-        self.assertEqual(found["format"], "cav")
-        self.assertEqual([(one["field"], one["line"], one["kind"], one["why"]) for one in found["stray"]],
-                         [(6, 16, "clv picture", "format"), (39, 17, "clv", "format")])
-        self.assertEqual(missing(found), [])
-
-    def test_codes_on_lines_that_are_not_theirs(self):
-        rows = numbered(pictures(range(1, 31)), 20, "8DC0A1", picture(20))
-        rows[0] = "%s %s %s" % (picture(77), picture(1), picture(1))
-        found = answer(rows)
-        self.assertEqual([(one["field"], one["line"], one["word"], one["why"]) for one in found["stray"]],
-                         [(1, 16, "F00077", "line"), (39, 17, "8DC0A1", "line")])
-        self.assertEqual(missing(found) + found["doubtful"], [])
-
-
-if __name__ == "__main__":
-    unittest.main()
+class OtherCodes(unittest.TestCase):
+    def test_between_other_codes_alone_a_number_of_film_is_undecided(self):
+        """Picture 10 is due in a field that shows a chapter. It is unread if a line beside is no chapter."""
+        for is_seen, why in ((False, "undecided"), (True, "unread")):
+            words = [(0, 0x805DDD, 0x805DDD)] * 76
+            for number in range(1, 31):
+                if number != 10:
+                    words[5 * number // 2 - 2] = (0, 0xF00000 + int(str(number), 16), 0)
+            causes = [tuple("word" if word else "blank" for word in of_field) for of_field in words]
+            if is_seen:
+                words[24], causes[24] = (0, 0, 0), ("blank", "hold 9", "hold 9")
+            passes = [tuple(int(word > 0) for word in of_field) for of_field in words]
+            found = analyse(Fields("NTSC", words, passes, causes))
+            self.assertEqual(found["pace"], "film")
+            self.assertEqual([(one["first"], one["why"]) for one in found["missing"]], [(10, why)])

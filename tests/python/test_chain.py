@@ -1,32 +1,54 @@
-"""What breaks cost, how far apart numbers stand, and which readings are believed."""
+"""What breaks cost, how far apart numbers stand, and which readings are believed; runs of line 16, what becomes of
+numbers that are passed over, and loops, each by itself."""
 
 import random
 import unittest
 import unittest.mock
 
 from ldvbi_side.judge import chain as chains
+from ldvbi_side.judge.believed import no_numbers
 from ldvbi_side.judge.chain import chain
+from ldvbi_side.judge.missing import Passed, PassedOver
+from ldvbi_side.judge.order import with_loops
 from ldvbi_side.judge.paces import ChapterPace, MinutePace, Pace, price
 from ldvbi_side.judge.readings import Reading
+from ldvbi_side.judge.times import Runs
 
 
-class Prices(unittest.TestCase):
+PACES = {"video": Pace("video"), "both": Pace("both"), "film": Pace("film"), "minutes": MinutePace("PAL"),
+         "chapters": ChapterPace()}
+# Of a pace: fields, a number, the step to the next one and their variants, and how many fields are too many or too few.
+# A video picture has 2 fields; of both fields the second one is one behind; minutes fit within one minute; one chapter
+# may be passed over in 18 fields, and at a break of the pictures' numbers, which 100 stands for, any may follow.
+OFF = {"video": "10 7 5: 0, 12 7 5: 2, 9 7 5: -1, 4 7 0: None", "both": "1 7 0 0 1: 0, 1 7 1 1 0: 0, 3 7 1 0 1: 0, "
+       "2 7 0 0 0: None", "minutes": "10 4 0: 0, 2999 4 0: 0, 1 4 1: 0, 5999 4 1: 0, 6001 4 1: 3001, 1 4 3: -8999, "
+       "5 4 -1: 3005", "chapters": "17 7 2: 2, 18 7 2: 0, 400 7 3: 4, 400 7 -1: 160, 9 7 0: 0, 9 7 1: 0, 9 7 2: 2, "
+       "9 7 4: 6, 9 7 -1: 160, 9 7 100: 0, 9 7 101: 0, 9 7 140: 1, 9 7 97: 1"}
+# A number, a step and variants, and the fields between. Film has 2 and 3 fields in turn: pictures with an odd number
+# have 3, those with an even one, or none: video in between.
+BETWEEN = {"video": "7 5 0 0: 10", "film": "1 1 0 0: 3, 2 1 0 0: 2, 1 4 0 0: 10, 1 1 1 1: 2, 2 1 1 1: 3, 1 1 2 2: 2, "
+           "1 3 2 2: 6"}
+# How many numbers have so many fields
+NUMBERS = {"video": "5: 2", "both": "3: 1", "film": "2: 1, 4: 1, 5: 2, 7: 3", "minutes": "2999: 0, 5999: 1"}
+
+
+class Paces(unittest.TestCase):
     def test_a_break_costs_1_and_its_binary_digits(self):
         # fields too many or too few: none, one field, one picture, two pictures, ten pictures, 10,000 pictures
         for off, cost in ((0, 0), (1, 2), (2, 3), (4, 4), (20, 6), (20000, 16), (-1, 2), (-20, 6), (None, 0)):
             self.assertEqual(price(off), cost)
 
-
-class Paces(unittest.TestCase):
-    def test_a_video_picture_has_2_fields(self):
-        pace = Pace("video")
-        self.assertEqual(pace.between(7, 5, 0, 0), 10)
-        self.assertEqual([pace.off(fields, 7, 5) for fields in (10, 12, 9)], [0, 2, -1])
-        self.assertIsNone(pace.off(4, 7, 0))
+    def test_rows(self):
+        for name, table in (("off", OFF), ("between", BETWEEN), ("numbers_in", NUMBERS)):
+            for kind, rows in table.items():
+                for row in rows.split(", "):
+                    asked, _, wanted = row.partition(": ")
+                    found = getattr(PACES[kind], name)(*map(int, asked.split()))
+                    self.assertEqual(str(found), wanted, (name, kind, row))
 
     def test_least_off(self):
         """No fields are less off than the least, whatever the variants are: of minutes and chapters it is exact."""
-        for pace in (Pace("video"), Pace("both"), Pace("film"), MinutePace("PAL"), ChapterPace()):
+        for pace in PACES.values():
             variants = range(pace.variants)
             for number, step, fields in ((7, 1, 1), (7, 1, 6001), (8, 3, 5), (8, -2, 9), (3, 2, 17), (3, 90, 4)):
                 with self.subTest((pace.kind, number, step, fields)):
@@ -36,51 +58,14 @@ class Paces(unittest.TestCase):
                     if len(variants) == 1:
                         self.assertEqual(abs(least or 0), abs(offs[0] or 0))
 
-    def test_of_both_fields_the_second_is_one_behind(self):
-        pace = Pace("both")
-        self.assertEqual([pace.off(1, 7, 0, 0, 1), pace.off(1, 7, 1, 1, 0), pace.off(3, 7, 1, 0, 1)], [0, 0, 0])
-        self.assertIsNone(pace.off(2, 7, 0, 0, 0))
-
-    def test_film_has_2_and_3_fields_in_turn(self):
-        pace = Pace("film")
-        # pictures with an odd number have 3 fields: 1 to 2 is 3 fields, 2 to 3 is 2
-        self.assertEqual([pace.between(1, 1, 0, 0), pace.between(2, 1, 0, 0), pace.between(1, 4, 0, 0)], [3, 2, 10])
-        # those with an even one
-        self.assertEqual([pace.between(1, 1, 1, 1), pace.between(2, 1, 1, 1)], [2, 3])
-        # none: video in between
-        self.assertEqual([pace.between(1, 1, 2, 2), pace.between(1, 3, 2, 2)], [2, 6])
-
     def test_no_variant_is_nearer_than_the_least_off(self):
         for kind in ("video", "both", "film"):
-            pace = Pace(kind)
+            pace = PACES[kind]
             ways = [(number, step, v, w) for number in (6, 7) for step in (-3, -1, 1, 2, 5)
                     for v in range(pace.variants) for w in range(pace.variants)]
             for fields in range(1, 16):
                 self.assertEqual([way for way in ways if abs(pace.off(fields, *way)) < pace.least_off(
                     fields, way[0], way[1])], [])
-
-    def test_minutes_fit_within_one_minute(self):
-        pace = MinutePace("PAL")
-        self.assertEqual([pace.off(10, 4, 0), pace.off(2999, 4, 0), pace.off(1, 4, 1), pace.off(5999, 4, 1)], [0] * 4)
-        self.assertEqual([pace.off(6001, 4, 1), pace.off(1, 4, 3), pace.off(5, 4, -1)], [3001, -8999, 3005])
-
-    def test_how_many_numbers_have_so_many_fields(self):
-        for pace, fields, numbers in ((Pace("video"), 5, 2), (Pace("both"), 3, 1), (Pace("film"), 2, 1),
-                                      (Pace("film"), 4, 1), (Pace("film"), 5, 2), (Pace("film"), 7, 3),
-                                      (MinutePace("PAL"), 2999, 0), (MinutePace("PAL"), 5999, 1)):
-            self.assertEqual(pace.numbers_in(fields), numbers)
-
-    def test_one_chapter_may_be_passed_over_in_18_fields(self):
-        pace = ChapterPace()
-        self.assertEqual([pace.off(fields, 7, 2) for fields in (17, 18)], [2, 0])
-        self.assertEqual([pace.off(400, 7, 3), pace.off(400, 7, -1)], [4, 160])
-
-    def test_chapters_go_on_by_one(self):
-        pace = ChapterPace()
-        self.assertEqual([pace.off(9, 7, step) for step in (0, 1, 2, 4, -1)], [0, 0, 2, 6, 160])
-        # at a break of the pictures' numbers, which 100 stands for, any chapter may follow
-        self.assertEqual([pace.off(9, 7, 100), pace.off(9, 7, 101), pace.off(9, 7, 140), pace.off(9, 7, 97)],
-                         [0, 0, 1, 1])
 
 
 def readings(*numbers, weight=4, first=1):
@@ -93,21 +78,45 @@ def believed(ones, kind="video"):
     return [(one.field, one.number) for one in chain(ones, Pace(kind))]
 
 
+def walked(ones, kind):
+    """All chains of these readings."""
+    found = chains.chains_of(ones, Pace(kind))
+    found.take_in(0, False)
+    return found
+
+
+def damaged_alike(dice, pace):
+    """300 readings in four ways: pictures go on, stay or go back, come too late or too early, or are wrong."""
+    ways = [[(dice.choice((1, 1, 1, 0, 2, -1)), dice.choice((0, 0, 0, 1, -1)), dice.choice((0, 0, 0, 1, 2, 900)),
+              dice.choice((1, 2, 4))) for _ in range(dice.randrange(1, 5))] for _ in range(4)]
+    ones, field, number = [], 1, 1
+    while len(ones) < 300:
+        for step, off, wrong, weight in dice.choice(ways):
+            field += max(pace.between(number, step, 0, 0) if step > 0 else 2, 1) + off
+            number += step
+            if not ones or field > ones[-1].field:
+                ones.append(Reading(field, number + wrong, weight, (17,)))
+    return ones
+
+
 class Chains(unittest.TestCase):
-    def test_nothing(self):
+    def test_which_are_believed(self):
+        """Of two of a field the one that fits, of two that fit equally well none; pass 1 counts for more than 2."""
         self.assertEqual(chain([], Pace("video")), [])
-
-    def test_a_row_is_believed(self):
-        self.assertEqual(believed(readings(5, 6, 7)), [(1, 5), (3, 6), (5, 7)])
-
-    def test_a_wrong_number_between_two_that_fit(self):
-        self.assertEqual(believed(readings(5, 6, 70000, 8, 9)), [(1, 5), (3, 6), (7, 8), (9, 9)])
-
-    def test_a_jump_that_many_follow(self):
+        for ones, wanted in (
+                (readings(5, 6, 7), [(1, 5), (3, 6), (5, 7)]),
+                (readings(5, 6, 70000, 8, 9), [(1, 5), (3, 6), (7, 8), (9, 9)]),
+                (sorted(readings(5, 6, 7) + [Reading(3, 80, 2, (18,))]), [(1, 5), (3, 6), (5, 7)]),
+                ([Reading(1, 5, 2, (17,)), Reading(1, 6, 2, (18,))], []),
+                ([Reading(1, 5, 2, (17,)), Reading(1, 6, 1, (18,))], [(1, 5)])):
+            self.assertEqual(believed(ones), wanted)
+        ones = [Reading(1, 5, 4, (17, 18)), Reading(3, 7, 2, (17,)), Reading(3, 5, 2, (18,)),
+                Reading(5, 7, 4, (17, 18))]
+        self.assertNotIn(3, dict(believed(ones)))
+        # a jump that many follow, and a wild number at the end; a still is one break however long
         self.assertEqual(len(believed(readings(*range(1, 20), *range(40000, 40020)))), 39)
-
-    def test_a_wild_number_at_the_end_is_not_followed(self):
         self.assertEqual(believed(readings(*range(1, 20), 40000))[-1], (37, 19))
+        self.assertEqual(len(believed(readings(1, 2, 3, *[4] * 50, 5, 6, 7))), 56)
 
     def test_a_long_row_of_wrong_numbers_that_do_not_fit(self):
         for count in (30, 39, 40, 41):  # as far as the search goes back, and beyond
@@ -151,20 +160,36 @@ class Chains(unittest.TestCase):
                      40000 * (place // 5 % 2) + place for place in range(count)]}
         for kind in ("video", "both", "film"):
             for name, numbers in noise.items():
-                self.assertLessEqual(self.looks(readings(*numbers, weight=2), kind), 5 * count + 4000, (kind, name))
+                self.assertLessEqual(walked(readings(*numbers, weight=2), kind).looks, 4 * count + 4000, (kind, name))
         sound = readings(*range(count))
-        self.assertEqual(self.looks(sound, "video"), 0)
+        self.assertEqual(walked(sound, "video").looks, 0)
         sound[1000:1000] = [Reading(2000, 7, 4, (17, 18))]
-        self.assertLess(self.looks(sound, "video"), 20)
+        self.assertLess(walked(sound, "video").looks, 20)
 
-    def looks(self, ones, kind):
-        found, index = chains._Chains(ones, Pace(kind)), 0
-        while index < len(ones):
-            index = found.go_on(index)
-            if index < len(ones):
-                found.add(index)
-                index += 1
-        return found.looks
+    def test_the_look_of_video_finds_what_any_pace_would(self):
+        dice = random.Random(5)
+        ones = [Reading(field, dice.choice((field // 2, 7, 30000 + field // 2, dice.randrange(80000))), 2, (17,))
+                for field in range(1, 900) for _ in range(dice.randrange(3))]
+        found, other = chains.chains_of(ones, Pace("video")), chains._Chains(ones, Pace("video"))
+        for one in (found, other):
+            one.take_in(0, False)
+        self.assertEqual((found.best(), found.looks), (other.best(), other.looks))
+
+    def test_among_noise_numbers_that_nearly_fit_none_are_no_candidates(self):
+        """Of each row all is believed, as without the noise, on which no looks are spent."""
+        dice = random.Random(7)
+        for kind in ("video", "film", "both"):
+            pace, row, noise = Pace(kind), [], []
+            for number in range(1, 2001):
+                for variant in (0, 1) if kind == "both" else (0,):
+                    row.append(Reading(pace.between(0, number, 0, variant), number, 2, (17,)))
+                    noise += [Reading(row[-1].field, dice.randrange(60000, 80000), 1, (18,)) for _ in range(2)]
+            ones = sorted(row + noise)
+            self.assertFalse(chains.chains_of(ones, pace).take_in(0, True), kind)
+            near = chains._near_another(ones, pace)
+            self.assertLess(len(near), len(row) + len(noise) // 4, kind)
+            self.assertEqual([(one.field, one.number) for one in chain(ones, pace)],
+                             [(one.field, one.number) for one in row], kind)
 
     def test_a_wrong_number_in_a_still(self):
         """It fits the still before it, and the number behind it is then as good as one that stays, but for later."""
@@ -187,23 +212,17 @@ class Chains(unittest.TestCase):
             self.assertNotIn(70000, {one.number for one in found})
             self.assertEqual(len(found), count)
 
-    def test_a_still_is_one_break_however_long(self):
-        ones = believed(readings(1, 2, 3, *[4] * 50, 5, 6, 7))
-        self.assertEqual(len(ones), 56)
-
-    def test_of_two_of_a_field_the_one_that_fits(self):
-        ones = readings(5, 6, 7) + [Reading(3, 80, 2, (18,))]
-        self.assertEqual(believed(sorted(ones)), [(1, 5), (3, 6), (5, 7)])
-
-    def test_of_two_that_fit_equally_well_none(self):
-        self.assertEqual(believed([Reading(1, 5, 2, (17,)), Reading(1, 6, 2, (18,))]), [])
-        ones = [Reading(1, 5, 4, (17, 18)), Reading(3, 7, 2, (17,)), Reading(3, 5, 2, (18,)),
-                Reading(5, 7, 4, (17, 18))]
-        self.assertNotIn(3, dict(believed(ones)))
-
-    def test_pass_1_counts_for_more_than_pass_2(self):
-        ones = [Reading(1, 5, 2, (17,)), Reading(1, 6, 1, (18,))]
-        self.assertEqual(believed(ones), [(1, 5)])
+    def test_with_and_without_memory(self):
+        """Random readings, damaged in few ways over and over: each chain is worth as much."""
+        for kind in ("both", "film"):
+            for seed in range(30):
+                ones = damaged_alike(random.Random(seed), Pace(kind))
+                found = [walked(ones, kind)]
+                with unittest.mock.patch.object(chains, "SURE", 1 << 40):
+                    found.append(walked(ones, kind))
+                values, better = zip(*((one.values, [list(map(max, less[::2], less[1::2])) for less in one.less])
+                                       for one in found))
+                self.assertEqual((values[0], better[0]), (values[1], better[1]), (kind, seed))
 
     def test_both_fields_of_a_picture(self):
         ones = [Reading(field, 10 + field // 2, 4, (17, 18)) for field in range(2, 12)]
@@ -222,5 +241,70 @@ class Chains(unittest.TestCase):
             self.assertEqual({one.variant for one in found}, {1 - odd})
 
 
-if __name__ == "__main__":
-    unittest.main()
+WHOLE = 1500  # pictures of a minute
+
+
+def said(parts, minutes):
+    """What each field of these parts says, where these fields say these minutes."""
+    runs = Runs(parts, {field: {minute: (17, 18)} for field, minute in minutes.items()}, WHOLE, lambda *_: 2)
+    return {field: runs.of_field[field].said_at(field) for field in parts}
+
+
+class Minutes(unittest.TestCase):
+    """A minute in a field without a second counts for the run that the field is in, or that is right beside it."""
+
+    def test_inside(self):
+        self.assertEqual(said({1: 0, 3: 1, 7: 3}, {5: 4}), {1: {6000}, 3: {6001}, 7: {6003}})
+
+    def test_right_behind_and_right_before(self):
+        self.assertEqual(said({1: 0, 3: 1}, {4: 4}), {1: {6000}, 3: {6001}})
+        self.assertEqual(said({3: 1, 5: 2}, {2: 4}), {3: {6001}, 5: {6002}})
+        # where the run begins with a minute, the field before it is of the minute before
+        self.assertEqual(said({3: 0, 5: 1}, {2: 4}), {3: {7500}, 5: {7501}})
+
+    def test_further_away(self):
+        for field in (5, 6):
+            self.assertEqual(said({1: 0, 3: 1}, {field: 4}), {1: set(), 3: set()})
+        self.assertEqual(said({3: 0, 5: 1}, {1: 4}), {3: set(), 5: set()})
+
+    def test_between_two_runs(self):
+        """The one that is right beside the field; of two the one before it."""
+        self.assertEqual(said({1: 0, 3: 1, 7: 700}, {6: 4}), {1: set(), 3: set(), 7: {6700}})
+        self.assertEqual(said({1: 0, 3: 1, 7: 700}, {4: 4}), {1: {6000}, 3: {6001}, 7: set()})
+        self.assertEqual(said({1: 0, 3: 1, 5: 700}, {4: 4}), {1: {6000}, 3: {6001}, 5: set()})
+
+    def test_over_the_end_of_a_minute(self):
+        self.assertEqual(said({1: 1499, 3: 0}, {3: 8}), {1: {7 * WHOLE + 1499}, 3: {8 * WHOLE}})
+
+
+class Fates(unittest.TestCase):
+    def test_beside_a_wide_jump(self):
+        """Of 100 numbers with fields for five those five at either end may have been there."""
+        passed = PassedOver([Passed(1, 100, 5, True)])
+        whys = [passed.why(number) for number in range(1, 101)]
+        self.assertEqual(whys, ["undecided"] * 5 + ["lost"] * 90 + ["undecided"] * 5)
+
+    def test_a_tenth_of_the_numbers(self):
+        self.assertEqual([PassedOver([Passed(1, 100, spare, True)]).why(50) for spare in (0, 1, 10, 11)],
+                         ["lost", "lost", "lost", "undecided"])
+        passed = PassedOver([Passed(1, 100, 10, True)])
+        self.assertEqual([passed.why(number) for number in (10, 11, 90, 91)],
+                         ["undecided", "lost", "lost", "undecided"])
+
+    def test_where_no_field_is_lost(self):
+        for is_lost, why in ((False, "unread"), (None, "undecided")):
+            whys = [PassedOver([Passed(1, 100, spare, is_lost)]).why(50) for spare in (0, 1, 100)]
+            self.assertEqual(whys, [why] * 3)
+
+    def test_where_they_are_passed_over_more_than_once(self):
+        """A field for a number is enough, and between two sides it is none of either."""
+        passed = PassedOver([Passed(1, 100, 0, True), Passed(40, 60, 0, False), Passed(55, 80, 0, None)], [(50, 200)])
+        self.assertEqual([passed.why(number) for number in (39, 40, 60, 61, 80, 81, 100, 101, 200, 201)],
+                         ["lost", "unread", "unread", "undecided", "undecided", "lost", "lost", "unshown", "unshown",
+                          "lost"])
+
+
+class Loops(unittest.TestCase):
+    def test_without_numbers_nothing_is_shown_again(self):
+        none = no_numbers("PAL")
+        self.assertIs(with_loops(none, []), none)

@@ -1,14 +1,16 @@
-"""Judging chapters: states, forms of readings, refusals; and on a few simulated sides the promise that is made of a
-believed chapter, and that the tool which measures this sees it broken. The expected values are worked out by hand from
-what include/ldvbi.h says: a code of pass 1 weighs 2, one of pass 2 or 3 weighs 1, and 10 is enough."""
+"""Judging chapters and picture stops: states, forms of readings, refusals; and on a few simulated sides the promise
+that is made of a believed chapter, and that the tool which measures this sees it broken. The expected values are worked
+out by hand from what include/ldvbi.h says: a code of pass 1 weighs 2, one of pass 2 or 3 weighs 1, and 10 is enough; of
+stops line 16 or 17 in pass 1 is enough, or both."""
 
-import os
-import tempfile
+import random
 import unittest
 from collections import Counter
 
 import ldvbi
-from discs import BLANK, LEAD_IN, STOP, chapter, picture, plain, side
+from cases import InFolder, reason
+from compact import rows
+from discs import BLANK, STOP, answer, picture, plain, side
 from judged import packed_of
 from judged_chapters import ChapterTruth, chapter_in, judged, of_package
 from ldvbi import Number, State
@@ -16,72 +18,48 @@ from ldvbi_side.judge.answer import analyse
 from simulate import KINDS, PLAYED, Simulated
 from streams import NTSC, write_stream
 from test_judged import PICTURES
-from test_refusals import reason
 
 NOTHING = Number(None, State.nothing)
 
 
-def shows(number, of_pass=1):
-    """A field with its chapter on line 17 alone."""
-    return "- %s%s -" % (chapter(number), {1: "", 2: "*", 3: "^"}[of_pass])
+# Sides with chapters, and the states of the fields that show one: believed, or doubtful. Each has its chapter on line
+# 17 alone, but in one row; 24 fields on either side count.
+STATES = (
+    ("B -/c7/-x5 -/c48/- B -/c7/-", "bbbbbdb"), ("-/c0/-x5", "bbbbb"), ("-/c0/-x4 -/c0*/-", "ddddd"),
+    ("-/c0/-x4 -/c0^/-", "ddddd"), ("-/c0/-x4 -/c0*/- -/c0^/-", "bbbbbb"), ("-/c79/c79x2", "dd"),
+    ("-/c79/c79x2 -/c79/-", "bbb"), ("-/c3/-x4 Bx20 -/c3/-", "bbbbb"), ("-/c3/-x4 Bx21 -/c3/-", "dbbbd"),
+    # what speaks against a chapter
+    ("-/c3/-x5 -/c4/-x5", "b" * 10), ("-/c4/-x5 -/c3/-x5", "d" * 10), ("-/c4/-x5 -/c3/-x4 -/c3*/-", "bbbbbddddd"),
+    # what is none
+    ("Bx9", ""), ("Lx9", ""), ("c7/S/-x9", ""), ("-/#7/@0:07x9", ""))
 
 
-def answers(rows):
-    return ldvbi.judge_chapters(side(rows).readings)
+def answers(text):
+    return ldvbi.judge_chapters(side(rows(text)).readings)
 
 
-def states(rows):
-    """The states of the fields that show a chapter, by their first letters."""
-    return "".join(one.state.name[0] for one in answers(rows) if one != NOTHING)
-
-
-class Chapters(unittest.TestCase):
-    def test_each_state(self):
-        rows = [BLANK] + [shows(7)] * 5 + [shows(48), BLANK] + [shows(7)]
-        self.assertEqual(answers(rows), [NOTHING] + [(7, State.believed)] * 5 + [(48, State.doubtful), NOTHING]
+class Chapters(InFolder):
+    def test_states(self):
+        for text, wanted in STATES:
+            found = [one for one in answers(text) if one != NOTHING]
+            self.assertEqual("".join(one.state.name[0] for one in found), wanted, text)
+        self.assertEqual(answers(STATES[0][0]), [NOTHING] + [(7, State.believed)] * 5 + [(48, State.doubtful), NOTHING]
                          + [(7, State.believed)])
-
-    def test_weights_9_and_10(self):
-        for last, letter in (((1,), "b"), ((2,), "d"), ((3,), "d"), ((2, 3), "b")):
-            rows = [shows(0)] * 4 + [shows(0, one) for one in last]
-            self.assertEqual(states(rows), letter * len(rows), last)
-        both = "- %s %s" % (chapter(79), chapter(79))
-        self.assertEqual((states([both] * 2), states([both] * 2 + [shows(79)])), ("dd", "bbb"))
-
-    def test_24_fields_on_either_side(self):
-        for blanks, letters in ((20, "bbbbb"), (21, "dbbbd")):
-            self.assertEqual(states([shows(3)] * 4 + [BLANK] * blanks + [shows(3)]), letters)
-
-    def test_what_speaks_against_a_chapter(self):
-        self.assertEqual(states([shows(3)] * 5 + [shows(4)] * 5), "b" * 10)
-        self.assertEqual(states([shows(4)] * 5 + [shows(3)] * 5), "d" * 10)
-        self.assertEqual(states([shows(4)] * 5 + [shows(3)] * 4 + [shows(3, 2)]), "bbbbb" + "ddddd")
-
-    def test_two_chapters_of_a_field(self):
-        rows = [shows(3)] * 5 + ["- %s %s" % (chapter(3), chapter(4))] + [shows(4)] * 5
-        self.assertEqual(answers(rows)[5], (3, State.doubtful))
-        self.assertEqual(answers(rows + [shows(4)])[5], (4, State.believed))
-
-    def test_what_is_no_chapter(self):
-        for row in (BLANK, LEAD_IN, "%s %s -" % (chapter(7), STOP), "- %s F0DD07" % picture(7)):
-            self.assertEqual(answers([row] * 9), [NOTHING] * 9)
+        two = "-/c3/-x5 -/c3/c4 -/c4/-x5"  # two chapters of a field
+        self.assertEqual([answers(two)[5], answers(two + " -/c4/-")[5]], [(3, State.doubtful), (4, State.believed)])
 
     def test_the_first_field_of_a_chapter(self):
-        known = answers([shows(19)] + [BLANK] + [shows(2)] * 9 + [BLANK] + [shows(3)] * 9)
+        known = answers("-/c19/- B -/c2/-x9 B -/c3/-x9")
         self.assertEqual([ldvbi.first_of(known, number) for number in (2, 3, 19, 4)], [2, 12, None, None])
 
-
-class Forms(unittest.TestCase):
     def test_each_form(self):
         words = [0x803DDD] * 4 + [0, 0x803DDD]
         wanted = [(3, State.believed)] * 4 + [NOTHING, (3, State.believed)]
-        with tempfile.TemporaryDirectory() as folder:
-            path = os.path.join(folder, "side.tbc")
-            write_stream(path, NTSC, [[0, word, word] for word in words], 5)
-            with ldvbi.Stream(path, *NTSC) as stream:
-                block, = stream.packed(0, len(words))
-                for one in (stream, block, bytes(block), list(stream), (field for field in stream)):
-                    self.assertEqual(ldvbi.judge_chapters(one), wanted)
+        write_stream(self.path, NTSC, [[0, word, word] for word in words], 5)
+        with ldvbi.Stream(self.path, *NTSC) as stream:
+            block, = stream.packed(0, len(words))
+            for one in (stream, block, bytes(block), list(stream), (field for field in stream)):
+                self.assertEqual(ldvbi.judge_chapters(one), wanted)
         self.assertEqual(ldvbi.judge_chapters([]), [])
 
     def test_refusals(self):
@@ -91,9 +69,9 @@ class Forms(unittest.TestCase):
             self.assertEqual(reason(ldvbi.judge_chapters, readings), text)
 
 
-def truth_of(rows, misread=()):
-    """The truth of a side with these rows, of which these words were misread: (field, line, word on the disc)."""
-    return ChapterTruth(Simulated("", "", "", {}, [], [], [], [], list(misread)), plain(rows))
+def truth_of(text, misread=()):
+    """The truth of this side, of which these words were misread: (field, line, word on the disc)."""
+    return ChapterTruth(Simulated("", "", "", {}, [], [], [], [], list(misread)), plain(rows(text)))
 
 
 class Beside(unittest.TestCase):
@@ -118,25 +96,48 @@ class Beside(unittest.TestCase):
         self.assertEqual(self.counts["listed of no disc by the judge"], 0, self.told)
 
     def test_the_tool_sees_a_broken_promise(self):
-        truth = truth_of([shows(3)] * 12 + [shows(48)] + [shows(3)] * 12, [(13, 17, 0x803DDD)])
-        self.assertEqual(truth.wrong_weight(12), 2)
-        self.assertEqual((truth.recorded[12], truth.is_right(12, 48)), (3, False))
-        self.assertTrue(truth.may_be_believed(12, 3))
-        self.assertFalse(truth.may_be_believed(12, 48))
-        self.assertTrue(truth_of([shows(48)] * 5, [(field, 17, 0x803DDD) for field in range(1, 6)])
-                        .may_be_believed(0, 48))
+        truth = truth_of("-/c3/-x12 -/c48/- -/c3/-x12", [(13, 17, 0x803DDD)])
+        self.assertEqual((truth.wrong_weight(12), truth.recorded[12], truth.is_right(12, 48)), (2, 3, False))
+        self.assertEqual([truth.may_be_believed(12, number) for number in (3, 48)], [True, False])
+        misread = [(field, 17, 0x803DDD) for field in range(1, 6)]
+        self.assertTrue(truth_of("-/c48/-x5", misread).may_be_believed(0, 48))
         # on the disc within reach, but between codes of one chapter
-        rows = [shows(3)] * 5 + [shows(4)] + [shows(3)] * 5 + [shows(4)] * 9
-        self.assertFalse(truth_of(rows, [(6, 17, 0x803DDD)]).may_be_believed(5, 4))
+        truth = truth_of("-/c3/-x5 -/c4/- -/c3/-x5 -/c4/-x9", [(6, 17, 0x803DDD)])
+        self.assertFalse(truth.may_be_believed(5, 4))
 
     def test_the_package_beside(self):
-        rows = [row for number in range(300) for row in ("- %s -" % picture(number), shows(number // 100))]
-        rows[101] = shows(48)
-        found = list(of_package(plain(rows), analyse(plain(rows))))
+        fields = plain(rows("0..299 1:600/2.18=- 2:200/2=-/c0/- 202:400/2=-/c1/- 402:600/2=-/c2/- 102=-/c48/-"))
+        found = list(of_package(fields, analyse(fields)))
         self.assertEqual((found[99], found[100], found[101]), ({0}, set(), set()))
-        self.assertEqual(ldvbi.judge_chapters(packed_of(plain(rows)))[101], (48, State.doubtful))
+        self.assertEqual(ldvbi.judge_chapters(packed_of(fields))[101], (48, State.doubtful))
         self.assertEqual((chapter_in(0x812DDD), chapter_in(0xF00012), chapter_in(0)), (12, None, None))
 
 
-if __name__ == "__main__":
-    unittest.main()
+LETTERS = {"n": State.nothing, "b": State.believed, "d": State.doubtful}
+
+
+def stops_of(lines):
+    return ldvbi.judge_stops(side(lines).readings)
+
+
+class Stops(unittest.TestCase):
+    def test_lines_and_passes(self):
+        for row, letter in (
+                ("- - -", "n"), ("S S -", "b"), ("S - -", "b"), ("- S -", "b"), ("S* - -", "d"), ("- S* -", "d"),
+                ("S^ - -", "d"), ("- S^ -", "d"), ("S* S* -", "b"), ("S* S^ -", "b"), ("S^ S^ -", "b"), ("S S^ -", "b"),
+                ("- - S", "n"), ("S* - S", "d"), ("87FFFF 88FFFF 82CFFE", "n")):
+            self.assertEqual(stops_of([BLANK, row.replace("S", STOP)]), [State.nothing, LETTERS[letter]], row)
+        self.assertEqual(ldvbi.judge_stops([]), [])
+
+    def test_refusals(self):
+        for readings, text in ((None, "readings are none of fields, but of the type NoneType"),
+                               (b"12345", "packed readings have 24 bytes to a field, and these are 5")):
+            self.assertEqual(reason(ldvbi.judge_stops, readings), text)
+
+    def test_the_same_stops_of_the_package(self):
+        chance = random.Random(82)
+        items = ["-", "?", STOP, STOP, STOP + "*", STOP + "^", picture(7), "8BA0A1"]
+        rows = [" ".join(chance.choice(items) for _ in range(3)) for _ in range(500)]
+        stops = [field for field, state in enumerate(stops_of(rows), 1) if state == State.believed]
+        self.assertGreater(len(stops), 200)
+        self.assertEqual([one["field"] for one in answer(rows)["stops"]], stops)

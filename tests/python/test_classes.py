@@ -92,7 +92,3 @@ class Classes(unittest.TestCase):
             ranges = ranges_of_header()
             self.assertEqual([(kind, place, greatest[kind][place]) for kind, place, _ in ranges], ranges)
             self.assertEqual(len(ranges), 10)
-
-
-if __name__ == "__main__":
-    unittest.main()

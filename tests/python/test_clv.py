@@ -2,295 +2,115 @@
 
 import unittest
 
-from discs import BLANK, CLV_MARK, LEAD_IN, LEAD_OUT, STOP, answer, minutes, second, times
-from test_cav import doubtful, missing
+from compact import check, of_member, rows
+from discs import answer
 
 
-def count_of(found):
-    return found["numbers"]["count"]
+class Clv(unittest.TestCase):
+    def test_sound(self):
+        check(self, """
+    whole | Lx2 t0..59 Ox2 | format clv | unit time | pace video | numbers 60 0:00:00.00 to 0:00:02.09
+        | no missing unread lost breaks doubtful conflicts stray completed leftOut | @5 0:00:00.01
+    the rate of PAL | t1495..1504 | @9 0:00:59.24 | @11 0:01:00.00 | no missing
+    the rate of NTSC | NTSC t1795..1804 | @9 0:00:59.29 | @11 0:01:00.00 | no missing
+    hours | t179995..180004 | numbers 10 1:59:59.20 to 2:00:00.04 | no missing breaks
+    one time | s0.7/M/@0:09 | numbers 1 0:09:00.07 to 0:09:00.07
+    with the minute behind | s0.7/-/- -/@0:09/- | numbers 1 0:09:00.07 to 0:09:00.07
+    with the minute before | -/@0:09/- s0.7/-/- | numbers 1 0:09:00.07 to 0:09:00.07
+    with both of them | -/@0:08/- s0.7/-/- -/@0:09/- | numbers 1 0:09:00.07 to 0:09:00.07
+    """)
 
-
-def changed(rows, field, line, item):
-    """These rows with another item on a line of a field."""
-    rows = list(rows)
-    items = rows[field - 1].split(" ")
-    items[line - 16] = item
-    rows[field - 1] = " ".join(items)
-    return rows
-
-
-class Sound(unittest.TestCase):
-    def test_a_whole_side_with_marks_on_line_17(self):
-        found = answer([LEAD_IN] * 2 + times(range(0, 60)) + [LEAD_OUT] * 2)
-        self.assertEqual([found[name] for name in ("format", "unit", "pace")], ["clv", "time", "video"])
-        self.assertEqual(found["numbers"], {"count": 60, "least": "0:00:00.00", "greatest": "0:00:02.09"})
-        self.assertEqual(found["showings"][1], ["0:00:00.01", 5, 5])
-        for name in ("missing", "unread", "lost", "breaks", "doubtful", "conflicts", "stray", "completed", "leftOut"):
-            self.assertEqual(found[name], [], name)
-
-    def test_both_systems_turn_the_second_at_their_rate(self):
-        for system, rate, last in (("PAL", 25, "0:00:59.24"), ("NTSC", 30, "0:00:59.29")):
-            found = answer(times(range(60 * rate - 5, 60 * rate + 5), rate), system)
-            self.assertEqual([number for number, _, _ in found["showings"]][4:6], [last, "0:01:00.00"])
-            self.assertEqual(missing(found), [])
-
-    def test_hours(self):
-        found = answer(times(range(25 * 7200 - 5, 25 * 7200 + 5)))
-        self.assertEqual(found["numbers"], {"count": 10, "least": "1:59:59.20", "greatest": "2:00:00.04"})
-        self.assertEqual(missing(found) + found["breaks"], [])
-
-    def test_the_minute_on_line_17_and_on_both_lines(self):
-        for line17, line18 in ((minutes(0, 9), "-"), (minutes(0, 9), minutes(0, 9)), (CLV_MARK, minutes(0, 9))):
-            rows = []
-            for number in range(20):
-                rows += ["%s %s %s" % (second(7, number), line17, line18), "- 87FFFF 87FFFF"]
-            found = answer(rows)
-            self.assertEqual(found["numbers"], {"count": 20, "least": "0:09:07.00", "greatest": "0:09:07.19"})
-
-    def test_the_minute_in_the_field_behind_and_before(self):
-        for order in (0, 1):
-            rows = []
-            for number in range(20):
-                pair = ["%s 87FFFF 87FFFF" % second(7, number), "- %s %s" % (minutes(0, 9), minutes(0, 9))]
-                rows += pair[::-1] if order else pair
-            found = answer(rows)
-            self.assertEqual(found["numbers"], {"count": 20, "least": "0:09:07.00", "greatest": "0:09:07.19"})
-            self.assertEqual(found["doubtful"], [])
+    def test_where_the_minute_stands(self):
+        """On line 17, on both lines, on line 18; in the field behind, and in the field before."""
+        for pair in ("s7.%d/@0:09/- -/M/M", "s7.%d/@0:09/@0:09 -/M/M", "s7.%d/M/@0:09 -/M/M", "s7.%d/M/M -/@0:09/@0:09",
+                     "-/@0:09/@0:09 s7.%d/M/M"):
+            found = answer(rows(" ".join(pair % number for number in range(20))))
+            self.assertEqual([of_member(found, "numbers"), found["doubtful"]], ["20 0:09:07.00 to 0:09:07.19", []])
 
     def test_a_turn_of_minutes_whose_neighbours_differ(self):
         """The time stands on the second field of its picture, or on the first, and its minute was read in the other
         fields alone: the field before says the last minute, the field behind the next one."""
         for system, rate in (("PAL", 25), ("NTSC", 30)):
             turn = 60 * rate
-            for number, is_second in ((turn - 1, True), (turn, False)):
-                rows = []
-                for one in range(turn - 10, turn + 10):
-                    said = minutes(0, one // turn)
-                    time = second(one // rate % 60, one % rate)
-                    own = "-" if one == number else said
-                    pair = ["%s 87FFFF %s" % (time, own), "- 87FFFF %s" % said]
-                    rows += pair[::-1] if is_second else pair
-                found = answer(rows, system)
+            for lacking, order, field in ((turn - 1, "{1} {0}", 20), (turn, "{0} {1}", 21)):
+                pairs = [order.format("s%d.%d/M/%s" % (number // rate % 60, number % rate, "-" if number == lacking else
+                                                       "@0:%d" % (number // turn)), "-/M/@0:%d" % (number // turn))
+                         for number in range(turn - 10, turn + 10)]
+                found = answer(rows(" ".join(pairs)), system)
                 self.assertEqual([showing[0] for showing in found["showings"]][8:12], [
                     "0:00:59.%d" % (rate - 2), "0:00:59.%d" % (rate - 1), "0:01:00.00", "0:01:00.01"])
-                self.assertEqual(found["completed"], [20 if is_second else 21])
-                self.assertEqual(missing(found) + found["doubtful"], [])
+                self.assertEqual((found["completed"], found["missing"], found["doubtful"]), ([field], [], []))
 
-    def test_one_time_alone(self):
-        for rows in (["8AE007 87FFFF F0DD09"], ["8AE007 - -", "- F0DD09 -"], ["- F0DD09 -", "8AE007 - -"]):
-            self.assertEqual(answer(rows)["numbers"], {"count": 1, "least": "0:09:00.07", "greatest": "0:09:00.07"})
+    def test_damage(self):
+        """Time n of these stands in field 2n + 1, the first one being 0:00:00.00 or 0:00:59.15."""
+        check(self, """
+    weighs as much as its weaker part, at the end and one picture too early | t0..19 39.16=s0.20* 39.17=@0:00
+        | doubtful 39/16 00.20 alone.. | numbers 19 0:00:00.00 to 0:00:00.18
+    a lost minute | t1490..1509 15.18=? | count 20 | completed 15 | @15 0:00:59.22
+    a wrong minute | t1490..1509 15.18=@0:08 | no missing | completed 15 | doubtful 15/18 0:08 neighbours
+    wrong seconds | t1490..1509 15.16=s19.22 | missing 0:00:59.22 unread | doubtful 15/16 19.22 neighbours
+        | unread 0:00:59.22@15=19.22
+    no clock shows them | t0..19 5.16=s0.25 7.18=@0:60 | doubtful 5/16 None clock, 7/18 None clock
+        | missing 0:00:00.02 unread
+    that of NTSC does | NTSC t25..29 | numbers 5 0:00:00.25 to 0:00:00.29
+    minutes that differ | t0..19 5.17=@0:40 9.17=@0:00 9.18=@2:00 | conflicts 5 0:40|0:00 0:00, 9 0:00|2:00 0:00
+        | doubtful 5/17 0:40 lines, 9/18 2:00 lines | count 20
+    that fits nothing, at the end | t0..19 39.18=@2:30 39.16=s44.7 | count 19
+        | doubtful 39/16 44.07 alone, 39/18 2:30 alone
+    behind a loss of a second | t0..99 u125..144 221.18=@0:07 | @225 0:00:05.12
+    behind one of more what the run says | t0..99 u126..145 221.18=@0:07 | @225 0:07:05.13
+    seconds without a minute | s7.0/M/M s7.1/M/M s7.2/M/M | format clv | unit None
+        | doubtful 1/16 None minute, 2/16 None minute, 3/16 None minute
+    a stop and a picture | t0..19 5.17=S 9.17=#7 | stray 5/17 picture stop format, 9/17 picture format | format clv
+        | no stops missing
+    """)
 
+    def test_minutes_alone(self):
+        check(self, """
+    minutes | m58x100 m59x3000 m60x3000 m61x50 | unit minute | pace minute | no missing breaks repeated
+        | showings 0:58@1-100, 0:59@101-3100, 1:00@3101-6100, 1:01@6101-6150
+    of NTSC | NTSC m0x3596 m1x3597 m2x3596 | count 3 | no missing breaks
+    ten without a word, for which there are fields | NTSC m0x9 Bx35960 m10x9 | no breaks doubtful
+        | missing 0:01-0:09 unread
+    of PAL | m0x9 Bx30000 m10x9 | no breaks doubtful | missing 0:01-0:09 unread
+    a wrong one, and lines that differ | m4x40 10=n24 20=-/@0:04/@0:44 | showings 0:04@1-40
+        | doubtful 10/17 0:24 neighbours, 10/18 0:24 neighbours, 20/18 0:44 lines | conflicts 20 0:04|0:44 0:04
+    one that isn't there | m4x3000 m6x3000 | missing 0:05 lost
+    """)
 
-class Damage(unittest.TestCase):
-    def test_a_time_weighs_as_much_as_its_weaker_part(self):
-        # one picture too early, in pass 2, with sure minutes: the last one of the side
-        rows = changed(times(range(20)), 39, 16, second(0, 20) + "*")
-        found = answer(changed(rows, 39, 17, minutes(0, 0)))
-        self.assertEqual(doubtful(found)[0], (39, 16, "00.20", "alone"))
-        self.assertEqual(found["numbers"]["greatest"], "0:00:00.18")
-
-    def test_a_lost_minute_is_completed_by_the_neighbours(self):
-        rows = changed(times(range(1490, 1510)), 15, 18, "?")
-        found = answer(rows)
-        self.assertEqual(count_of(found), 20)
-        self.assertEqual(found["completed"], [15])
-        self.assertEqual(found["showings"][7], ["0:00:59.22", 15, 15])
-
-    def test_a_wrong_minute_is_set_aside_for_itself(self):
-        found = answer(changed(times(range(1490, 1510)), 15, 18, minutes(0, 8)))
-        self.assertEqual(missing(found), [])
-        self.assertEqual(found["completed"], [15])
-        self.assertEqual(doubtful(found), [(15, 18, "0:08", "neighbours")])
-
-    def test_wrong_seconds_are_set_aside_for_themselves(self):
-        found = answer(changed(times(range(1490, 1510)), 15, 16, second(19, 22)))
-        self.assertEqual(missing(found), [("0:00:59.22", "0:00:59.22", "unread")])
-        self.assertEqual(doubtful(found), [(15, 16, "19.22", "neighbours")])
-        self.assertEqual(found["unread"], [{"number": "0:00:59.22", "field": 15, "read": "19.22"}])
-
-    def test_times_that_no_clock_shows(self):
-        rows = changed(times(range(20)), 5, 16, second(0, 25))
-        rows = changed(rows, 7, 18, minutes(0, 60))
-        found = answer(rows)
-        self.assertEqual(doubtful(found), [(5, 16, None, "clock"), (7, 18, None, "clock")])
-        self.assertEqual(missing(found), [("0:00:00.02", "0:00:00.02", "unread")])
-        self.assertEqual(answer(times(range(25, 30), 30), "NTSC")["numbers"]["least"], "0:00:00.25")
-
-    def test_minutes_that_differ(self):
-        rows = changed(changed(times(range(20)), 5, 17, minutes(0, 40)), 9, 17, minutes(0, 0))
-        rows = changed(rows, 9, 18, minutes(2, 0))
-        found = answer(rows)
-        self.assertEqual(found["conflicts"], [{"field": 5, "line17": "0:40", "line18": "0:00", "taken": "0:00"},
-                                              {"field": 9, "line17": "0:00", "line18": "2:00", "taken": "0:00"}])
-        self.assertEqual(doubtful(found), [(5, 17, "0:40", "lines"), (9, 18, "2:00", "lines")])
-        self.assertEqual(count_of(found), 20)
-
-    def test_a_time_that_fits_nothing(self):
-        # seconds of 0:00 beside minutes of 2:30, at the end, where nothing else can tell
-        found = answer(changed(changed(times(range(20)), 39, 18, minutes(2, 30)), 39, 16, second(44, 7)))
-        self.assertEqual(count_of(found), 19)
-        self.assertEqual(doubtful(found), [(39, 16, "44.07", "alone"), (39, 18, "2:30", "alone")])
-
-    def test_seconds_without_any_minute(self):
-        found = answer(["%s 87FFFF 87FFFF" % second(7, number) for number in range(5)])
-        self.assertEqual([found["format"], found["unit"]], ["clv", None])
-        self.assertEqual(doubtful(found), [(field, 16, None, "minute") for field in range(1, 6)])
-
-    def test_a_stop_and_a_picture_on_a_clv_side_are_stray(self):
-        found = answer(changed(changed(times(range(20)), 5, 17, STOP), 9, 17, "F00007"))
-        self.assertEqual([(one["field"], one["line"], one["kind"], one["why"]) for one in found["stray"]],
-                         [(5, 17, "picture stop", "format"), (9, 17, "picture", "format")])
-        self.assertEqual([found["format"], found["stops"], missing(found)], ["clv", [], []])
-
-
-class MinutesAlone(unittest.TestCase):
-    def rows(self, spans):
-        return ["- 87FFFF %s" % minutes(*divmod(minute, 60)) for minute, fields in spans for _ in range(fields)]
-
-    def test_minutes(self):
-        found = answer(self.rows([(58, 100), (59, 3000), (60, 3000), (61, 50)]))
-        self.assertEqual([found["unit"], found["pace"]], ["minute", "minute"])
-        self.assertEqual(found["showings"], [["0:58", 1, 100], ["0:59", 101, 3100], ["1:00", 3101, 6100],
-                                             ["1:01", 6101, 6150]])
-        self.assertEqual(missing(found) + found["breaks"] + found["repeated"], [])
-
-    def test_minutes_of_ntsc_have_3596_or_3597_fields(self):
-        found = answer(self.rows([(0, 3596), (1, 3597), (2, 3596)]), "NTSC")
-        self.assertEqual(count_of(found), 3)
-        self.assertEqual(missing(found) + found["breaks"], [])
-
-    def test_ten_minutes_without_a_word(self):
-        for system, fields in (("NTSC", 3596), ("PAL", 3000)):
-            found = answer(self.rows([(0, 9)]) + [BLANK] * (10 * fields) + self.rows([(10, 9)]), system)
-            self.assertEqual(found["breaks"] + found["doubtful"], [])
-            self.assertEqual(missing(found), [("0:01", "0:09", "unread")])  # there are fields for all of them
-
-    def test_a_wrong_minute_and_one_that_differs(self):
-        rows = self.rows([(4, 40)])
-        rows[9] = "- %s %s" % (minutes(0, 24), minutes(0, 24))
-        rows[19] = "- %s %s" % (minutes(0, 4), minutes(0, 44))
-        found = answer(rows)
-        self.assertEqual(found["showings"], [["0:04", 1, 40]])
-        self.assertEqual(doubtful(found), [(10, 17, "0:24", "neighbours"), (10, 18, "0:24", "neighbours"),
-                                           (20, 18, "0:44", "lines")])
-        self.assertEqual(found["conflicts"], [{"field": 20, "line17": "0:04", "line18": "0:44", "taken": "0:04"}])
-
-    def test_a_minute_that_is_not_there(self):
-        found = answer(self.rows([(4, 3000), (6, 3000)]))
-        self.assertEqual(missing(found), [("0:05", "0:05", "lost")])
-
-
-class Clock(unittest.TestCase):
-    """NTSC: 30 numbers to a second of 29.97."""
-
-    def numbers(self, count, is_left_out):
-        return [number for number in range(count) if not is_left_out(number)]
-
-    def test_one_number_in_1001_evenly(self):
-        found = answer(times(self.numbers(6000, lambda number: number % 1001 == 400), 30), "NTSC")
-        self.assertEqual(missing(found), [])
-        self.assertEqual([one["first"] for one in found["leftOut"]],
-                         ["0:00:13.10", "0:00:46.21", "0:01:20.02", "0:01:53.13", "0:02:26.24", "0:03:00.05"])
-        self.assertEqual({one["why"] for one in found["leftOut"]}, {"clock"})
-        self.assertEqual(found["lost"], [])
-
-    def test_two_numbers_at_the_start_of_each_minute_but_the_tenth(self):
-        found = answer(times(self.numbers(20000, lambda number: number % 1800 < 2 and number % 18000 > 1), 30), "NTSC")
-        self.assertEqual(missing(found), [])
-        self.assertEqual(len(found["leftOut"]), 10)
-        self.assertEqual((found["leftOut"][0]["first"], found["leftOut"][0]["last"]), ("0:01:00.00", "0:01:00.01"))
-        self.assertEqual((found["leftOut"][-1]["first"], found["leftOut"][-1]["count"]), ("0:11:00.00", 2))
-
-    def test_a_damaged_number_beside_two_that_are_left_out(self):
-        rows = times(self.numbers(2000, lambda number: number in (1800, 1801)), 30)
-        rows[3598] = "? ? ?"  # 1799
-        found = answer(rows, "NTSC")
-        self.assertEqual(missing(found), [("0:00:59.29", "0:00:59.29", "unread")])
-        self.assertEqual([(one["first"], one["last"]) for one in found["leftOut"]], [("0:01:00.00", "0:01:00.01")])
-
-    def test_a_long_loss_leaves_the_clock_as_it_is(self):
-        numbers = self.numbers(12012, lambda number: number % 1001 == 400)
-        rows = times(numbers, 30)
-        del rows[6000:18000]  # 6,000 of 12,000 pictures
-        found = answer(rows, "NTSC")
-        self.assertEqual(found["lost"], [{"after": 5999, "before": 6001, "fields": 12012, "by": "number"}])
-        self.assertEqual((numbers[2999], numbers[9000]), (3002, 9009))
-        self.assertEqual(len(found["leftOut"]), 6)  # of 400, 1401, 2402 and 9409, 10410, 11411
-        self.assertEqual(len(missing(found)), 1)
-
-    def test_two_sides_that_are_joined_have_a_clock_each(self):
-        rows = [row for phase in (400, 750)
-                for row in times(self.numbers(5000, lambda number, phase=phase: number % 1001 == phase), 30)]
-        found = answer(rows, "NTSC")
-        self.assertEqual([found["lost"], len(found["breaks"])], [[], 1])
-
-    def test_a_short_stretch_is_judged_by_another_one(self):
-        numbers = self.numbers(9000, lambda number: number % 1001 == 400)
-        rows = times(numbers[:5000] + numbers[6500:], 30)
-        self.assertEqual(len(answer(rows, "NTSC")["lost"]), 1)
-        # nothing but short ones: together they have enough
-        rows = times(numbers[:1500] + numbers[2900:4400] + numbers[5900:7400], 30)
-        self.assertEqual(len(answer(rows, "NTSC")["lost"]), 2)
-
-    def test_frames_that_are_lost_are_no_clock(self):
-        found = answer(times(self.numbers(6000, lambda number: number in (400, 1700, 4100)), 30), "NTSC")
-        self.assertEqual(missing(found), [("0:00:13.10", "0:00:13.10", "lost"), ("0:00:56.20", "0:00:56.20", "lost"),
-                                          ("0:02:16.20", "0:02:16.20", "lost")])
-        self.assertEqual(len(found["lost"]), 3)
-
-    def test_a_short_side_does_not_say(self):
-        found = answer(times([0, 1, 3, 4], 30), "NTSC")
-        self.assertEqual(missing(found), [("0:00:00.02", "0:00:00.02", "undecided")])
-        self.assertEqual(found["lost"], [{"after": 3, "before": 5, "fields": 2, "by": "undecided"}])
-
-    def test_one_gap_in_less_than_4000_numbers_does_not_say(self):
-        for count, why in ((3500, "undecided"), (3999, "undecided"), (4000, "lost")):
-            found = answer(times(self.numbers(count, lambda number: number == 400), 30), "NTSC")
-            self.assertEqual(missing(found), [("0:00:13.10", "0:00:13.10", why)], count)
-
-    def test_another_stretch_decides_which_gap_of_a_short_one_is_the_clocks(self):
-        numbers = self.numbers(8000, lambda number: number % 1001 == 400 or number == 7000)
-        short = numbers[numbers.index(6500):]
-        both = [("0:03:53.10", "0:03:53.10"), ("0:04:06.27", "0:04:06.27")]  # 7000, which is lost, and 7407
-        found = answer(times(short, 30), "NTSC")
-        self.assertEqual(missing(found), [one + ("undecided",) for one in both])
-        found = answer(times(numbers[:5000] + short, 30), "NTSC")
-        self.assertEqual(missing(found)[1:], [both[0] + ("lost",)])
-        self.assertEqual([(one["first"], one["last"]) for one in found["leftOut"]][5:], both[1:])
-
-    def test_three_places_are_enough_and_two_are_not(self):
-        for count, whys in ((3400, {"clock"}), (2400, {"undecided"})):
-            found = answer(times(self.numbers(count, lambda number: number % 1001 == 400), 30), "NTSC")
-            self.assertEqual({one["why"] for one in found["missing"] + found["leftOut"]}, whys)
-
-    def test_three_places_of_many_that_are_due_are_no_clock(self):
-        found = answer(times(self.numbers(9000, lambda number: number in (1000, 2001, 3002)), 30), "NTSC")
-        self.assertEqual([one["why"] for one in found["missing"]], ["lost"] * 3)
-
-    def test_no_number_is_left_out_at_a_tenth_minute(self):
-        numbers = [number for number in range(17000, 22000) if number not in (18000, 18001)]
-        self.assertEqual(missing(answer(times(numbers, 30), "NTSC")), [("0:10:00.00", "0:10:00.01", "lost")])
-
-    def test_three_numbers_at_once_are_lost(self):
-        found = answer(times(self.numbers(5000, lambda number: 500 <= number <= 502), 30), "NTSC")
-        self.assertEqual(missing(found), [("0:00:16.20", "0:00:16.22", "lost")])
-
-    def test_two_numbers_elsewhere_are_lost(self):
-        found = answer(times(self.numbers(5000, lambda number: number in (900, 901)), 30), "NTSC")
-        self.assertEqual(missing(found), [("0:00:30.00", "0:00:30.01", "lost")])
-
-    def test_pal_leaves_out_nothing(self):
-        found = answer(times(self.numbers(6000, lambda number: number % 1001 == 400)), "PAL")
-        self.assertEqual(len(missing(found)), 6)
-        self.assertEqual(found["leftOut"], [])
-
-    def test_a_number_beside_the_one_left_out_was_not_read(self):
-        rows = times(self.numbers(6000, lambda number: number % 1001 == 400), 30)
-        rows[798] = rows[799] = BLANK  # the number before the first one that is left out
-        found = answer(rows, "NTSC")
-        self.assertEqual(missing(found), [("0:00:13.09", "0:00:13.09", "unread")])
-        self.assertEqual(len(found["leftOut"]), 6)
-
-
-if __name__ == "__main__":
-    unittest.main()
+    def test_the_clock(self):
+        """NTSC has 30 numbers to a second of 29.97: one of 1001 is left out, or two at the start of each minute but the
+        tenth. Of what is left in one stretch number 5000 is 5005, for instance."""
+        check(self, """
+    one in 1001 | NTSC t0..5999!400%1001 | no missing lost | whys clock
+        | leftOut 0:00:13.10, 0:00:46.21, 0:01:20.02, 0:01:53.13, 0:02:26.24, 0:03:00.05
+    two a minute | NTSC t0..1 t2..17999!0,1%1800 t18000..18001 t18002..19999!0,1%1800 | no missing | leftOut x10
+        | leftOut 0:01:00.00-0:01:00.01, .. | leftOut .., 0:11:00.00-0:11:00.01
+    damage beside them | NTSC t0..1999!1800,1801 3599=?/?/? | missing 0:00:59.29 unread
+        | leftOut 0:01:00.00-0:01:00.01
+    half of it is lost | NTSC t0..12011!400%1001 -6001:18000 | lost 5999-6001 12012 number | leftOut x6 | missing x1
+    two sides have a clock each | NTSC t0..4999!400%1001 t0..4999!750%1001 | no lost | breaks x1
+    a short stretch by a long one | NTSC t0..5004!400%1001 t6507..8999!400%1001 | lost x1
+    short ones together | NTSC t0..1501!400%1001 t2903..4403!400%1001 t5906..7406!400%1001 | lost x2
+    frames that are lost | NTSC t0..5999!400,1700,4100 | lost x3
+        | missing 0:00:13.10 lost, 0:00:56.20 lost, 0:02:16.20 lost
+    a short side doesn't say | NTSC t0..1 t3..4 | missing 0:00:00.02 undecided | lost 3-5 2 undecided
+    nor do less than 4000 numbers | NTSC t0..3499!400 | missing 0:00:13.10 undecided
+    up to there | NTSC t0..3998!400 | missing 0:00:13.10 undecided
+    as many do | NTSC t0..3999!400 | missing 0:00:13.10 lost
+    two gaps, one of which is lost | NTSC t6500..6999!400%1001 t7001..7999!400%1001
+        | missing 0:03:53.10 undecided, 0:04:06.27 undecided
+    beside a stretch that decides | NTSC t0..5004!400%1001 t6500..6999!400%1001 t7001..7999!400%1001
+        | missing .., 0:03:53.10 lost | missing x2 | leftOut .., 0:04:06.27 | leftOut x6
+    a stretch ends at a jump of 1000 numbers | NTSC t0..3100!500,1500,2500 t4101..4200!4150
+        | missing .., 0:02:18.10 undecided
+    not at one of 999 | NTSC t0..3100!500,1500,2500 t4100..4200!4150 | missing .., 0:02:18.10 lost
+    three places are enough | NTSC t0..3399!400%1001 | whys clock
+    two are not | NTSC t0..2399!400%1001 | whys undecided
+    nor are three of many that are due | NTSC t0..8999!1000,2001,3002 | missing x3 | whys lost
+    at a tenth minute | NTSC t17000..21999!18000,18001 | missing 0:10:00.00-0:10:00.01 lost
+    three at once | NTSC t0..4999!500,501,502 | missing 0:00:16.20-0:00:16.22 lost
+    two elsewhere | NTSC t0..4999!900,901 | missing 0:00:30.00-0:00:30.01 lost
+    PAL has none | t0..5999!400%1001 | missing x6 | no leftOut
+    one beside it was not read | NTSC t0..5999!400%1001 799:800=B | missing 0:00:13.09 unread | leftOut x6
+    """)

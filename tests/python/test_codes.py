@@ -63,7 +63,3 @@ class Lines(unittest.TestCase):
     def test_codes_on_other_lines_are_left_out(self):
         self.assertEqual(codes_by_kind((0xF00001, 0x8DC0A1, 0xABCDEF)), [])
         self.assertEqual(codes_by_kind((0x87FFFF, 0x8AE000, 0)), [])
-
-
-if __name__ == "__main__":
-    unittest.main()

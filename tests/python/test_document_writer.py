@@ -1,12 +1,10 @@
 """The document of a mapped file beside the one that the program's `extract` writes of it."""
 
 import io
-import os
 import subprocess
-import tempfile
-import unittest
 
 import ldvbi
+from cases import InFolder, reason
 from ldvbi.document import write_document
 from ldvbi.readings import cause_text
 from ldvbi_side.command.progress import Progress
@@ -68,12 +66,7 @@ class Later:
         return iter([ldvbi.PACKED_FIELD.pack(1, 0, 0, 0, 1, 0, 0, 0, len(ldvbi.Cause), 0, 0, 0)])
 
 
-class Documents(unittest.TestCase):
-    def setUp(self):
-        folder = tempfile.TemporaryDirectory()
-        self.addCleanup(folder.cleanup)
-        self.path = os.path.join(folder.name, "side.tbc")
-
+class Documents(InFolder):
     def compare(self, setup, fields, rest=0):
         write_stream(self.path, setup, fields, rest)
         wanted, status = extracted(self.path, setup)
@@ -97,18 +90,11 @@ class Documents(unittest.TestCase):
                     self.assertIn(part, text)
 
     def test_counts_of_fields(self):
-        for count in (0, 1, 63, 64, 65, 128, 129):
-            with self.subTest(count):
-                self.compare(NTSC, pictures(count))
-        self.compare(PAL, pictures(65))
-        for setup in (NTSC, PAL):
-            with self.subTest(setup):
-                self.compare(setup, pictures(1025), 1000)
-
-    def test_cut_streams(self):
+        """Whole streams and cut ones."""
         for setup in (NTSC, PAL):
             size = ldvbi.field_bytes(setup[0])
-            for count, rest in ((0, 1), (0, size - 1), (2, 1), (64, 1000), (3, size - 1)):
+            for count, rest in ((0, 0), (1, 0), (63, 0), (64, 0), (65, 0), (128, 0), (129, 0), (0, 1), (0, size - 1),
+                                (2, 1), (64, 1000), (3, size - 1), (1025, 1000)):
                 with self.subTest((setup, count, rest)):
                     self.compare(setup, pictures(count), rest)
 
@@ -120,22 +106,11 @@ class Documents(unittest.TestCase):
     def test_too_many_fields(self):
         """As the program, which takes at most 1,000,000."""
         for many, is_taken in ((Many(1000000, 0), True), (Many(1000000, 1), False), (Many(1000001, 0), False)):
-            with self.subTest((len(many), many.cut_bytes)):
-                text = io.StringIO()
-                if is_taken:
-                    write_document(many, text, Progress(0, is_wanted=False).over)
-                else:
-                    with self.assertRaisesRegex(ValueError, "^too many fields$"):
-                        write_document(many, text, Progress(0, is_wanted=False).over)
-                    self.assertEqual(text.getvalue(), "")
+            text = io.StringIO()
+            said = reason(write_document, many, text, Progress(0, is_wanted=False).over)
+            self.assertEqual((said, text.getvalue() != ""), (None, True) if is_taken else ("too many fields", False))
 
     def test_a_cause_of_a_later_library(self):
-        text = "^the library's cause 5 is not known here$"
-        with self.assertRaisesRegex(ValueError, text):
-            write_document(Later(), io.StringIO(), Progress(0, is_wanted=False).over)
-        with self.assertRaisesRegex(ValueError, text):
-            cause_text(ldvbi.Reading(5, 0, 0, 0))
-
-
-if __name__ == "__main__":
-    unittest.main()
+        text = "the library's cause 5 is not known here"
+        self.assertEqual(reason(write_document, Later(), io.StringIO(), Progress(0, is_wanted=False).over), text)
+        self.assertEqual(reason(cause_text, ldvbi.Reading(5, 0, 0, 0)), text)

@@ -84,7 +84,3 @@ class Written(unittest.TestCase):
         for other in (inner, data.replace(b"\n", b"\r\n"), b" " + data, data + b" ", data.replace(b":", b": "),
                       written(count=0), data.replace(b'"seqNo":2', b'"seqNo":02'), data.replace(b":2,", b":4,", 1)):
             self.assertEqual(outcome(read_document, other), outcome(document._as_json, other))
-
-
-if __name__ == "__main__":
-    unittest.main()

@@ -2,50 +2,48 @@
 
 import gzip
 import os
-import tempfile
 import unittest
 from unittest import mock
 
+from cases import InFolder
 from ldvbi.packed import packed_as
 from ldvbi_side.command.folders import Found, files_of, page_name, sides_in
 
 
-class Folders(unittest.TestCase):
+class Folders(InFolder):
     def setUp(self):
-        folder = tempfile.TemporaryDirectory()
-        self.addCleanup(folder.cleanup)
+        super().setUp()
         self.addCleanup(os.chdir, os.getcwd())
-        os.chdir(folder.name)
+        os.chdir(self.folder)
 
     def add(self, *names):
         for name in names:
             os.makedirs(os.path.dirname(name) or ".", exist_ok=True)
-            with open(name, "wb"):
-                pass
+            self.write(name, b"")
 
-    def names(self, *paths):
+    def found(self, *paths):
         found = sides_in(paths)
         self.assertEqual({one.fault for one in found}, {None} if found else set())
         return [one.path for one in found]
 
     def test_order(self):
         self.add("d/b.tbc", "d/a/z.tbc", "d/a.tbc", "d/c/a.tbc", "c.tbc")
-        self.assertEqual(self.names("d", "c.tbc"), ["c.tbc", "d/a/z.tbc", "d/a.tbc", "d/b.tbc", "d/c/a.tbc"])
+        self.assertEqual(self.found("d", "c.tbc"), ["c.tbc", "d/a/z.tbc", "d/a.tbc", "d/b.tbc", "d/c/a.tbc"])
 
     def test_what_is_a_side(self):
         self.add("d/a.tbc", "d/a.tbc.json", "d/a.tbc.db", "d/a.json", "d/a.efm", "d/a.html", "d/b.vbi.json", "d/tbc")
         os.mkdir("d/folder.tbc")
-        self.assertEqual(self.names("d"), ["d/a.tbc", "d/b.vbi.json"])
+        self.assertEqual(self.found("d"), ["d/a.tbc", "d/b.vbi.json"])
         # what is named is taken for a side, whatever its name is
-        self.assertEqual(self.names("d/a.json", "d/tbc", "absent"), ["absent", "d/a.json", "d/tbc"])
+        self.assertEqual(self.found("d/a.json", "d/tbc", "absent"), ["absent", "d/a.json", "d/tbc"])
 
     def test_one_row_a_side(self):
         self.add("d/a.tbc", "d/a.vbi.json", "d/a.tbc.gz", "d/b.tbc.gz", "d/c.tbc.zst", "d/d.tbc.flac", "d/e.vbi.json",
                  "d/e/e.tbc", "d/f.gz")
-        self.assertEqual(self.names("d"), ["d/a.tbc", "d/b.tbc.gz", "d/c.tbc.zst", "d/d.tbc.flac", "d/e/e.tbc",
+        self.assertEqual(self.found("d"), ["d/a.tbc", "d/b.tbc.gz", "d/c.tbc.zst", "d/d.tbc.flac", "d/e/e.tbc",
                                            "d/e.vbi.json"])
-        self.assertEqual(self.names("d/a.vbi.json", "d/a.tbc"), ["d/a.tbc", "d/a.vbi.json"])
-        self.assertEqual(self.names("d/a.tbc", "d", "./d/a.tbc", os.path.abspath("d/a.tbc"))[:2],
+        self.assertEqual(self.found("d/a.vbi.json", "d/a.tbc"), ["d/a.tbc", "d/a.vbi.json"])
+        self.assertEqual(self.found("d/a.tbc", "d", "./d/a.tbc", os.path.abspath("d/a.tbc"))[:2],
                          [os.path.abspath("d/a.tbc"), "d/b.tbc.gz"])
 
     def test_links(self):
@@ -53,8 +51,8 @@ class Folders(unittest.TestCase):
         os.symlink("../d", "d/e/again")
         os.symlink("a.tbc", "d/c.tbc")
         os.symlink("d", "l")
-        self.assertEqual(self.names("d"), ["d/a.tbc", "d/e/b.tbc"])
-        self.assertEqual(self.names("l"), ["l/a.tbc", "l/e/b.tbc"])
+        self.assertEqual(self.found("d"), ["d/a.tbc", "d/e/b.tbc"])
+        self.assertEqual(self.found("l"), ["l/a.tbc", "l/e/b.tbc"])
 
     def test_a_folder_that_is_not_read(self):
         self.add("d/a.tbc", "d/e/b.tbc")
@@ -82,7 +80,3 @@ class Packed(unittest.TestCase):
                             (b"\x1f\x8b\x09\x00" + bytes(8), None), (b"\x1f\x8b\x08\x40" + bytes(8), None),
                             (b"fLaC" + bytes(8), None), (b"\x00" + gzip.compress(b""), None)):
             self.assertEqual(packed_as(begin), name, begin)
-
-
-if __name__ == "__main__":
-    unittest.main()

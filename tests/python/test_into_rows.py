@@ -4,9 +4,8 @@ ld-decode, as far as it is known here."""
 import contextlib
 import os
 import sqlite3
-import tempfile
-import unittest
 
+from cases import InFolder, reason
 from ldvbi.metadata import read_metadata
 from ldvbi_side.into.rows import Rows
 
@@ -28,15 +27,10 @@ def words(count):
     return [(0x800000 + number, 0, 0xF00000 + number) for number in range(count)]
 
 
-class Databases(unittest.TestCase):
+class Databases(InFolder):
     def setUp(self):
-        folder = tempfile.TemporaryDirectory()
-        self.addCleanup(folder.cleanup)
-        self.folder = folder.name
+        super().setUp()
         self.path, self.copy = self.named("side.tbc.db"), self.named("copy.db")
-
-    def named(self, name):
-        return os.path.join(self.folder, name)
 
     def run_in(self, path, *statements):
         with contextlib.closing(sqlite3.connect(path)) as database:
@@ -62,21 +56,20 @@ class Databases(unittest.TestCase):
             database.commit()
 
     def refused(self, text):
-        with self.assertRaises(ValueError) as caught:
-            Rows(self.path).copy(self.copy, words(12))
-        self.assertEqual(str(caught.exception), "%s: %s" % (self.path, text))
+        found = reason(lambda: Rows(self.path).copy(self.copy, words(12)))
+        self.assertEqual(found, "%s: %s" % (self.path, text))
 
 
 class Copies(Databases):
     def test_each_field_has_a_row(self):
         for begin in (0, 1, 100):
-            self.make(begin=begin)
+            self.make(begin=begin, row="INSERT INTO vbi VALUES (4, 150, 1, 2, 3)")  # of no field, which stays
             before = self.run_in(self.path, "SELECT * FROM vbi")
             rows = Rows(self.path)
             self.assertEqual(len(rows), 12)
             rows.copy(self.copy, words(12))
             self.assertEqual(self.run_in(self.copy, "SELECT * FROM vbi ORDER BY field_id"), [
-                [(4, begin + place, *three) for place, three in enumerate(words(12))]])
+                [(4, begin + place, *three) for place, three in enumerate(words(12))] + [(4, 150, 1, 2, 3)]])
             self.assertEqual(self.run_in(self.path, "SELECT * FROM vbi"), before)
             os.unlink(self.copy)
 
@@ -103,12 +96,6 @@ class Copies(Databases):
         self.assertEqual(len(rows), 2)
         rows.copy(self.copy, words(2))
         self.assertEqual(self.run_in(self.copy, "SELECT * FROM vbi"), [[(7, *words(2)[1]), (6, *words(2)[0])]])
-
-    def test_a_row_of_no_field_stays(self):
-        self.make(row="INSERT INTO vbi VALUES (4, 50, 1, 2, 3)")
-        Rows(self.path).copy(self.copy, words(12))
-        self.assertEqual(self.run_in(self.copy, "SELECT * FROM vbi WHERE field_id >= 11 ORDER BY field_id"),
-                         [[(4, 11, *words(12)[11]), (4, 50, 1, 2, 3)]])
 
     def test_what_was_written_last_is_copied_too(self):
         """In a database with a log of its own, which another program still has open."""
@@ -140,20 +127,21 @@ class Copies(Databases):
         self.assertEqual(*(self.run_in(path, "SELECT * FROM vbi") for path in (self.path, self.copy)))
 
     def test_other_forms(self):
-        self.make(form=FORM.replace("vbi1 INTEGER NOT NULL", "b INTEGER").replace("VALUES (4, ?, -1", "("), count=0)
-        self.refused("table vbi has no column vbi1; there are: capture_id, field_id, vbi0, b, vbi2")
-        self.make(form=FORM.replace("TABLE vbi", "TABLE words"), count=0)
-        self.refused("no table vbi; there are: capture, drop_outs, field_record, words")
-        self.make(gap="UPDATE field_record SET field_id = 20 WHERE field_id = 5")
-        self.refused("the fields' numbers, field_id, leave some out, or have one twice")
-        self.make(again="INSERT INTO field_record VALUES (5, 5, 0, 1, 0)",
-                  gone="DELETE FROM field_record WHERE field_id = 11")
-        self.refused("the fields' numbers, field_id, leave some out, or have one twice")
-        self.make(0, "CREATE TABLE vbi (field_id INT, vbi0, vbi1, vbi2); INSERT INTO vbi VALUES (NULL, 1, 2, 3)")
-        self.refused("the fields' numbers, field_id, leave some out, or have one twice")
-        self.make(form=FORM.replace("capture_notes TEXT", "x").replace("(capture_id INTEGER PRIMARY KEY, system",
-                                                                       "(id INTEGER, system"))
-        self.refused("SQLite can't copy it: no such column: capture_id")
+        gaps = "the fields' numbers, field_id, leave some out, or have one twice"
+        for text, count, form, *more in (
+                ("table vbi has no column vbi1; there are: capture_id, field_id, vbi0, b, vbi2", 0,
+                 FORM.replace("vbi1 INTEGER NOT NULL", "b INTEGER").replace("VALUES (4, ?, -1", "(")),
+                ("no table vbi; there are: capture, drop_outs, field_record, words", 0,
+                 FORM.replace("TABLE vbi", "TABLE words")),
+                (gaps, 12, FORM, "UPDATE field_record SET field_id = 20 WHERE field_id = 5"),
+                (gaps, 12, FORM, "INSERT INTO field_record VALUES (5, 5, 0, 1, 0)",
+                 "DELETE FROM field_record WHERE field_id = 11"),
+                (gaps, 0, "CREATE TABLE vbi (field_id INT, vbi0, vbi1, vbi2); INSERT INTO vbi VALUES (NULL, 1, 2, 3)"),
+                ("SQLite can't copy it: no such column: capture_id", 12,
+                 FORM.replace("capture_notes TEXT", "x").replace("(capture_id INTEGER PRIMARY KEY, system",
+                                                                 "(id INTEGER, system"))):
+            self.make(count, form, **{"more%d" % place: one for place, one in enumerate(more)})
+            self.refused(text)
 
 
 class FirstFields(Databases):
@@ -182,7 +170,3 @@ class FirstFields(Databases):
         self.make(0, FORM.replace("is_first_field", "first"))
         self.run_in(self.path, count, "INSERT INTO field_record VALUES (4, 0, 0, 0, 0)")
         self.assertEqual(read_metadata(self.path)[2:], (640, None))
-
-
-if __name__ == "__main__":
-    unittest.main()

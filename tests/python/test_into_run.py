@@ -9,9 +9,8 @@ import sqlite3
 import subprocess
 import sys
 import time
-import unittest
 
-from command_runs import DEADLINE, LEVELS, NO_METADATA, SIZE, Runs
+from command_runs import DEADLINE, NO_METADATA, SIZE, Runs
 from streams import NTSC, pictures, worn_line, write_stream
 from test_into_rows import FORM
 
@@ -46,74 +45,64 @@ class Copies(Runs):
     def document_words(self, text):
         return [field["vbi"]["vbiData"] for field in json.loads(text)["fields"]]
 
-    def names(self):
-        return sorted(os.listdir(self.folder))
-
 
 class Words(Copies):
+    def copied(self, words, name="copy.json"):
+        """The words of each field of the copy that a run makes, which prints nothing."""
+        self.assertEqual(self.run_command("%s --into %s" % (words, name)), (0, b"", ""))
+        return self.words_of(name)
+
     def test_the_words_of_the_document(self):
         self.database(12)
         before = self.read("side.tbc.json"), self.read("side.tbc.db")
         wanted = self.document_words(self.document)
-        self.assertEqual(self.run_command("side.tbc", "--into", "copy.json"), (0, b"", ""))
-        self.assertEqual(self.words_of("copy.json"), wanted)
-        for words in (["side.tbc", "--meta", "side.tbc.db"], ["side.tbc", *LEVELS, "--meta", "side.tbc.db"],
-                      ["side.vbi.json", "--meta", "side.tbc.db"]):
-            self.assertEqual(self.run_command(*words, "--into", "copy.db"), (0, b"", ""))
-            self.assertEqual(self.words_of("copy.db"), wanted)
-        for words in (["side.tbc", *LEVELS], ["side.tbc", "--no-recover"],
-                      ["side.vbi.json", "--meta", "side.tbc.json"]):
-            self.assertEqual(self.run_command(*words, "--into", "other.json"), (0, b"", ""))
+        self.assertEqual(self.copied("side.tbc"), wanted)
+        for words in ("side.tbc --meta side.tbc.db", "side.tbc LEVELS --meta side.tbc.db",
+                      "side.vbi.json --meta side.tbc.db"):
+            self.assertEqual(self.copied(words, "copy.db"), wanted)
+        for words in ("side.tbc LEVELS", "side.tbc --no-recover", "side.vbi.json --meta side.tbc.json"):
+            self.copied(words, "other.json")
             self.assertEqual(self.read("other.json"), self.read("copy.json"))
         self.assertEqual((self.read("side.tbc.json"), self.read("side.tbc.db")), before)
         self.assertEqual(self.names(), ["copy.db", "copy.json", "other.json", "side.tbc", "side.tbc.db",
                                         "side.tbc.json", "side.vbi.json"])
 
     def test_all_else_stays_as_it_was(self):
-        self.metadata(12, vbi={"vbiData": [0, 0, 0], "note": "kept"})
-        old = json.loads(self.read("side.tbc.json"), parse_float=str)
-        self.assertEqual(self.run_command("side.tbc", "--into", "copy.json")[0], 0)
-        for field, words in zip(old["fields"], self.document_words(self.document)):
-            field["vbi"]["vbiData"] = words
-        self.assertEqual(json.loads(self.read("copy.json"), parse_float=str), old)
-        self.assertIn(b"14318181.818181818", self.read("copy.json"))
+        """Numbers as they are written, ends of lines and other letters."""
+        self.metadata(12, vbi={"vbiData": [0, 0, 0], "note": "ü\U0001d11e"})
+        document = json.loads(self.read("side.tbc.json"), parse_float=str)
 
-    def test_ends_of_lines_and_other_letters_stay(self):
         def text():
             return json.dumps(document, indent=1, ensure_ascii=False).replace("\n", "\r\n").encode()
-
-        self.metadata(12, vbi={"vbiData": [0, 0, 0], "note": "ü\U0001d11e"})
-        document = json.loads(self.read("side.tbc.json"))
         self.write("side.tbc.json", text())
-        self.assertEqual(self.run_command("side.tbc", "--into", "copy.json")[0], 0)
+        self.copied("side.tbc LEVELS --meta side.tbc.json")
         for field, words in zip(document["fields"], self.document_words(self.document)):
             field["vbi"]["vbiData"] = words
         self.assertEqual(self.read("copy.json"), text())
+        self.assertIn(b"14318181.818181818", self.read("copy.json"))
 
     def test_recovered_words(self):
         fields = pictures(12)
         fields[4][1] = worn_line(0xF00004, NTSC, 10, 10)
         write_stream(self.path("side.tbc"), NTSC, fields)
-        self.run_command("side.tbc", "--document", "--recovered", "-o", "side.vbi.json")
-        for words, word in (([], 0), (["--recovered"], 0xF00004)):
-            self.assertEqual(self.run_command("side.tbc", "--into", "copy.json", *words), (0, b"", ""))
-            self.assertEqual(self.words_of("copy.json")[4], [0xF00004, word, 0xF00004])
+        self.run_command("side.tbc --document --recovered -o side.vbi.json")
+        for words, word in (("side.tbc", 0), ("side.tbc --recovered", 0xF00004)):
+            self.assertEqual(self.copied(words)[4], [0xF00004, word, 0xF00004])
         self.assertEqual(self.words_of("copy.json"), self.document_words(self.read("side.vbi.json")))
         # a document has the words that it has
-        self.run_command("side.vbi.json", "--meta", "side.tbc.json", "--into", "other.json")
+        self.copied("side.vbi.json --meta side.tbc.json", "other.json")
         self.assertEqual(self.read("other.json"), self.read("copy.json"))
         self.refused("side.vbi.json is a document, and --recovered is of a TBC file",
-                     "side.vbi.json", "--meta", "side.tbc.json",
-                     "--into", "other.json", "--recovered")
-        self.assertEqual(self.run_command("side.tbc", "--recovered", "--csv")[0], 2)
+                     "side.vbi.json --meta side.tbc.json --into other.json --recovered")
+        self.assertEqual(self.run_command("side.tbc --recovered --csv")[0], 2)
 
     def test_beside_what_is_printed(self):
-        for words, status in ((["--seek", "3"], 0), (["--summary"], 1), (["--document"], 0), (["--svg", "svg"], 0),
-                              (["--document", "--recovered"], 0), ([], 0)):
+        for words, status in (("--seek 3", 0), ("--summary", 1), ("--document", 0), ("--svg svg", 0),
+                              ("--document --recovered", 0)):
             with self.subTest(words):
-                printed = self.run_command("side.tbc", *words) if words else (0, b"", "")
+                printed = self.run_command("side.tbc " + words)
                 self.assertEqual(printed[0], status)
-                self.assertEqual(self.run_command("side.tbc", *words, "--into", "copy.json"), printed)
+                self.assertEqual(self.run_command("side.tbc --into copy.json " + words), printed)
                 self.assertEqual(len(self.words_of("copy.json")), 12)
                 os.unlink(self.path("copy.json"))
 
@@ -122,8 +111,8 @@ class Words(Copies):
         self.write("side.vbi.json", self.extracted("side.tbc"))
         self.metadata(11)
         said = "ldvbi-side: %s: the last field is cut: field 12 has 7 of 478660 bytes\n"
-        for words in (["side.tbc"], ["side.vbi.json", "--meta", "side.tbc.json"]):
-            self.assertEqual(self.run_command(*words, "--into", "copy.json"), (3, b"", said % words[0]))
+        for name, words in (("side.tbc", ""), ("side.vbi.json", "--meta side.tbc.json")):
+            self.assertEqual(self.run_command("%s --into copy.json %s" % (name, words)), (3, b"", said % name))
             self.assertEqual(len(self.words_of("copy.json")), 11)
 
 
@@ -135,28 +124,24 @@ class Refused(Copies):
     def test_another_count_of_fields(self):
         self.metadata(13)
         self.database(11)
-        for words, text in ((["side.tbc"], "side.tbc has 12 whole fields, and side.tbc.json has 13"),
-                            (["side.vbi.json", "--meta", "side.tbc.db"],
-                             "side.vbi.json has 12 whole fields, and side.tbc.db has 11")):
-            self.refused(text, *words, "--into", "copy")
-        self.write("side.tbc.json", b'{"videoParameters": {"system": "NTSC", "black16bIre": 1, "white16bIre": 2}}')
-        self.refused("side.tbc has 12 whole fields, and side.tbc.json has 0", "side.tbc", "--into", "copy")
+        self.refused("side.tbc has 12 whole fields, and side.tbc.json has 13", "side.tbc --into copy")
+        self.refused("side.vbi.json has 12 whole fields, and side.tbc.db has 11",
+                     "side.vbi.json --meta side.tbc.db --into copy")
+        self.metadata(12, vbi=5)
+        self.refused("side.tbc.json: field 1: its vbi is no object", "side.tbc --into copy")
         self.assertNotIn("copy", self.names())
 
-    def test_a_field_of_another_form(self):
-        self.metadata(12, vbi=5)
-        self.refused("side.tbc.json: field 1: its vbi is no object", "side.tbc", "--into", "copy")
-
     def test_no_metadata(self):
+        self.metadata(12, "other")
         for text in (b"", b"{", b"[]"):
             self.write("side.tbc.json", text)
-            for words in (["side.tbc", *LEVELS], ["side.vbi.json", "--meta", "side.tbc.json"]):
-                self.refused("side.tbc.json is no metadata with videoParameters", *words, "--into", "copy")
-        self.metadata(12, "other")
+            for words in ("side.tbc LEVELS --into copy", "side.vbi.json --meta side.tbc.json --into copy"):
+                self.refused("side.tbc.json is no metadata with videoParameters", words)
         os.unlink(self.path("side.tbc.json"))
-        for words, text in ((["side.tbc", *LEVELS], "no side.tbc.json or side.tbc.db beside it"),
-                            (["side.vbi.json"], "no metadata is looked for beside a name that doesn't end with .tbc")):
-            self.refused("%s: %s; give the metadata to copy by --meta" % (words[0], text), *words, "--into", "copy")
+        for words, text in (("side.tbc LEVELS", "side.tbc: no side.tbc.json or side.tbc.db beside it"),
+                            ("side.vbi.json", "side.vbi.json: no metadata is looked for beside a name that doesn't end "
+                             "with .tbc")):
+            self.refused(text + "; give the metadata to copy by --meta", words + " --into copy")
         run = subprocess.run(["sh", "-c", 'cat other | "$0" -m ldvbi_side side.vbi.json --meta /dev/stdin --into copy',
                               sys.executable], cwd=self.folder, stdout=subprocess.PIPE, stderr=subprocess.PIPE,
                              timeout=DEADLINE, check=False)
@@ -167,32 +152,29 @@ class Refused(Copies):
         os.link(self.path("side.tbc.json"), self.path("hard"))
         os.symlink("side.tbc.json", self.path("soft"))
         os.symlink("rows.db", self.path("soft.db"))
-        before = self.names(), self.read("side.tbc.json"), self.read("rows.db"), self.read("side.vbi.json")
-        rows = ["--meta", "rows.db"]
-        for name, words in (("side.tbc.json", []), ("./side.tbc.json", []), ("hard", []), ("soft", []),
-                            ("side.tbc", []), ("rows.db", rows), ("soft.db", rows), ("rows.db-wal", rows),
-                            ("rows.db-journal", rows)):
-            self.refused("%s would be written in the place of an input or of another output" % name,
-                         "side.tbc", *words, "--into", name)
-        self.refused("copy would be written in the place of an input or of another output",
-                     "side.tbc", "--into", "copy", "--svg", "copy")
-        self.assertEqual((self.names(), self.read("side.tbc.json"), self.read("rows.db"), self.read("side.vbi.json")),
-                         before)
+        before = {name: self.read(name) for name in self.names()}
+        text = "%s would be written in the place of an input or of another output"
+        for names, words in (("side.tbc.json ./side.tbc.json hard soft side.tbc", "side.tbc --into "),
+                             ("rows.db soft.db rows.db-wal rows.db-journal", "side.tbc --meta rows.db --into ")):
+            for name in names.split():
+                self.refused(text % name, words + name)
+        self.refused(text % "copy", "side.tbc --into copy --svg copy")
+        self.assertEqual({name: self.read(name) for name in self.names()}, before)
 
     def test_a_database_that_is_in_use(self):
         for end in ("-journal", "-wal", "-shm"):
             self.write("copy" + end, b"")
             self.refused("copy%s is there: copy is in use, or was left unfinished" % end,
-                         "side.tbc", "--meta", "rows.db", "--into", "copy")
+                         "side.tbc --meta rows.db --into copy")
             os.unlink(self.path("copy" + end))
-        self.refused("/dev/null is no file", "side.tbc", "--meta", "rows.db", "--into", "/dev/null")
+        self.refused("/dev/null is no file", "side.tbc --meta rows.db --into /dev/null")
         self.assertNotIn("copy", self.names())
 
     def test_an_older_copy_keeps_its_mode(self):
         for meta in ("side.tbc.json", "rows.db"):
             self.write("copy", b"old")
             os.chmod(self.path("copy"), 0o640)
-            self.assertEqual(self.run_command("side.tbc", "--meta", meta, "--into", "copy")[0], 0)
+            self.assertEqual(self.run_command("side.tbc --into copy --meta " + meta)[0], 0)
             self.assertEqual(os.stat(self.path("copy")).st_mode & 0o777, 0o640)
 
 
@@ -239,7 +221,7 @@ class Long(Copies):
             resource.setrlimit(resource.RLIMIT_DATA, (MEMORY, MEMORY))
 
         # what records each line holds more with each of them
-        env = {name: value for name, value in os.environ.items() if name != "LDVBI_LINES"}
+        env = {name: value for name, value in os.environ.items() if name != "COVERAGE_PROCESS_START"}
         self.assertGreater(os.path.getsize(self.path("side.tbc.json")), 8 << 20)
         for meta, copy in (("side.tbc.json", "copy.json"), ("rows.db", "copy.db")):
             ended = self.run_command("side.tbc", "--meta", meta, "--into", copy, preexec_fn=limit, env=env)
@@ -251,29 +233,24 @@ class Sides(Copies):
     def test_is_first_field_of_a_database(self):
         os.unlink(self.path("side.tbc.json"))
         self.database(12)
-        self.assertEqual(self.run_command("side.tbc", "--seek", "4"), (0, b"field 5, frame 2\n", ""))
-        self.assertEqual(self.run_command("side.vbi.json", "--meta", "side.tbc.db", "--seek", "4"),
-                         (0, b"field 5, frame 2\n", ""))
+        for words in ("side.tbc", "side.vbi.json --meta side.tbc.db"):
+            self.assertEqual(self.printed(words + " --seek 4"), b"field 5, frame 2\n")
 
     def test_compare_with_system_and_levels(self):
         os.unlink(self.path("side.tbc.json"))
         write_stream(self.path("other.tbc"), NTSC, pictures(16)[4:])
-        wanted = self.run_command("compare", "side.vbi.json", "side.vbi.json")[1]
-        self.refused(NO_METADATA, "compare", "side.tbc", "side.vbi.json")
-        self.assertEqual(self.run_command("compare", *LEVELS, "side.tbc", "side.tbc"),
-                         (0, wanted.replace(b"side.vbi.json", b"side.tbc"), ""))
-        self.assertEqual(self.run_command("compare", "other.tbc", "side.vbi.json", *LEVELS)[1].split(b"\n")[0],
+        wanted = self.printed("compare side.vbi.json side.vbi.json")
+        self.refused(NO_METADATA, "compare side.tbc side.vbi.json")
+        self.assertEqual(self.printed("compare LEVELS side.tbc side.tbc"),
+                         wanted.replace(b"side.vbi.json", b"side.tbc"))
+        self.assertEqual(self.printed("compare other.tbc side.vbi.json LEVELS").split(b"\n")[0],
                          b"pictures: 12 in other.tbc, 12 in side.vbi.json, 8 in both")
         # in place of the metadata's, each by itself
         self.metadata(12)
-        self.assertEqual(self.run_command("compare", "side.tbc", "side.vbi.json")[0], 0)
-        self.refused("side.tbc has no numbers to compare", "compare", "side.tbc", "side.vbi.json",
-                     "--black=60000", "--white=60001")
-        self.refused(NO_METADATA.replace("side.tbc", "other.tbc"), "compare", "other.tbc", "side.tbc", *LEVELS[:-2])
-        self.refused("side.vbi.json: a document has its system and levels; they are options of a TBC file", "compare",
-                     "side.vbi.json", "side.vbi.json", "--white", "51200")
-        self.assertEqual(self.run_command("compare", "--system", "SECAM", "side.tbc", "side.tbc")[0], 2)
-
-
-if __name__ == "__main__":
-    unittest.main()
+        self.printed("compare side.tbc side.vbi.json")
+        self.refused("side.tbc has no numbers to compare", "compare side.tbc side.vbi.json --black=60000 --white=60001")
+        self.refused(NO_METADATA.replace("side.tbc", "other.tbc"),
+                     "compare other.tbc side.tbc --system NTSC --black 16384")
+        self.refused("side.vbi.json: a document has its system and levels; they are options of a TBC file",
+                     "compare side.vbi.json side.vbi.json --white 51200")
+        self.assertEqual(self.run_command("compare --system SECAM side.tbc side.tbc")[0], 2)

@@ -108,7 +108,3 @@ class Sets(unittest.TestCase):
     def test_captures_of_one_disc_do_not_disagree(self):
         for one in self.sets:
             self.assertEqual(one.joined["disagreements"], [], one.text)
-
-
-if __name__ == "__main__":
-    unittest.main()

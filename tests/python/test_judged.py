@@ -6,7 +6,8 @@ import unittest
 from collections import Counter
 
 import ldvbi
-from discs import BLANK, film, picture, pictures, plain
+from compact import rows
+from discs import plain
 from judged import Judged, Package, judged, packed_of
 from judged_truth import JudgedTruth
 from ldvbi import Counted, Number, Pace, State
@@ -72,159 +73,118 @@ class Beside(unittest.TestCase):
         self.assertGreater(counts["seeks, found by the judge"], counts["seeks, found by the lines"])
 
 
-def truth_of(rows, numbers, pace=Pace.video):
-    """The truth of a side of pictures with these rows, whose fields have these numbers on the disc."""
+def truth_of(text, numbers, pace=Pace.video):
+    """The truth of a side of pictures, whose fields have these numbers on the disc."""
     side = types.SimpleNamespace(layout="cav-pal", numbers=numbers)
-    return JudgedTruth(side, plain(rows), Counted.pictures, pace)
+    return JudgedTruth(side, plain(rows(text)), Counted.pictures, pace)
 
 
 def fields_of_pictures(numbers):
     return [one for number in numbers for one in (number, None)]
 
 
+FORTY = fields_of_pictures(range(40))
+# Behind field 39 the player skipped: fields 38 and 40 are the last and the first with a number there.
+JUMP, OF_JUMP = "0..19 30..49", fields_of_pictures([*range(20), *range(30, 50)])
+
+
 class Premises(unittest.TestCase):
     """Where the disc ran on or stood still, and what was misread weighs, by hand."""
 
     def test_a_disc_that_runs_on(self):
-        truth = truth_of(pictures(range(40)), fields_of_pictures(range(40)))
+        truth = truth_of("0..39", FORTY)
         self.assertTrue(all(truth.has_run_on(field) and truth.wrong_weight(field) == 0 for field in range(80)))
         # in field 1 nothing can be believed, since no field with a number is an even number of fields away
         self.assertEqual([truth.is_promised(field) for field in (0, 1, 40)], [True, True, True])
-
-    def test_a_jump(self):
-        """Behind field 39 the player skipped: fields 38 and 40 are the last and the first with a number there."""
-        numbers = [*range(20), *range(30, 50)]
-        truth = truth_of(pictures(numbers), fields_of_pictures(numbers))
+        truth = truth_of(JUMP, OF_JUMP)
         self.assertEqual([field for field in range(80) if not truth.has_run_on(field)], list(range(16, 63)))
-
-    def test_film(self):
-        rows, numbers = film(range(1, 21)), []
-        for number in range(1, 21):
-            numbers += [number] + [None] * (1 + number % 2)
-        self.assertTrue(all(truth_of(rows, numbers, Pace.film).has_run_on(field) for field in range(50)))
-        self.assertFalse(truth_of(rows, numbers).has_run_on(25))
+        numbers = [one for number in range(1, 21) for one in [number] + [None] * (1 + number % 2)]
+        self.assertTrue(all(truth_of("f1..20", numbers, Pace.film).has_run_on(field) for field in range(50)))
+        self.assertFalse(truth_of("f1..20", numbers).has_run_on(25))
         numbers[28], numbers[29] = None, numbers[28]  # 12, the second of a pair, a field late
-        self.assertFalse(truth_of(rows, numbers, Pace.film).has_run_on(25))
+        self.assertFalse(truth_of("f1..20", numbers, Pace.film).has_run_on(25))
 
     def test_a_regular_disc(self):
         """A number that the disc hasn't where those before and behind count to it; beyond a jump they count to none."""
-        numbers = fields_of_pictures(range(40))
-        truth = truth_of(pictures(range(40)), numbers)
-        self.assertTrue(all(map(truth.is_regular, range(80))))
-        numbers[20] = None
-        truth = truth_of(pictures(range(40)), numbers)
-        self.assertEqual([field for field in range(80) if not truth.is_regular(field)], [20])
-        jump = [*range(20), *range(30, 50)]
-        truth = truth_of(pictures(jump), fields_of_pictures(jump))
-        self.assertTrue(all(map(truth.is_regular, range(80))))
         of_film = [number if field % 5 in (0, 2) else None
                    for field, number in enumerate(2 * (field // 5) + (field % 5 == 2) for field in range(50))]
-        truth = truth_of(film(range(1, 21)), of_film, Pace.film)
-        self.assertTrue(all(map(truth.is_regular, range(50))))
-        of_film[22] = None
-        truth = truth_of(film(range(1, 21)), of_film, Pace.film)
-        self.assertEqual([field for field in range(50) if not truth.is_regular(field)], [22])
+        for text, numbers, pace, gone in (("0..39", FORTY, Pace.video, 20), (JUMP, OF_JUMP, Pace.video, None),
+                                          ("f1..20", of_film, Pace.film, 22)):
+            truth = truth_of(text, numbers, pace)
+            self.assertTrue(all(map(truth.is_regular, range(len(numbers)))))
+            if gone:
+                truth = truth_of(text, [*numbers[:gone], None, *numbers[gone + 1:]], pace)
+                self.assertEqual([field for field in range(len(numbers)) if not truth.is_regular(field)], [gone])
 
     def test_a_still(self):
-        rows = pictures([7] * 30)
-        truth = truth_of(rows, fields_of_pictures([7] * 29 + [8]))
+        sevens = fields_of_pictures([7] * 30)
+        truth = truth_of("7x30", fields_of_pictures([7] * 29 + [8]))
         self.assertEqual([truth.has_stood_still(field) for field in (33, 34, 35)], [True, False, True])
         self.assertEqual([truth.is_promised(field) for field in (32, 34)], [True, False])
-        self.assertFalse(truth_of(rows, fields_of_pictures([7] * 30), Pace.film).is_promised(32))
-        rows[20:23] = "- F00009 F00009*", BLANK, "- F00009 -"
-        self.assertTrue(truth_of(rows, fields_of_pictures([7] * 30)).is_promised(32))  # what was misread weighs 5
-        rows[24] = "- - F00009*"
-        self.assertFalse(truth_of(rows, fields_of_pictures([7] * 30)).is_promised(32))  # and 6
+        self.assertFalse(truth_of("7x30", sevens, Pace.film).is_promised(32))
+        misread = "7x30 21=-/#9/#9* 22=B 23=-/#9/-"  # which weighs 5, and then 6
+        self.assertTrue(truth_of(misread, sevens).is_promised(32))
+        self.assertFalse(truth_of(misread + " 25=-/-/#9*", sevens).is_promised(32))
 
     def test_what_was_misread_weighs(self):
         """Two wrong words of pass 1 on either of two fields are 8, one of pass 2 makes 9, and one more 10."""
-        rows = pictures(range(40))
-        for field, words in ((30, "- F09999 F09999"), (40, "- F08888 F08888"), (54, "- F00027 F00077*")):
-            rows[field] = words
-        truth = truth_of(rows, fields_of_pictures(range(40)))
+        text = "0..39 31=9999 41=8888 55=-/#27/#77*"
+        truth = truth_of(text, FORTY)
         self.assertEqual([truth.wrong_weight(field) for field in (29, 30, 54, 55, 64, 65, 78, 79)],
                          [8, 9, 9, 5, 5, 1, 1, 0])
         self.assertEqual((truth.is_promised(30), truth.misread), (True, {9999, 8888, 77}))
-        rows[31] = "- - F00005*"
-        truth = truth_of(rows, fields_of_pictures(range(40)))
+        truth = truth_of(text + " 32=-/-/#5*", FORTY)
         self.assertEqual([truth.wrong_weight(30), truth.is_promised(30)], [10, False])
 
 
 class Planted(unittest.TestCase):
     """A wrong answer is found, and whether the promise speaks of it."""
 
-    def counts(self, change, rows=None):
-        """What is counted where this has changed the answers of 40 pictures, of which one is damaged."""
-        numbers = list(range(40))
-        rows = rows or pictures(numbers)
-        rows[20] = BLANK
-        fields = plain(rows)
+    def counts(self, changes, text="0..39"):
+        """What is counted where other answers stand in these fields of 40 pictures, of which one is damaged."""
+        text += " 21=B"
+        fields = plain(rows(text))
         known = ldvbi.judge(packed_of(fields), "PAL", "pictures", "video")
-        change(known)
+        for field, number in changes.items():
+            known[field] = number
         told = []
-        truth, package = truth_of(rows, fields_of_pictures(numbers)), Package(fields, analyse(fields))
-        found = Judged(truth, known, package, told.append)
+        found = Judged(truth_of(text, FORTY), known, Package(fields, analyse(fields)), told.append)
         return {name: count for name, count in found.counts.items() if count}, told
 
     def test_as_it_is(self):
-        counts, told = self.counts(lambda numbers: None)
-        self.assertEqual((counts, told), ({
+        self.assertEqual(self.counts({}), ({
             "sides": 1, "fields": 80, "right": 39, "promised": 39, "right by both": 39, "due by the judge, right": 1,
             "due by the package, right": 1, "seeks": 40, "seeks, found by the judge": 40,
             "seeks, found by the package": 40, "seeks, found by the lines": 39}, []))
 
-    def test_believed(self):
-        def change(numbers):
-            numbers[30] = Number(14, State.believed)
-        counts, told = self.counts(change)
+    def test_believed_and_sought(self):
+        """Where the promise speaks of it, and where so much was misread that it doesn't."""
+        counts, told = self.counts({30: Number(14, State.believed)})
         self.assertEqual([counts.get(name, 0) for name in (
             "wrong by the judge", "wrong by the judge where promised", "right by the package alone",
             "seeks, found by the judge")], [1, 1, 1, 39])
         self.assertEqual(told, [
             "wrong by the judge where promised: field 31 has 15 and is said to have 14 (it runs on)"])
-
-    def test_sought(self):
-        def change(numbers):
-            numbers[8] = Number(16, State.believed)
-        counts, told = self.counts(change)
+        counts, told = self.counts({8: Number(16, State.believed)})
         for name in ("seeks, wrong by the judge", "seeks, wrong by the judge where promised"):
             self.assertEqual(counts[name], 1)
         self.assertEqual(told[-1], "seeks, wrong by the judge where promised: 16 is asked for, field 9 has 4 and is "
                          "said to have 16 (it runs on)")
-
-    def test_due(self):
-        """In field 20, where a number is due; in field 21, which has none; behind much that was misread, of which
-        nothing is believed; and beside a number that is wrongly believed, within reach and further away."""
-        def put(field, *others):
-            def change(numbers):
-                numbers[field] = Number(11, State.due)
-                for other in others:
-                    numbers[other] = Number(500, State.believed)
-            return change
-        misread = pictures(range(40))
-        for field in (12, 14, 16):
-            misread[field] = "- %s %s" % (picture(500), picture(500))
-        for change, rows, promised, believed in ((put(20), None, 1, 0), (put(21), None, 1, 0), (put(20), misread, 1, 0),
-                                                 (put(20, 44), None, 0, 1), (put(20, 46), None, 1, 1)):
-            counts, _ = self.counts(change, rows)
-            self.assertEqual([counts.get(name, 0) for name in (
-                "due by the judge, wrong", "due by the judge, wrong where promised", "wrong by the judge")],
-                [1, promised, believed])
-
-    def test_where_nothing_is_promised(self):
-        rows = pictures(range(40))
-        for field in (10, 12, 14):
-            rows[field] = "- %s %s" % (picture(500), picture(500))
-
-        def change(numbers):
-            numbers[30] = Number(500, State.believed)
-        counts, told = self.counts(change, rows)
+        counts, told = self.counts({30: Number(500, State.believed)}, "0..39 11:15/2=500")
         self.assertEqual([counts.get(name, 0) for name in (
             "wrong by the judge", "wrong by the judge where promised", "seeks of misread ones, wrong by the judge",
             "seeks of misread ones, wrong by the judge where promised", "seeks of misread ones, wrong by the lines")],
             [1, 0, 1, 0, 1])
         self.assertIn("wrong by the judge: field 31 has 15 and is said to have 500 (wrong weight 12)", told)
 
-
-if __name__ == "__main__":
-    unittest.main()
+    def test_due(self):
+        """In field 20, where a number is due; in field 21, which has none; behind much that was misread, of which
+        nothing is believed; and beside a number that is wrongly believed, within reach and further away."""
+        due, wrong = Number(11, State.due), Number(500, State.believed)
+        for changes, text, promised, believed in (
+                ({20: due}, "0..39", 1, 0), ({21: due}, "0..39", 1, 0), ({20: due}, "0..39 13:17/2=500", 1, 0),
+                ({20: due, 44: wrong}, "0..39", 0, 1), ({20: due, 46: wrong}, "0..39", 1, 1)):
+            counts, _ = self.counts(changes, text)
+            self.assertEqual([counts.get(name, 0) for name in (
+                "due by the judge, wrong", "due by the judge, wrong where promised", "wrong by the judge")],
+                [1, promised, believed])

@@ -1,12 +1,10 @@
 """Which levels, and which system, are named for a side of which hardly any line is read, and where none are."""
 
-import os
 import random
 import struct
-import tempfile
-import unittest
 
 import ldvbi
+from cases import InFolder
 from ldvbi_side.command.summary import summary
 from ldvbi_side.levels import options_of
 from ldvbi_side.side import side_of_tbc
@@ -32,12 +30,7 @@ def noise(rng, setup):
         rng.randrange(65536) for _ in range(ldvbi.line_bytes(setup[0]) // 2)))
 
 
-class Levels(unittest.TestCase):
-    def setUp(self):
-        folder = tempfile.TemporaryDirectory()
-        self.addCleanup(folder.cleanup)
-        self.path = os.path.join(folder.name, "side.tbc")
-
+class Levels(InFolder):
     def levels(self, setup):
         """The answer's levels of the side, read by this setup."""
         system, black, white = setup
@@ -48,60 +41,52 @@ class Levels(unittest.TestCase):
     def draw(self, setup, line_of=lambda word, setup: ldvbi.draw_line(word, *setup), count=60):
         write_stream(self.path, setup, [[line_of(word, setup) for word in field] for field in pictures(count)])
 
-    def named(self, setup):
+    def best(self, setup):
         """What is said of the side that was drawn: how many of its lines are read, of how many, and by which options
         how many."""
         tried = self.levels(setup)["tried"]
         best = tried["best"]
         return [tried["read"], tried["lines"], best and options_of(best), best and best["read"]]
 
-    def test_codes_at_a_share_of_white(self):
+    def test_rows(self):
         """A sample is high above the middle of the levels. So where codes are at 40 % of white no line has a high one;
-        at 60 % steep codes are read, and soft ones aren't, whose halves are above the middle too short a time."""
+        at 60 % steep codes are read, and soft ones aren't, whose halves are above the middle too short a time. Nothing
+        is tried where enough is read: steep codes at 60 and 80 % of white, and black that is too high by a fifth."""
         def soft(word, setup):
             return softened(ldvbi.draw_line(word, *setup))
 
-        rows = [(NTSC, 40, None, [0, 120, "--white 30000", 120]), (PAL, 40, None, [0, 120, "--white 31000", 120]),
-                (NTSC, 60, soft, [0, 120, "--white 37000", 120]), (PAL, 60, soft, [0, 120, "--white 39000", 120])]
-        for setup, share, line_of, wanted in rows:
-            with self.subTest(setup=setup, share=share):
-                self.draw(at_share(setup, share), *([line_of] if line_of else []))
-                self.assertEqual(self.named(setup), wanted)
-
-    def test_levels_that_read_enough(self):
-        """Nothing is tried: steep codes at 60 and 80 % of white, and black that is too high by a fifth."""
-        for share in (60, 80):
-            self.draw(at_share(NTSC, share))
-            self.assertIsNone(self.levels(NTSC))
-        self.draw(NTSC)
-        self.assertIsNone(self.levels(("NTSC", 23347, 51200)))
-
-    def test_black_alone(self):
-        self.draw(NTSC)
-        self.assertEqual(self.named(("NTSC", 51000, 55000)), [0, 120, "--black 16000", 120])
-
-    def test_both(self):
-        self.draw(("NTSC", 2000, 9000))
-        self.assertEqual(self.named(("NTSC", 40000, 50000)), [0, 120, "--black 2000 --white 9000", 120])
+        for drawn, setup, line_of, wanted in (
+                (at_share(NTSC, 40), NTSC, None, [0, 120, "--white 30000", 120]),
+                (at_share(PAL, 40), PAL, None, [0, 120, "--white 31000", 120]),
+                (at_share(NTSC, 60), NTSC, soft, [0, 120, "--white 37000", 120]),
+                (at_share(PAL, 60), PAL, soft, [0, 120, "--white 39000", 120]),
+                (at_share(NTSC, 60), NTSC, None, None), (at_share(NTSC, 80), NTSC, None, None),
+                (NTSC, ("NTSC", 23347, 51200), None, None),
+                (NTSC, ("NTSC", 51000, 55000), None, [0, 120, "--black 16000", 120]),
+                (("NTSC", 2000, 9000), ("NTSC", 40000, 50000), None, [0, 120, "--black 2000 --white 9000", 120])):
+            with self.subTest((drawn, setup)):
+                self.draw(drawn, *([line_of] if line_of else []))
+                if wanted:
+                    self.assertEqual(self.best(setup), wanted)
+                else:
+                    self.assertIsNone(self.levels(setup))
 
     def test_the_other_system(self):
-        """Its fields are of another size, so of these lines hardly any are where they are looked for."""
+        """Its fields are of another size, so of its lines hardly any are where they are looked for."""
         for setup, other in ((NTSC, PAL), (PAL, NTSC)):
             self.draw(setup)
             tried = self.levels(other)["tried"]
             self.assertEqual(tried["best"], {"system": setup[0], "black": None, "white": None, "read": 120})
             self.assertLess(20 * tried["read"], tried["lines"])
-
-    def test_the_other_system_and_another_white(self):
         self.draw(at_share(NTSC, 40))
-        self.assertEqual(self.named(PAL)[2:], ["--system NTSC --white 30000", 120])
+        self.assertEqual(self.best(PAL)[2:], ["--system NTSC --white 30000", 120])
 
     def test_one_of_two_fields_has_a_number(self):
         """Fields are looked at in pairs, all over the side: half of 200 lines are read."""
         fields = [field if number % 2 else [0, 0, 0] for number, field in enumerate(pictures(1001))]
         drawn = at_share(NTSC, 40)
         write_stream(self.path, drawn, fields)
-        self.assertEqual(self.named(NTSC), [0, 200, "--white 30000", 100])
+        self.assertEqual(self.best(NTSC), [0, 200, "--white 30000", 100])
 
     def test_the_summary(self):
         self.draw(at_share(NTSC, 40), count=20)
@@ -119,17 +104,13 @@ class Levels(unittest.TestCase):
                               ("grey", lambda word, setup: b"\x00\x80" * (ldvbi.line_bytes(setup[0]) // 2))):
             with self.subTest(name):
                 self.draw(NTSC, line_of)
-                self.assertEqual(self.named(NTSC), [0, 120, None, None])
+                self.assertEqual(self.best(NTSC), [0, 120, None, None])
         write_stream(self.path, NTSC, [[0, 0, 0]])
-        self.assertEqual(self.named(NTSC), [0, 2, None, None])
+        self.assertEqual(self.best(NTSC), [0, 2, None, None])
 
     def test_a_few_lines_are_no_reason(self):
         """One line of 20 that other levels read is named, one of 21 isn't."""
         drawn = at_share(NTSC, 40)
         for blank, wanted in ((19, "--white 30000"), (20, None)):
             write_stream(self.path, drawn, [[0, 0, 0]] * blank + pictures(1))
-            self.assertEqual(self.named(NTSC)[2], wanted)
-
-
-if __name__ == "__main__":
-    unittest.main()
+            self.assertEqual(self.best(NTSC)[2], wanted)

@@ -1,17 +1,16 @@
 """The nearest word and recovered words of drawn lines, some samples of which were changed by hand: what they are off by
 is counted on paper."""
 
-import os
 import struct
-import tempfile
 import unittest
 
 import ldvbi
+from cases import InFolder, reason
 from streams import NTSC, PAL, line_with, worn_line, write_stream
 
 # Of each setup the columns in which words that differ in one bit differ, the columns of the first half cell, those of a
-# word that are high at least, and the column from which on words are drawn.
-SIZES = ((NTSC, 28, 14, 24 * 14, 150), (PAL, 35, 17, 12 * 17 + 12 * 18, 190))
+# word that are high at least, the column from which on words are drawn, and that in the middle of the second cell.
+SIZES = ((NTSC, 28, 14, 24 * 14, 150, 192), (PAL, 35, 17, 12 * 17 + 12 * 18, 190, 243))
 
 
 def changed(line, changes):
@@ -24,42 +23,25 @@ def changed(line, changes):
 
 class Nearest(unittest.TestCase):
     def test_drawn_lines(self):
-        """A row of another word differs in a cell of each line, one with a cell more in a half cell of each."""
-        for setup, cell, half, _, start in SIZES:
+        """A row of another word differs in a cell of each line, one with a cell more in a half cell of each. Noise that
+        is off by 612, 88 and 1 on two lines adds that to each row. Of blank lines the row of none is nearest, and then
+        one of the words that are high least. The second cell of a worn line is a zero: high, then low from a column on;
+        five of its low columns are high, as in the row that has a one there."""
+        for setup, cell, half, fewest, start, low in SIZES:
             column = setup[2] - setup[1]
             for count in (1, 2, 28):
-                with self.subTest((setup, count)):
-                    near = ldvbi.nearest(count * line_with(0xF12345, setup), *setup)
-                    self.assertIsInstance(near, ldvbi.Near)
-                    self.assertEqual(near, (0xF12345, start, 0, count * cell * column, count * half * column))
-
-    def test_noise(self):
-        """Beside the word the samples of two lines are off by 612, 88 and 1: so is each row from them."""
-        for setup, cell, half, _, start in SIZES:
-            column = setup[2] - setup[1]
+                near = ldvbi.nearest(count * line_with(0xF12345, setup), *setup)
+                self.assertIsInstance(near, ldvbi.Near)
+                self.assertEqual(near, (0xF12345, start, 0, count * cell * column, count * half * column))
             line = line_with(0x82CFFF, setup)
             lines = changed(line, [(0, 612), (900, -88)]) + changed(line, [(7, 1)])
-            with self.subTest(setup):
-                self.assertEqual(ldvbi.nearest(lines, *setup), (0x82CFFF, start, 701, 2 * cell * column + 701,
-                                                                2 * half * column + 701))
-
-    def test_a_worn_line(self):
-        """The second cell is a zero: high, then low from this column on. Five of its low columns are high, as in the
-        row that has a one there."""
-        for setup, cell, low in ((NTSC, 29, 192), (PAL, 35, 243)):
-            column = setup[2] - setup[1]
+            self.assertEqual(ldvbi.nearest(lines, *setup), (0x82CFFF, start, 701, 2 * cell * column + 701,
+                                                            2 * half * column + 701))
+            self.assertEqual(ldvbi.nearest(2 * line_with(0, setup), *setup), (None, 0, 0, 2 * fewest * column, 0))
             line = line_with(0x88FFFF, setup, [(low + 4, low + 8, True)])
-            with self.subTest(setup):
-                self.assertEqual(ldvbi.read_line(line, *setup).word, 0)
-                near = ldvbi.nearest(line, *setup)
-                self.assertEqual((near.word, near.distance, near.rival), (0x88FFFF, 5 * column, (cell - 5) * column))
-
-    def test_blank_lines(self):
-        """The row of none is nearest, and then one of the words that are high least."""
-        for setup, _, _, fewest, _ in SIZES:
-            column = setup[2] - setup[1]
-            with self.subTest(setup):
-                self.assertEqual(ldvbi.nearest(2 * line_with(0, setup), *setup), (None, 0, 0, 2 * fewest * column, 0))
+            self.assertEqual(ldvbi.read_line(line, *setup).word, 0)
+            near, wide = ldvbi.nearest(line, *setup), 29 if setup == NTSC else 35
+            self.assertEqual((near.word, near.distance, near.rival), (0x88FFFF, 5 * column, (wide - 5) * column))
 
     def test_refusals(self):
         line = line_with(0xF12345, NTSC)
@@ -74,20 +56,16 @@ class Nearest(unittest.TestCase):
             (([1, 2], "NTSC", 1, 2), "samples are not bytes, but of the type list"),
         ]
         for words, text in rows:
-            with self.subTest(text), self.assertRaises(ValueError) as caught:
-                ldvbi.nearest(*words)
-            self.assertEqual(str(caught.exception), text)
+            self.assertEqual(reason(ldvbi.nearest, *words), text)
 
 
 SHOWN = ldvbi.Cause.word
 BLANK = (ldvbi.Cause.blank, 0, 0, 0)
 
 
-class Recovered(unittest.TestCase):
+class Recovered(InFolder):
     def setUp(self):
-        folder = tempfile.TemporaryDirectory()
-        self.addCleanup(folder.cleanup)
-        self.path = os.path.join(folder.name, "side.tbc")
+        super().setUp()
         # With 11 columns turned over a word is ahead by 6 or 7, as a code of its line has to be, with 12 by 4 or 5.
         # With 13 it is ahead by 2 or 3, but lines 17 and 18 together by 30 and more: each has the other's worn cell.
         self.fields = {setup: [
@@ -130,8 +108,7 @@ class Recovered(unittest.TestCase):
         for setup, fields in self.fields.items():
             write_stream(self.path, setup, fields)
             size, line = ldvbi.field_bytes(setup[0]), ldvbi.line_bytes(setup[0])
-            with open(self.path, "rb") as file:
-                data = [file.read(size) for _ in fields]
+            data = [self.read("side.tbc")[size * place:size * (place + 1)] for place in range(len(fields))]
             rows = [one[15 * line:18 * line] for one in data]
             for is_recovered in (False, True):
                 with self.subTest((setup, is_recovered)):
@@ -158,10 +135,4 @@ class Recovered(unittest.TestCase):
                 (ldvbi.read_rows, (b"", "NTSC", 1, 2), "three lines have 5460 bytes, not 0"),
                 (ldvbi.read_field, (b"", "PAL", 1, 2), "a field has 710510 bytes, not 0"),
                 (ldvbi.Stream, (b"", "NTSC", 2, 2), "black is not below white")):
-            with self.subTest(text), self.assertRaises(ValueError) as caught:
-                call(*words, recover=True)
-            self.assertEqual(str(caught.exception), text)
-
-
-if __name__ == "__main__":
-    unittest.main()
+            self.assertEqual(reason(call, *words, recover=True), text)

@@ -1,202 +1,299 @@
-"""Sides on which the analysis once said something false, each as small as it can be, with its truth."""
+"""Sides on which the analysis once said something false, or on which that is easily done, each as small as it can be,
+with its truth."""
 
+import random
+import sys
 import unittest
 
-from discs import BLANK, LEAD_IN, answer, film, minutes, picture, pictures, second, times
+from compact import check, of_member, rows
+from discs import BLANK, answer, picture, plain
+from ldvbi_side.judge.answer import analyse
 from ldvbi_side.seek import seek, text_of, wanted_of
-from test_cav import breaks, doubtful, missing
+
+# of each picture from 1000 on what was read of its two fields: both lines, one of them, or none
+READ = ("bb .b b. .. bo .. .. oo oo .o bo oo b. o. .o o. o. ob o. .. oo bo o. oo b. o. .. .o o. o. .o bb .. oo b."
+        " .. .. .b").split()
+# A disc that has its seconds on each fifth picture alone
+SPARSE = "t0..199 3:400/10.16=- 5:400/10.16=- 7:400/10.16=- 9:400/10.16=-"
+WHEEL = (3, 3, 4, 5, 5, 6, 8, 9, 10, 10, 11, 12, 12, 11, 10, 11, 12, 13)  # a wheel is turned, from 37 on
 
 
-def seconds_of(rows):
-    """The times of these rows with line 16 alone."""
-    return [row.split(" ")[0] + " - -" if row[2] == "E" else BLANK for row in rows]
+def shown(found):
+    return [number for number, _, _ in found["showings"]]
 
 
-class NumbersOnBothFields(unittest.TestCase):
-    # of each picture from 1000 on what was read of its two fields: both lines, one of them, or none
-    READ = ("bb .b b. .. bo .. .. oo oo .o bo oo b. o. .o o. o. ob o. .. oo bo o. oo b. o. .. .o o. o. .o bb .. oo b."
-            " .. .. .b").split()
+def numbered(numbers, kind=""):
+    """The parts of a side with these numbers."""
+    return " ".join("%s%d" % (kind, number) for number in numbers)
 
-    def test_worn_lines(self):
-        forms = {"b": "- %s %s", "o": "- - %s", ".": "- - -"}
-        rows = [forms[read] % ((picture(1000 + place),) * forms[read].count("%"))
-                for place, pair in enumerate(self.READ) for read in pair]
-        found = answer(rows)
-        read = [1000 + place for place, pair in enumerate(self.READ) if pair != ".."]
-        self.assertEqual(found["pace"], "both")
-        self.assertEqual([number for number, _, _ in found["showings"]], read)
+
+class Read(unittest.TestCase):
+    """What was read, and what is due."""
+
+    def test_worn_lines_of_numbers_on_both_fields(self):
+        forms = {"b": "- {0} {0}", "o": "- - {0}", ".": BLANK}
+        found = answer([forms[read].format(picture(1000 + place)) for place, pair in enumerate(READ) for read in pair])
+        read = [1000 + place for place, pair in enumerate(READ) if pair != ".."]
+        self.assertEqual((found["pace"], shown(found)), ("both", read))
         self.assertEqual(found["doubtful"] + found["lost"] + found["stills"] + found["breaks"], [])
         self.assertEqual([one["number"] for one in found["unread"]],
                          [number for number in range(1000, 1038) if number not in read])
 
+    def test_minutes_behind_a_skip(self):
+        """Of the times behind a skip one has its minute, in its field or in the next one."""
+        check(self, """
+    of 1000 pictures | t1200..1209 u2210..2221 33=s28.16/@0:01/@0:01 | numbers 22 0:00:48.00 to 0:01:28.21
+        | breaks lost 19-21 0:00:48.09 to 0:01:28.10, 2000 | no doubtful
+    of more | t1200..1209 u31360..31371 33=s54.16/@0:20/@0:20 | no doubtful
+        | breaks lost 19-21 0:00:48.09 to 0:20:54.10..
+    with two misread seconds | t1200..1209 u2210..2239 25=s28.12/@0:01/@0:01 33=s3.3/-/- 53=s3.3/-/- | aside 33, 53
+        | breaks lost 19-21 0:00:48.09 to 0:01:28.10, 2000
+    in a field of its own | t1200..1209 u2210..2221 34=-/@0:01/@0:01 | numbers 22 0:00:48.00 to 0:01:28.21
+    """)
 
-class MinutesBehindASkip(unittest.TestCase):
-    def test_the_minute_that_was_read_is_the_one(self):
-        """Of 12 times behind a skip of 1,000 pictures one has its minute."""
-        before, behind = times(range(1200, 1210)), times(range(2210, 2222))
-        rows = before + seconds_of(behind)
-        rows[32] = "%s %s %s" % (second(28, 16), minutes(0, 1), minutes(0, 1))
-        found = answer(rows)
-        self.assertEqual(found["numbers"], {"count": 22, "least": "0:00:48.00", "greatest": "0:01:28.21"})
-        self.assertEqual(breaks(found), [("lost", 19, 21, "0:00:48.09", "0:01:28.10", 2000)])
-        self.assertEqual(doubtful(found), [])
+    def test_read_instead_and_due(self):
+        """Nothing is due where a chapter stands, a time where line 16 has another code, or both another number."""
+        check(self, """
+    pictures | 1..20 9=-/#17/#17* 13=-/#44/#45 17=? | unread 5@9=17, 7@13=44, 9@17
+    times, of which no clock shows picture 25 | t1490..1509 15=s19.22/-/@0:00 17=8AE025/-/@0:00 19=?/-/@5:50
+        23=?/-/@0:01 | unread 0:00:59.22@15=19.22, 0:00:59.23@17=8AE025, 0:00:59.24@19=5:50, 0:01:00.01@23
+    a chapter | 1..30 19=C | no unread | missing 10 unread
+    programme status | t0..29 19=8DC0A1/-/- | no unread
+    and off | t0..29 19=8BA0A1/-/- | no unread
+    neither | t0..29 19=?/?/? | unread 0:00:00.09@19
+    both lines | 1..60 59=70030 | no unread | missing 30 unread
+    one in pass 2 | 1..60 59=-/#70030/#70030* | unread 30@59=70030
+    as many of both formats | -/#1/#1 -/M/- | format cav
+    in one field | -/M/#1 | format cav
+    other codes of both | S/-/- 8AE000/-/- | format cav
+    """)
+        found = answer(rows("1..20 9=-/#17/#17* 17=?"))
+        self.assertEqual([text_of(seek(found, wanted_of(text))) for text in ("5", "9")], [
+            "field 9, frame 5, by the numbers around it: another number was read there: 17",
+            "field 17, frame 9, by the numbers around it: no number was read there"])
+        self.assertIsNone(seek(answer(rows("1..30 19=C")), wanted_of("10")))
 
-    def test_however_far_the_skip_was(self):
-        rows = times(range(1200, 1210)) + seconds_of(times(range(31360, 31372)))
-        rows[32] = "%s %s %s" % (second(54, 16), minutes(0, 20), minutes(0, 20))
-        found = answer(rows)
-        self.assertEqual([one["to"] for one in found["breaks"]], ["0:20:54.10"])
-        self.assertEqual(doubtful(found), [])
-
-    def test_two_misread_seconds_do_not_end_the_run(self):
-        rows = times(range(1200, 1210)) + seconds_of(times(range(2210, 2240)))
-        rows[24] = "%s %s %s" % (second(28, 12), minutes(0, 1), minutes(0, 1))
-        rows[32] = rows[52] = second(3, 3) + " - -"
-        found = answer(rows)
-        self.assertEqual(breaks(found), [("lost", 19, 21, "0:00:48.09", "0:01:28.10", 2000)])
-        self.assertEqual([one["field"] for one in found["doubtful"]], [33, 53])
-
-    def test_a_minute_in_a_field_of_its_own(self):
-        rows = times(range(1200, 1210)) + seconds_of(times(range(2210, 2222)))
-        rows[33] = "- %s %s" % (minutes(0, 1), minutes(0, 1))
-        self.assertEqual(answer(rows)["numbers"]["greatest"], "0:01:28.21")
-
-
-def shots(numbers, unread=()):
-    """The fields of these pictures, of which some show nothing at all."""
-    return [BLANK if number in unread else row for number in numbers for row in pictures([number])]
-
-
-class LostOrDamaged(unittest.TestCase):
-    def test_one_field_too_many_in_nine_damaged_pictures(self):
-        rows = shots(range(20, 41), range(26, 35))
-        rows.insert(15, BLANK)
-        found = answer(rows)
-        # a player that searched in the dark leaves blank fields, too
-        self.assertEqual(missing(found), [(26, 34, "undecided")])
-        self.assertEqual([found["lost"], found["unread"]], [[], []])
-        for place in range(12, 31, 2):
-            rows[place] = "- ? -"
-        self.assertEqual(missing(answer(rows)), [(26, 34, "unread")])
-
-    def test_one_picture_lost_of_nine_damaged_ones(self):
-        rows = shots(range(20, 41), range(26, 35))
-        del rows[14:16]
-        found = answer(rows)
-        self.assertEqual(missing(found), [(26, 34, "undecided")])
-        self.assertEqual(found["lost"], [{"after": 11, "before": 29, "fields": 2, "by": "number"}])
-
-    def test_a_wide_jump_between_damaged_pictures(self):
-        """Two pictures were there: the ones behind the jump, the ones before it, or one of each."""
-        found = answer(shots(list(range(1, 21)) + list(range(319, 340)), (319, 320)))
-        self.assertEqual(missing(found), [(21, 22, "undecided"), (23, 318, "lost"), (319, 320, "undecided")])
-        # more of a lost stretch than a tenth: any of them may have been there
-        found = answer(shots(list(range(1, 21)) + list(range(35, 60)), (35, 36)))
-        self.assertEqual(missing(found), [(21, 36, "undecided")])
-
-    def test_numbers_for_which_all_fields_are_there_although_none_is_theirs(self):
-        rows = pictures(range(1, 31))
-        rows[18] = rows[19]  # a chapter's field in the place of picture 10
-        self.assertEqual(missing(answer(rows)), [(10, 10, "unread")])
-
-    def test_a_lost_field_and_chapters_beside_it(self):
-        """All fields there show chapters, so the number's field is the one that is lost; else it may be the other."""
-        rows = pictures(range(1, 31))
-        del rows[18]
-        self.assertEqual(missing(answer(rows)), [(10, 10, "lost")])
-        rows[17] = BLANK
-        self.assertEqual(missing(answer(rows)), [(10, 10, "undecided")])
-
-    def test_a_number_passed_over_twice_was_there_once(self):
-        rows = shots(list(range(1, 31)), (20,)) + shots(list(range(5, 20)) + list(range(21, 31)))
-        self.assertEqual(missing(answer(rows)), [(20, 20, "unread")])
-        rows = shots([number for number in range(1, 31) if number != 20])
-        rows += shots(list(range(5, 31)), (20,))
-        self.assertEqual(missing(answer(rows)), [(20, 20, "unread")])
-
-    def test_film_and_numbers_on_both_fields(self):
-        rows = film(range(1, 61))
-        rows[25:33] = [BLANK] * 8  # pictures 11 to 13
-        del rows[28:31]
-        self.assertEqual(missing(answer(rows, "NTSC")), [(11, 13, "undecided")])
-        del rows[25:30]
-        self.assertEqual(missing(answer(rows, "NTSC")), [(11, 13, "lost")])
-        rows = ["- %s %s" % (picture(number), picture(number)) for number in range(1, 31) for _ in range(2)]
-        rows[20:22] = [BLANK]  # of picture 11 one field is lost
-        self.assertEqual(missing(answer(rows)), [(11, 11, "unread")])
-        del rows[20]
-        self.assertEqual(missing(answer(rows)), [(11, 11, "lost")])
+    def test_sparse(self):
+        """Something was seen on line 16 of a picture, say, or the fields of pictures 54 to 63 are lost."""
+        check(self, """
+    blank lines | {0} | no missing unread | whole yes | count 40
+    a time not read | {0} 101.16=? | unread 0:00:02.00@101
+    something seen | {0} 101.16=? 103.16=? | unread 0:00:02.00@101, 0:00:02.01@103
+    lost | {0} -109:128 | lost 101-111 20 number | no unread | missing 0:00:02.01-0:00:02.14..
+    """.format(SPARSE))
+        unread = [3, 4, 8, 9, 11, 15, 16, 17, 22, 24, 28, 29, 30, 34, 35, 40, 41, 45, 50, 51]  # a worn disc is none
+        found = answer(rows("t0..59 " + " ".join("%d.16=-" % (2 * number + 1) for number in unread)))
+        self.assertEqual([one["field"] for one in found["unread"]], [2 * number + 1 for number in unread])
 
 
-class Chapters(unittest.TestCase):
-    def test_a_chapter_read_once_behind_one_that_never_was(self):
-        rows = pictures(range(1, 31))
-        for field in range(1, 60, 2):
-            rows[field] = "- - 801DDD" if field < 18 else "- - 803DDD" if field == 55 else BLANK
-        found = answer(rows)
-        self.assertEqual([(one["chapter"], one["field"]) for one in found["chapters"]], [(1, 2), (3, 56)])
-        self.assertEqual(found["doubtful"], [])
+class Lost(unittest.TestCase):
+    """What is lost, and what is there."""
+
+    def test_lost_or_damaged(self):
+        """A player that searched in the dark leaves blank fields, too. Of a wide jump two pictures were there: those
+        behind it, those before it, or one of each; of a narrow one any may have been there. Of film 11 to 13 begin in
+        fields 26, 29 and 31."""
+        check(self, """
+    a field too many in nine damaged pictures | 20..25 Bx19 35..40 | missing 26-34 undecided | no lost unread
+    in which something is seen | 20..25 -/?/- B -/?/- B -/?/- B -/?/- B -/?/- B -/?/- B -/?/- B -/?/- B -/?/- B -/?/-
+        35..40 | missing 26-34 unread
+    a picture lost of nine damaged ones | 20..25 Bx16 35..40 | missing 26-34 undecided | lost 11-29 2 number
+    a wide jump | 1..20 Bx4 321..339 | missing 21-22 undecided, 23-318 lost, 319-320 undecided
+    a narrow one | 1..20 Bx4 37..59 | missing 21-36 undecided
+    a chapter's field in the place of a picture | 1..30 19=C | missing 10 unread
+    a field between chapters | 1..30 -19 | missing 10 lost
+    beside a blank one | 1..30 -19 18=B | missing 10 undecided
+    passed over twice, and there once | 1..19 Bx2 21..30 5..30!20 | missing 20 unread
+    and the second time | 1..30!20 5..19 Bx2 21..30 | missing 20 unread
+    film | NTSC f1..60 26:33=B -29:31 | missing 11-13 undecided
+    without a field | NTSC f1..60 26:33=B -29:31 -26:30 | missing 11-13 lost
+    a field of two | b1..30 -22 21=B | missing 11 unread
+    none of two | b1..30 -21:22 | missing 11 lost
+    """)
+
+    def test_dark(self):
+        """A player that searches in the dark leaves more blank fields than the numbers need."""
+        check(self, """
+    never captured | 1..59 Bx40 65..119 | missing 60-64 undecided | no unread lost
+    something seen in 4 fields | 1..59 Bx2 -/?/-x4 Bx34 65..119 | missing 60-64 undecided
+    something seen in 5 fields | 1..59 Bx2 -/?/-x5 Bx33 65..119 | missing 60-64 unread
+    as many as they need | 1..59 Bx10 65..119 | missing 60-64 unread
+        | unread 60@119, 61@121, 62@123, 63@125, 64@127
+    """)
+
+    def test_minutes(self):
+        """Six minutes alone. Where fields over the end of a minute are lost, each of both has lost its own. What may be
+        unread at the ends of a minute is not sure to be lost."""
+        check(self, """
+    whole | n0..5x3000 | no lost missing | whole yes
+    of NTSC | NTSC n0..5x3590 | no lost missing | whole yes
+    of 3596 | NTSC n0..5x3596 | no lost missing | whole yes
+    of 3600 | NTSC n0..5x3600 | no lost missing | whole yes
+    a third | n0..5x3000 -6501:7500 | lost 6000-8001 1000 number | no missing | whole no
+    nearly all | n0..5x3000 -6051:8950 | lost 6000-6101 2900 number | no missing
+    over an end | n0..5x3000 -7506:10495 | lost 6000-7506 1495 number, 7505-9011 1495 number | no missing
+    of NTSC, a few | NTSC n0..5x3596 -8001:8100 | lost 7192-10689 94 number | no missing
+    beside unread ones | n0..5x3000 5901:6100=? -6501:7500 | lost 5900-8001 900 number | no missing
+    held | n0..1x3000 n2x3900 n3..5x3000 | no lost missing | breaks held.. | breaks .., 900 | whole no
+    two sides | n0..1x3000 n2x500 Ox9 Lx9 n3..5x3000 | no lost missing breaks
+    one whole minute | n0..1x3000 n3x2900 n4..5x3000 | lost 6000-6001 3000 number | missing 0:02 lost
+    """)
+
+    def test_joined(self):
+        """Where lead-out or lead-in stands between two numbers, one side ends and another one begins."""
+        for between in ("Ox10 Lx10", "Ox10", "L", "O"):
+            for begin in (560, 75, 62):
+                check(self, "%s %d | Lx10 1..59 %s %d..%d | no lost missing breaks | reasons joined" % (
+                    between, begin, between, begin, begin + 59))
+        check(self, """
+    again | Lx10 1..59 Ox10 1..79 | no lost missing | reasons jumps, joined
+    lower numbers | 500..559 Ox10 1..59 | no lost missing
+    the same number on both | Lx10 1..59 Ox10 59..98 | no lost missing stills | reasons joined
+    lost within one | Lx10 1..59 Ox10 560..619 -41:44 | missing 16-17 lost | lost 39-41 4 number
+    far off | Lx10 1..59 Ox10 60000..60059 | no lost missing | reasons joined | count 119
+    and lost within one | 60000..60059 Ox10 1..19 70000..70039 | missing 20-59999 lost, 60060-69999 lost
+    a wrong word of pass 2 | 1..59 -/80EEEE*/- 560..619 | lost 117-120 999 number
+    """)
+        first = [place % 2 == 0 for place in range(73)] + [place % 2 == 0 for place in range(67)]
+        self.assertEqual(answer(rows("1..31 Ox11 Lx7 501..530"), first=first)["lost"], [])
+
+    def test_between_two_losses(self):
+        """Two times weigh 4, and a break more than the one that is there costs 7. One that says 11.17 is believed where
+        those around leave 1.05 or 59.14: three digits are others, and not one or two. Where more fields passed than the
+        time needs, it stands between no two losses."""
+        check(self, """
+    two times | t0..29 t80..81 t140..169 | count 62 | lost 59-61 100 number, 63-65 116 number | no doubtful
+    outside | t0..29 t20..21 t140..169 | showings x60
+    far outside | t0..29 t500..501 t140..169 | showings x60
+    one time | t0..29 t292 t1490..1519 | showings x61
+    between two searches | t0..29 Bx300 t200..201 Bx300 t500..529 | showings x62 | no doubtful
+    behind a search | t0..29 Bx500 t205 t1490..1519 | showings x60 | doubtful x1
+    """)
+        for number in (31, 35, 55, 1485, 1479, 1464):
+            check(self, "%d | t0..29 t%d t1490..1519 | showings x60" % (number, number))
+
+    def test_parts(self):
+        check(self, """
+    a chapter read once behind one that never was | 1..30 2:60/2=B 2:18/2=-/-/c1 56=-/-/c3 | chapters 1@2-18, 3@56
+        | no doubtful
+    two stretches of lead-in | Lx5 Bx100 Lx3 | leadIn 1-5 5, 106-108 3
+    with chapters between | Lx5 -/800DDD/-x3 Lx3 | leadIn 1-5 5, 9-11 3
+    with a picture between | Lx5 1 Lx3 | leadIn 1-5 5, 8-10 3
+    a scratch | Lx5 Bx99 Lx3 | leadIn 1-107 8
+    with two wrong words | Lx5 -/805DDD*/- Bx9 -/807DDD*/- Lx3 | leadIn 1-19 8
+    """)
 
 
-class Ends(unittest.TestCase):
-    def test_two_stretches_of_lead_in_are_two(self):
-        two = [{"first": 1, "last": 5, "count": 5}]
-        for between in ([BLANK] * 100, ["- 800DDD -"] * 3, pictures([1])):
-            found = answer([LEAD_IN] * 5 + between + [LEAD_IN] * 3)
-            begin = 6 + len(between)
-            self.assertEqual(found["leadIn"], two + [{"first": begin, "last": begin + 2, "count": 3}])
+class Stood(unittest.TestCase):
+    """Loops and stills."""
 
-    def test_a_scratch_makes_no_second_one(self):
-        for between in ([BLANK] * 99, ["- 805DDD* -"] + [BLANK] * 9 + ["- 807DDD* -"]):
-            found = answer([LEAD_IN] * 5 + between + [LEAD_IN] * 3)
-            self.assertEqual([one["count"] for one in found["leadIn"]], [8])
+    def test_loops(self):
+        """In fields 95 to 99 stand the times 98 and 99; a round ends before 98 comes again."""
+        side = rows("t50..139")
+        found = answer(side[:100] + 12 * side[95:100] + side[100:])
+        self.assertEqual(of_member(found, "breaks").count("back "), 12)
+        self.assertEqual({(one["from"], one["to"], one["fields"]) for one in found["breaks"]},
+                         {("0:00:03.24", "0:00:03.23", 5)})
+        for length in range(4, 12):
+            for side in (rows("t50..139"), rows("50..139")):
+                found = answer(side[:100] + 9 * side[100 - length:100] + side[100:])
+                self.assertEqual([found["stills"], found["doubtful"]], [[], []], length)
+                self.assertEqual({one["kind"] for one in found["breaks"]}, {"back"}, length)
 
+    def test_stills(self):
+        """One frozen field is no number on both fields, and a still with a wrong number in it stays one."""
+        check(self, """
+    a wrong number in one | 1..29 30x20 31..59 75=31 | stills 30@59-97 | doubtful 75/17 31.. | aside 75, 75
+    a frozen field | 1..59 -/#60/#60x60 B 61..99 | pace video | stills 60@119-178 | whole yes
+    numbers on both | b1..59 | pace both
+    and a frozen field | b1..59 -/#60/#60x60 | pace both
+    one field between two | 1..29 -/#30/#30x41 -/#31/#31 -/#32/#32x41 B 33..59 | no doubtful missing
+        | stills 30@59-99, 32@101-141
+    two fields | 1..29 -/#30/#30x41 -/#31/#31x2 -/#32/#32x41 B 33..59 | no doubtful missing
+        | stills 30@59-99, 31@100-101, 32@102-142
+    three fields | 1..29 -/#30/#30x41 -/#31/#31x3 -/#32/#32x41 B 33..59 | no doubtful missing
+        | stills 30@59-99, 31@100-102, 32@103-143
+    """)
 
-class Format(unittest.TestCase):
-    def test_as_many_fields_of_both_formats_are_cav(self):
-        for rows in (["- F00001 F00001", "- 87FFFF -"], ["- 87FFFF F00001"], ["82CFFF - -", "8AE000 - -"]):
-            self.assertEqual(answer(rows)["format"], "cav")
-
-
-class ReadInstead(unittest.TestCase):
-    def test_what_a_damaged_field_shows(self):
-        rows = pictures(range(1, 21))
-        rows[8], rows[12], rows[16] = "- F00017 F00017*", "- F00044 F00045", "- ? ?"
-        found = answer(rows)
-        self.assertEqual(found["unread"], [{"number": 5, "field": 9, "read": 17},
-                                            {"number": 7, "field": 13, "read": 44},
-                                            {"number": 9, "field": 17, "read": None}])
-        self.assertEqual(text_of(seek(found, wanted_of("5"))),
-                         "field 9, frame 5, by the numbers around it: another number was read there: 17")
-        self.assertEqual(text_of(seek(found, wanted_of("9"))),
-                         "field 17, frame 9, by the numbers around it: no number was read there")
-
-    def test_of_a_time(self):
-        rows = times(range(1490, 1510))
-        rows[14] = "%s - %s" % (second(19, 22), minutes(0, 0))
-        rows[16] = "8AE025 - %s" % minutes(0, 0)  # no clock shows picture 25
-        rows[18] = "? - %s" % minutes(5, 50)
-        rows[22] = "? - %s" % minutes(0, 1)
-        self.assertEqual([one["read"] for one in answer(rows)["unread"]], ["19.22", "8AE025", "5:50", None])
-
-
-class Due(unittest.TestCase):
-    def test_no_number_is_due_where_a_chapter_stands(self):
-        rows = pictures(range(1, 31))
-        rows[18] = rows[19]
-        found = answer(rows)
-        self.assertEqual(found["unread"], [])
-        self.assertEqual([(one["first"], one["last"]) for one in found["missing"]], [(10, 10)])
-        self.assertIsNone(seek(found, wanted_of("10")))
-
-    def test_no_time_is_due_where_line_16_has_another_code(self):
-        for item in ("8DC0A1", "8BA0A1"):
-            rows = times(range(30))
-            rows[18] = "%s - -" % item
-            self.assertEqual(answer(rows)["unread"], [], item)
-        rows[18] = "? ? ?"
-        self.assertEqual(answer(rows)["unread"], [{"number": "0:00:00.09", "field": 19, "read": None}])
+    def test_pictures_one_after_the_other(self):
+        """Of a disc that is looked at picture by picture, one is shown once or twice between two that stand."""
+        for step in (20, 200, -2, -20, -200):
+            for count in (1, 2, 3):
+                found = answer(rows("1000x20 %dx%d %dx20" % (1000 + step, count, 1000 + 2 * step)))
+                self.assertEqual((found["doubtful"], 1000 + step in shown(found)), ([], True), (step, count))
+        for words in ("-/#7*/#7", "-/#7/#9", "-/?/#7"):  # a wrong number
+            self.assertEqual(shown(answer(rows("1000x20 %s B 1200x20" % words))), [1000] * 20 + [1200] * 20)
 
 
-if __name__ == "__main__":
-    unittest.main()
+class Turned(unittest.TestCase):
+    """Each picture of these is shown, though two others fit by chance."""
+
+    def test_no_number_is_due_where_both_lines_say_another(self):
+        """The numbers of a stretch that fit the ones around it by chance say nothing of the others."""
+        for begin in range(2, 13):
+            turned = [37 + step for step in WHEEL[:begin] + WHEEL[begin - 2:begin] + WHEEL[begin:]]
+            side = rows("1..40 %s 51..90" % numbered(turned))
+            for one in answer(side)["unread"]:
+                self.assertEqual(side[one["field"] - 1], BLANK, (begin, one))
+        # 42 stands twice and 44 is passed over, so that 45 comes in the field in which it is due
+        side = rows("1..42 42 42 43 43 45 48..79")
+        found = answer(side)
+        self.assertEqual([one for one in found["unread"] if "F" in side[one["field"] - 1]], [])
+        self.assertEqual({one["why"] for one in found["missing"]} - {"lost", "undecided"}, set())
+        self.assertIsNone(seek(found, wanted_of("47")))
+
+    def test_all_that_was_shown_is_believed(self):
+        """Also one that no two around it leave room for; but a number far off, and one near number alone, are wrong."""
+        side = "1..40 %s 50 49 48 48 50 51 52..90" % numbered(37 + step for step in WHEEL)
+        found = answer(rows(side))
+        self.assertEqual([found["doubtful"], [field for _, field, _ in found["showings"]]],
+                         [[], [place + 1 for place, row in enumerate(rows(side)) if " F" in row]])
+        check(self, "far off | %s 87=99 | aside 87, 87\none near | 1..60 101=53 | aside 101, 101" % side)
+
+    def test_numbers_on_both_fields(self):
+        """From 43 it was turned to 45. Backwards, each second one is shown twice: that isn't another speed, which would
+        show each one once."""
+        found = answer(rows("b1..40 %s b51..90" % numbered((37 + step for step in WHEEL), "b")))
+        self.assertEqual([found["pace"], found["doubtful"], found["unread"]], ["both", [], []])
+        self.assertEqual(set(shown(found)), {*range(1, 91)} - {44})
+        self.assertEqual((of_member(found, "missing"), of_member(found, "lost")), ("44 lost", "92-93 2 number"))
+        check(self, "two in each step | b100..146 b146 b145x2 b143x2 b141x2 b139x2 b137x2 b135x2 b136..169"
+              " | no speeds unread doubtful")
+
+    def test_a_number_shown_again_that_was_read_once(self):
+        """In pass 2, on one line: it is the number of the still that follows."""
+        check(self, "again | 1..40 %s 53 53 54..89 117=-/?/#53* | no doubtful" % numbered(37 + step for step in WHEEL))
+
+
+class Steps(unittest.TestCase):
+    """The analysis of noise takes at most so many calls of functions to a field as a dozen clean fields do."""
+    MOST = 12
+
+    def calls(self, side):
+        counts = [0]
+
+        def count(_frame, event, _argument):
+            counts[0] += event in ("call", "c_call")
+
+        fields = plain(side)
+        sys.setprofile(count)
+        try:
+            analyse(fields)
+        finally:
+            sys.setprofile(None)
+        return counts[0] / len(side)
+
+    def test_the_worst_sides(self):
+        dice, count = random.Random(7), 2000
+        seconds = ["%X" % (0x800000 | 10 + dice.randrange(6) << 16 | 0xE000 | dice.randrange(10) << 8
+                           | 16 * dice.randrange(2) + dice.randrange(10)) for _ in range(count)]
+        minute = ["F%dDD%02d" % (dice.randrange(10), dice.randrange(60)) for _ in range(2 * count)]
+        wild = [picture(dice.randrange(80000)) for _ in range(2 * count)]
+        clean = self.calls(rows("0..%d" % (count // 2 - 1)))
+        worst = {"lines": ["- %s %s" % pair for pair in zip(wild, wild[count:])],
+                 "alike": ["- %s %s" % (one, one) for one in wild[:count]],
+                 "times": ["%s %s %s" % three for three in zip(seconds, minute, minute[count:])],
+                 "by turns": rows("-/#100/#20000x%d" % count), "still": rows("5x%d" % (count // 2)),
+                 "jumps": rows(numbered(40000 * (place // 5 % 2) + place for place in range(count // 2)))}
+        for name, side in worst.items():
+            self.assertLess(self.calls(side), self.MOST * clean, name)

@@ -3,24 +3,24 @@
 import random
 import unittest
 
-from discs import BLANK, LEAD_IN, LEAD_OUT, answer, damaged, film, picture, pictures, times
+from compact import rows
+from discs import BLANK, LEAD_IN, LEAD_OUT, answer, damaged, picture
 
 
 class OtherDamage(unittest.TestCase):
     """Damage that the simulator doesn't have, on sides of 400 pictures. In each the numbers that can't be read are
     known, and no other may be missing, nor any be believed in another field."""
 
-    SIDES = (("cav", "PAL", pictures(range(1, 401))), ("cav far on", "NTSC", pictures(range(53000, 53400))),
-             ("film", "NTSC", film(range(1, 401))), ("clv", "PAL", times(range(1300, 1700))))
+    SIDES = (("cav", "PAL", rows("1..400")), ("cav far on", "NTSC", rows("53000..53399")),
+             ("film", "NTSC", rows("f1..400")), ("clv", "PAL", rows("t1300..1699")))
 
     def check(self, change, on_both=False):
         """On both lines of a CAV side another number is shown: none is due there then."""
         for name, system, sound in self.SIDES:
             rng = random.Random(name)
             numbered = {field: number for number, field, _ in answer(sound, system)["showings"]}
-            rows = [LEAD_IN] * 4 + sound + [LEAD_OUT] * 4
-            rows, unread = change(rng, rows)
-            found = answer(rows, system)
+            side, unread = change(rng, [LEAD_IN] * 4 + sound + [LEAD_OUT] * 4)
+            found = answer(side, system)
             with self.subTest(name):
                 wanted = {field + 4: number for field, number in numbered.items() if field + 3 not in unread}
                 self.assertEqual({field: number for number, field, _ in found["showings"]}, wanted)
@@ -81,7 +81,3 @@ class OtherDamage(unittest.TestCase):
                 return "%s %s %s" % (first, "F1DD30" if "F00" in row or "F53" in row else "F00077", third)
             return damaged(rows, range(50, 750, 31), change), set()
         self.check(mixed)
-
-
-if __name__ == "__main__":
-    unittest.main()

@@ -2,32 +2,29 @@
 
 import os
 import stat
-import tempfile
 import threading
-import unittest
 from unittest import mock
 
+from cases import InFolder, reason
 from ldvbi_side.command.outputs import refuse_inputs, whole_file, whole_path
 
 
-class Outputs(unittest.TestCase):
+class Outputs(InFolder):
     def setUp(self):
-        folder = tempfile.TemporaryDirectory()
-        self.addCleanup(folder.cleanup)
-        self.folder = folder.name
+        super().setUp()
         self.path = self.named("side.vbi.json")
-
-    def named(self, name):
-        return os.path.join(self.folder, name)
-
-    def holding(self, name, text="old"):
-        with open(self.named(name), "w", encoding="utf-8") as file:
-            file.write(text)
-        return self.named(name)
 
     def text(self, path=None):
         with open(path or self.path, encoding="utf-8") as file:
             return file.read()
+
+    def written(self, text="new"):
+        """Writes a text to the file in one step."""
+        with whole_file(self.path) as file:
+            file.write(text)
+
+    def mode(self):
+        return stat.S_IMODE(os.stat(self.path).st_mode)
 
 
 class WholeFiles(Outputs):
@@ -49,19 +46,19 @@ class WholeFiles(Outputs):
             file.flush()
             self.assertFalse(os.path.exists(self.path))
         self.assertEqual(self.text(), "new ü\n")
-        self.assertEqual(os.listdir(self.folder), ["side.vbi.json"])
+        self.assertEqual(self.names(), ["side.vbi.json"])
         mask = os.umask(0)
         os.umask(mask)
-        self.assertEqual(stat.S_IMODE(os.stat(self.path).st_mode), 0o666 & ~mask)
+        self.assertEqual(self.mode(), 0o666 & ~mask)
 
     def test_an_older_one_is_replaced(self):
-        os.chmod(self.holding("side.vbi.json"), 0o640)
+        os.chmod(self.write("side.vbi.json", "old"), 0o640)
         with whole_file(self.path) as file:
             file.write("new")
             file.flush()
             self.assertEqual(self.text(), "old")
         self.assertEqual(self.text(), "new")
-        self.assertEqual(stat.S_IMODE(os.stat(self.path).st_mode), 0o640)
+        self.assertEqual(self.mode(), 0o640)
 
     def test_the_text_is_on_the_disk_before_its_name(self):
         """Where a file is replaced, and where there was none: what is synced has all of the text, and no name yet."""
@@ -77,78 +74,64 @@ class WholeFiles(Outputs):
 
         for older in (None, "old"):
             if older:
-                self.holding("side.vbi.json", older)
+                self.write("side.vbi.json", older)
             done.clear()
-            with mock.patch("os.fsync", sync), mock.patch("os.replace", replace), whole_file(self.path) as file:
-                file.write("new")
+            with mock.patch("os.fsync", sync), mock.patch("os.replace", replace):
+                self.written()
             self.assertEqual(done, [("sync", "new"), ("replace", os.path.realpath(self.path))])
 
     def test_nothing_is_left_of_a_part(self):
         for error in (ValueError, KeyboardInterrupt):
             for older in ([], ["side.vbi.json"]):
                 for name in older:
-                    self.holding(name)
-                with self.assertRaises(error):
-                    with whole_file(self.path) as file:
-                        file.write("new")
-                        raise error
+                    self.write(name, "old")
+                with self.assertRaises(error), whole_file(self.path) as file:
+                    file.write("new")
+                    raise error
                 self.assertEqual(os.listdir(self.folder), older)
             self.assertEqual(self.text(), "old")
             os.unlink(self.path)
 
-    def test_a_link_stays_one(self):
-        self.holding("target")
+    def test_links_and_what_is_no_file(self):
+        """A link stays one, and what is no file is written to."""
         os.symlink("target", self.path)
-        with whole_file(self.path) as file:
-            file.write("new")
+        self.written()
         self.assertTrue(os.path.islink(self.path))
-        self.assertEqual(self.text(self.named("target")), "new")
-
-    def test_what_is_no_file_is_written_to(self):
+        self.assertEqual(self.read("target"), b"new")
+        os.unlink(self.path)
         os.mkfifo(self.path)
         texts = []
         reader = threading.Thread(target=lambda: texts.append(self.text()))
         reader.start()
-        with whole_file(self.path) as file:
-            file.write("new")
+        self.written()
         reader.join()
         self.assertEqual(texts, ["new"])
         self.assertTrue(stat.S_ISFIFO(os.stat(self.path).st_mode))
 
-    def test_the_part_of_another_run(self):
-        part = self.holding("side.vbi.json.%d.part" % os.getpid())
-        with self.assertRaises(FileExistsError):
-            with whole_file(self.path):
+    def test_no_place_for_it(self):
+        """The part of another run is there, for one."""
+        part = self.write("side.vbi.json.%d.part" % os.getpid(), "old")
+        for path, error in ((self.path, FileExistsError), (self.named("absent/side.vbi.json"), FileNotFoundError),
+                            (self.folder, IsADirectoryError)):
+            with self.assertRaises(error), whole_file(path):
                 self.fail("there is a file")
         self.assertEqual(self.text(part), "old")
-
-    def test_no_place_for_it(self):
-        with self.assertRaises(FileNotFoundError):
-            with whole_file(self.named("absent/side.vbi.json")):
-                self.fail("there is a file")
-        with self.assertRaises(IsADirectoryError):
-            with whole_file(self.folder):
-                self.fail("there is a file")
 
 
 class Inputs(Outputs):
     def refused(self, name, outputs, inputs):
-        with self.assertRaises(ValueError) as caught:
-            refuse_inputs(outputs, inputs)
-        self.assertEqual(str(caught.exception),
-                         "%s would be written in the place of an input or of another output" % name)
+        text = name and "%s would be written in the place of an input or of another output" % name
+        self.assertEqual(reason(refuse_inputs, outputs, inputs), text)
 
     def test_files_of_their_own(self):
-        side, meta = self.holding("side.tbc"), self.holding("side.tbc.json")
-        refuse_inputs([self.path, None], [side, meta])
-        refuse_inputs([None, self.named("side.svg"), self.path], [side, None])
-        refuse_inputs([self.holding("side.svg")], [side, "absent"])
-        refuse_inputs(["/dev/null", "/dev/null"], ["/dev/null"])
-        refuse_inputs([1], [0, side])
-        refuse_inputs([99], [99])  # no open file
+        side, meta, svg = (self.write("side" + end, "old") for end in (".tbc", ".tbc.json", ".svg"))
+        for outputs, inputs in (([self.path, None], [side, meta]), ([None, svg, self.path], [side, None]),
+                                ([svg], [side, "absent"]), (["/dev/null", "/dev/null"], ["/dev/null"]),
+                                ([1], [0, side]), ([99], [99])):  # of which 99 is no open file
+            self.refused(None, outputs, inputs)
 
     def test_an_input(self):
-        side, meta = self.holding("side.tbc"), self.holding("side.tbc.json")
+        side, meta = self.write("side.tbc", "old"), self.write("side.tbc.json", "old")
         os.link(side, self.named("hard"))
         os.symlink("side.tbc.json", self.named("soft"))
         for output in (side, meta, self.named("hard"), self.named("soft"), os.path.relpath(side)):
@@ -156,17 +139,17 @@ class Inputs(Outputs):
                 self.refused(output, [None, output], [side, meta])
 
     def test_two_outputs_in_one(self):
-        older = self.holding("older")
+        older = self.write("older", "old")
         os.symlink("older", self.named("soft"))
         self.refused(older, [self.named("soft"), older], [])
         self.refused(self.path, [self.path, self.path], [])
         self.refused(self.named("./new"), [self.named("new"), self.named("./new")], [])
 
     def test_standard_output(self):
-        side = self.holding("side.tbc")
+        side = self.write("side.tbc", "old")
         with open(side, "ab") as file:
             self.refused(side, [file.fileno(), side], [])
-            self.refused("%d" % file.fileno(), [file.fileno()], [side])
+            self.refused(str(file.fileno()), [file.fileno()], [side])
             kept = os.dup(1)
             try:
                 os.dup2(file.fileno(), 1)
@@ -174,7 +157,3 @@ class Inputs(Outputs):
             finally:
                 os.dup2(kept, 1)
                 os.close(kept)
-
-
-if __name__ == "__main__":
-    unittest.main()

@@ -4,10 +4,10 @@ names that are as long as names may be, and pages that another program wrote."""
 import io
 import json
 import os
-import tempfile
 import unittest
 from unittest import mock
 
+from cases import InFolder, reason
 import discs
 from ldvbi_side import outside
 from ldvbi_side.command.folders import page_name
@@ -57,44 +57,35 @@ class Documents(unittest.TestCase):
                 self.read(b"{" + bytes(1000))
 
 
-class LongNames(unittest.TestCase):
+class LongNames(InFolder):
     """The longest names that there are have 255 bytes."""
-
-    def setUp(self):
-        folder = tempfile.TemporaryDirectory()
-        self.addCleanup(folder.cleanup)
-        self.folder = folder.name
-
-    def path(self, name):
-        return os.path.join(self.folder, name)
 
     def test_files(self):
         names = ["a" * 250, "ü" * 125 + "b", "a" * 255, os.fsdecode(b"\xff" * 254)]
         for name in names:
-            with whole_file(self.path(name)) as file, whole_file(self.path(name[:-1])) as other:
+            with whole_file(self.named(name)) as file, whole_file(self.named(name[:-1])) as other:
                 file.write("whole")
-                self.assertEqual(len(os.listdir(self.folder)), 2)
+                self.assertEqual(len(self.names()), 2)
                 other.write("other")
-            with open(self.path(name), encoding="utf-8") as file:
-                self.assertEqual(file.read(), "whole")
-            os.unlink(self.path(name))
-            os.unlink(self.path(name[:-1]))
+            self.assertEqual((self.read(name), self.names()), (b"whole", [name[:-1], name]))
+            os.unlink(self.named(name))
+            os.unlink(self.named(name[:-1]))
         for name in names:
-            with whole_path(self.path(name), ["-wal"]) as part, open(part, "wb"):
+            with whole_path(self.named(name), ["-wal"]) as part, open(part, "wb"):
                 pass
-        self.assertEqual(sorted(os.listdir(self.folder)), sorted(names))
+        self.assertEqual(self.names(), sorted(names))
 
     def test_what_a_process_left(self):
         for name in ("short", "a" * 250):
-            with self.assertRaises(KeyboardInterrupt), mock.patch("os.unlink"), whole_file(self.path(name)):
+            with self.assertRaises(KeyboardInterrupt), mock.patch("os.unlink"), whole_file(self.named(name)):
                 raise KeyboardInterrupt
             self.assertEqual(len(os.listdir(self.folder)), 1)
-            drop_part(self.path(name), os.getpid())
+            drop_part(self.named(name), os.getpid())
             self.assertEqual(os.listdir(self.folder), [])
 
     def test_pages(self):
         long = "a" * 251 + ".tbc"
-        names = {page_name(self.path(name))
+        names = {page_name(self.named(name))
                  for name in (long, long[1:], "b" * 255, "ü" * 127, os.path.join("d", long))}
         self.assertEqual(len(names), 5)
         for name in names:
@@ -102,29 +93,20 @@ class LongNames(unittest.TestCase):
             self.assertRegex(name, r"-[0-9a-f]{8}\.html$")
 
 
-class Pages(unittest.TestCase):
+class Pages(InFolder):
     def setUp(self):
-        folder = tempfile.TemporaryDirectory()
-        self.addCleanup(folder.cleanup)
-        self.folder = folder.name
+        super().setUp()
         self.said = said_of(discs.answer(discs.pictures(range(1, 9))))
 
-    def path(self, name):
-        return os.path.join(self.folder, name)
-
     def page(self, text, name="page.html"):
-        with open(self.path(name), "w", encoding="utf-8") as file:
-            file.write(text)
-        return self.path(name)
+        return self.write(name, text)
 
     def page_saying(self, said):
         content = json.dumps(said).replace("&", "&amp;").replace('"', "&quot;")
         return self.page('<title>side</title><meta name="%s" content="%s"><body>' % (MARK, content))
 
     def refused(self, page):
-        with self.assertRaises(ValueError) as caught:
-            index_of(self.path("index.html"), [page])
-        self.assertEqual(str(caught.exception), page + " is no page that --html wrote")
+        self.assertEqual(reason(index_of, self.named("index.html"), [page]), page + " is no page that --html wrote")
 
     def test_what_pages_of_others_say(self):
         self.assertEqual(head_of(self.page_saying(self.said)), ("side", self.said))
@@ -157,18 +139,13 @@ class Pages(unittest.TestCase):
         """A page is text in UTF-8 without control characters, whatever its side and its own file are called."""
         side = discs.side(discs.pictures(range(1, 9)))
         page = self.page(page_of(side, NAME, ["whole: yes", "name: " + NAME]), os.fsdecode(b"\xff <\x1b>.html"))
-        with open(page, encoding="utf-8") as file:
-            text = file.read()
+        text = self.read(os.path.basename(page)).decode()
         wanted = shown(NAME).replace("&", "&amp;").replace("<", "&lt;").replace(">", "&gt;")
         for part in ("<title>%s</title>", "<h1>%s</h1>", "<dd>%s</dd>"):
             self.assertIn(part % wanted, text)
-        index = index_of(self.path("index.html"), [page], [(NAME, "a fault of " + NAME)])
+        index = index_of(self.named("index.html"), [page], [(NAME, "a fault of " + NAME)])
         self.assertIn('<a href="%%FF%%20%%3C%%1B%%3E.html">%s</a>' % wanted, index)
         self.assertIn("<tr><td>%s</td><td>fault</td><td></td><td></td><td></td><td>a fault of %s</td></tr>" % (
             wanted, wanted), index)
         for one in (text, index):
             self.assertTrue(all(letter.isprintable() for letter in one.replace("\n", "")))
-
-
-if __name__ == "__main__":
-    unittest.main()

@@ -5,12 +5,13 @@ import os
 import re
 import subprocess
 import sys
-import tempfile
 import unittest
-import unittest.mock
 from html.parser import HTMLParser
+from unittest import mock
 
-from discs import BLANK, LEAD_IN, STOP, minutes, pictures, side, times
+from cases import InFolder, reason
+from compact import rows
+from discs import side
 from ldvbi_side.command.summary import summary
 from ldvbi_side.draw.index import index_of
 from ldvbi_side.draw.page import LISTS, MOST_PLOTS, page_of
@@ -98,31 +99,25 @@ def cell(value):
 
 def damaged():
     """A side that has something in each list that CAV has."""
-    rows = [LEAD_IN] * 2 + pictures(range(1, 41)) + pictures(range(21, 41)) + [LEAD_IN]
-    rows[6] = "83D0A1 ? 88FFFB"
-    rows[8] = "8DC0A1 F79999 F00004"
-    rows[10] = "8AE000 %s F00005" % STOP
-    del rows[40:44]
-    return side(rows)
+    return side(rows("Lx2 1..40 21..40 L 7=83D0A1/?/88FFFB 9=8DC0A1/#79999/#4 11=8AE000/S/#5 -41:44"))
+
+
+def some():
+    return damaged(), side(rows("t0..2 t4..5 t0..2 t4..5 t0..2 t4..5 t0..2 t4..5", 30), "NTSC"), side(rows("m9x9"))
 
 
 class Pages(unittest.TestCase):
     def test_each_list_is_there_in_full(self):
-        for one in (damaged(), side(times([0, 1, 2, 4, 5] * 4), "NTSC"), side([]), side([BLANK] * 3),
-                    side(["- 87FFFF %s" % minutes(0, 9)] * 9)):
-            read = Page(page(one))
-            for name in LISTS:
-                # the first row is that of the columns' names
-                self.assertEqual(max(len(read.rows.get(name, [])) - 1, 0), len(one.answer[name]), name)
-            self.assertEqual({name for name, value in one.answer.items() if isinstance(value, list)},
-                             set(LISTS) | {"reasons"})
-
-    def test_each_cell_stands_under_its_head(self):
+        """Each cell stands under its head; the first row is that of the columns' names."""
         wanted = dict(heads_of_schema(schema()))
         del wanted["reasons"]
         seen = set()
-        for one in (damaged(), side(times([0, 1, 2, 4, 5] * 4), "NTSC"), side(["- 87FFFF %s" % minutes(0, 9)] * 9)):
+        for one in (*some(), side([]), side(rows("Bx3"))):
             read = Page(page(one))
+            self.assertEqual({name for name, value in one.answer.items() if isinstance(value, list)},
+                             set(LISTS) | {"reasons"})
+            for name in LISTS:
+                self.assertEqual(max(len(read.rows.get(name, [])) - 1, 0), len(one.answer[name]), name)
             for name, heads in read.heads.items():
                 seen.add(name)
                 self.assertEqual(type(wanted[name])(heads), wanted[name], name)
@@ -134,12 +129,22 @@ class Pages(unittest.TestCase):
         self.assertLessEqual({"missing", "lost", "unread", "breaks", "doubtful", "conflicts", "chapters", "showings",
                               "badLines", "users", "programmeStatus", "unknown"}, seen)
 
-    def test_terms_are_the_lines_of_the_summary(self):
+    def test_what_is_said(self):
+        """Terms are the lines of the summary, and the page is headed by whether the side is whole."""
         one = damaged()
         read = Page(page(one))
         self.assertEqual(list(map(": ".join, zip(read.texts["dt"], read.texts["dd"]))),
                          list(summary(one.answer, lambda *line: "dd"))[1:])
         self.assertIn("system", read.texts["dt"][0])
+        self.assertEqual([row[3:5] for row in read.rows["missing"][1:]], [["unread", "5"], ["lost", "39"]])
+        self.assertIn("2 in field 5", read.rows["doubtful"][1])
+        self.assertEqual(read.texts["li"], [reason["text"] for reason in one.answer["reasons"]])
+        self.assertLessEqual({"numbers lost, undecided or unread: 2", "unread, and their fields: 1"},
+                             set(read.texts["summary"]))
+        self.assertIn("%(count)d, from %(least)d to %(greatest)d" % one.answer["numbers"], read.texts["dd"])
+        for text, kind, whole in (("1..2", "yes", "yes"), ("7..8", "no", "no<ul><li>begins at 7, ends at 8</li></ul>"),
+                                  ("", "open", "can&#x27;t tell<ul><li>no picture number and no time</li></ul>")):
+            self.assertIn('<div class="%s">whole: %s</div>' % (kind, whole), page(side(rows(text))))
 
     def test_the_head_says_how_it_is_read(self):
         for text, title in ((page(damaged()), "side.tbc"), (index_of("index.html", []), "LaserDisc sides")):
@@ -149,34 +154,11 @@ class Pages(unittest.TestCase):
             self.assertEqual([tag for tag, _ in read.tags[:4]], ["html", "head", "meta", "title"])
             self.assertIn(("meta", {"name": "viewport", "content": "width=device-width, initial-scale=1"}), read.tags)
 
-    def test_numbers_are_those_of_the_answer(self):
-        one = damaged()
-        read = Page(page(one))
-        self.assertEqual(read.rows["showings"][1:], [list(map(str, row)) for row in one.answer["showings"]])
-        self.assertEqual([row[3:5] for row in read.rows["missing"][1:]], [["unread", "5"], ["lost", "39"]])
-        self.assertEqual(read.rows["badLines"][1:], [
-            [str(cell) for cell in row.values()] for row in one.answer["badLines"]])
-        doubtful = read.rows["doubtful"][1]
-        self.assertIn("picture", doubtful)
-        self.assertIn("2 in field 5", doubtful)
-        self.assertEqual(read.texts["li"], [reason["text"] for reason in one.answer["reasons"]])
-        self.assertIn("numbers lost, undecided or unread: 2", read.texts["summary"])
-        self.assertIn("unread, and their fields: 1", read.texts["summary"])
-        self.assertIn("%(count)d, from %(least)d to %(greatest)d" % one.answer["numbers"], read.texts["dd"])
-
     def test_a_list_of_a_later_answer(self):
-        one = side(pictures([1, 2]))
-        one.answer["later"] = [{"first": 77777, "near": None, "is": True, "places": [1, 2]}]
-        self.assertEqual(Page(page(one)).rows["later"][1], ["77777", "", "yes", "1, 2"])
-        one.answer["later"][0]["is"] = False
-        self.assertEqual(Page(page(one)).rows["later"][1], ["77777", "", "no", "1, 2"])
-
-    def test_whole_or_not(self):
-        self.assertIn('<div class="yes">whole: yes</div>', page(side(pictures([1, 2]))))
-        self.assertIn('<div class="open">whole: can&#x27;t tell<ul><li>no picture number and no time</li></ul></div>',
-                      page(side([])))
-        self.assertIn('<div class="no">whole: no<ul><li>begins at 7, ends at 8</li></ul></div>',
-                      page(side(pictures([7, 8]))))
+        one = side(rows("1..2"))
+        for value, text in ((True, "yes"), (False, "no")):
+            one.answer["later"] = [{"first": 77777, "near": None, "is": value, "places": [1, 2]}]
+            self.assertEqual(Page(page(one)).rows["later"][1], ["77777", "", text, "1, 2"])
 
     def test_it_needs_nothing_else(self):
         text = page(damaged(), lambda one: "<svg></svg>")
@@ -188,7 +170,7 @@ class Pages(unittest.TestCase):
 
     def test_names_are_escaped(self):
         name = '<b>"&\u00fc</b>.tbc'
-        one = side([BLANK] * 60)
+        one = side(rows("Bx60"))
         one.answer["<b>&later</b>"] = [{"<b>&first": "<b>&one</b>"}]
         read = Page(page(one, title=name, command="dd if='%s'" % name))
         self.assertEqual([read.texts["h1"], read.texts["title"][:2]], [[name], [name, name]])
@@ -198,107 +180,77 @@ class Pages(unittest.TestCase):
         self.assertNotIn("b", [tag for tag, _ in read.tags])
 
     def test_bad_lines_are_drawn_up_to_a_count(self):
-        one = side(["? ? ?"] * 67 + ["- ? -"])  # 202 bad lines
         drawn = []
 
         def plot(bad):
             drawn.append((bad["field"], bad["line"]))
             return "<svg></svg>"
-        self.assertIn("<h2>Bad lines, the first 200 of 202, drawn</h2>", page(one, plot))
-        self.assertEqual([drawn[0], drawn[-1], len(drawn), MOST_PLOTS], [(1, 16), (67, 17), 200, 200])
-        self.assertIn("<h2>Bad lines, drawn</h2>", page(side(["? - -"]), plot))
-        self.assertIn("<h2>Bad lines, drawn</h2>", page(side(["? ? ?"] * 66 + ["? ? -"]), plot))  # 200
-        self.assertIn("<h2>Bad lines, the first 200 of 201, drawn</h2>", page(side(["? ? ?"] * 67), plot))
-        for text in (page(one), page(side(pictures([1])), plot)):
-            self.assertNotIn("<h2>", text)
+        for text, head in (("?/?/?x67 ?", "Bad lines, the first 200 of 203, drawn"), ("?/-/-", "Bad lines, drawn"),
+                           ("?/?/?x66 ?", "Bad lines, drawn"), ("?/?/?x67", "Bad lines, the first 200 of 201, drawn"),
+                           ("1", None)):
+            drawn.clear()
+            text = page(side(rows(text)), plot)
+            self.assertEqual(re.findall("<h2>(.*)</h2>", text), [head] if head else [])
+            self.assertLessEqual(len(drawn), 200)
+        self.assertEqual(MOST_PLOTS, 200)
+        page(side(rows("?/?/?x67 ?")), plot)
+        self.assertEqual([drawn[0], drawn[-1], len(drawn)], [(1, 16), (67, 17), 200])
+        self.assertNotIn("<h2>", page(side(rows("?/?/?x67"))))
+        with mock.patch("ldvbi_side.draw.plot._PLACES", ()):  # nothing is drawn without the script
+            self.assertIsNone(plotter(side(rows("?/-/-")), "side.tbc"))
 
-    def test_nothing_is_drawn_without_the_script(self):
-        with unittest.mock.patch("ldvbi_side.draw.plot._PLACES", ()):
-            self.assertIsNone(plotter(side(["? - -"]), "side.tbc"))
 
-
-class Plots(unittest.TestCase):
+class Plots(InFolder):
     def test_each_is_that_of_plot_line_for_the_same_bytes(self):
         """The words of worn lines are drawn from column 150, and the row of each is the one that is drawn behind it."""
         words = {(1, 17): 0xF00001, (3, 17): 0xF00002, (3, 18): 0xF00002, (6, 16): 0x8DC0A1}
         fields = [[0, 0, 0] for _ in range(7)]
         for place, ((field, line), word) in enumerate(words.items()):
             fields[field - 1][line - 16] = worn_line(word, NTSC, 7 + place, 10 + place)
-        name = "a <b>&.tbc"
-        with tempfile.TemporaryDirectory() as folder:
-            write_stream(os.path.join(folder, name), NTSC, fields)
-            system, black, white = NTSC
-            options = ["--system", system, "--black", str(black), "--white", str(white)]
-            run = [sys.executable, "-m", "ldvbi_side", name, *options, "--html", "page.html"]
-            subprocess.run(run, cwd=folder, check=True, timeout=DEADLINE)
-            with open(os.path.join(folder, "page.html"), encoding="utf-8") as file:
-                text = file.read()
-            folds = re.findall(r"<details><summary>field (\d+), line (\d+): .*?</summary>\n(.*?)</details>", text, re.S)
-            self.assertEqual([tuple(map(int, fold[:2])) for fold in folds], list(words))
-            for (place, word), fold in zip(words.items(), folds):
-                line = os.path.join(folder, "line.raw")
-                with open(line, "wb") as file:
-                    file.write(fields[place[0] - 1][place[1] - 16])
-                run = [sys.executable, os.path.join(TOP, "contrib", "plot_line.py"), line, *options, "--program",
-                       PROGRAM, "--title", "%s, field %d, line %d" % (name, *place), "--near", "%06X@150" % word]
-                drawn = subprocess.run(run, check=True, timeout=DEADLINE, capture_output=True)
-                self.assertEqual(fold[2], drawn.stdout.decode())
+        name, options = "a <b>&.tbc", ["--system", "NTSC", "--black", "16384", "--white", "51200"]
+        write_stream(self.named(name), NTSC, fields)
+        run = [sys.executable, "-m", "ldvbi_side", name, *options, "--html", "page.html"]
+        subprocess.run(run, cwd=self.folder, check=True, timeout=DEADLINE)
+        folds = re.findall(r"<details><summary>field (\d+), line (\d+): .*?</summary>\n(.*?)</details>",
+                           self.read("page.html").decode(), re.S)
+        self.assertEqual([tuple(map(int, fold[:2])) for fold in folds], list(words))
+        for (place, word), fold in zip(words.items(), folds):
+            line = self.write("line.raw", fields[place[0] - 1][place[1] - 16])
+            run = [sys.executable, os.path.join(TOP, "contrib", "plot_line.py"), line, *options, "--program",
+                   PROGRAM, "--title", "%s, field %d, line %d" % (name, *place), "--near", "%06X@150" % word]
+            drawn = subprocess.run(run, check=True, timeout=DEADLINE, capture_output=True)
+            self.assertEqual(fold[2], drawn.stdout.decode())
 
 
-class Indexes(unittest.TestCase):
+class Indexes(InFolder):
     def test_links_from_another_folder(self):
         title = "<b>&one</b>.tbc"
-        with tempfile.TemporaryDirectory() as folder:
-            for name in ("pages", "indexes"):
-                os.mkdir(os.path.join(folder, name))
-            page_there = os.path.join(folder, "pages", "<b>&.html")
-            with open(page_there, "w", encoding="utf-8") as file:
-                file.write(page(side(pictures([1, 2])), title=title))
-            read = Page(index_of(os.path.join(folder, "indexes", "all.html"), [page_there],
-                                 [("<b>&bad</b>", "<b>&fault</b>")]))
-            self.assertEqual([known["href"] for tag, known in read.tags if tag == "a"],
-                             ["../pages/%3Cb%3E%26.html"])
-            self.assertEqual(read.texts["a"], [title])
-            self.assertEqual(read.texts["th"], ["side", "whole", "fields", "numbers", "lost", "why"])
-            self.assertEqual(read.texts["td"][:6], ["<b>&bad</b>", "fault", "", "", "", "<b>&fault</b>"])
-            self.assertNotIn("b", [tag for tag, _ in read.tags])
+        for name in ("pages", "indexes"):
+            os.mkdir(self.named(name))
+        there = self.write("pages/<b>&.html", page(side(rows("1..2")), title=title))
+        read = Page(index_of(self.named("indexes/all.html"), [there], [("<b>&bad</b>", "<b>&fault</b>")]))
+        self.assertEqual([known["href"] for tag, known in read.tags if tag == "a"], ["../pages/%3Cb%3E%26.html"])
+        self.assertEqual(read.texts["a"], [title])
+        self.assertEqual(read.texts["th"], ["side", "whole", "fields", "numbers", "lost", "why"])
+        self.assertEqual(read.texts["td"][:6], ["<b>&bad</b>", "fault", "", "", "", "<b>&fault</b>"])
+        self.assertNotIn("b", [tag for tag, _ in read.tags])
 
     def test_an_index(self):
-        with tempfile.TemporaryDirectory() as folder:
-            names = []
-            for title, one in (("one & two.tbc", side(pictures([1, 2]))), ("none", side([])),
-                               ("other", side(pictures([7, 8, 9, 12, 13, 14])))):
-                names.append(os.path.join(folder, title + " #1.html"))
-                with open(names[-1], "w", encoding="utf-8") as file:
-                    file.write(page(one, title=title))
-            read = Page(index_of(os.path.join(folder, "index.html"), names))
-            self.assertEqual(read.texts["h1"], ["3 sides, whole: 1 yes, 1 no, 1 can't tell"])
-            self.assertEqual(read.texts["a"], ["other", "none", "one & two.tbc"])
-            self.assertEqual([known["href"] for tag, known in read.tags if tag == "a"],
-                             ["other%20%231.html", "none%20%231.html", "one%20%26%20two.tbc%20%231.html"])
-            self.assertEqual(read.texts["td"][1:6], [
-                "no", "12", "6, 7 to 14", "2 pictures, 4 fields",
-                "4 fields lost; 2 pictures lost; begins at 7, ends at 14"])
-            self.assertEqual(read.texts["td"][7:12], [
-                "can't tell", "0", "none", "none", "no picture number and no time"])
-            self.assertEqual(read.texts["td"][13:18], ["yes", "4", "2, 1 to 2", "none", ""])
-            self.refuses_an_older_page(folder, names[0])
-            other = os.path.join(folder, "other.html")
-            with open(other, "w", encoding="utf-8") as file:
-                file.write("<html><head><meta name=x></head></html>")
-            with self.assertRaisesRegex(ValueError, "other.html is no page that --html wrote"):
-                index_of("index.html", [other])
-
-    def refuses_an_older_page(self, folder, page_there):
-        with open(page_there, encoding="utf-8") as file:
-            text = file.read()
-        older = os.path.join(folder, "older.html")
+        names = [self.write(title + " #1.html", page(side(rows(text)), title=title))
+                 for title, text in (("one & two.tbc", "1..2"), ("none", ""), ("other", "7..9 12..14"))]
+        read = Page(index_of(self.named("index.html"), names))
+        self.assertEqual(read.texts["h1"], ["3 sides, whole: 1 yes, 1 no, 1 can't tell"])
+        self.assertEqual(read.texts["a"], ["other", "none", "one & two.tbc"])
+        self.assertEqual([known["href"] for tag, known in read.tags if tag == "a"],
+                         ["other%20%231.html", "none%20%231.html", "one%20%26%20two.tbc%20%231.html"])
+        self.assertEqual([read.texts["td"][begin:begin + 5] for begin in (1, 7, 13)], [
+            ["no", "12", "6, 7 to 14", "2 pictures, 4 fields",
+             "4 fields lost; 2 pictures lost; begins at 7, ends at 14"],
+            ["can't tell", "0", "none", "none", "no picture number and no time"],
+            ["yes", "4", "2, 1 to 2", "none", ""]])
+        text = self.read("none #1.html").decode()
         self.assertIn("&quot;version&quot;: 2, ", text)
-        with open(older, "w", encoding="utf-8") as file:
-            file.write(text.replace("&quot;version&quot;: 2, ", ""))
-        with self.assertRaisesRegex(ValueError, "older.html is a page of another version: write it again"):
-            index_of("index.html", [older])
-
-
-if __name__ == "__main__":
-    unittest.main()
+        older = self.write("older.html", text.replace("&quot;version&quot;: 2, ", ""))
+        other = self.write("other.html", "<html><head><meta name=x></head></html>")
+        self.assertEqual([reason(index_of, "index.html", [name]) for name in (older, other)], [
+            older + " is a page of another version: write it again", other + " is no page that --html wrote"])

@@ -33,16 +33,13 @@ class Messages(unittest.TestCase):
                   "192 of 200 fields, 96 %, 0:04 left", "200 of 200 fields, 100 %", ""]
         self.assertEqual(self.run_over(200, range(4), 64, 30.0), "".join("\r%s\x1b[K" % text for text in wanted))
 
-    def test_hours_left(self):
         self.assertIn("\r1 of 1000 fields, 0 %, 166:30 left\x1b[K", self.run_over(1000, range(1000), 1, 10.0))
+        self.assertEqual(self.run_over(0, [], 64, 1.0), "\r0 of 0 fields, 100 %\x1b[K\r\x1b[K")
 
     def test_few_messages_a_second(self):
         text = self.run_over(1003, range(1003), 1, 0.01)
         self.assertEqual(text.count("\r"), 3 + 10 * 5)  # the first, the last, the empty line, and five a second
         self.assertTrue(text.endswith("\r1003 of 1003 fields, 100 %\x1b[K\r\x1b[K"), text[-80:])
-
-    def test_no_fields(self):
-        self.assertEqual(self.run_over(0, [], 64, 1.0), "\r0 of 0 fields, 100 %\x1b[K\r\x1b[K")
 
     def test_silent(self):
         self.assertEqual(self.run_over(10, range(10), 1, 1.0, errors=io.StringIO()), "")
@@ -98,12 +95,5 @@ class Sides(unittest.TestCase):
                 progress.reached(0, 0.5)
         self.assertTrue(errors.getvalue().endswith("\r\x1b[K\r0 of 1 sides, 50 %, 0:00 left\x1b[K\r\x1b[K"))
 
-    def test_silent(self):
-        self.assertEqual(self.run_over([1], [(0, 0.5), None, (0, 1)], io.StringIO()), [])
-
-    def test_nothing_to_read(self):
         self.assertEqual(self.run_over([], [], Terminal()), [""])
-
-
-if __name__ == "__main__":
-    unittest.main()
+        self.assertEqual(self.run_over([1], [(0, 0.5), None, (0, 1)], io.StringIO()), [])

@@ -3,18 +3,10 @@
 import unittest
 
 import ldvbi
+from cases import reason
 from streams import NTSC
 
 WIDE = (65536, 65536 + 100, 2 ** 31, 2 ** 32 - 1, 2 ** 32, 2 ** 32 + 1, 2 ** 64 + 1, -1)
-
-
-def reason(call, *words):
-    """Why a call raised a ValueError."""
-    try:
-        call(*words)
-    except ValueError as error:
-        return str(error)
-    return None
 
 
 class Refusals(unittest.TestCase):
@@ -83,7 +75,3 @@ class Values(unittest.TestCase):
         field[15 * 1820:18 * 1820] = rows
         self.assertEqual(ldvbi.read_field(field, *NTSC), readings)
         self.assertIsInstance(readings, ldvbi.FieldReadings)
-
-
-if __name__ == "__main__":
-    unittest.main()

@@ -5,80 +5,76 @@ import contextlib
 import functools
 import json
 import os
+import shutil
 import signal
 import sqlite3
 import subprocess
+import sys
 import time
-import unittest
 import xml.etree.ElementTree as xml
 
 from command_runs import COMMAND, DEADLINE, LEVELS, Runs
 from streams import NTSC, PROGRAM, pictures, worn_line, write_stream
 
+SCRIPT = os.path.join(os.path.dirname(os.path.abspath(__file__)), "..", "..", "python", "ldvbi-side")
 SIGNALS = ((signal.SIGTERM, 143), (signal.SIGHUP, 129), (signal.SIGINT, 130))
 PARAMETERS = {"system": "NTSC", "black16bIre": 16384, "white16bIre": 51200}
 
 
-class Edges(Runs):
-    def metadata(self, name, **more):
-        self.write(name, json.dumps({"videoParameters": {**PARAMETERS, **more}}).encode())
-
-
-class Closed(Edges):
+class Closed(Runs):
     """Standard streams that are closed when the command starts."""
 
-    def closed(self, numbers, *words):
+    def closed(self, numbers, words):
         """The status of a run for which these streams are closed, and what it writes to the others of the two."""
         def close():
             for number in numbers:
                 os.close(number)
         with open(os.devnull, "rb") as nothing:
-            run = subprocess.run([*COMMAND, *words], cwd=self.folder, stdin=nothing, stdout=subprocess.PIPE,
-                                 stderr=subprocess.PIPE, timeout=DEADLINE, check=False, preexec_fn=close)
+            run = subprocess.run(COMMAND + self.words(*words.split()), cwd=self.folder, stdin=nothing,
+                                 stdout=subprocess.PIPE, stderr=subprocess.PIPE, timeout=DEADLINE, check=False,
+                                 preexec_fn=close)
         return run.returncode, run.stdout, run.stderr.decode()
 
     def test_output(self):
         self.metadata("side.tbc.json")
         said = "ldvbi-side: standard output: Bad file descriptor\n"
-        for words in (["side.tbc"], ["side.tbc", "--csv"], ["side.tbc", "--document"], ["side.vbi.json", "--json"],
-                      ["side.vbi.json", "--seek", "3"], ["side.vbi.json", "--bad-lines"], ["--help"], ["--version"],
-                      ["compare", "side.vbi.json", "side.vbi.json"], ["join", "side.vbi.json", "side.tbc"],
-                      ["scan", "-j", "1", "side.vbi.json"]):
+        for words in ("side.tbc", "side.tbc --csv", "side.tbc --document", "side.vbi.json --json", "--help",
+                      "--version", "side.vbi.json --seek 3", "side.vbi.json --bad-lines",
+                      "compare side.vbi.json side.vbi.json", "join side.vbi.json side.tbc", "scan -j 1 side.vbi.json"):
             with self.subTest(words):
-                self.assertEqual(self.closed([1], *words), (2, b"", said))
+                self.assertEqual(self.closed([1], words), (2, b"", said))
         # where nothing is printed nothing is wrong
-        self.assertEqual(self.closed([1], "side.tbc", "--svg", "side.svg"), (0, b"", ""))
-        self.assertEqual(self.closed([0, 1, 2], "side.tbc", "--csv", "--map", "side.map"), (2, b"", ""))
+        self.assertEqual(self.closed([1], "side.tbc --svg side.svg"), (0, b"", ""))
+        self.assertEqual(self.closed([0, 1, 2], "side.tbc --csv --map side.map"), (2, b"", ""))
         self.assertTrue(self.read("side.map").startswith(b"kind,number"))
 
     def test_errors(self):
         """What nobody hears is in no other file, and the statuses are the same."""
         self.metadata("side.tbc.json", black16bIre=16383.5)
-        status, text, _ = self.closed([2], "side.tbc", "--json", "--svg", "side.svg")
+        status, text, _ = self.closed([2], "side.tbc --json --svg side.svg")
         self.assertEqual((status, json.loads(text)["fields"]), (0, 12))
         self.assertTrue(self.read("side.svg").startswith(b"<svg"))
         self.assertEqual(self.closed([2], "absent"), (2, b"", ""))
         self.assertEqual(self.closed([2], "--black"), (2, b"", ""))
-        status, text, _ = self.closed([0, 2], "scan", "--csv", "absent", "side.tbc")
+        status, text, _ = self.closed([0, 2], "scan --csv absent side.tbc")
         self.assertEqual((status, text.split(b"\n")[1]), (2, b"absent,fault,,,,,,,No such file or directory"))
         self.assertEqual(text.count(b"\n"), 3)
 
     def test_input(self):
         self.assertEqual(self.closed([0], "-"), (2, b"", "ldvbi-side: standard input: Bad file descriptor\n"))
-        self.assertEqual(self.closed([0], "side.vbi.json", "--seek", "3"), (0, b"field 4, frame 2\n", ""))
+        self.assertEqual(self.closed([0], "side.vbi.json --seek 3"), (0, b"field 4, frame 2\n", ""))
 
     def test_a_full_device(self):
-        for words in (["side.vbi.json"], ["--help"], ["scan", "--csv", "side.vbi.json"]):
-            with open("/dev/full", "wb") as full:
-                run = subprocess.run([*COMMAND, *words], cwd=self.folder, stdout=full, stderr=subprocess.PIPE,
-                                     timeout=DEADLINE, check=False, env=buffered())
-            self.assertEqual((run.returncode, run.stderr), (
-                2, b"ldvbi-side: standard output: No space left on device\n"), words)
-        for words in (["absent"], ["--black"]):
-            with open("/dev/full", "wb") as full:
-                run = subprocess.run([*COMMAND, *words], cwd=self.folder, stdout=subprocess.PIPE, stderr=full,
-                                     timeout=DEADLINE, check=False, env=buffered())
-            self.assertEqual((run.returncode, run.stdout), (2, b""), words)
+        said = b"ldvbi-side: standard output: No space left on device\n"
+        for words, name, wanted in (("side.vbi.json", "stdout", said), ("--help", "stdout", said),
+                                    ("scan --csv side.vbi.json", "stdout", said),
+                                    ("side.tbc LEVELS --document", "stdout", said),
+                                    ("absent", "stderr", b""), ("--black", "stderr", b"")):
+            with self.subTest(words), open("/dev/full", "wb") as full:
+                streams = {"stdout": subprocess.PIPE, "stderr": subprocess.PIPE, name: full}
+                run = subprocess.run(COMMAND + self.words(*words.split()), cwd=self.folder, timeout=DEADLINE,
+                                     check=False, env=buffered(), **streams)
+                self.assertEqual((run.returncode, (run.stdout or b"") + (run.stderr or b"")), (2, wanted))
 
 
 def buffered():
@@ -86,7 +82,7 @@ def buffered():
     return {name: value for name, value in os.environ.items() if name != "PYTHONUNBUFFERED"}
 
 
-class Signals(Edges):
+class Signals(Runs):
     def started(self, *words, **more):
         process = subprocess.Popen([*COMMAND, *words], cwd=self.folder, stdin=subprocess.DEVNULL,
                                    stdout=subprocess.PIPE, stderr=subprocess.PIPE, env=buffered(), **more)
@@ -100,21 +96,23 @@ class Signals(Edges):
 
     def test_while_it_waits(self):
         os.mkfifo(self.path("meta.json"))
-        before = sorted(os.listdir(self.folder))
-        for number, status in SIGNALS:
-            with self.subTest(number):
-                process = self.started("side.tbc", "--meta", "meta.json", "--csv", "-o", "out")
+        before = self.names()
+        csv, interrupt = ["--csv", "-o", "out"], SIGNALS[2]
+        for (number, status), words in (*((one, csv) for one in SIGNALS), (interrupt, ["--document", *csv[1:]]),
+                                        (interrupt, [])):
+            with self.subTest((number, words)):
+                process = self.started("side.tbc", "--meta", "meta.json", *words)
                 with open(self.path("meta.json"), "wb"):  # opened as soon as the command opens it
-                    self.assertEqual(len(os.listdir(self.folder)), len(before) + 1)
+                    self.assertEqual(len(self.names()), len(before) + bool(words))
                     process.send_signal(number)
                     process.send_signal(number)
                     self.ended(process, status)
-                self.assertEqual(sorted(os.listdir(self.folder)), before)
+                self.assertEqual(self.names(), before)
 
     def test_while_a_page_is_written(self):
         worn = worn_line(0xF00001, NTSC, 20, 9)
         write_stream(self.path("worn.tbc"), NTSC, [[worn, worn, worn]] * 80)
-        before = sorted(os.listdir(self.folder))
+        before = self.names()
         for number, status in SIGNALS:
             with self.subTest(number):
                 process = self.started("worn.tbc", *LEVELS, "--html", "page.html")
@@ -123,7 +121,7 @@ class Signals(Edges):
                     time.sleep(0.005)
                 process.send_signal(number)
                 self.ended(process, status)
-                self.assertEqual(sorted(os.listdir(self.folder)), before)
+                self.assertEqual(self.names(), before)
 
     def test_while_it_is_loaded(self):
         """One of Python's modules, which the command wants, isn't loaded before there is a text in the pipe."""
@@ -135,6 +133,16 @@ class Signals(Edges):
                 with open(self.path("pipe"), "wb"):
                     process.send_signal(number)
                     self.ended(process, status)
+
+    def test_before_the_package_is_loaded(self):
+        shutil.copy(SCRIPT, self.folder)
+        os.mkdir(self.path("ldvbi_side"))
+        self.write("ldvbi_side/__init__.py", b"with open('pipe') as file:\n    file.read()\n")
+        os.mkfifo(self.path("pipe"))
+        process = subprocess.Popen([sys.executable, "ldvbi-side"], cwd=self.folder, stderr=subprocess.PIPE)
+        with open(self.path("pipe"), "wb"):
+            process.send_signal(signal.SIGINT)
+            self.assertEqual((process.communicate(timeout=DEADLINE), process.returncode), ((None, b""), 130))
 
     def test_what_is_ignored_stays_so(self):
         """As nohup has it."""
@@ -149,7 +157,7 @@ class Signals(Edges):
         self.assertEqual(process.returncode, 0)
 
 
-class Names(Edges):
+class Names(Runs):
     NAME = os.fsdecode(b"s\xff\x1b[31m\xef\xbf\xbe<&>.tbc")
 
     def test_of_sides(self):
@@ -182,13 +190,18 @@ class Names(Edges):
         self.refused("\\x1b[31m\\n\\udcff: No such file or directory", name)
         self.refused("a file without a name: No such file or directory", "")
 
+    def test_that_begin_as_options_do(self):
+        self.write("-x", self.document)
+        for status, *words in ((1, "--", "-x"), (0, "compare", "--", "-x", "-x"), (0, "join", "--", "-x", "-x"),
+                               (1, "scan", "--", "-x")):
+            self.assertEqual(self.run_command(*words)[::2], (status, ""), words)
+
     def test_outputs_without_a_name(self):
-        for words in (["side.vbi.json", "--html", ""], ["side.vbi.json", "--svg", ""], ["side.vbi.json", "-o", ""],
-                      ["side.vbi.json", "--map", ""], ["side.tbc", "--into", ""], ["side.tbc", "--meta", ""],
-                      ["scan", "--html", "", "side.vbi.json"],
-                      ["join", "--html", "", "side.vbi.json", "side.vbi.json"]):
+        for words in ("side.vbi.json --html", "side.vbi.json --svg", "side.vbi.json -o", "side.vbi.json --map",
+                      "side.tbc --into", "side.tbc --meta", "scan side.vbi.json --html",
+                      "join side.vbi.json side.vbi.json --html"):
             with self.subTest(words):
-                status, text, said = self.run_command(*words)
+                status, text, said = self.run_command(words + " ''")
                 self.assertEqual((status, text, said[:17]), (2, b"", "usage: ldvbi-side"))
                 self.assertRegex(said, "error: a (file|folder) has to have a name\n$")
 
@@ -204,11 +217,12 @@ class Names(Edges):
         self.assertEqual((status, json.loads(text)["sides"][0]["fault"], said), (1, None, ""))
 
 
-class Others(Edges):
+class Others(Runs):
     """Files of others."""
 
     def test_a_database(self):
-        with contextlib.closing(sqlite3.connect(self.path("side.tbc.db"))) as database:
+        with contextlib.closing(sqlite3.connect(self.path("side.tbc.db"))) as database, database:
+            database.execute("BEGIN")  # else the disk is waited for 300 times
             for number in range(300):
                 database.execute('CREATE TABLE "\x1b[31m\n%03d" (system TEXT)' % number)
         status, text, said = self.run_command("side.tbc")
@@ -229,11 +243,16 @@ class Others(Edges):
         self.assertTrue(said.endswith("xxx\" is no cause\n"), said)
         self.assertLess(len(said), 650)
 
+    def test_an_option_beside_metadata(self):
+        self.metadata("side.tbc.json")
+        for option in (["--system", "PAL"], ["--black", "20000"], ["--white", "40000"]):
+            wanted = self.extracted("side.tbc", ["--meta", self.path("side.tbc.json"), *option])
+            self.assertEqual(self.run_command("side.tbc", *option, "--document")[1], wanted, option)
+
     def test_what_has_no_end(self):
-        for words in (["/dev/zero"], ["side.tbc", "--meta", "/dev/zero"], ["index", "index.html", "/dev/zero"],
-                      ["scan", "--csv", "/dev/zero"]):
+        for words in ("/dev/zero", "side.tbc --meta /dev/zero", "index index.html /dev/zero", "scan --csv /dev/zero"):
             with self.subTest(words):
-                self.assertEqual(self.run_command(*words)[0], 2)
+                self.assertEqual(self.run_command(words)[0], 2)
         with open("/dev/zero", "rb") as zeros:
             run = subprocess.run([*COMMAND, "-"], stdin=zeros, stdout=subprocess.PIPE, stderr=subprocess.PIPE,
                                  timeout=DEADLINE, check=False)
@@ -256,7 +275,3 @@ class Others(Edges):
                                      (0, self.document, ""))
                 else:
                     self.refused("meta.json is no metadata with videoParameters", "side.tbc", "--meta", "meta.json")
-
-
-if __name__ == "__main__":
-    unittest.main()

@@ -8,9 +8,8 @@ import subprocess
 import sys
 import termios
 import time
-import unittest
 
-from command_runs import COMMAND, DEADLINE, LEVELS, SIZE, Runs
+from command_runs import COMMAND, DEADLINE, SIZE, Runs, shown_on
 from streams import NTSC, write_stream
 
 
@@ -18,44 +17,29 @@ class Terminals(Runs):
     def on_terminal(self, words, is_output_on_it=False):
         """What a run writes to the terminal, and what to standard output where that is none."""
         ours, theirs = pty.openpty()
-        process = subprocess.Popen(COMMAND + words, cwd=self.folder, stdin=subprocess.DEVNULL, stderr=theirs,
-                                   stdout=theirs if is_output_on_it else subprocess.PIPE)
+        process = subprocess.Popen(COMMAND + self.words(words), cwd=self.folder, stdin=subprocess.DEVNULL,
+                                   stderr=theirs, stdout=theirs if is_output_on_it else subprocess.PIPE)
         os.close(theirs)
         text = b"" if is_output_on_it else process.stdout.read()
-        shown = b""
-        try:
-            while True:
-                part = os.read(ours, 65536)
-                if not part:
-                    break
-                shown += part
-        except OSError:
-            pass  # the other end of a terminal is closed
-        os.close(ours)
+        shown = shown_on(ours)
         if process.stdout:
             process.stdout.close()
         self.assertEqual(process.wait(DEADLINE), int("--summary" in words))
-        return shown.decode(), text
+        return shown, text
 
     def test_progress(self):
-        for words in (["--csv"], ["--summary"], ["--document"], ["--document", "-o", "out"], ["--svg", "side.svg"]):
+        """None of documents, where nobody looks, or between the lines of a document."""
+        for words in ("--csv", "--summary", "--document", "--document -o out", "--svg side.svg"):
             with self.subTest(words):
-                shown, text = self.on_terminal(["side.tbc", *LEVELS, *words])
+                shown, text = self.on_terminal("side.tbc LEVELS " + words)
                 self.assertTrue(shown.startswith("\r0 of 12 fields, 0 %\x1b[K"), shown)
                 self.assertTrue(shown.endswith("\r12 of 12 fields, 100 %\x1b[K\r\x1b[K"), shown)
                 self.assertNotIn(b"fields,", text.replace(b"fields, fields,", b""))
-        self.assertEqual(self.on_terminal(["side.tbc", *LEVELS, "--document"])[1], self.document)
+                self.assertEqual(self.run_command("side.tbc LEVELS " + words)[2], "")
+        self.assertEqual(self.on_terminal("side.tbc LEVELS --document")[1], self.document)
         self.assertEqual(self.read("out"), self.document)
-
-    def test_none_of_documents(self):
-        self.assertEqual(self.on_terminal(["side.vbi.json", "--seek", "3"])[0], "")
-
-    def test_none_where_nobody_looks(self):
-        for words in (["--csv"], ["--summary"], ["--document"]):
-            self.assertEqual(self.run_command("side.tbc", *LEVELS, *words)[2], "")
-
-    def test_none_between_the_lines_of_a_document(self):
-        shown, _ = self.on_terminal(["side.tbc", *LEVELS, "--document"], is_output_on_it=True)
+        self.assertEqual(self.on_terminal("side.vbi.json --seek 3")[0], "")
+        shown, _ = self.on_terminal("side.tbc LEVELS --document", is_output_on_it=True)
         self.assertEqual(shown.replace("\r\n", "\n").encode(), self.document)
 
 
@@ -63,27 +47,18 @@ class Interrupted(Runs):
     # What is printed is held back for a while, as nearly everywhere.
     buffered = {name: value for name, value in os.environ.items() if name != "PYTHONUNBUFFERED"}
 
-    def started(self, *words):
-        return subprocess.Popen(COMMAND + list(words), cwd=self.folder, stdout=subprocess.PIPE, stderr=subprocess.PIPE,
-                                env=self.buffered)
-
-    def test_while_it_reads(self):
-        os.mkfifo(self.path("meta.json"))
-        for words in ([], ["-o", "out"], ["--document", "-o", "out"]):
-            with self.subTest(words):
-                process = self.started("side.tbc", "--meta", "meta.json", *words)
-                with open(self.path("meta.json"), "wb"):  # opened as soon as the command opens it
-                    if words:
-                        self.assertEqual(sum(name.endswith(".part") for name in os.listdir(self.folder)), 1)
-                    process.send_signal(signal.SIGINT)
-                    text, said = process.communicate(timeout=DEADLINE)
-                self.assertEqual((process.returncode, text, said), (130, b"", b""))
-                self.assertEqual(sorted(os.listdir(self.folder)), ["meta.json", "side.tbc", "side.vbi.json"])
+    def started(self):
+        """A long document, and the process that prints it."""
+        write_stream(self.path("side.tbc"), NTSC, [[0, 0, 0]], 2000 * SIZE)
+        process = subprocess.Popen(COMMAND + self.words("side.tbc LEVELS --document"), cwd=self.folder,
+                                   stdout=subprocess.PIPE, stderr=subprocess.PIPE, env=self.buffered)
+        self.addCleanup(process.stdout.close)
+        self.addCleanup(process.stderr.close)
+        return process
 
     def test_while_nobody_reads(self):
         """The pipe is full, and what can't be written any more must not be waited for."""
-        write_stream(self.path("side.tbc"), NTSC, [[0, 0, 0]], 2000 * SIZE)
-        process = self.started("side.tbc", *LEVELS, "--document")
+        process = self.started()
         waiting = [-2, -1]
         while waiting[-1] != waiting[-2] or waiting[-1] < 4096:
             time.sleep(0.3)
@@ -93,8 +68,6 @@ class Interrupted(Runs):
         self.assertEqual(process.wait(DEADLINE), 130)
         self.assertEqual(process.stderr.read(), b"")
         self.assertTrue(self.extracted("side.tbc").startswith(process.stdout.read()))
-        process.stdout.close()
-        process.stderr.close()
 
     def unread(self, command):
         """The status of a command whose standard output nobody reads from the beginning, and what it says."""
@@ -105,26 +78,15 @@ class Interrupted(Runs):
         os.close(theirs)
         return run.returncode, run.stderr
 
-    def test_what_is_not_written_yet_is_dropped(self):
-        """Ctrl-C ends the reader of a pipe, too: what was printed has nowhere to go then."""
+    def test_no_reader(self):
+        """Ctrl-C ends the reader of a pipe, too: what was printed has nowhere to go then. And one that has seen it."""
         code = "import sys, ldvbi_side.__main__, ldvbi_side.command.main\n" \
                "def interrupted(words):\n    print(words)\n    raise KeyboardInterrupt\n" \
                "ldvbi_side.command.main.main = interrupted\n" \
                "sys.exit(ldvbi_side.__main__.main(['words']))"
         self.assertEqual(self.unread([sys.executable, "-c", code]), (130, b""))
-
-    def test_no_reader(self):
         self.assertEqual(self.unread(COMMAND + ["side.vbi.json", "--csv"]), (2, b""))
-
-    def test_a_reader_that_has_seen_enough(self):
-        write_stream(self.path("side.tbc"), NTSC, [[0, 0, 0]], 2000 * SIZE)
-        process = self.started("side.tbc", *LEVELS, "--document")
+        process = self.started()
         process.stdout.read(100)
         process.stdout.close()
-        said = process.stderr.read()
-        process.stderr.close()
-        self.assertEqual((process.wait(DEADLINE), said), (2, b""))
-
-
-if __name__ == "__main__":
-    unittest.main()
+        self.assertEqual((process.stderr.read(), process.wait(DEADLINE)), (b"", 2))

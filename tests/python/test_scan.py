@@ -6,7 +6,6 @@ import io
 import json
 import os
 import subprocess
-import unittest
 from urllib.parse import quote
 
 from scanned import DEADLINE, ROWS, WHOLE, Scans, fields_of
@@ -23,13 +22,13 @@ class Tables(Scans):
         self.add_twelve()
 
     def test_twelve_sides(self):
-        table = self.scan("--csv", "-j", "1", "--html", "one", "a", "b")
-        known = self.scan("--json", "-j", "4", "--html", "four", "b", "a")
+        table = self.scan("--csv -j 1 --html one a b")
+        known = self.scan("--json -j 4 --html four b a")
         self.check_csv(*table)
         self.check_json(*known)
         self.check_pages({one["side"]: one["page"] for one in json.loads(known[1])["sides"]})
         # those that have a page aren't read again
-        self.check_text(*self.scan("--html", "four", "a", "b"))
+        self.check_text(*self.scan("--html four a b"))
         names = sorted(os.listdir(self.path("one")))
         self.assertEqual(len(names), 10)  # of twelve sides three have a fault; and the index
         self.assertEqual(sorted(os.listdir(self.path("four"))), names)
@@ -113,15 +112,9 @@ class Tables(Scans):
 
 
 class Statuses(Scans):
-    def test_by_the_sides(self):
+    def test_a_side_that_is_not_there(self):
         self.add("sides/whole.tbc", WHOLE)
-        self.assertEqual(self.scan("sides")[0], 0)
-        self.add("sides/none.tbc", [[0, 0, 0]] * 4)
-        self.assertEqual(self.scan("sides")[0], 4)  # it can't be told
-        self.add("sides/lost.tbc", fields_of([1, 2, 3, 6, 7, 8]))
-        self.assertEqual(self.scan("sides")[0], 1)
-        self.assertEqual(self.scan("sides/whole.tbc", "sides/none.tbc")[0], 4)
-        status, text, said = self.scan("--csv", "sides/whole.tbc", "absent.tbc")
+        status, text, said = self.scan("--csv sides/whole.tbc absent.tbc")
         self.assertEqual((status, said), (2, ""))
         self.assertEqual(text.split("\n")[1:3], ["absent.tbc,fault,,,,,,,No such file or directory",
                                                  "sides/whole.tbc,yes,0,0,cav,1,30,60,"])
@@ -137,13 +130,13 @@ class Statuses(Scans):
 
     def test_no_page_in_the_place_of_a_side(self):
         self.add("pages/index.html", WHOLE)
-        self.assertEqual(self.scan("--html", "pages", "pages/index.html"), (
+        self.assertEqual(self.scan("--html pages pages/index.html"), (
             2, "", "ldvbi-side: pages/index.html would be written in the place of an input or of another output\n"))
 
     def test_what_is_to_be_noted_has_its_side(self):
         self.add("side.tbc", WHOLE)
         self.add_metadata("side.tbc.json", black16bIre=16383.5)
-        status, text, said = self.scan("--csv", "side.tbc")
+        status, text, said = self.scan("--csv side.tbc")
         self.assertEqual((status, text.split("\n")[1]), (0, "side.tbc,yes,0,0,cav,1,30,60,"))
         self.assertEqual(said, "ldvbi-side: side.tbc: black16bIre is 16383.5, rounded to 16384\n")
 
@@ -158,7 +151,7 @@ class Statuses(Scans):
     def test_names_that_are_no_text(self):
         name = os.fsdecode(b"side \xff\n.tbc")
         self.add(name, WHOLE)
-        self.assertEqual(self.scan("--csv", ".")[1].split("\n", 1)[1], '"./%s",yes,0,0,cav,1,30,60,\n' % name)
+        self.assertEqual(self.scan("--csv .")[1].split("\n", 1)[1], '"./%s",yes,0,0,cav,1,30,60,\n' % name)
         self.assertEqual(self.scan(".")[1].split("\n")[1][:25], "./side ??.tbc  yes       ")
 
 
@@ -175,7 +168,7 @@ class Pages(Scans):
     def test_sides_of_one_name(self):
         self.add("a/side.tbc", WHOLE)
         self.add("b/side.tbc", fields_of(range(1, 21)))
-        self.assertEqual(self.scan("--html", "pages", "a", "b")[0], 0)
+        self.assertEqual(self.scan("--html pages a b")[0], 0)
         one, other = self.page("a/side.tbc"), self.page("b/side.tbc")
         self.assertNotEqual(one, other)
         self.assertIn("30, from 1 to 30", self.read(one))
@@ -230,7 +223,3 @@ class Pages(Scans):
             self.write(page, text.encode())
             self.page()
             self.assertEqual(self.read(page), whole)
-
-
-if __name__ == "__main__":
-    unittest.main()

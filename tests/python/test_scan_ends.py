@@ -1,7 +1,6 @@
 """How scans end whose processes don't: killed, interrupted, or without a reader; and what a terminal shows of them."""
 
 import contextlib
-import functools
 import io
 import os
 import pty
@@ -11,6 +10,7 @@ import time
 import unittest
 from unittest import mock
 
+from command_runs import shown_on
 from ldvbi_side.command import processes
 from ldvbi_side.command.folders import Found
 from ldvbi_side.command.processes import Ended, SideBySide
@@ -81,21 +81,20 @@ def leaves(path, page):
 
 class Failing(Scans):
     def test_faults_that_nobody_thought_of(self):
-        self.add("1.tbc", WHOLE)
-        self.add("2.tbc", WHOLE)
+        for name in ("1.tbc", "2.tbc"):
+            self.add(name, WHOLE)
         for read, text in ((fails, "KeyError: 'a fault of the program'"), (leaves, "its process ended with status 3")):
-            printed = io.StringIO()
-            with contextlib.redirect_stdout(printed):
-                self.assertEqual(scan(["--csv", self.folder], read), 2)
-            self.assertEqual(printed.getvalue().split("\n")[1:], [
-                "%s/%d.tbc,fault,,,,,,,%s" % (self.folder, number, text) for number in (1, 2)] + [""])
+            self.check(self.folder, read, ["%s/%d.tbc,fault,,,,,,,%s" % (self.folder, number, text)
+                                           for number in (1, 2)])
+        with mock.patch("ldvbi_side.command.scan.sides_in", return_value=[Found("d", "Permission denied")]):
+            self.check("d", fails, ["d,fault,,,,,,,Permission denied"])
 
-    def test_a_folder_that_is_not_read(self):
+    def check(self, folder, read, rows):
+        """What a scan that reads sides by this function prints of a folder behind the head of its table."""
         printed = io.StringIO()
-        with mock.patch("ldvbi_side.command.scan.sides_in", return_value=[Found("d", "Permission denied")]), \
-                contextlib.redirect_stdout(printed):
-            self.assertEqual(scan(["--csv", "d"], fails), 2)
-        self.assertEqual(printed.getvalue().split("\n")[1:], ["d,fault,,,,,,,Permission denied", ""])
+        with contextlib.redirect_stdout(printed):
+            self.assertEqual(scan(["--csv", folder], read), 2)
+        self.assertEqual(printed.getvalue().split("\n")[1:], rows + [""])
 
 
 class Killed(Ends):
@@ -177,16 +176,9 @@ class Terminals(Scans):
         process = subprocess.Popen([*COMMAND, "--csv", "."], cwd=self.folder, stdin=subprocess.DEVNULL,
                                    stdout=subprocess.PIPE, stderr=theirs)
         os.close(theirs)
-        shown = b""
-        try:
-            for part in iter(functools.partial(os.read, ours, 65536), b""):
-                shown += part
-        except OSError:
-            pass  # the other end of a terminal is closed
-        os.close(ours)
+        lines = shown_on(ours).split("\r")
         text, _ = process.communicate(timeout=DEADLINE)
         self.assertEqual((process.returncode, text.count(b"\n")), (4, 3))
-        lines = shown.decode().split("\r")
         self.assertEqual(lines[1], "0 of 2 sides, 0 %\x1b[K")
         self.assertEqual(lines[-1], "\x1b[K")
         for line in lines[1:]:
@@ -220,7 +212,3 @@ class Processes(unittest.TestCase):
                 SideBySide(ignores, [1, 2], 1, lambda task, process: ended.append(task)) as messages:
             self.assertEqual(next(iter(messages)), (0, 1))
         self.assertEqual((ended, children(os.getpid())), ([1], []))
-
-
-if __name__ == "__main__":
-    unittest.main()

@@ -8,6 +8,7 @@ import tracemalloc
 import unittest
 from unittest import mock
 
+from cases import reason
 from ldvbi import scanner
 from ldvbi.scanner import NotJson, Scanner
 
@@ -94,7 +95,6 @@ class Values(unittest.TestCase):
         self.assertEqual(count, 3000)
         self.assertLess(tracemalloc.get_traced_memory()[1], 100000)
 
-
     def test_a_long_value_is_begun_a_few_times(self):
         """As often as what is read is twice as long: a value that is longer by far than a piece takes no longer."""
         with mock.patch.object(scanner, "_DECODER", mock.Mock(wraps=json.JSONDecoder())) as decoder:
@@ -102,25 +102,28 @@ class Values(unittest.TestCase):
         self.assertLess(decoder.raw_decode.call_count, 40)
 
 
+# What has to stand at a place: texts that have something else there, and the place
+NO_JSON = {
+    "[": [("", "x", "5", "\ufeff[]", 0)], "]": [("[1}", 2)], "}": [('{"a":1]', 6)],
+    "a name": [("{", "{5:1}", "{'a':1}", 1), ('{"a":1,}', '{"a":1,5', 7)],
+    "a colon": [('{"a"}', 4), ('{"a" 1}', 5)],
+    END: [("[1", "[01]", "[1.]", "[1e+]", 2), ('{"a":1', 6), ('{"a":1 2}', 7)],
+    "a value": [("[tru]", "[nul", "[-]", '["a]', 1), ('["\\x"]', 2), ("[1,]", '["a\n"]', "[1,", 3), ("[[1,]]", 4),
+                ('{"a":}', 5)],
+    "the end": [("[1]]", "[] []", 3)]}
+
+
 class Refused(unittest.TestCase):
     def refused(self, text, wanted, pieces=(1, 2, 3, 7, 1 << 18)):
         for piece in pieces:
-            with self.subTest((text[:40], piece)), self.assertRaises(NotJson) as caught:
-                scanned(text, piece)
-            self.assertEqual(str(caught.exception), wanted)
+            self.assertEqual(reason(scanned, text, piece, kind=NotJson), wanted, (text[:40], piece))
 
     def test_what_is_no_json(self):
-        for text, place, wanted in (
-                ("", 0, "["), ("x", 0, "["), ("5", 0, "["), ("\ufeff[]", 0, "["), ("{", 1, "a name"),
-                ("{5:1}", 1, "a name"),
-                ("{'a':1}", 1, "a name"), ('{"a"}', 4, "a colon"), ('{"a" 1}', 5, "a colon"), ('{"a":}', 5, "a value"),
-                ('{"a":1', 6, END), ('{"a":1 2}', 7, END), ('{"a":1,}', 7, "a name"),
-                ("[1,]", 3, "a value"), ("[1", 2, END), ("[01]", 2, END), ("[1.]", 2, END),
-                ("[1e+]", 2, END), ("[tru]", 1, "a value"), ("[nul", 1, "a value"), ("[-]", 1, "a value"),
-                ('["a]', 1, "a value"), ('["\\x"]', 2, "a value"), ('["a\n"]', 3, "a value"), ("[1]]", 3, "the end"),
-                ("[1}", 2, "]"), ('{"a":1]', 6, "}"), ("[] []", 3, "the end"), ("[[1,]]", 4, "a value"),
-                ('{"a":1,5', 7, "a name"), ("[1,", 3, "a value")):
-            self.refused(text, "not JSON at character %d, where %s has to stand" % (place, wanted))
+        for wanted, rows in NO_JSON.items():
+            for row in rows:
+                text, place = row[:-1], row[-1]
+                for one in text:
+                    self.refused(one, "not JSON at character %d, where %s has to stand" % (place, wanted))
 
     def test_a_fault_far_from_the_end_is_seen_at_once(self):
         """What comes behind it isn't read: it could be any length."""
@@ -191,7 +194,3 @@ class Refused(unittest.TestCase):
                 for _ in one.items():
                     one.value()
             self.assertEqual(str(caught.exception), "not UTF-8")
-
-
-if __name__ == "__main__":
-    unittest.main()

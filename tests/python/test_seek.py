@@ -6,11 +6,12 @@ import os
 import unittest
 
 import ldvbi
-from discs import BLANK, LEAD_IN, LEAD_OUT, film, item, picture, pictures, times
+from cases import reason
+from compact import rows
+from discs import item
 from ldvbi import Number, Pace, State
 from simulate import simulated
 from streams import NTSC, PAL
-from test_refusals import reason
 
 SIDES = int(os.environ.get("SEEK_SIDES", "40"))
 
@@ -31,69 +32,47 @@ class Memory:
         self.side = ldvbi.Stream(memoryview(self.memory)[:len(fields) * size + rest], *setup)
 
 
-def words(rows):
-    """The words of rows that are written as text."""
-    return [[item(text)[0] for text in row.split()] for row in rows]
+def memory_of(text, setup=PAL, rest=0):
+    return Memory([[item(part)[0] for part in row.split()] for row in rows(text)], setup, rest).side
 
 
-def sought(rows, number, setup=PAL, *asked):
-    """The field, counted from 0, at which a number is found, and how many fields were read for it."""
-    found = ldvbi.seek(Memory(words(rows), setup).side, number, *asked)
-    return found and (found.field, found.number.state, found.pace, found.looked <= 400)
+VIDEO, FILM = (State.believed, Pace.video, True), (State.believed, Pace.film, True)
+MISREAD = "1..299 299=-/#79999/#7"  # picture 150
+BOTH = "1..299 299=-/#79999/#79999"
+DARK = "1..399 381:440=B"  # pictures 191 to 220
+# What is asked of a side, and the answer: the field, counted from 0, the state, the pace, and whether few are read
+ROWS = (
+    ("f100..299", NTSC, (206,), (265, *FILM)), ("f100..299", NTSC, (206, "pictures", "film"), (265, *FILM)),
+    ("t3000..3399", PAL, (3111, "times"), (222, *VIDEO)), (MISREAD, PAL, (150,), (298, State.due, Pace.video, True)),
+    (MISREAD, PAL, (200,), (398, *VIDEO)), (MISREAD, PAL, (79999,), None), (BOTH, PAL, (150,), None),
+    *((BOTH, PAL, (number,), (2 * number - 2, *VIDEO)) for number in (20, 149, 151, 280)),
+    ("1..199 200x60 201..399", PAL, (200,), (398, *VIDEO)),  # a still begins
+    *((DARK, PAL, (number,), (2 * number - 2, *VIDEO)) for number in (150, 190, 222, 300, 399)),
+    (DARK, PAL, (205,), None), ("", PAL, (5,), None), ("5", PAL, (5,), None), ("5..6", PAL, (5,), None),
+    ("5..7", PAL, (6,), (2, *VIDEO)))
 
 
 class Seeking(unittest.TestCase):
+    def test_rows(self):
+        for text, setup, asked, wanted in ROWS:
+            found = ldvbi.seek(memory_of(text, setup), *asked)
+            with self.subTest((text, asked)):
+                self.assertEqual(found and (found.field, found.number.state, found.pace, found.looked <= 400), wanted)
+
     def test_a_side_that_runs_on(self):
-        rows = [LEAD_IN] * 30 + pictures(range(1, 400)) + [LEAD_OUT] * 300
-        memory = Memory(words(rows)).side
+        memory = memory_of("Lx30 1..399 Ox300")
         for number in (1, 2, 3, 30, 199, 200, 398, 399):
-            self.assertEqual(ldvbi.seek(memory, number)[:3], (28 + 2 * number, Number(number, State.believed),
-                                                              Pace.video))
+            self.assertEqual(ldvbi.seek(memory, number)[:3],
+                             (28 + 2 * number, Number(number, State.believed), Pace.video))
         for number in (0, 400, 79999, 2 ** 32 - 1):
             self.assertIsNone(ldvbi.seek(memory, number))
 
     def test_few_fields_are_read(self):
-        memory = Memory(words(pictures(range(1, 4001)))).side
+        memory = memory_of("1..4000")
         self.assertLessEqual(max(ldvbi.seek(memory, number).looked for number in range(1, 4001, 97)), 200)
 
-    def test_film_is_found(self):
-        rows = film(range(100, 300))
-        self.assertEqual(sought(rows, 206, NTSC), (265, State.believed, Pace.film, True))
-        self.assertEqual(sought(rows, 206, NTSC, "pictures", "film"), (265, State.believed, Pace.film, True))
-
-    def test_times(self):
-        self.assertEqual(sought(times(range(3000, 3400)), 3111, PAL, "times"), (222, State.believed, Pace.video, True))
-
-    def test_a_number_that_was_misread(self):
-        rows = pictures(range(1, 300))
-        rows[2 * 149] = "- %s %s" % (picture(79999), picture(7))  # of picture 150
-        self.assertEqual(sought(rows, 150), (298, State.due, Pace.video, True))
-        self.assertEqual(sought(rows, 200), (398, State.believed, Pace.video, True))
-        self.assertIsNone(sought(rows, 79999))
-        rows[2 * 149] = "- %s %s" % (picture(79999), picture(79999))
-        for number in (20, 149, 151, 280):
-            self.assertEqual(sought(rows, number), (2 * number - 2, State.believed, Pace.video, True))
-        self.assertIsNone(sought(rows, 150))
-
-    def test_a_still_begins(self):
-        rows = pictures(range(1, 200)) + pictures([200] * 60) + pictures(range(201, 400))
-        self.assertEqual(sought(rows, 200), (398, State.believed, Pace.video, True))
-
-    def test_where_nothing_was_read(self):
-        rows = pictures(range(1, 400))
-        rows[380:440] = [BLANK] * 60
-        for number in (150, 190, 222, 300, 399):
-            self.assertEqual(sought(rows, number), (2 * number - 2, State.believed, Pace.video, True))
-        self.assertIsNone(sought(rows, 205))
-
-    def test_short_sides(self):
-        for count in range(3):
-            self.assertIsNone(sought(pictures(range(5, 5 + count)), 5))
-        self.assertEqual(sought(pictures(range(5, 8)), 6), (2, State.believed, Pace.video, True))
-        cut = Memory(words(pictures(range(5, 8))), rest=700000).side
-        self.assertEqual(ldvbi.seek(cut, 7)[0], 4)
-
-    def test_refusals(self):
+    def test_a_cut_side_and_refusals(self):
+        self.assertEqual(ldvbi.seek(memory_of("5..7", rest=700000), 7)[0], 4)
         side = Memory([]).side
         for asked, text in ((("chapters",), "neither pictures nor times are counted"),
                             (("pictures", "slow"), "pace is neither that of video nor of film, nor to be found")):
@@ -129,7 +108,3 @@ class BesideTheJudge(unittest.TestCase):
         if place.field:
             self.assertNotIn(numbers[place.field - 1], (Number(number, State.believed), Number(number, State.due)))
         return True, True
-
-
-if __name__ == "__main__":
-    unittest.main()

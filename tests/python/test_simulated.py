@@ -1,6 +1,7 @@
 """Simulated sides beside their truth: bounds for the seeds 2000 to 2041, six sides of each kind, and for sides that
 were played in other ways."""
 
+import re
 import unittest
 from collections import Counter
 
@@ -14,7 +15,18 @@ SEEDS = range(2000, 2042)
 SAMPLE = 3  # each so many of these sides are looked at for what holds of every answer
 
 
-class Bounds(unittest.TestCase):
+class Sides(unittest.TestCase):
+    def within(self, counts, table):
+        """Each row has a count's name, and what it is, or between what. Of `a - b` the difference is meant."""
+        for row in re.split(r";\s+", table.strip()):
+            name, _, bounds = row.partition(": ")
+            one, _, other = name.partition(" - ")
+            count = counts[one] - (counts[other] if other else 0)
+            least, _, most = bounds.partition("..") if ".." in bounds else (bounds, "", bounds)
+            self.assertTrue(int(least or 0) <= count <= int(most or 10 ** 9), (row, count, self.told))
+
+
+class Bounds(Sides):
     @classmethod
     def setUpClass(cls):
         cls.totals, cls.told = {kind: Counter() for kind in KINDS}, []
@@ -23,63 +35,41 @@ class Bounds(unittest.TestCase):
             cls.totals[kind].update(counts)
         cls.all = sum(cls.totals.values(), Counter())
 
-    def share(self, name, count, most_not_found=0):
-        """Of so many on these sides all are found but for a few."""
-        self.assertEqual(self.all[name], count, name)
-        self.assertGreaterEqual(self.all[name + " found"], count - most_not_found, self.told)
-
     def test_six_sides_of_each_kind(self):
         self.assertEqual({kind: counts["sides"] for kind, counts in self.totals.items()}, dict.fromkeys(KINDS, 6))
+        for counts in self.totals.values():
+            self.within(counts, "wrong: 1..; right: 1..; numbers: 1..")
 
     def test_no_answer_contradicts_the_words_of_its_side(self):
-        self.assertEqual(self.all["faults"], 0, self.told)
+        self.within(self.all, "faults: 0")
 
-    def test_wrong_numbers_are_set_aside(self):
-        self.share("wrong", 474)
-        self.share("wrong chapters", 478)
+    def test_what_is_set_aside(self):
+        """All wrong numbers, and hardly a right one."""
+        self.within(self.all, """
+            wrong: 474; wrong - wrong found: 0; wrong chapters: 478; wrong chapters - wrong chapters found: 0;
+            right: 102912; right found: ..1; right chapters: 76765; right chapters found: 0""")
 
-    def test_right_numbers_are_not(self):
-        self.assertEqual([self.all["right"], self.all["right chapters"]], [102912, 76765])
-        self.assertLessEqual(self.all["right found"], 1, self.told)
-        self.assertEqual(self.all["right chapters found"], 0, self.told)
-
-    def test_no_field_has_another_number_than_on_the_disc(self):
-        self.assertGreater(self.all["numbers"], 45600)
-        self.assertGreater(self.all["due"], 2800)
-        for name in ("numbers", "due"):
-            self.assertEqual(self.all[name + " found"], self.all[name], self.told)
+    def test_numbers_and_why_they_are_missing(self):
+        """No field has another number than on the disc."""
+        self.within(self.all, """
+            numbers: 45601..; numbers - numbers found: 0; due: 2801..; due - due found: 0; unread numbers: 2701..;
+            unread numbers - unread numbers found: 0; lost numbers: 1401..; lost numbers - lost numbers found: ..3;
+            undecided: ..199""")
 
     def test_lost_fields_and_jumps_back(self):
-        self.share("lost places", 330)
-        self.share("backs", 189)
-        self.assertEqual(self.all["lost found"], self.all["lost"], self.told)
-        self.assertGreater(self.all["lost"], 300)
-
-    def test_why_numbers_are_missing(self):
-        self.assertEqual(self.all["unread numbers found"], self.all["unread numbers"], self.told)
-        self.assertGreater(self.all["unread numbers"], 2700)
-        self.assertGreaterEqual(self.all["lost numbers found"], self.all["lost numbers"] - 3, self.told)
-        self.assertGreater(self.all["lost numbers"], 1400)
-        self.assertLess(self.all["undecided"], 200)
+        self.within(self.all, """
+            lost places: 330; lost places - lost places found: 0; backs: 189; backs - backs found: 0; lost: 301..;
+            lost - lost found: 0""")
 
     def test_lists_that_are_exact(self):
-        for name, least in (("stops", 42), ("missing", 41), ("left out", 42), ("first fields", 41),
-                            ("chapter table", 42), ("whole", 42), ("reasons", 42)):
-            self.assertGreaterEqual(self.all[name], least, self.told)
-
-    def test_it_is_seldom_left_open_whether_a_side_is_whole(self):
-        said = [self.all["said " + word] for word in ("yes", "no", "can't tell")]
-        self.assertEqual([sum(said), self.all["judged otherwise"]], [42, 0])
-        self.assertGreater(said[0], 5)
-        self.assertLessEqual(said[2], 1, self.told)
-
-    def test_each_kind_has_something_to_find(self):
-        for kind, counts in self.totals.items():
-            for name in ("wrong", "right", "numbers"):
-                self.assertGreater(counts[name], 0, kind)
+        """And it is seldom left open whether a side is whole."""
+        self.within(self.all, """
+            stops: 42..; missing: 41..; left out: 42..; first fields: 41..; chapter table: 42..; whole: 42..;
+            reasons: 42..; judged otherwise: 0; said yes: 6..; said can't tell: ..1""")
+        self.assertEqual(sum(self.all["said " + word] for word in ("yes", "no", "can't tell")), 42)
 
 
-class Played(unittest.TestCase):
+class Played(Sides):
     """Sides that were played in other ways, and worn ones: three of each kind, with few pictures where the kind lets
     them be few."""
 
@@ -95,82 +85,48 @@ class Played(unittest.TestCase):
         cls.totals, cls.told = {kind: Counter() for kind in PLAYED}, []
         for kind, count in cls.PICTURES.items():
             for seed in range(3):
-                cls.totals[kind].update(measured(seed, kind, tell=cls.told.append, count=count)[1])
+                cls.totals[kind].update(measured(seed, kind, tell=cls.told.append, count=count,
+                                                 sound=kind != "minutes" or seed == 0)[1])
         cls.all = sum(cls.totals.values(), Counter())
 
-    def test_no_answer_contradicts_the_words_of_its_side(self):
-        self.assertEqual([self.all["sides"], self.all["faults"]], [21, 0], self.told)
-
-    def test_exact_sides(self):
+    def test_each_kind(self):
+        """No answer contradicts the words of its side."""
+        self.within(self.all, "sides: %d; faults: 0" % (3 * len(self.PICTURES)))
         for kind, least in self.EXACT.items():
-            for name, count in zip(("missing", "first fields", "reasons"), least):
+            for name, count in zip(("reasons", "first fields", "missing"), reversed(least)):
                 self.assertGreaterEqual(self.totals[kind][name], count, (kind, name, self.told))
 
-    def test_numbers(self):
-        self.assertEqual([self.all["wrong"], self.all["wrong found"]], [72, 72], self.told)
-        self.assertGreater(self.all["right"], 23000)
-        self.assertLessEqual(self.all["right found"], 10, self.told)
-        for name, least in (("numbers", 13700), ("due", 840), ("unread numbers", 800)):
-            self.assertGreater(self.all[name], least)
-            self.assertGreaterEqual(self.all[name + " found"], self.all[name] - 1, (name, self.told))
-
-    def test_places(self):
-        for name, count in (("lost places", 96), ("backs", 27)):
-            self.assertEqual([self.all[name], self.all[name + " found"]], [count] * 2, (name, self.told))
-        self.assertEqual([self.all[name] for name in ("swaps", "speeds")], [4, 3])
-        self.assertGreaterEqual(self.all["swaps found"], 3, self.told)
-        self.assertEqual(self.all["speeds found"], 3, self.told)
+    def test_counts(self):
+        self.within(self.all, """
+            wrong: 72; wrong found: 72; right: 23001..; right found: ..10; numbers: 13701..;
+            numbers - numbers found: ..1; due: 841..; due - due found: ..1; unread numbers: 801..;
+            unread numbers - unread numbers found: ..1; lost places: 96; lost places - lost places found: 0;
+            backs: 27; backs - backs found: 0; swaps: 4; swaps found: 3..; speeds: 3; speeds found: 3""")
         for kind in ("skips", "losses", "worn", "restarts"):
             counts = self.totals[kind]
             self.assertGreaterEqual(counts["lost found"] + counts["lost and hidden"], counts["lost"] - 1, self.told)
 
 
-class ByHand(unittest.TestCase):
+class ByHand(Played):
     """Sides of a player at hand, and minutes alone: three of each kind."""
 
     PICTURES = {"loops": 300, "turned": 300, "searched": 500, "sides": 200, "minutes": None}
-    # of these three sides at least so many have exact first fields, and just the reasons why they aren't whole
-    EXACT = {"loops": (3, 3), "turned": (3, 2), "searched": (2, 0), "sides": (3, 3), "minutes": (3, 3)}
+    EXACT = {"loops": (0, 3, 3), "turned": (0, 3, 2), "searched": (0, 2, 0), "sides": (0, 3, 3), "minutes": (0, 3, 3)}
 
-    @classmethod
-    def setUpClass(cls):
-        cls.totals, cls.told = {kind: Counter() for kind in cls.PICTURES}, []
-        for kind, count in cls.PICTURES.items():
-            for seed in range(3):
-                cls.totals[kind].update(measured(seed, kind, tell=cls.told.append, count=count,
-                                                 sound=kind != "minutes" or seed == 0)[1])
-        cls.all = sum(cls.totals.values(), Counter())
-
-    def test_no_answer_contradicts_the_words_of_its_side(self):
-        self.assertEqual([self.all["sides"], self.all["faults"]], [15, 0], self.told)
-
-    def test_exact_sides(self):
-        for kind, least in self.EXACT.items():
-            for name, count in zip(("first fields", "reasons"), least):
-                self.assertGreaterEqual(self.totals[kind][name], count, (kind, name, self.told))
-        self.assertEqual(self.all["whole"], 15, self.told)
-
-    def test_numbers(self):
-        self.assertEqual(self.all["wrong found"], self.all["wrong"], self.told)
-        self.assertGreater(self.all["wrong"], 40)
-        self.assertLessEqual(self.all["right found"], 20, self.told)
-        for name, most in (("numbers", 0), ("unread numbers", 6), ("lost numbers", 1)):
-            self.assertGreaterEqual(self.all[name + " found"], self.all[name] - most, (name, self.told))
-            self.assertGreater(self.all[name], 0, name)
-        # of film that is turned by hand numbers may be called unread that were never shown; of no other kind
-        kept = self.all - self.totals["turned"]
-        self.assertEqual(kept["unread numbers found"], kept["unread numbers"], self.told)
-
-    def test_places(self):
+    def test_counts(self):
+        """Of film that is turned by hand numbers may be called unread that were never shown; of no other kind."""
+        self.within(self.all, """
+            whole: 15; wrong: 41..; wrong - wrong found: 0; right found: ..20; numbers: 1..;
+            numbers - numbers found: 0; unread numbers: 1..; unread numbers - unread numbers found: ..6;
+            lost numbers: 1..; lost numbers - lost numbers found: ..1""")
+        self.within(self.all - self.totals["turned"], "unread numbers - unread numbers found: 0")
         for name in ("loops", "turned"):
             counts = self.totals[name]
             self.assertGreater(counts["backs"], 10)
             self.assertGreaterEqual(20 * counts["backs found"], 19 * counts["backs"], self.told)
         for name in ("sides", "minutes"):
-            counts = self.totals[name]
-            self.assertEqual([counts["lost found"], counts["lost places found"]],
-                             [counts["lost"], counts["lost places"]], self.told)
-        self.assertGreater(self.totals["minutes"]["lost places"], 0)
+            self.within(self.totals[name], "lost - lost found: 0; lost places - lost places found: 0")
+        self.within(self.totals["minutes"], "lost places: 1..")
 
 
 class Parity(unittest.TestCase):
@@ -182,7 +138,3 @@ class Parity(unittest.TestCase):
                                     for parity in (False, True))
             for name in ("missing", "first fields", "lost places found", "backs found"):
                 self.assertGreaterEqual(with_parity[name], without[name])
-
-
-if __name__ == "__main__":
-    unittest.main()

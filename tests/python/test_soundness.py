@@ -4,7 +4,8 @@ import copy
 import unittest
 
 from comparison import Comparison
-from discs import BLANK, CLV_MARK, LEAD_IN, LEAD_OUT, damaged, film, picture, pictures, plain, times
+from compact import rows
+from discs import plain
 from ldvbi_side.judge.answer import analyse
 from measure import fields_of
 from simulate import simulated
@@ -91,15 +92,16 @@ class Soundness(unittest.TestCase):
         self.check("clv-pal", [(other_minutes, self.TORN)])
         self.check("joined", [(lambda one: one["stray"].clear(), self.TORN)])
 
+    def found(self, text, *changes, system="PAL"):
+        """What is found in the answer of this side after each change."""
+        return list(self.faults(plain(rows(text, 30 if system == "NTSC" else 25), system), *changes))
+
     def test_lines_that_differ(self):
         def none_taken(one):
             one["conflicts"][0]["taken"] = None
 
-        cav, clv = pictures(range(1, 30)), times(range(1000, 1030))
-        cav[18] = "- F00010 F00077"
-        clv[18] = clv[18].replace(CLV_MARK, "F0DD09")
-        for rows in (cav, clv):
-            for found in self.faults(plain(rows), none_taken, lambda one: one["conflicts"].pop()):
+        for text in ("1..29 19=-/#10/#77", "t1000..1029 19.17=@0:09"):
+            for found in self.found(text, none_taken, lambda one: one["conflicts"].pop()):
                 self.assertIn("field 19: lines that differ", found)
 
     def test_due_where_another_code_stands(self):
@@ -111,16 +113,15 @@ class Soundness(unittest.TestCase):
             self.check(kind, [(due_in_a_chapter, "which has another code")])
 
     def test_what_is_lost_due_or_a_still(self):
-        rows = [LEAD_IN] * 3 + pictures(range(1, 30)) + [LEAD_OUT] * 4 + pictures(range(100, 130))
-        rows[13] = "- %s %s" % (picture(70000), picture(70000))
-        wanted = ("lost beside the numbers, behind field 1", "lost between two sides, behind field 60",
-                  "another number in the still from field 6 on", "due in field 14, which says another number")
-        found = self.faults(plain(rows), *[
-            lambda one, name=name, entry=entry: one[name].append(entry) for name, entry in (
-                ("lost", {"after": 1, "before": 2, "fields": None, "by": "parity"}),
-                ("lost", {"after": 60, "before": 66, "fields": 9, "by": "number"}),
-                ("stills", {"number": 2, "first": 6, "last": 8}), ("unread", {"number": 6, "field": 14, "read": 7}))])
-        for text, faults in zip(wanted, found):
+        wanted = (("lost", {"after": 1, "before": 2, "fields": None, "by": "parity"},
+                   "lost beside the numbers, behind field 1"),
+                  ("lost", {"after": 60, "before": 66, "fields": 9, "by": "number"},
+                   "lost between two sides, behind field 60"),
+                  ("stills", {"number": 2, "first": 6, "last": 8}, "another number in the still from field 6 on"),
+                  ("unread", {"number": 6, "field": 14, "read": 7}, "due in field 14, which says another number"))
+        found = self.found("Lx3 1..29 Ox4 100..129 14=70000", *[
+            lambda one, name=name, entry=entry: one[name].append(entry) for name, entry, _ in wanted])
+        for (_, _, text), faults in zip(wanted, found):
             self.assertIn(text, faults)
 
     def test_numbers_around_a_doubtful_one(self):
@@ -138,48 +139,95 @@ class Soundness(unittest.TestCase):
         self.check("losses", [(more, "too few fields"), (lambda one: one["lost"].clear(), "too few fields")], 0, 600)
 
     def test_whether_it_is_whole(self):
-        lacking, undecided = pictures(range(1, 30)), times([0, 1, 3, 4], 30)
-        del lacking[20:24]
-        for rows, text in ((lacking, "something is lacking, and whole is: yes"),
-                           (undecided, "a number is undecided, and the side is whole")):
-            found, = self.faults(plain(rows, "NTSC"), lambda one: one.update(whole="yes", reasons=[]))
+        for side, text in (("1..29 -21:24", "something is lacking, and whole is: yes"),
+                           ("t0..1 t3..4", "a number is undecided, and the side is whole")):
+            found, = self.found(side, lambda one: one.update(whole="yes", reasons=[]), system="NTSC")
             self.assertEqual(found, [text])
-        for whole, rows in (("no", pictures([1])), ("yes", pictures([3]))):
-            found, = self.faults(plain(rows), lambda one: one.update(whole=whole))
+        for whole, side in (("no", "1"), ("yes", "3")):
+            found, = self.found(side, lambda one: one.update(whole=whole))
             self.assertEqual([text.split(",")[0] for text in found], ["whole is " + whole])
 
     def test_minutes(self):
-        def completed_from_afar(one):
-            number, field, last = one["showings"][0]
-            one["showings"][0] = ["7" + number[1:], field, last]
-        found, = self.faults(plain(times(range(1000, 1100))), completed_from_afar)
+        """A minute from afar, and one that is said 50 pictures on, where by this number the next one has begun."""
+        def first(text):
+            def change(one):
+                one["showings"][0][0] = text
+            return change
+        found, = self.found("t1000..1099", first("7:00:40.00"))
         self.assertIn("field 1 has a minute that no field near it says", found)
-
-        def minute_behind(one):
-            # its minute is said 50 pictures on, where by this number the next one would have begun
-            one["showings"][0][0] = "0:01:59.20"
-        found, = self.faults(plain(times(range(1450, 1550))), minute_behind)
+        found, = self.found("t1450..1549", first("0:01:59.20"))
         self.assertIn("field 1 says another minute, and no field near it outweighs that", found)
 
     def test_a_number_that_fits_and_one_that_was_read(self):
+        """On film a number is sure to fit where the pictures beside it aren't read."""
         def none_read(one):
             for entry in one["unread"]:
                 entry["read"] = None
 
-        # on film a number is sure to fit where the pictures beside it aren't read
-        wrong, scratched = "- F70000 F70000*", damaged(film(range(1, 30)), range(22, 30), lambda row: BLANK)
-        sides = ((pictures(range(1, 30)), 18, wrong, "PAL", 10), (scratched, 25, wrong, "NTSC", 11),
-                 (times(range(1000, 1030)), 18, "8AE017 87FFFF F0DD00", "PAL", "40.09"))
-        for rows, place, row, system, right in sides:
-            rows[place] = row
-
-            def fitting(one):
+        for text, system, field, right in (
+                ("1..29 19=-/#70000/#70000*", "PAL", 19, 10),
+                ("f1..29 23:30=B 26=-/#70000/#70000*", "NTSC", 26, 11),
+                ("t1000..1029 19.16=s0.17", "PAL", 19, "40.09")):
+            def fitting(one, right=right):
                 for entry in one["doubtful"]:
                     entry["number"] = right
-            fits, read = self.faults(plain(rows, system), fitting, none_read)
-            self.assertIn("field %d fits and is doubtful" % (place + 1), fits)
-            self.assertIn("a number was read in field %d" % (place + 1), read)
+            fits, read = self.found(text, fitting, none_read, system=system)
+            self.assertIn("field %d fits and is doubtful" % field, fits)
+            self.assertIn("a number was read in field %d" % field, read)
 
 
-if __name__ == "__main__":
-    unittest.main()
+def none_lost(one):
+    assert [entry["fields"] for entry in one["lost"]] == [1000]
+    one["lost"].clear()
+
+
+def unread(one):
+    """Numbers that a player passed over while nothing was seen."""
+    entry, = one["missing"]
+    assert [entry["first"], entry["last"], entry["why"]] == [30, 33, "undecided"]
+    entry["why"] = "unread"
+
+
+def aside(one):
+    """A picture between two stills."""
+    around = [{"field": 100, "number": 30}, {"field": 102, "number": 32}]
+    assert [entry["number"] for entry in one["stills"]] == [30, 32]
+    one["showings"] = [showing for showing in one["showings"] if showing[0] != 31]
+    one["doubtful"] += [{"field": 101, "line": line, "kind": "picture", "number": 31, "why": "alone", "pass": 1,
+                         "before": around[0], "after": around[1], "word": "F00031"} for line in (17, 18)]
+
+
+def judged(one):
+    one["judged"] = {"both": 2, "judgeAlone": 0, "packageAlone": 0, "differ": 1, "first": None}
+
+
+SHORT = "n0..4x3000 -7001:8000"  # a minute without a third of its fields
+REASONS = "and the reasons are "
+# Sides, changes of their answers, and the fault that is found then
+ROWS = (
+    ("3..4", lambda one: one.update(whole="can't tell"), "whole is can't tell, " + REASONS),
+    ("3..4", judged, "the judges differ in 1 fields, " + REASONS),
+    ("1..29 Bx40 34..59", unread, "number 31 is unread, and nothing was seen there"),
+    # times on each second picture
+    ("t1000..1059 3:120/4.16=-", lambda one: one["unread"].append({"number": "0:00:40.01", "field": 3, "read": None}),
+     "number 1001 is unread, and the disc hasn't got it"),
+    ("1..59 -/#60/#60x2 61..99", lambda one: one.update(pace="both"),
+     "the pace is both, and 1 numbers stand on two fields"),
+    ("1..29 -/#30/#30x42 -/#31/#31 -/#32/#32x41 B 33..59", aside,
+     "field 101 has a picture between two stills, and it is doubtful"),
+    (SHORT, none_lost, "minute 2 has 2000 fields, and none is lost"))
+
+
+class Laws(unittest.TestCase):
+    def test_each(self):
+        """The answer of a side has no fault, and after the change one with this text."""
+        for text, change, wanted in ROWS:
+            fields = plain(rows(text))
+            known = analyse(fields)
+            self.assertEqual(faults_of(fields, known), [], text)
+            changed = copy.deepcopy(known)
+            change(changed)
+            self.assertIn(wanted + (str(known["reasons"]) if wanted.endswith(REASONS) else ""),
+                          faults_of(fields, changed))
+        fields = plain(rows(SHORT + " 5101=O"))  # two sides may be joined there: that is another law's
+        self.assertEqual(faults_of(fields, analyse(fields)), [])

@@ -2,270 +2,169 @@
 
 import unittest
 
-from discs import BLANK, LEAD_IN, LEAD_OUT, answer, film, minutes, picture, pictures, plain, times
+from compact import check, rows, said_of
+from discs import answer, plain
 from ldvbi_side.judge.answer import analyse
 from ldvbi_side.judge.whole import counted_by, reasons_of, whole_of
 
-WHOLE = [LEAD_IN] * 4 + pictures(range(1, 31)) + [LEAD_OUT] * 4
-BAD = "- ? ?"  # a field whose lines show no word
+WHOLE = "Lx4 1..30 Ox4"
 
 
-def text(known):
-    """The answer with its reasons, as the first line of the summary has them."""
-    said = {one["whole"] for one in known["reasons"]}
-    assert known["whole"] == ("no" if "no" in said else "can't tell" if said else "yes"), known["reasons"]
-    return known["whole"] + (": " if said else "") + "; ".join(one["text"] for one in known["reasons"])
-
-
-def said(rows, system="PAL", **more):
-    return text(answer(rows, system, **more))
-
-
-def asked(rows, system="PAL", **more):
+def said(side, system="PAL", **more):
     """What is said of a side of which more is known or asked."""
-    return text(analyse(plain(rows, system)._replace(**more)))
-
-
-class NotWhole(unittest.TestCase):
-    """Sides that lack something for sure, or have it in another way than the disc."""
-
-    def test_second_fields_lost(self):
-        rows = pictures(range(1, 31))
-        for field in (45, 25, 11):
-            del rows[field]
-        self.assertEqual(said(rows), "no: 3 fields lost")
-
-    def test_pictures_lost(self):
-        rows = pictures(range(1, 31))
-        del rows[40:44]
-        self.assertEqual(said(rows), "no: 4 fields lost; 2 pictures lost")
-
-    def test_fields_lost_by_parity(self):
-        first = [place % 2 == 0 for place in range(60)]
-        first[30:] = [not one for one in first[30:]]
-        self.assertEqual(said(pictures(range(1, 31)), first=first), "no: 1 field or more lost")
-
-    def test_two_sides_joined(self):
-        self.assertEqual(said(WHOLE + WHOLE), "no: 1 jump (back); lead-in again in field 69 (two sides joined)")
-        self.assertEqual(said(WHOLE[:-4] + [LEAD_OUT] * 4 + pictures(range(1, 31))),
-                         "no: 1 jump (back); lead-out in field 65, and numbers behind it (two sides joined)")
-
-    def test_cav_with_clv_behind_it(self):
-        self.assertEqual(said(WHOLE + times(range(10))), "no: codes of CLV in 20 fields, from field 69 on")
-        self.assertRegex(said(times(range(20)) + pictures(range(1, 16))),
-                         "^no: .*codes of CAV in 15 fields, from field 41")
-
-    def test_a_restart(self):
-        self.assertEqual(said(pictures(list(range(1, 31)) + list(range(1, 41)))), "no: 1 jump (back)")
-
-    def test_jumps_of_both_kinds(self):
-        rows = pictures(range(1, 31)) + [BLANK] * 6 + pictures(range(31, 61)) + pictures(range(41, 81))
-        self.assertEqual(said(rows), "no: 2 jumps (1 back, 1 with fields too many)")
-        self.assertEqual(said(rows[:126]), "no: 1 jump (with fields too many)")
-
-    def test_clv_fast_and_backwards(self):
-        for numbers in (range(0, 600, 3), range(199, -1, -1)):
-            self.assertRegex(said(times(numbers)), "^no: ")
-
-    def test_fields_of_the_metadata(self):
-        self.assertEqual(asked(WHOLE, expected=68), "yes")
-        self.assertEqual(asked(WHOLE, expected=67), "yes")
-        self.assertEqual(asked(WHOLE, expected=69), "no: 68 fields of 69 that the metadata has")
-
-    def test_a_cut_field(self):
-        self.assertEqual(said(WHOLE, cut={"seqNo": 69, "bytes": 5}), "no: field 69 is cut")
-
-    def test_a_code_of_the_other_format_alone_is_a_wrong_word(self):
-        rows = pictures(range(1, 61))
-        for field in (20, 23, 90):
-            rows[field] = "8AE000 " + rows[field][2:]
-        self.assertEqual(said(rows), "yes")
-        rows[22] = "8AE000 " + rows[22][2:]
-        self.assertEqual(said(rows), "no: codes of CLV in 3 fields, from field 21 on")
+    return said_of(analyse(plain(rows(side), system)._replace(**more)))
 
 
 class Whole(unittest.TestCase):
-    def test_a_whole_side(self):
-        for rows in (WHOLE, pictures(range(31)), pictures([1]), times(range(40)), times(range(1, 40))):
-            self.assertEqual(said(rows), "yes")
+    def test_not_whole(self):
+        """Sides that lack something for sure, or have it in another way than the disc."""
+        check(self, """
+    second fields lost | 1..30 -46 -26 -12 | said no: 3 fields lost
+    pictures lost | 1..30 -41:44 | said no: 4 fields lost; 2 pictures lost
+    joined | Lx4 1..30 Ox4 Lx4 1..30 Ox4 | said no: 1 jump (back); lead-in again in field 69 (two sides joined)
+    without lead-in | Lx4 1..30 Ox4 1..30
+        | said no: 1 jump (back); lead-out in field 65, and numbers behind it (two sides joined)
+    CLV behind CAV | Lx4 1..30 Ox4 t0..9 | said no: codes of CLV in 20 fields, from field 69 on
+    a restart | 1..30 1..40 | said no: 1 jump (back)
+    jumps of both kinds | 1..30 Bx6 31..60 41..80 | said no: 2 jumps (1 back, 1 with fields too many)
+    of one | 1..30 Bx6 31..60 | said no: 1 jump (with fields too many)
+    fast | t0..597/3 | whole no
+    backwards | t199..0 | whole no
+    words of CLV | 1..60 21.16=8AE000 24.16=8AE000 91.16=8AE000 | said yes
+    side by side | 1..60 21.16=8AE000 23:24.16=8AE000 91.16=8AE000
+        | said no: codes of CLV in 3 fields, from field 21 on
+    """)
+        self.assertRegex(said("t0..19 1..15"), "^no: .*codes of CAV in 15 fields, from field 41")
+        for known, text in (({"expected": 68}, "yes"), ({"expected": 67}, "yes"),
+                            ({"expected": 69}, "no: 68 fields of 69 that the metadata has"),
+                            ({"cut": {"seqNo": 69, "bytes": 5}}, "no: field 69 is cut")):
+            self.assertEqual(said(WHOLE, **known), text)
+        parity = [(place % 2 == 0) == (place < 30) for place in range(60)]
+        self.assertEqual(said("1..30", first=parity), "no: 1 field or more lost")
+        self.assertEqual(said("1..30 -41:44", first=parity), "no: 5 fields or more lost; 2 pictures lost")
 
-    def test_numbers_that_were_not_read_are_there(self):
-        rows = pictures(range(1, 31))
-        for field in (4, 20, 22, 24, 50):
-            rows[field] = BAD
-        self.assertEqual(said(rows), "yes")
-        self.assertEqual(asked(rows, is_strict=True), "no: 5 pictures unread; no lead-in; no lead-out")
-        del rows[40:44]
-        self.assertEqual(said(rows), "no: 4 fields lost; 2 pictures lost")
-        self.assertEqual(asked(rows, is_strict=True),
-                         "no: 4 fields lost; 2 pictures lost; 5 pictures unread; no lead-in; no lead-out")
+    def test_whole(self):
+        check(self, """
+    CAV | Lx4 1..30 Ox4 | said yes
+    from 0 on | 0..30 | said yes
+    a picture | 1 | said yes
+    CLV | t0..39 | said yes
+    CLV, whose first number may be left out | t1..39 | said yes
+    numbers that weren't read | 1..30 5=? 21:25/2=? 51=? | said yes
+    and losses | 1..30 5=? 21:25/2=? 51=? -41:44 | said no: 4 fields lost; 2 pictures lost
+    a chapter set aside | 1..5 6=-/c7/c7 | said yes
+    """)
 
-    def test_lead_in_and_lead_out_where_they_are_asked_for(self):
-        self.assertEqual(asked(WHOLE, is_strict=True), "yes")
-        self.assertEqual(asked(WHOLE[4:], is_strict=True), "no: no lead-in")
-        self.assertEqual(asked(WHOLE[4:-4], is_strict=True), "no: no lead-in; no lead-out")
+    def test_strict(self):
+        check(self, """
+    CAV | Lx4 1..30 Ox4 | said yes
+    without lead-in | 1..30 Ox4 | said no: no lead-in
+    without both | 1..30 | said no: no lead-in; no lead-out
+    numbers that weren't read | 1..30 5=? 21:25/2=? 51=? | said no: 5 pictures unread; no lead-in; no lead-out
+    and losses | 1..30 5=? 21:25/2=? 51=? -41:44
+        | said no: 4 fields lost; 2 pictures lost; 5 pictures unread; no lead-in; no lead-out
+    first ones that weren't | Lx9 ?x6 4..30 O | said no: begins at 4, ends at 30
+    """, is_strict=True)
 
-    def test_a_chapter_set_aside_is_no_number(self):
-        rows = pictures(range(1, 6))
-        rows[5] = "- 807DDD 807DDD"
-        self.assertEqual(said(rows), "yes")
+    def test_ends(self):
+        """Pictures 1 to 3 need six fields before picture 4. Time 0:00:00.04 is the fourth after 0:00:00.01, the last
+        one that may be the first. Of pictures 1 and 2 of film one has three fields. The clock of NTSC leaves out two
+        numbers a minute at most, so of three times before the first one one is sure to have its fields. Before picture
+        1 there is nothing to read, and the last picture has one field behind its number."""
+        check(self, """
+    pictures | 2401..2440 | said no: begins at 2401, ends at 2440
+    times | t3000..3039 | said no: begins at 0:02:00.00, ends at 0:02:01.14
+    minutes | m9x3000 m10x3000 | said no: begins at 0:09, ends at 0:10
+    6 fields behind lead-in | Lx9 ?x6 4..30 | said yes
+    5 fields behind lead-in | Lx9 ?x5 4..30 | said no: begins at 4, ends at 30
+    6 fields | ?x6 4..30 | said yes
+    5 fields | ?x5 4..30 | said no: begins at 4, ends at 30
+    6 before times | ?x6 t4..39 | said yes
+    5 before times | ?x5 t4..39 | said no: begins at 0:00:00.04, ends at 0:00:01.14
+    5 before film | NTSC ?x5 f3..39 | said yes
+    4 before film | NTSC ?x4 f3..39 | said no: begins at 3, ends at 39
+    6 of a clock | NTSC ?x6 t4..39 | said yes
+    5 of a clock | NTSC ?x5 t4..39 | said can't tell: no number in fields 1 to 5
+    2 of a clock | NTSC ?x2 t4..39 | said can't tell: no number in fields 1 to 2
+    1 of a clock | NTSC ? t4..39 | said no: begins at 0:00:00.04, ends at 0:00:01.09
+    a minute of a clock | NTSC ?x3592 m1x3600 m2x3600 | said can't tell: no number in fields 1 to 3592
+    a field less | NTSC ?x3591 m1x3600 m2x3600 | said no: begins at 0:01, ends at 0:02
+    a minute | ?x3000 m1x3000 m2x3000 | said can't tell: no number in fields 1 to 3000
+    one less | ?x2999 m1x3000 m2x3000 | said no: begins at 0:01, ends at 0:02
+    back to the least number | ?x40 11..30 5..40 | said no: 1 jump (back); begins at 5, ends at 40
+    as many as a scratch has | ?x100 21..40 | said yes
+    one more | ?x101 21..40 | said can't tell: no number in fields 1 to 101
+    behind lead-in | Lx9 ?x101 21..40 | said can't tell: no number in fields 10 to 110
+    behind the last number | Lx4 1..30 ?x99 | said yes
+    one more there | Lx4 1..30 ?x100 | said can't tell: no number in fields 64 to 164
+    behind lead-out | Lx4 1..30 ?x99 Ox4 ?x200 | said yes
+    before lead-out | Lx4 1..30 ?x100 Ox4 | said can't tell: no number in fields 64 to 164
+    before picture 1 | ?x200 Lx4 1..30 Ox4 | said yes
+    """)
 
-
-class Ends(unittest.TestCase):
-    def test_it_begins_and_ends_inside(self):
-        self.assertEqual(said(pictures(range(2401, 2441))), "no: begins at 2401, ends at 2440")
-        self.assertEqual(said(times(range(3000, 3040))), "no: begins at 0:02:00.00, ends at 0:02:01.14")
-        rows = ["- 87FFFF %s" % minutes(0, minute) for minute in (9, 10) for _ in range(3000)]
-        self.assertEqual(said(rows), "no: begins at 0:09, ends at 0:10")
-
-    def test_first_numbers_that_were_not_read(self):
-        """Pictures 1 to 3 need six fields, between the lead-in and picture 4."""
-        after = pictures(range(4, 31))
-        self.assertEqual(said([LEAD_IN] * 9 + [BAD] * 6 + after), "yes")
-        self.assertEqual(said([LEAD_IN] * 9 + [BAD] * 5 + after), "no: begins at 4, ends at 30")
-        self.assertEqual(said([BAD] * 6 + after), "yes")
-        self.assertEqual(said([BAD] * 5 + after), "no: begins at 4, ends at 30")
-        self.assertEqual(asked([LEAD_IN] * 9 + [BAD] * 6 + after + [LEAD_OUT], is_strict=True),
-                         "no: begins at 4, ends at 30")
-
-    def test_first_times_and_pictures_of_film(self):
-        """Time 0:00:00.04 is the fourth after 0:00:00.01, the last one that may be the first: six fields. Of pictures 1
-        and 2 of film one has three fields."""
-        self.assertEqual(said([BAD] * 6 + times(range(4, 40))), "yes")
-        self.assertEqual(said([BAD] * 5 + times(range(4, 40))), "no: begins at 0:00:00.04, ends at 0:00:01.14")
-        self.assertEqual(said([BAD] * 5 + film(range(3, 40)), "NTSC"), "yes")
-        self.assertEqual(said([BAD] * 4 + film(range(3, 40)), "NTSC"), "no: begins at 3, ends at 39")
-
-    def test_the_clock_may_leave_out_first_times(self):
-        """Two numbers a minute at most, so of three times before the first one one is sure to have its fields."""
-        rows = times(range(4, 40), 30)
-        self.assertEqual([said([BAD] * count + rows, "NTSC") for count in (6, 5, 2, 1)], [
-            "yes", "can't tell: no number in fields 1 to 5", "can't tell: no number in fields 1 to 2",
-            "no: begins at 0:00:00.04, ends at 0:00:01.09"])
-        rows = ["- 87FFFF %s" % minutes(0, minute) for minute in (1, 2) for _ in range(3600)]
-        self.assertEqual([said([BAD] * count + rows, "NTSC") for count in (3592, 3591)], [
-            "can't tell: no number in fields 1 to 3592", "no: begins at 0:01, ends at 0:02"])
-
-    def test_first_minutes_that_were_not_read(self):
-        rows = ["- 87FFFF %s" % minutes(0, minute) for minute in (1, 2) for _ in range(3000)]
-        self.assertEqual(said([BAD] * 2999 + rows), "no: begins at 0:01, ends at 0:02")
-        self.assertEqual(said([BAD] * 3000 + rows), "can't tell: no number in fields 1 to 3000")
-
-    def test_a_side_that_jumps_back_to_its_least_number(self):
-        self.assertEqual(said([BAD] * 40 + pictures(list(range(11, 31)) + list(range(5, 41)))),
-                         "no: 1 jump (back); begins at 5, ends at 40")
-
-    def test_more_unread_fields_than_a_scratch_has(self):
-        self.assertEqual(said([BAD] * 100 + pictures(range(21, 41))), "yes")
-        self.assertEqual(said([BAD] * 101 + pictures(range(21, 41))), "can't tell: no number in fields 1 to 101")
-        self.assertEqual(said([LEAD_IN] * 9 + [BAD] * 101 + pictures(range(21, 41))),
-                         "can't tell: no number in fields 10 to 110")
-        self.assertEqual(said(WHOLE[:-4] + [BAD] * 99), "yes")  # a picture has one field behind its number
-        self.assertEqual(said(WHOLE[:-4] + [BAD] * 100), "can't tell: no number in fields 64 to 164")
-        self.assertEqual(said(WHOLE[:-4] + [BAD] * 99 + WHOLE[-4:] + [BAD] * 200), "yes")
-        self.assertEqual(said(WHOLE[:-4] + [BAD] * 100 + WHOLE[-4:]), "can't tell: no number in fields 64 to 164")
-        self.assertEqual(said([BAD] * 200 + WHOLE), "yes")  # before picture 1 there is nothing to read
-
-
-class NotTold(unittest.TestCase):
-    """Sides that may be whole, and what was read of them doesn't show it."""
-
-    def test_without_numbers(self):
-        self.assertEqual(said([]), "can't tell: no picture number and no time")
-        self.assertEqual(said([LEAD_IN, BLANK]), "can't tell: no picture number and no time")
-        self.assertEqual(said([BLANK], cut={"seqNo": 2, "bytes": 5}),
-                         "no: field 2 is cut; no picture number and no time")
-
-    def test_undecided_numbers(self):
-        """On a short NTSC side the clock may have left out the time, or two fields are lost."""
-        known = answer(times([0, 1, 3, 4], 30), "NTSC")
-        self.assertEqual(text(known), "can't tell: 1 time undecided")
-        self.assertEqual([known["lost"][0]["by"], counted_by(known, "undecided"), counted_by(known, "lost")],
-                         ["undecided", 1, 0])
-
-    def test_undecided_numbers_beside_lost_fields(self):
-        """Four fields are there for pictures 10 to 13, and four are lost."""
-        rows = pictures(range(1, 10)) + [BAD] * 4 + pictures(range(14, 31))
-        self.assertEqual(said(rows), "no: 4 fields lost; 4 pictures undecided")
-
-    def test_fields_of_film_that_may_be_swapped(self):
-        """Even pictures have 3 fields; the first two of picture 20 are written in each other's place."""
-        rows = film(range(1, 41), 0)
-        place = rows.index("- F00020 F00020")
-        rows[place:place + 2] = rows[place + 1], rows[place]
-        self.assertEqual(said(rows, "NTSC"), "can't tell: fields %d and %d may be swapped" % (place + 1, place + 2))
-        again = film(range(1, 81), 0)
-        for number in (20, 60):
-            place = again.index("- F000%d F000%d" % (number, number))
-            again[place:place + 2] = again[place + 1], again[place]
-        self.assertEqual(said(again, "NTSC"), "can't tell: 2 pairs of fields may be swapped")
-        # where the film is cut once it goes on in another way
-        self.assertEqual(said(film(range(1, 21), 0) + film(range(21, 41), 1), "NTSC"), "yes")
-
-    def test_a_line_without_codes(self):
-        rows = ["- - %s" % row.split(" ")[2] for row in pictures(range(1, 31))]
-        self.assertEqual(said(rows), "can't tell: line 17 shows no code")
-        rows = ["- 88FFFB %s" % row.split(" ")[2] for row in pictures(range(1, 31))]
-        self.assertEqual(said(rows), "can't tell: line 17 shows no code")
-
-    def test_line_17_wrong_on_all(self):
-        rows = [row.replace("- F00", "- F40") for row in pictures(range(1, 31))]
-        self.assertTrue(said(rows).endswith("numbers set aside in 30 of 30 fields"))
-
-    def test_a_tenth_set_aside(self):
-        rows = pictures(range(1, 41))
-        for field in range(8, 32, 8):
-            rows[field] = "- F70000 " + rows[field].split(" ")[2]
-        self.assertEqual(said(rows), "yes")
-        rows[32] = "- F70000 " + rows[32].split(" ")[2]
-        self.assertEqual(said(rows), "can't tell: numbers set aside in 4 of 40 fields")
-        rows = pictures(range(1, 10)) + ["- %s -" % picture(70000)]
-        self.assertEqual(said(rows), "can't tell: numbers set aside in 1 of 10 fields")
+    def test_not_told(self):
+        """Sides that may be whole, and what was read of them doesn't show it. Of film with 3 fields of even pictures
+        picture 20 begins in field 48, picture 60 in field 148."""
+        check(self, """
+    nothing |  | said can't tell: no picture number and no time
+    no number | L B | said can't tell: no picture number and no time
+    left out, or lost | NTSC t0..1 t3..4 | said can't tell: 1 time undecided | lost 3-5 2 undecided
+    four fields for pictures 10 to 13 are there, and four lost | 1..9 ?x4 14..30
+        | said no: 4 fields lost; 4 pictures undecided
+    film that may be swapped | NTSC e1..40 ~48 | said can't tell: fields 48 and 49 may be swapped
+    twice | NTSC e1..80 ~48 ~148 | said can't tell: 2 pairs of fields may be swapped
+    film that is cut once | NTSC e1..20 f21..40 | said yes
+    a line without a word | 1..30 1:60.17=- | said can't tell: line 17 shows no code
+    with words without a meaning | 1..30 1:60.17=88FFFB | said can't tell: line 17 shows no code
+    less than a tenth set aside | 1..40 9:25/8.17=F70000 | said yes
+    a tenth | 1..40 9:33/8.17=F70000 | said can't tell: numbers set aside in 4 of 40 fields
+    one of ten | 1..9 -/F70000/- | said can't tell: numbers set aside in 1 of 10 fields
+    """)
+        known = answer(rows("t0..1 t3..4", 30), "NTSC")
+        self.assertEqual([counted_by(known, why) for why in ("undecided", "lost")], [1, 0])
+        self.assertEqual(said("B", cut={"seqNo": 2, "bytes": 5}), "no: field 2 is cut; no picture number and no time")
+        wrong = [row.replace("- F00", "- F40") for row in rows("1..30")]
+        self.assertTrue(said_of(answer(wrong)).endswith("numbers set aside in 30 of 30 fields"))
 
 
 class Judged(unittest.TestCase):
     """The library's judge, in whose place a function stands here."""
 
-    def judged(self, rows, theirs, system="PAL"):
+    def judged(self, side, theirs, system="PAL"):
         calls = []
 
         def judge(*asked_for):
             calls.append(asked_for)
             return theirs
-        known = analyse(plain(rows, system)._replace(judge=judge))
-        return known["judged"], text(known), calls
+        known = analyse(plain(rows(side, 30 if system == "NTSC" else 25), system)._replace(judge=judge))
+        return known["judged"], said_of(known), calls
 
     def test_counts(self):
-        rows = pictures(range(1, 11))
-        counts, said_of, calls = self.judged(rows, {1: 1, 3: 2, 5: 4, 9: 5, 11: 7, 2: 9})
+        counts, text, calls = self.judged("1..10", {1: 1, 3: 2, 5: 4, 9: 5, 11: 7, 2: 9})
         self.assertEqual(counts, {"both": 3, "judgeAlone": 1, "packageAlone": 5, "differ": 2,
                                   "first": {"field": 5, "judge": 4, "package": 3}})
-        self.assertEqual(said_of, "can't tell: the library's judge has another number in 2 fields")
-        self.assertEqual(calls, [("pictures", "video")])
-        counts, said_of, _ = self.judged(rows, {1: 1, 2: 9})
+        self.assertEqual((text, calls), ("can't tell: the library's judge has another number in 2 fields",
+                                         [("pictures", "video")]))
+        counts, text, _ = self.judged("1..10", {1: 1, 2: 9})
         self.assertEqual(counts, {"both": 1, "judgeAlone": 1, "packageAlone": 9, "differ": 0, "first": None})
-        self.assertEqual(said_of, "yes")
+        self.assertEqual(text, "yes")
 
     def test_what_is_asked(self):
-        counts, _, calls = self.judged(times(range(9), 30), {1: 0, 3: 31}, "NTSC")
+        """Nothing of minutes, nor where there are no numbers."""
+        counts, _, calls = self.judged("t0..8", {1: 0, 3: 31}, "NTSC")
         self.assertEqual(calls, [("times", "video")])
         self.assertEqual(counts["first"], {"field": 3, "judge": "0:00:01.01", "package": "0:00:00.01"})
-        self.assertEqual(self.judged(film(range(1, 40)), {}, "NTSC")[2], [("pictures", "film")])
-        both = ["- %s %s" % (picture(number), picture(number)) for number in range(1, 9) for _ in (1, 2)]
-        counts, _, calls = self.judged(both, {1: 1, 2: 1})
+        self.assertEqual(self.judged("f1..39", {}, "NTSC")[2], [("pictures", "film")])
+        counts, _, calls = self.judged("b1..8", {1: 1, 2: 1})
         self.assertEqual((counts["both"], counts["packageAlone"], calls), (2, 14, [("pictures", "video")]))
-
-    def test_nothing_is_asked_of_minutes_or_where_there_are_no_numbers(self):
-        for rows in (["- 87FFFF %s" % minutes(0, 9)] * 9, [BLANK], []):
-            self.assertEqual(self.judged(rows, {})[::2], (None, []))
-        self.assertIsNone(answer(WHOLE)["judged"])
+        for side in ("m9x9", "B", ""):
+            self.assertEqual(self.judged(side, {})[::2], (None, []))
+        self.assertIsNone(answer(rows(WHOLE))["judged"])
 
 
 class Order(unittest.TestCase):
     def test_the_order_of_all(self):
-        rows = film(range(1, 41), 0)
-        rows[47:49] = rows[48], rows[47]  # the first fields of picture 20
-        known = answer(rows, "NTSC")
+        known = answer(rows("e1..40 ~48"), "NTSC")  # the first fields of picture 20
         self.assertEqual([one["why"] for one in known["reasons"]], ["order"])
         place = {"after": 9, "before": 10}
         known.update(
@@ -290,7 +189,3 @@ class Order(unittest.TestCase):
         no, unknown = {"whole": "no"}, {"whole": "can't tell"}
         self.assertEqual([whole_of(reasons) for reasons in ([], [unknown], [no, unknown], [no])],
                          ["yes", "can't tell", "no", "no"])
-
-
-if __name__ == "__main__":
-    unittest.main()

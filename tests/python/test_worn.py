@@ -1,17 +1,13 @@
 """Worn sides as samples: what ldvbi-side reads of them, by the truth, with recovered words and without."""
 
 import json
-import os
 import random
 import struct
-import subprocess
-import sys
-import tempfile
-import unittest
 
 import ldvbi
+from command_runs import Runs
 from simulated_discs import disc
-from streams import NTSC, PAL, PROGRAM, line_with, worn_line, write_stream
+from streams import NTSC, PAL, line_with, worn_line, write_stream
 
 SETUPS = {"cav-ntsc": NTSC, "cav-pal": PAL, "cav-film": NTSC, "clv-pal": PAL}
 PICTURES = 40
@@ -27,31 +23,21 @@ def noisy(rng, word, setup, noise):
     return struct.pack("<%dH" % len(samples), *samples)
 
 
-class Sides(unittest.TestCase):
-    def setUp(self):
-        folder = tempfile.TemporaryDirectory()
-        self.addCleanup(folder.cleanup)
-        self.path = os.path.join(folder.name, "side.tbc")
+class Noise(Runs):
+    """Discs of a kind, of which each line has noise."""
 
-    def printed(self, setup, *options):
-        """What the command prints of the side."""
-        system, black, white = setup
-        return subprocess.run([sys.executable, "-m", "ldvbi_side", self.path, "--system", system, "--black", str(black),
-                               "--white", str(white), *options], stdout=subprocess.PIPE, check=True).stdout
-
-
-class Noise(Sides):
     def drawn(self, kind, noise):
         """A disc of this kind: of each field its number, where it has one, and its words."""
         rng = random.Random(kind)
         setup = SETUPS[kind]
         rows = disc(rng, kind, PICTURES)
-        write_stream(self.path, setup, [
+        write_stream(self.path("side.tbc"), setup, [
             [noisy(rng, word, setup, noise) if word else 0 for word in words] for _, words, _ in rows])
         return [(number, words) for number, words, _ in rows]
 
     def answer(self, kind, *options):
-        return json.loads(self.printed(SETUPS[kind], "--json", *options))
+        words = zip(("--system", "--black", "--white"), map(str, SETUPS[kind]))
+        return json.loads(self.printed("side.tbc", *(word for pair in words for word in pair), "--json", *options))
 
     def test_noise_of_half(self):
         """Noise of half of the way from black to white: each number stands in the field that has it."""
@@ -89,11 +75,11 @@ class Noise(Sides):
         self.assertEqual([rates["near"] for rates in found["lines"].values()], [0, 0, 0])
 
 
-class Pages(Sides):
+class Pages(Runs):
     def test_the_row_of_the_nearest_word(self):
         """It is drawn behind a bad line that has one, and the columns that differ are marked."""
-        write_stream(self.path, NTSC, [[0, worn_line(0xF12345, NTSC, 9, 11), 0],
-                                       [line_with(0, NTSC, [(3, 30, True)]), 0, 0]])
+        write_stream(self.path("side.tbc"), NTSC, [[0, worn_line(0xF12345, NTSC, 9, 11), 0],
+                                                   [line_with(0, NTSC, [(3, 30, True)]), 0, 0]])
         folds = self.page().split("<summary>field ")[1:]
         self.assertEqual([fold.partition(":")[0] for fold in folds], ["1, line 17", "2, line 16"])
         self.assertEqual([fold.count('<span class="recovered">recovered: F12345</span>') for fold in folds], [1, 0])
@@ -101,31 +87,28 @@ class Pages(Sides):
         self.assertEqual(folds[0].count('class="marked"'), 11)
         self.assertIn(">no word: change 3 ", folds[1])
         self.assertNotIn("the row of", folds[1])
-        self.assertNotIn("the row of", self.page("--no-recover"))
+        self.assertNotIn("the row of", self.page(" --no-recover"))
 
-    def page(self, *options):
-        path = self.path + ".html"
-        self.printed(NTSC, "--html", path, *options)
-        with open(path, encoding="utf-8") as file:
-            return file.read()
+    def page(self, options=""):
+        self.printed("side.tbc LEVELS --html page.html" + options)
+        return self.read("page.html").decode()
 
 
-class Documents(Sides):
+class Documents(Runs):
     def setUp(self):
         """Line 17 of field 1 is worn: its word is 11 columns off, and any other one 29 - 11. Field 2 is clean. Line 18
         of field 3 is 13 columns off, which is too much."""
         super().setUp()
-        write_stream(self.path, NTSC, [[0, worn_line(0xF12345, NTSC, 9, 11), 0], [0x82CFFF, 0, 0xF00002],
-                                       [0, 0, worn_line(0xF54321, NTSC, 9, 13)]])
+        write_stream(self.path("side.tbc"), NTSC, [[0, worn_line(0xF12345, NTSC, 9, 11), 0], [0x82CFFF, 0, 0xF00002],
+                                                   [0, 0, worn_line(0xF54321, NTSC, 9, 13)]])
 
     def test_as_extract_writes_it(self):
-        wanted = subprocess.run([PROGRAM, "extract", "--system", "NTSC", "--black", "16384", "--white", "51200",
-                                 self.path], stdout=subprocess.PIPE, check=True).stdout
-        self.assertEqual(self.printed(NTSC, "--document"), wanted)
-        self.assertEqual(self.printed(NTSC, "--document", "--no-recover"), wanted)
+        for more in ("", " --no-recover"):
+            self.assertEqual(self.printed("side.tbc LEVELS --document" + more), self.extracted("side.tbc"))
 
     def test_with_recovered_words(self):
-        plain, found = (self.printed(NTSC, "--document", *more).decode().split("\n") for more in ([], ["--recovered"]))
+        plain, found = (self.printed("side.tbc LEVELS --document" + more).decode().split("\n")
+                        for more in ("", " --recovered"))
         self.assertEqual(found[0], plain[0].replace('"version":2', '"version":3'))
         self.assertEqual(found[1], plain[1].replace("[0,0,0]", "[0,%d,0]" % 0xF12345, 1).replace(
             '"vbiPass":[0,0,0]}', '"vbiPass":[0,3,0],"vbiNear":[null,{"word":%d,"distance":1100,"rival":1800},null]}'
@@ -136,31 +119,18 @@ class Documents(Sides):
         self.assertIn(',"vbiCause":["blank","change ', found[1])
 
     def test_it_says_the_same(self):
-        with open(self.path + ".json", "wb") as file:
-            file.write(self.printed(NTSC, "--document", "--recovered", "--svg", self.path + ".svg"))
-        again = subprocess.run([sys.executable, "-m", "ldvbi_side", self.path + ".json", "--json"],
-                               stdout=subprocess.PIPE, check=True).stdout
-        found = json.loads(self.printed(NTSC, "--json"))
+        self.printed("side.tbc LEVELS --document --recovered --svg side.svg -o again.json")
+        found = json.loads(self.printed("side.tbc LEVELS --json"))
         found["judged"] = None  # a document is not judged by the library
-        self.assertEqual(json.loads(again), found)
+        self.assertEqual(json.loads(self.printed("again.json --json")), found)
 
-    def test_a_cut_field_and_none(self):
-        write_stream(self.path, NTSC, [], 7)
-        ran = subprocess.run([sys.executable, "-m", "ldvbi_side", self.path, "--system", "NTSC", "--black", "16384",
-                              "--white", "51200", "--document", "--recovered"], stdout=subprocess.PIPE,
-                             stderr=subprocess.PIPE, check=False)
-        self.assertEqual((ran.returncode, ran.stderr.decode()),
-                         (3, "ldvbi-side: %s: the last field is cut: field 1 has 7 of 478660 bytes\n" % self.path))
-        self.assertEqual(json.loads(ran.stdout)["cutField"], {"seqNo": 1, "bytes": 7})
-
-    def test_refused(self):
-        for words in (["--recovered"], ["--recovered", "--json"], ["--recovered", "--document", "--no-recover"]):
-            ran = subprocess.run([sys.executable, "-m", "ldvbi_side", self.path, *words], stdout=subprocess.PIPE,
-                                 stderr=subprocess.PIPE, check=False)
-            self.assertEqual((ran.returncode, ran.stdout), (2, b""))
-            self.assertTrue(ran.stderr.endswith(
-                b"error: --recovered is of --document or --into, and not with --no-recover\n"))
-
-
-if __name__ == "__main__":
-    unittest.main()
+    def test_a_cut_field_and_refused(self):
+        write_stream(self.path("side.tbc"), NTSC, [], 7)
+        status, text, said = self.run_command("side.tbc LEVELS --document --recovered")
+        self.assertEqual((status, said), (
+            3, "ldvbi-side: side.tbc: the last field is cut: field 1 has 7 of 478660 bytes\n"))
+        self.assertEqual(json.loads(text)["cutField"], {"seqNo": 1, "bytes": 7})
+        for words in ("", " --json", " --document --no-recover"):
+            status, text, said = self.run_command("side.tbc --recovered" + words)
+            self.assertEqual((status, text), (2, b""))
+            self.assertTrue(said.endswith("error: --recovered is of --document or --into, and not with --no-recover\n"))

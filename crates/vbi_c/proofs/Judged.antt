@@ -1,6 +1,7 @@
 -- What is judged, by the words that were read.
-use Rattle.std.proofs.Common.{◌≡◌, ℕ, [], ◌∷◌, List, map, refl, ap, arith, subst, sym, ◌∙◌}
+use Rattle.std.proofs.Common.{◌≡◌, ℕ, List, map, arith, subst, sym, ◌∙◌}
 use Rattle.std.specs.Prelude.{Option, Some, slice_get}
+use Rattle.std.proofs.lemmas.Simd.{map-map}
 use Rattle.vbi_side.specs.declared.number.Number.{Number}
 use Rattle.vbi_side.specs.declared.pace.Pace as paces
 use Rattle.vbi_side.specs.declared.sighting.Sightings.{Sightings}
@@ -12,12 +13,6 @@ use Rattle.vbi_c.specs.declared.fields.LdvbiFieldReadings.{LdvbiFieldReadings}
 use Rattle.vbi_c.specs.declared.judging.Judging.{Judging}
 use Rattle.vbi_c.specs.Judging.{seen_in, lines_in}
 
-seen_all : (judging : Judging) (readings : List LdvbiFieldReadings)
-    → map (seen_in judging) readings ≡ map (numbers_in judging.system judging.counted) (map lines_in readings)
-seen_all judging [] = refl
-seen_all judging (field ∷ rest) =
-    ap (λ (l : List Sightings). seen_in judging field ∷ l) (seen_all judging rest)
-
 -- where a believed number is right by what was misread of numbers, it is by what was misread of words
 pub read_sound : (judging : Judging) (readings : List LdvbiFieldReadings) (seen : List Sightings) (numbers : List Number)
     (pace : paces.Pace) → seen ≡ map (seen_in judging) readings
@@ -26,7 +21,8 @@ pub read_sound : (judging : Judging) (readings : List LdvbiFieldReadings) (seen 
     → (disc : ℕ → Words) (recorded : ℕ → Option ℕ) (i m n : ℕ) → slice_get numbers i ≡ Some (believed n)
     → IsRead judging.system judging.counted pace (map lines_in readings) disc recorded i m → n ≡ m
 read_sound judging readings seen numbers pace sees sound disc recorded i m n at read =
-    sound recorded i m n at (subst (λ f. IsSound pace recorded f i m) (sym (sees ∙ seen_all judging readings)) (
+    let shown = map-map (numbers_in judging.system judging.counted) lines_in readings ∙ sym sees in
+    sound recorded i m n at (subst (λ f. IsSound pace recorded f i m) shown (
       read.runs,
       read.has,
       omega (

@@ -7,7 +7,6 @@ use Rattle.std.proofs.lemmas.Bool.Decides.{leb_tells}
 use Rattle.std.proofs.lemmas.List.{get_or-take, get_or-drop, length-take, length-drop}
 use Rattle.std.proofs.lemmas.List.FromFn.{get_or-map-range_with_len, length-map-range_with_len}
 use Rattle.std.proofs.lemmas.Option.{slice_get_past, slice_get_within, slice_get-get_or, get_or_from_slice_get}
-use Rattle.std.proofs.lemmas.Simd.{map-map}
 use Rattle.vbi_side.specs.declared.number.Number.{Number}
 use Rattle.vbi_side.specs.declared.pace.Pace as paces
 use Rattle.vbi_side.specs.declared.sighting.Sightings.{Sightings}
@@ -16,8 +15,6 @@ use Rattle.vbi_side.specs.Numbers.{AreAnswers, IsAnswer, IsFirst, IsKnown}
 use Rattle.vbi_side.specs.Parts.{IsPart}
 use Rattle.vbi_side.proofs.Parts.{same_in_part}
 use Rattle.vbi_c.specs.declared.probing.Seek.{Seek}
-use Rattle.vbi_c.specs.Fields.{field_in, field_reading}
-use Rattle.vbi_c.specs.Judging.{seen_in}
 use Rattle.vbi_c.specs.Seeking.{shown_at, shown_of, HasOther}
 
 -- ---- lists
@@ -68,22 +65,16 @@ part_of seek bytes count first many i inside before behind = record { before = b
     show : ℕ → Sightings
     show = shown_at seek bytes
 
-    whole : shown_of seek bytes count ≡ map show (range_with_len 0 count)
-    whole = map-map (seen_in seek.judging) (λ j. field_reading seek.setup (field_in seek.setup.system bytes j))
-        (range_with_len 0 count)
-
     same : (j : ℕ) → j ≤ i + 2 * reach
         → slice_get (map show (range_with_len first many)) j ≡ slice_get (shown_of seek bytes count) (first + j)
     same j within = elim (leb_tells many j) [
       | inr (t, less) ↦ at show first many j (first + j) less refl
           ∙ sym (at show 0 count (first + j) (first + j) (omega (arith, inside, less)) (zero-add (first + j)))
-          ∙ ap (λ s. slice_get s (first + j)) (sym whole)
       | inl (t, more) ↦ past show first many j more
           ∙ sym (past show 0 count (first + j) (elim behind [
             | inl far ↦ absurd (omega (arith, far, within, more))
             | inr all ↦ omega (arith, all, more)
           ]))
-          ∙ ap (λ s. slice_get s (first + j)) (sym whole)
     ]
 
 -- what is answered of one of these fields is what is answered of it in the whole side
@@ -109,21 +100,21 @@ pub record IsAt (seek : Seek) (bytes : List ℕ) (count number : ℕ) (pace : pa
 
 -- the first field with a number, among those from `back` to `ahead` of so many that are judged, where it isn't the very
 -- first of these, or is the first of the side
-pub found_at : (seek : Seek) (bytes : List ℕ) (count first many back ahead place number : ℕ) (pace : paces.Pace)
-    (numbers : List Number) (none : Number) → first + many ≤ count → (first ≡ 0) ⊎ (2 * reach ≤ back)
+pub found_at : (seek : Seek) (bytes : List ℕ) (count first many back ahead place field number : ℕ) (pace : paces.Pace)
+    (numbers : List Number) (none : Number) → first + (back + place) ≡ field → first + many ≤ count → (first ≡ 0) ⊎ (2 * reach ≤ back)
     → (ahead + 2 * reach ≤ many) ⊎ (first + many ≡ count) → back ≤ ahead → ahead ≤ many
     → AreAnswers pace (map (shown_at seek bytes) (range_with_len first many)) numbers
     → IsFirst (take (ahead - back) (drop back numbers)) number (Some place) → (0 < place) ⊎ (first + back ≡ 0)
-    → IsAt seek bytes count number pace (first + (back + place)) (get_or numbers (back + place) none)
-found_at seek bytes count first many back ahead place number pace numbers none inside before behind order few answers
-    ((answer, shown, known), others) begun
-    = record {
+    → IsAt seek bytes count number pace field (get_or numbers (back + place) none)
+found_at seek bytes count first many back ahead place field number pace numbers none is inside before behind order few
+    answers ((answer, shown, known), others) begun
+    = subst (λ f. IsAt seek bytes count number pace f (get_or numbers (back + place) none)) is (record {
       inside = omega (arith, piece.0, few, inside);
       known = subst (λ a. IsKnown a number) (sym here) known;
       answer = subst (λ a. IsAnswer pace (shown_of seek bytes count) (first + (back + place)) a) (sym here)
           (judged place answer piece.0 piece.1);
       begins = elim begun [ inl later ↦ inr (other_at later) | inr none ↦ begins_at none ];
-    }
+    })
   where
     long : length numbers ≡ many
     long = answers.count ∙ length-map-range_with_len (shown_at seek bytes) first many

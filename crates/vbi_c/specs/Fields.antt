@@ -2,8 +2,7 @@
 use Rattle.std.specs.Prelude.{ℕ, ◌+◌, ◌*◌, List, [], ◌∷◌, take, drop, map}
 use Rattle.std.specs.List.{range_with_len}
 use Rattle.vbi_words.specs.declared.system.System.{System}
-use Rattle.vbi_words.specs.Geometry.{field_bytes}
-use Rattle.vbi_words.specs.Rows.{line_at}
+use Rattle.vbi_words.specs.Geometry.{field_bytes, line_at}
 use Rattle.vbi_c.specs.declared.setup.Setup.{Setup}
 use Rattle.vbi_c.specs.declared.fields.LdvbiFieldReadings.{LdvbiFieldReadings}
 use Rattle.vbi_c.specs.Readings.{line_reading}
@@ -17,13 +16,9 @@ three_rows system bytes first =
 abbrev pub rows_reading : Setup → List (List ℕ) → LdvbiFieldReadings
 rows_reading setup rows = record { lines = map (line_reading setup) rows }
 
--- the rows 15, 16 and 17 of a field, which are its lines 16, 17 and 18
-abbrev pub code_rows : System → List ℕ → List (List ℕ)
-code_rows system field = three_rows system field 15
-
--- the readings of a field's lines 16, 17 and 18
+-- the readings of a field's lines 16, 17 and 18, which are its rows 15, 16 and 17
 abbrev pub field_reading : Setup → List ℕ → LdvbiFieldReadings
-field_reading setup field = rows_reading setup (code_rows setup.system field)
+field_reading setup field = rows_reading setup (three_rows setup.system field 15)
 
 -- the bytes of a field of a stream, counted from 0
 abbrev pub field_in : System → List ℕ → ℕ → List ℕ

@@ -1,7 +1,7 @@
 -- The judging of numbers, as C asks for it: first the system is looked at, then the lengths of the arrays, then what is
 -- counted, then the pace.
-use Rattle.std.specs.Prelude.{◌≡◌, ℕ, ◌==◌, ◌^◌, ◌&&◌, nat_le, nat_lt, if◌then◌else◌, List, [], ◌∷◌, map, slice_get}
-use Rattle.std.specs.Prelude.{Option, Some, None, Result, Ok, Err, ◌+◌}
+use Rattle.std.specs.Prelude.{◌≡◌, ℕ, ◌+◌, ◌^◌, Bool, ◌==◌, ◌&&◌, nat_le, nat_lt, if◌then◌else◌, List, [], ◌∷◌, map}
+use Rattle.std.specs.Prelude.{slice_get, Option, Some, None, ok_or, Result, Ok, Err}
 use Rattle.vbi_words.specs.declared.system.System as words
 use Rattle.vbi_side.specs.declared.lines.Counted as side
 use Rattle.vbi_side.specs.declared.lines.Counted.TheVariants.{Pictures, Times}
@@ -22,6 +22,7 @@ use Rattle.vbi_c.specs.declared.reading.LdvbiReading.{LdvbiReading}
 use Rattle.vbi_c.specs.declared.status.Refusal.{Refusal}
 use Rattle.vbi_c.specs.declared.status.Refusal.TheVariants.{System, Length, Counted, Pace}
 use Rattle.vbi_c.specs.Setups.{system_of}
+use Rattle.vbi_c.specs.Statuses.{in_turn}
 use Rattle.vbi_side.specs.Parts.{part_most, IsPart}
 
 -- ---- what is asked for
@@ -36,23 +37,19 @@ asked_of number =
     if number == 1 then Some (Given Video)
     else (if number == 2 then Some (Given Film) else (if number == 3 then Some Found else None))
 
--- a system with arrays that are both as long as that of the readings
-abbrev pub with_arrays : Option words.System → ℕ → ℕ → ℕ → Result words.System Refusal
-with_arrays None count seen numbers = Err System
-with_arrays (Some system) count seen numbers = if seen == count && numbers == count then Ok system else Err Length
+-- a system, where the lengths fit
+abbrev pub with_lengths : Option words.System → Bool → Result words.System Refusal
+with_lengths system fit = in_turn (ok_or system System) (λ system. if fit then Ok system else Err Length)
 
 -- a system with what is counted, and the pace
 abbrev pub with_pace : Result words.System Refusal → Option side.Counted → Option Asked → Result Judging Refusal
-with_pace (Err refusal) counted asked = Err refusal
-with_pace (Ok system) None asked = Err Counted
-with_pace (Ok system) (Some counted) None = Err Pace
-with_pace (Ok system) (Some counted) (Some asked) =
-    Ok (record { system = system; counted = counted; asked = asked })
+with_pace system counted asked = in_turn system (λ system. in_turn (ok_or counted Counted) (λ counted.
+    in_turn (ok_or asked Pace) (λ asked. Ok (record { system = system; counted = counted; asked = asked }))))
 
--- what the numbers of a call ask for, with arrays of these lengths
+-- what the numbers of a call ask for, with arrays that are both as long as that of the readings
 abbrev pub judging_of : ℕ → ℕ → ℕ → ℕ → ℕ → ℕ → Result Judging Refusal
 judging_of system counted pace count seen numbers =
-    with_pace (with_arrays (system_of system) count seen numbers) (counted_of counted) (asked_of pace)
+    with_pace (with_lengths (system_of system) (seen == count && numbers == count)) (counted_of counted) (asked_of pace)
 
 -- ---- what is answered
 
@@ -67,11 +64,9 @@ shown_by reading = record {
 abbrev pub lines_of : List LdvbiReading → Lines
 lines_of (line_16 ∷ line_17 ∷ line_18 ∷ []) =
     record { line_16 = shown_by line_16; line_17 = shown_by line_17; line_18 = shown_by line_18 }
-lines_of other = record {
-  line_16 = record { word = None; pass = 0 };
-  line_17 = record { word = None; pass = 0 };
-  line_18 = record { word = None; pass = 0 };
-}
+lines_of other =
+    let none : Shown = record { word = None; pass = 0 } in
+    record { line_16 = none; line_17 = none; line_18 = none }
 
 -- what a field's readings show
 abbrev pub lines_in : LdvbiFieldReadings → Lines
@@ -81,14 +76,15 @@ lines_in readings = lines_of readings.lines
 abbrev pub seen_in : Judging → LdvbiFieldReadings → Sightings
 seen_in judging readings = numbers_in judging.system judging.counted (lines_in readings)
 
--- the pace is the one that is asked for: the one that was given, or the one that is found
-abbrev pub IsPaceOf : words.System → side.Counted → Asked → List Sightings → paces.Pace → Type 0
-IsPaceOf system counted (Given given) seen pace = pace ≡ given
-IsPaceOf system counted Found seen pace = IsFound system counted seen pace
+-- a pace that is given is this one
+abbrev pub IsGiven : Asked → paces.Pace → Type 0
+IsGiven (Given given) pace = pace ≡ given
+IsGiven Found pace = Unit {0}
 
--- the same of what is to be judged
+-- the pace is the one that is asked for: the one that was given, or the one that is found
 abbrev pub IsAskedPace : Judging → List Sightings → paces.Pace → Type 0
-IsAskedPace judging = IsPaceOf judging.system judging.counted judging.asked
+IsAskedPace judging seen pace =
+    IsGiven judging.asked pace × (judging.asked ≡ Found → IsFound judging.system judging.counted seen pace)
 
 -- a pace as C sees it
 abbrev pub pace_for_c : paces.Pace → ℕ
@@ -118,15 +114,11 @@ pub record AreJudged (judging : Judging) (readings : List LdvbiFieldReadings) (s
 abbrev pub given_of : ℕ → Option Asked
 given_of number = if number == 3 then None else asked_of number
 
--- a system with a field among so many, which are no more than an answer depends on
-abbrev pub with_field : Option words.System → ℕ → ℕ → Result words.System Refusal
-with_field None count field = Err System
-with_field (Some system) count field = if nat_le count part_most && nat_lt field count then Ok system else Err Length
-
--- what the numbers of a call ask for, of this field among so many
+-- what the numbers of a call ask for, of this field among so many, which are no more than an answer depends on
 abbrev pub one_judging_of : ℕ → ℕ → ℕ → ℕ → ℕ → Result Judging Refusal
 one_judging_of system counted pace count field =
-    with_pace (with_field (system_of system) count field) (counted_of counted) (given_of pace)
+    with_pace (with_lengths (system_of system) (nat_le count part_most && nat_lt field count)) (counted_of counted)
+    (given_of pace)
 
 -- the number is the answer of this field at the pace that is asked for, of these readings, and of a whole capture of
 -- which they are a part that has enough around the field

@@ -1,5 +1,5 @@
 -- The nearest word of lines, as C sees it.
-use Rattle.std.specs.Prelude.{◌≡◌, ℕ, ◌/◌, List, length, Option, Some, None}
+use Rattle.std.specs.Prelude.{◌≡◌, ℕ, ◌/◌, List, length, unwrap_or}
 use Rattle.vbi_words.specs.Geometry.{line_bytes}
 use Rattle.vbi_near.specs.declared.near.Near.{Near}
 use Rattle.vbi_near.specs.Distances.{Samples, lines_of}
@@ -8,15 +8,10 @@ use Rattle.vbi_near.specs.Longer.{IsLonger}
 use Rattle.vbi_c.specs.declared.setup.Setup.{Setup}
 use Rattle.vbi_c.specs.declared.nearest.LdvbiNear.{LdvbiNear}
 
--- the number of a word, or 0 for none
-abbrev pub number_of : Option ℕ → ℕ
-number_of None = 0
-number_of (Some word) = word
-
--- the nearest word
+-- the nearest word; 0 for none
 abbrev pub near_for_c : Near → LdvbiNear
 near_for_c near = record {
-  word = number_of near.word;
+  word = unwrap_or near.word 0;
   start = near.start;
   distance = near.distance;
   rival = near.rival;

@@ -1,34 +1,29 @@
 -- What the numbers of a call stand for, and why they are refused: the system is looked at first, then black and white,
 -- then the length. The numbers of systems and levels may be any of 32 bits.
-use Rattle.std.specs.Prelude.{ℕ, Bool, ◌*◌, ◌%◌, ◌==◌, ◌&&◌, nat_lt, nat_le, if◌then◌else◌, Option, Some, None, Result}
-use Rattle.std.specs.Prelude.{Ok, Err}
+use Rattle.std.specs.Prelude.{ℕ, Bool, ◌*◌, ◌%◌, ◌==◌, ◌&&◌, nat_lt, nat_le, if◌then◌else◌, Option, Some, None, ok_or}
+use Rattle.std.specs.Prelude.{Result, Ok, Err}
 use Rattle.vbi_words.specs.declared.system.System as words
 use Rattle.vbi_words.specs.declared.system.System.TheVariants.{Ntsc, Pal}
 use Rattle.vbi_words.specs.Geometry.{line_bytes, field_bytes}
 use Rattle.vbi_c.specs.declared.setup.Setup.{Setup}
 use Rattle.vbi_c.specs.declared.status.Refusal.{Refusal}
 use Rattle.vbi_c.specs.declared.status.Refusal.TheVariants.{System, Levels, Length}
+use Rattle.vbi_c.specs.Statuses.{in_turn}
 
 -- the system of a number
 abbrev pub system_of : ℕ → Option words.System
 system_of number = if number == 1 then Some Ntsc else (if number == 2 then Some Pal else None)
 
--- a system with black and white: samples of 16 bits, black below white
-abbrev pub with_levels : Option words.System → ℕ → ℕ → Result Setup Refusal
-with_levels None black white = Err System
-with_levels (Some system) black white =
+-- the system of a number with black and white: samples of 16 bits, black below white
+abbrev pub setup_of : ℕ → ℕ → ℕ → Result Setup Refusal
+setup_of number black white = in_turn (ok_or (system_of number) System) (λ system.
     if nat_lt black white && nat_le white 65535
     then Ok (record { system = system; levels = record { black = black; white = white } })
-    else Err Levels
-
--- the system of a number with black and white
-abbrev pub setup_of : ℕ → ℕ → ℕ → Result Setup Refusal
-setup_of number black white = with_levels (system_of number) black white
+    else Err Levels)
 
 -- a setup whose bytes have a length that fits its system
 abbrev pub of_length : (words.System → Bool) → Result Setup Refusal → Result Setup Refusal
-of_length fits (Err refusal) = Err refusal
-of_length fits (Ok setup) = if fits setup.system then Ok setup else Err Length
+of_length fits asked = in_turn asked (λ setup. if fits setup.system then Ok setup else Err Length)
 
 -- the setup of a call with so many bytes, which have to be those of a line
 abbrev pub line_setup : ℕ → ℕ → ℕ → ℕ → Result Setup Refusal

@@ -1,4 +1,4 @@
--- How a call ends.
+-- How a call ends, and that what is looked at first is refused first.
 use Rattle.std.specs.Prelude.{ℕ, Result, Ok, Err}
 use Rattle.vbi_c.specs.declared.status.Refusal.{Refusal}
 use Rattle.vbi_c.specs.declared.status.Refusal.TheVariants.{System, Levels, Length, Word, Counted, Pace}
@@ -16,3 +16,8 @@ refusal_status Pace = 6
 abbrev pub status_of : {A : Type 0} → Result A Refusal → ℕ
 status_of (Ok found) = 0
 status_of (Err refusal) = refusal_status refusal
+
+-- what comes next, by what was found right; what was refused stays so
+abbrev pub in_turn : {A B : Type 0} → Result A Refusal → (A → Result B Refusal) → Result B Refusal
+in_turn (Ok found) next = next found
+in_turn (Err refusal) next = Err refusal

@@ -1,7 +1,7 @@
 //! The codes of words.
 
 ghost use Rattle.std.specs.Prelude.{◌≡◌, ◌≢◌, ◌↔◌};
-ghost use Rattle.vbi_words.specs.CodeTable.{code_of};
+ghost use Rattle.vbi_words.specs.Codes.{code_of};
 ghost use Rattle.vbi_words.specs.Words.{IsWord};
 ghost use Rattle.vbi_c.specs.Codes.{code_for_c};
 

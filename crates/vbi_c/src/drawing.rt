@@ -39,6 +39,7 @@ fn drawing_of(
 /// Writes the samples of a line that shows the word, or of a blank line for 0, into `ldvbi_line_bytes(system)` bytes:
 /// two for each sample, the low one first. The line is read as the word, in the first pass.
 #[unsafe(no_mangle)]
+#[tactic(auto, using(crate::proofs::Drawn::reads_drawn))]
 pub extern "C" fn ldvbi_draw_line(
     system: u32,
     black: u32,

@@ -1,8 +1,7 @@
 //! Reading fields.
 
 ghost use Rattle.std.specs.Prelude.{◌≡◌, ◌≢◌, ◌+◌, ◌*◌, ◌≤◌, length, IfOk};
-ghost use Rattle.vbi_words.specs.Geometry.{line_bytes, field_bytes};
-ghost use Rattle.vbi_words.specs.Rows.{line_at};
+ghost use Rattle.vbi_words.specs.Geometry.{line_bytes, field_bytes, line_at};
 ghost use Rattle.vbi_c.specs.Fields.{three_rows, rows_reading, field_reading, fields_reading};
 ghost use Rattle.vbi_c.specs.Setups.{rows_setup, fields_setup};
 ghost use Rattle.vbi_c.specs.Statuses.{status_of};

@@ -7,7 +7,8 @@ ghost use Rattle.std.specs.Prelude.{◌≡◌, ◌≢◌, ◌+◌, ◌-◌, ◌*
 ghost use Rattle.std.specs.List.{range_with_len};
 ghost use Rattle.vbi_words.specs.Geometry.{field_bytes};
 ghost use Rattle.vbi_side.specs.Numbers.{AreAnswers, IsFirst};
-ghost use Rattle.vbi_c.specs.Seeking.{seek_of, shown_at, probed_most, around_most, IsGiven, IsSought, IsSoughtIn};
+ghost use Rattle.vbi_c.specs.Judging.{IsGiven};
+ghost use Rattle.vbi_c.specs.Seeking.{seek_of, shown_at, probed_most, around_most, IsSought, IsSoughtIn};
 ghost use Rattle.vbi_c.specs.Statuses.{status_of};
 
 use crate::judging::{Judging, asked_of, counted_of, pace_for};

@@ -2,7 +2,7 @@
 use Rattle.std.proofs.Common.{◌≡◌, subst, ℕ, List, Option, Result, Ok, Err, IfOk}
 use Rattle.vbi_field.specs.ConfigView.{ConfigView}
 use Rattle.vbi_field.specs.Extracts.{Extracts}
-use Rattle.vbi_field.specs.Kinds.{document}
+use Rattle.vbi_field.specs.Texts.{document}
 use Rattle.vbi_field.specs.Ran.{Counts, Ran}
 use Rattle.vbi_field.specs.declared.summary.RunFault.{RunFault}
 use Rattle.vbi_field.specs.declared.summary.Summary.{Summary}

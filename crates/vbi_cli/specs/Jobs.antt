@@ -1,36 +1,39 @@
--- What a job does: what metadata and options settle, what each command does with it, and the job's answer. The input
--- is seen by the bytes that it has yet to give, and the output by those that it has taken, where they tell them, as
--- those over memory do.
-use Rattle.std.specs.Prelude.{◌≡◌, ◌⊎◌, ℕ, List, Option, Some, None, Result, Ok, Err, IfOk, ⊤}
-use Rattle.vbi_words.specs.Geometry.{line_bytes}
+-- What a job does: what metadata and options settle, what each command does with it, and the job's answer; and the
+-- statuses that the program ends with.
+use Rattle.std.specs.Prelude.{◌≡◌, ◌⊎◌, ℕ, List, Option, Some, None, Result, Ok, Err, IfOk, ⊤, is_some, if◌then◌else◌}
+use Rattle.std.specs.Prelude.{codes}
+use Rattle.vbi_field.specs.ConfigView.{line_bytes, System, ConfigView}
 use Rattle.vbi_words.specs.declared.outcome.Outcome.{Outcome}
-use Rattle.vbi_words.specs.declared.system.System.{System}
-use Rattle.vbi_field.specs.Draws.{Draws}
-use Rattle.vbi_field.specs.Extracts.{Extracts}
-use Rattle.vbi_field.specs.Kinds.{document, report}
+use Rattle.vbi_field.specs.Texts.{document, report}
 use Rattle.vbi_field.specs.Ran.{Counts, Ran}
-use Rattle.vbi_field.specs.ConfigView.{ConfigView}
-use Rattle.vbi_field.specs.declared.drawing.DrawFault.{DrawFault}
-use Rattle.vbi_field.specs.declared.drawing.DrawFault.TheVariants as draw
 use Rattle.vbi_field.specs.declared.summary.Summary.{Summary}
 use Rattle.vbi_field.specs.declared.summary.RunFault.{RunFault}
 use Rattle.vbi_field.specs.declared.summary.RunFault.TheVariants as run
-use Rattle.vbi_meta.specs.Data.{Data}
-use Rattle.vbi_meta.specs.Metadata.{IsMetadata, IsUnread}
-use Rattle.vbi_meta.specs.ReadBack.{ReadsBack}
-use Rattle.vbi_meta.specs.Settings.{IsSettled, IsRefused}
+use Rattle.vbi_meta.specs.Settings.{IsMetadata, IsUnread, IsSettled, IsRefused, Data}
 use Rattle.vbi_meta.specs.declared.choosing.Overrides.{Overrides}
 use Rattle.vbi_meta.specs.declared.fault.MetaFault.{MetaFault}
-use Rattle.vbi_cli.specs.OneLine.{Answers}
+use Rattle.vbi_meta.specs.ReadBack.{ReadsBack}
+use Rattle.vbi_cli.specs.OneLine as line
 use Rattle.vbi_cli.specs.declared.fault.AppFault.{AppFault}
-use Rattle.vbi_cli.specs.declared.fault.AppFault.TheVariants.{Meta, ReadField, ReadLine, ReadRow, Write}
-use Rattle.vbi_cli.specs.declared.fault.AppFault.TheVariants.{TooManyFields, Row, Short}
-use Rattle.vbi_cli.specs.declared.one_line.LineFault.{LineFault}
-use Rattle.vbi_cli.specs.declared.one_line.LineFault.TheVariants as line
+use Rattle.vbi_cli.specs.declared.fault.AppFault.TheVariants as app
 use Rattle.vbi_cli.specs.declared.job.Ended.{Ended}
 use Rattle.vbi_cli.specs.declared.job.Ended.TheVariants.{Whole, CutField}
 use Rattle.vbi_cli.specs.declared.command_line.Verb.{Verb}
 use Rattle.vbi_cli.specs.declared.command_line.Verb.TheVariants.{Line, Extract, Show, Draw}
+use Rattle.vbi_line.specs.Intake as lines
+use Rattle.vbi_field.specs.Draws as draws
+use Rattle.vbi_field.specs.declared.drawing.DrawFault.{DrawFault}
+use Rattle.vbi_field.specs.declared.drawing.DrawFault.TheVariants as draw
+use Rattle.vbi_field.specs.Extracts as extracts
+use Rattle.vbi_field.specs.Outlet as outlets
+use Rattle.vbi_field.specs.declared.outlet.Outlet.{Outlet}
+use Rattle.vbi_field.specs.RowIntake as rows
+use Rattle.vbi_cli.specs.declared.source.Source.{Source}
+use Rattle.vbi_cli.specs.declared.source.Source.TheVariants as source
+use Rattle.vbi_cli.specs.declared.input.Input.{Input}
+use Rattle.vbi_cli.specs.declared.input.Input.TheVariants.{File, Standard}
+use Rattle.vbi_cli.specs.declared.command_line.WordsFault.{WordsFault}
+use Rattle.vbi_cli.specs.declared.command_line.WordsFault.TheVariants.{Refused, Help, OutOfMemory}
 
 -- ---- the settings
 
@@ -57,33 +60,28 @@ Counting P = (n : Counts) × P n
 
 -- ---- the commands
 
--- whole, or with a cut field where one was cut
-abbrev pub ended_of : Option ℕ → Ended
-ended_of None = Whole
-ended_of (Some bytes) = CutField
-
 -- the job's answer to a run over a stream; a run doesn't answer `Failed`
 abbrev pub IsEndedBy : Result Summary RunFault → Result Ended AppFault → Type 0
-IsEndedBy (Ok summary) answer = answer ≡ Ok (ended_of summary.cut)
-IsEndedBy (Err (run.Read field offset)) answer = answer ≡ Err (ReadField field offset)
-IsEndedBy (Err (run.Write written)) answer = answer ≡ Err (Write written)
-IsEndedBy (Err run.TooManyFields) answer = answer ≡ Err TooManyFields
+IsEndedBy (Ok summary) answer = answer ≡ Ok (if is_some summary.cut then CutField else Whole)
+IsEndedBy (Err (run.Read field offset)) answer = answer ≡ Err (app.ReadField field offset)
+IsEndedBy (Err (run.Write written)) answer = answer ≡ Err (app.Write written)
+IsEndedBy (Err run.TooManyFields) answer = answer ≡ Err app.TooManyFields
 IsEndedBy (Err run.Failed) answer = ⊥
 
 -- the job's answer to a run over one line of a system
-abbrev pub IsAnsweredBy : System → Result Outcome LineFault → Result Ended AppFault → Type 0
+abbrev pub IsAnsweredBy : System → Result Outcome line.LineFault → Result Ended AppFault → Type 0
 IsAnsweredBy system (Ok outcome) answer = answer ≡ Ok Whole
-IsAnsweredBy system (Err (line.Short bytes)) answer = answer ≡ Err (Short bytes (line_bytes system))
-IsAnsweredBy system (Err (line.Read offset)) answer = answer ≡ Err (ReadLine offset)
-IsAnsweredBy system (Err (line.Write written)) answer = answer ≡ Err (Write written)
+IsAnsweredBy system (Err (line.Short bytes)) answer = answer ≡ Err (app.Short bytes (line_bytes system))
+IsAnsweredBy system (Err (line.Read offset)) answer = answer ≡ Err (app.ReadLine offset)
+IsAnsweredBy system (Err (line.Write written)) answer = answer ≡ Err (app.Write written)
 
 -- the job's answer to a run of drawing
 abbrev pub IsDrawnBy : Result ℕ DrawFault → Result Ended AppFault → Type 0
 IsDrawnBy (Ok fields) answer = answer ≡ Ok Whole
-IsDrawnBy (Err (draw.Row number)) answer = answer ≡ Err (Row number)
-IsDrawnBy (Err (draw.Read number)) answer = answer ≡ Err (ReadRow number)
-IsDrawnBy (Err (draw.Write written)) answer = answer ≡ Err (Write written)
-IsDrawnBy (Err draw.TooManyFields) answer = answer ≡ Err TooManyFields
+IsDrawnBy (Err (draw.Row number)) answer = answer ≡ Err (app.Row number)
+IsDrawnBy (Err (draw.Read number)) answer = answer ≡ Err (app.ReadRow number)
+IsDrawnBy (Err (draw.Write written)) answer = answer ≡ Err (app.Write written)
+IsDrawnBy (Err draw.TooManyFields) answer = answer ≡ Err app.TooManyFields
 
 -- a command ran over the input and the output and gave some result, what it fetched and wrote and what the two counted
 -- is what it says of that result, and the job's answer is the one that belongs to it
@@ -98,25 +96,91 @@ pub record DidRun {A : Type 0} (input0 input output0 output : Option (List ℕ))
 -- that the lines in the bytes fetched show
 pub record ExtractsWords (c : ConfigView) (input : Option (List ℕ)) (n : Counts) (result : Result Summary RunFault)
     (z text : List ℕ) : Type 0 where
-  pub says : Extracts document c input n result z text
+  pub says : extracts.Extracts document c input n result z text
   pub read_back : IfOk result (λ summary. ReadsBack c z text)
 
 module _ (c : ConfigView) (input0 input output0 output : Option (List ℕ)) (n : Counts) where
   -- what a command did, over devices that counted n since
   abbrev pub Did : Verb → Result Ended AppFault → Type 0
-  Did Line answer = DidRun input0 input output0 output n (Answers c input) (IsAnsweredBy c.system) answer
+  Did Line answer = DidRun input0 input output0 output n (line.Answers c input) (IsAnsweredBy c.system) answer
   Did Extract answer = DidRun input0 input output0 output n (ExtractsWords c input) IsEndedBy answer
-  Did Show answer = DidRun input0 input output0 output n (Extracts report c input) IsEndedBy answer
-  Did Draw answer = DidRun input0 input output0 output n (Draws c input) IsDrawnBy answer
+  Did Show answer = DidRun input0 input output0 output n (extracts.Extracts report c input) IsEndedBy answer
+  Did Draw answer = DidRun input0 input output0 output n (draws.Draws c input) IsDrawnBy answer
 
 -- ---- the job
 
 -- where the answer is a fault of metadata or settings, P holds of it
 abbrev pub IfMeta : Result Ended AppFault → (MetaFault → Type 0) → Type 0
-IfMeta (Err (Meta fault)) P = P fault
+IfMeta (Err (app.Meta fault)) P = P fault
 IfMeta _ P = ⊤
 
 -- P holds, unless the answer is one of those faults
 abbrev pub UnlessMeta : Result Ended AppFault → Type 0 → Type 0
-UnlessMeta (Err (Meta fault)) P = ⊤
+UnlessMeta (Err (app.Meta fault)) P = ⊤
 UnlessMeta _ P = P
+
+-- ---- what a contract sees of a command's source, and of the input
+
+module _ {R : Type 0} where
+  -- the reader with the counts of its failed calls
+  abbrev pub counted_of : Source R → outlets.Counted R
+  counted_of (source.Line i) = lines.counted_of i
+  counted_of (source.Extract i) = lines.counted_of i
+  counted_of (source.Show i) = lines.counted_of i
+  counted_of (source.Draw i) = rows.counted_of i
+
+  -- the command
+  abbrev pub verb_of : Source R → Verb
+  verb_of (source.Line i) = Line
+  verb_of (source.Extract i) = Extract
+  verb_of (source.Show i) = Show
+  verb_of (source.Draw i) = Draw
+
+  -- the reader has not been called; what is read by lines is read by those of this system
+  abbrev pub IsFresh : Source R → System → Type 0
+  IsFresh (source.Line i) system = lines.IsFresh i system
+  IsFresh (source.Extract i) system = lines.IsFresh i system
+  IsFresh (source.Show i) system = lines.IsFresh i system
+  IsFresh (source.Draw i) system = rows.IsFresh i
+
+-- what a fresh source and a fresh outlet counted since
+abbrev pub counts_of : {R W : Type 0} → Source R → Outlet W → Counts
+counts_of (source.Line i) o = extracts.counts_of i o
+counts_of (source.Extract i) o = extracts.counts_of i o
+counts_of (source.Show i) o = extracts.counts_of i o
+counts_of (source.Draw i) o = draws.counts_of i o
+
+-- what a command did with its fresh source and a fresh outlet, of which the first of two is that before, by its answer
+abbrev pub Does : {R W : Type 0} → (R → Option (List ℕ)) → (W → Option (List ℕ)) → ConfigView
+    → Source R → Source R → Outlet W → Outlet W → Result Ended AppFault → Type 0
+Does remaining contents c s0 s o0 o answer =
+    Did c (remaining (outlets.device_of (counted_of s0))) (remaining (outlets.device_of (counted_of s)))
+    (contents (outlets.device_of (outlets.counted_of o0))) (contents (outlets.device_of (outlets.counted_of o)))
+    (counts_of s o) (verb_of s0) answer
+
+-- the bytes that the program's input has yet to give, where they are told: those of the file or of standard input
+abbrev pub input_remaining : {F S : Type 0} → (F → Option (List ℕ)) → (S → Option (List ℕ)) → Input F S
+    → Option (List ℕ)
+input_remaining file standard (File f) = file f
+input_remaining file standard (Standard s) = standard s
+
+-- ---- the commands by their names, and the statuses
+
+-- the word that asks for a command
+abbrev pub word_of : Verb → List ℕ
+word_of Line = codes "line"
+word_of Extract = codes "extract"
+word_of Show = codes "show"
+word_of Draw = codes "draw"
+
+-- where the command line gives no job: 2 where it is refused, 0 where help is asked for, 1 where memory runs out
+abbrev pub words_status : WordsFault → ℕ
+words_status (Refused text) = 2
+words_status (Help text) = 0
+words_status OutOfMemory = 1
+
+-- of a job: 0 where it is done, 3 where it is done and the last field was cut, 1 for every fault
+abbrev pub app_status : Result Ended AppFault → ℕ
+app_status (Ok Whole) = 0
+app_status (Ok CutField) = 3
+app_status (Err fault) = 1

@@ -1,42 +1,27 @@
--- What the command `line` does, by its answer: z are the bytes fetched, text is what was written, and n what was
--- counted.
+-- What the command `line` does, by its answer: z are the bytes fetched, text is what was written, n what was counted.
 use Rattle.std.specs.Prelude.{◌≡◌, ℕ, ◌<◌, List, [], ◌++◌, codes, length, Option, Result, Ok, Err}
-use Rattle.std.specs.Io.KnownBytes.{IsAtEnd}
-use Rattle.vbi_words.specs.Geometry.{width_of, line_bytes}
-use Rattle.vbi_words.specs.Levels.{row_levels}
-use Rattle.vbi_words.specs.declared.outcome.Outcome.{Outcome}
-use Rattle.vbi_words.specs.declared.outcome.Outcome.TheVariants.{Word}
-use Rattle.vbi_line.specs.Counted.{device_of}
+use Rattle.vbi_field.specs.Ran.{IsAtEnd, Counts, HasFailed, IsCalm, IsFirstOf, Ran}
+use Rattle.vbi_field.specs.ConfigView.{width_of, line_bytes, ConfigView}
+use Rattle.vbi_field.specs.Stream.{row_levels, reading_of}
+use Rattle.vbi_field.specs.CodeTexts.{Outcome, Word, cause_text_of, hex_text_of}
 use Rattle.vbi_line.specs.Intake as intakes
-use Rattle.vbi_line.specs.OneReading.{reading_of}
 use Rattle.vbi_line.specs.declared.intake.Intake.{Intake}
-use Rattle.vbi_field.specs.CodeTexts.{cause_text_of, hex_text_of}
-use Rattle.vbi_field.specs.ConfigView.{ConfigView}
 use Rattle.vbi_field.specs.Extracts.{counts_of}
 use Rattle.vbi_field.specs.Outlet as outlets
-use Rattle.vbi_field.specs.Ran.{Counts, HasFailed, IsCalm, IsFirstOf, Ran}
 use Rattle.vbi_field.specs.declared.outlet.Outlet.{Outlet}
-use Rattle.vbi_cli.specs.declared.one_line.LineFault.{LineFault}
-use Rattle.vbi_cli.specs.declared.one_line.LineFault.TheVariants.{Short, Read, Write}
+pub use Rattle.vbi_cli.specs.declared.one_line.LineFault.{LineFault}
+pub use Rattle.vbi_cli.specs.declared.one_line.LineFault.TheVariants.{Short, Read, Write}
 
--- the outcome of the reading of a line's bytes
-abbrev pub outcome_read : ConfigView → List ℕ → Outcome
-outcome_read c bytes = (reading_of c.system (row_levels c.levels bytes)).outcome
-
--- what a line is answered with: its word in hexadecimal digits, or why it has none
-abbrev pub answer_of : Outcome → List ℕ
-answer_of (Word word) = hex_text_of word
-answer_of outcome = cause_text_of outcome
-
--- the answer and a newline
+-- what a line is answered with: its word in hexadecimal digits, or why it has none, and a newline
 abbrev pub line_text : Outcome → List ℕ
-line_text outcome = answer_of outcome ++ codes "\n"
+line_text (Word word) = hex_text_of word ++ codes "\n"
+line_text outcome = cause_text_of outcome ++ codes "\n"
 
 module _ (c : ConfigView) (input : Option (List ℕ)) (z text : List ℕ) where
   -- Ok: one line's bytes were fetched and no more, and the line's answer was written
   pub record AnswersLine (outcome : Outcome) : Type 0 where
     pub whole : length z ≡ line_bytes c.system
-    pub outcome_of : outcome ≡ outcome_read c z
+    pub outcome_of : outcome ≡ (reading_of c.system (row_levels c.levels z)).outcome
     pub answer : text ≡ line_text outcome
 
   -- `Short`: the reader ended behind this many bytes, fewer than a line's, and nothing was written
@@ -57,7 +42,7 @@ module _ (c : ConfigView) (input : Option (List ℕ)) (z text : List ℕ) where
   pub record StopsAtWrite (written : ℕ) : Type 0 where
     pub whole : length z ≡ line_bytes c.system
     pub count : written ≡ length text
-    pub first : IsFirstOf text (line_text (outcome_read c z))
+    pub first : IsFirstOf text (line_text (reading_of c.system (row_levels c.levels z)).outcome)
 
   -- how far the command came, by the answer
   abbrev pub EndsBy : Result Outcome LineFault → Type 0
@@ -89,6 +74,6 @@ pub record Answers (c : ConfigView) (input : Option (List ℕ)) (n : Counts) (re
 abbrev pub RunsLine : {R W : Type 0} → (R → Option (List ℕ)) → (W → Option (List ℕ)) → ConfigView
     → Intake R → Intake R → Outlet W → Outlet W → Result Outcome LineFault → Type 0
 RunsLine remaining contents c i0 i o0 o result =
-    Ran (remaining (device_of (intakes.counted_of i0))) (remaining (device_of (intakes.counted_of i)))
-    (contents (device_of (outlets.counted_of o0))) (contents (device_of (outlets.counted_of o)))
-    (counts_of i o) (Answers c (remaining (device_of (intakes.counted_of i))) (counts_of i o) result)
+    Ran (remaining (outlets.device_of (intakes.counted_of i0))) (remaining (outlets.device_of (intakes.counted_of i)))
+    (contents (outlets.device_of (outlets.counted_of o0))) (contents (outlets.device_of (outlets.counted_of o)))
+    (counts_of i o) (Answers c (remaining (outlets.device_of (intakes.counted_of i))) (counts_of i o) result)

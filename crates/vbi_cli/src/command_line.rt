@@ -2,8 +2,7 @@
 
 ghost use Rattle.std.specs.Prelude.{◌≡◌, None, IfOk, OnErr};
 ghost use Rattle.vbi_words.specs.Geometry.{name_of, system_named};
-ghost use Rattle.vbi_cli.specs.Statuses.{words_status};
-ghost use Rattle.vbi_cli.specs.Verbs.{word_of};
+ghost use Rattle.vbi_cli.specs.Jobs.{words_status, word_of};
 ghost use Rattle.vbi_cli.specs.declared.command_line.Verb as verbs;
 
 use crate::commands::program;

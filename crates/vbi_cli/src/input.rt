@@ -13,7 +13,7 @@ pub enum Input<F, S> {
 }
 
 impl<F: Read, S: Read> Read for Input<F, S> {
-    ghost use Rattle.vbi_cli.specs.Inputs.{input_remaining};
+    ghost use Rattle.vbi_cli.specs.Jobs.{input_remaining};
 
     ghost remaining = { input_remaining F.remaining S.remaining };
 

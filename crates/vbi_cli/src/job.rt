@@ -5,11 +5,9 @@ ghost use Rattle.vbi_line.specs.Counted.{IsSameDevice};
 ghost use Rattle.vbi_line.specs.Intake as lines;
 ghost use Rattle.vbi_field.specs.Outlet as outlets;
 ghost use Rattle.vbi_meta.specs.DocumentValue.{IsConfig};
-ghost use Rattle.vbi_cli.specs.Jobs.{Settles, Refuses, Under, Counting, Did, IfMeta, UnlessMeta};
-ghost use Rattle.vbi_cli.specs.Jobs.{IsEndedBy, IsAnsweredBy, IsDrawnBy};
-ghost use Rattle.vbi_cli.specs.Sources as sources;
-ghost use Rattle.vbi_cli.specs.Sources.{Does};
-ghost use Rattle.vbi_cli.specs.Statuses.{app_status};
+ghost use Rattle.vbi_cli.specs.Jobs.{Settles, Refuses, Under, Counting, Did, IfMeta, UnlessMeta, IsEndedBy};
+ghost use Rattle.vbi_cli.specs.Jobs.{IsAnsweredBy, IsDrawnBy, Does, app_status};
+ghost use Rattle.vbi_cli.specs.Jobs as sources;
 ghost use Rattle.vbi_cli.specs.declared.source.Source.TheVariants as source;
 
 use crate::command_line::Job;

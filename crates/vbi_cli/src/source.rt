@@ -2,7 +2,7 @@
 
 ghost use Rattle.std.specs.Prelude.{◌≡◌};
 ghost use Rattle.vbi_line.specs.Counted.{device_of, name_of};
-ghost use Rattle.vbi_cli.specs.Sources.{counted_of, verb_of, IsFresh};
+ghost use Rattle.vbi_cli.specs.Jobs.{counted_of, verb_of, IsFresh};
 
 use crate::command_line::Verb;
 use std::io::Read;

@@ -1,19 +1,13 @@
 -- What is written with a whole row.
-use Rattle.std.proofs.Common.{◌≡◌, ℕ, ◌+◌, ◌*◌, ◌<◌, List, [], ◌++◌, length, sym, ap, ◌∙◌, arith}
-use Rattle.std.proofs.Common.{append-nil, add-zero}
+use Rattle.std.proofs.Common.{◌≡◌, ℕ, ◌+◌, ◌*◌, ◌<◌, List, [], ◌++◌, length, sym, ap, ◌∙◌, arith, append-nil, add-zero}
 use Rattle.std.specs.Prelude.{Option, Result, Err, Ok, IsErr}
-use Rattle.vbi_words.specs.Geometry.{width_of, height_of}
-use Rattle.vbi_field.specs.ConfigView.{ConfigView}
-use Rattle.vbi_field.specs.Outlet.{written_of, Puts}
-use Rattle.vbi_field.specs.Progress.{IsProgress, MovesOneRow, AddsRow}
-use Rattle.vbi_field.specs.Stream.{fields_of, readings_at}
-use Rattle.vbi_field.specs.FeederState.{selected}
-use Rattle.vbi_field.specs.Texts.{IsTextBetween, text_before_tail, joined_entry_of}
-use Rattle.vbi_field.specs.Kinds.{Kind}
-use Rattle.vbi_field.specs.declared.outlet.Outlet.{Outlet}
-use Rattle.vbi_field.specs.declared.progress.Progress.{Progress}
+use Rattle.vbi_field.specs.ConfigView.{width_of, height_of, ConfigView}
+use Rattle.vbi_field.specs.Outlet.{written_of, Puts, Outlet}
+use Rattle.vbi_field.specs.Progress.{IsProgress, MovesOneRow, AddsRow, Progress}
+use Rattle.vbi_field.specs.Stream.{fields_of, readings_at, FieldReadings}
+use Rattle.vbi_field.specs.Feed.{selected}
+use Rattle.vbi_field.specs.Texts.{IsTextBetween, text_before_tail, joined_entry_of, Kind}
 use Rattle.vbi_field.specs.declared.summary.RunFault.{RunFault}
-use Rattle.vbi_field.specs.declared.readings.FieldReadings.{FieldReadings}
 use Rattle.vbi_field.proofs.Counts.{sizes_of, whole_fields}
 use Rattle.vbi_field.proofs.Devices.{wrote_none, wrote_whole, put_in_part}
 use Rattle.vbi_field.proofs.FeedTexts.{begun_same, begun_next}

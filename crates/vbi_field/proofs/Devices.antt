@@ -4,10 +4,7 @@ use Rattle.std.proofs.Common.{append_assoc, add-zero, refl}
 use Rattle.std.specs.Prelude.{Option}
 use Rattle.std.proofs.KnownBytes.{Appends-nil, Appends-trans}
 use Rattle.std.proofs.lemmas.List.{length-append, length-drop, length-take-le, take_all, take-append-drop}
-use Rattle.vbi_field.specs.Outlet.{written_of, Puts, Wrote, WrotePart}
-use Rattle.vbi_field.specs.declared.outlet.Outlet.{Outlet}
-use Rattle.vbi_line.specs.Counted.{failures_of, HasCause}
-use Rattle.vbi_line.specs.declared.counted.Counted.{Counted}
+use Rattle.vbi_field.specs.Outlet.{written_of, Puts, Wrote, WrotePart, Outlet, failures_of, HasCause, Counted}
 use Rattle.vbi_field.specs.Outlet as outlets
 use Rattle.vbi_field.specs.Ran.{EndsInside, HasFailed}
 

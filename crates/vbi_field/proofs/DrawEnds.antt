@@ -4,16 +4,12 @@ use Rattle.std.proofs.Common.{◌≡◌, ℕ, ◌+◌, ◌≤◌, ◌<◌, ◌�
 use Rattle.std.proofs.Common.{length, refl, ap, subst, ◌∙◌, arith}
 use Rattle.std.specs.Prelude.{Option, None, Result, Ok, Err}
 use Rattle.std.specs.Io.KnownBytes.{IsAtEnd}
-use Rattle.vbi_line.specs.Counted.{device_of, NoError, HasCause}
-use Rattle.vbi_field.specs.ConfigView.{ConfigView}
-use Rattle.vbi_field.specs.Limits.{longest_row}
+use Rattle.vbi_field.specs.Outlet.{device_of, NoError, HasCause, Outlet}
+use Rattle.vbi_field.specs.ConfigView.{ConfigView, longest_row}
 use Rattle.vbi_field.specs.RowIntake as intakes
-use Rattle.vbi_field.specs.RowIntake.{HasNoNewline, Fetches, TakesRow, TakesByte}
+use Rattle.vbi_field.specs.RowIntake.{HasNoNewline, Fetches, TakesRow, TakesByte, RowIntake}
 use Rattle.vbi_field.specs.WordRows.{newline, rows_of, row_words, word_row_of}
-use Rattle.vbi_field.specs.Drawing.{draw_out}
-use Rattle.vbi_field.specs.Draws.{Draws, RunsDrawing, counts_of}
-use Rattle.vbi_field.specs.declared.outlet.Outlet.{Outlet}
-use Rattle.vbi_field.specs.declared.row_intake.RowIntake.{RowIntake}
+use Rattle.vbi_field.specs.Draws.{draw_out, Draws, RunsDrawing, counts_of}
 use Rattle.vbi_field.specs.declared.row_intake.NextRow.TheVariants.{Malformed, AtEnd, Failed}
 use Rattle.vbi_field.specs.declared.row_intake.NextByte.TheVariants as bytes
 use Rattle.vbi_field.specs.declared.drawing.DrawFault.{DrawFault}
@@ -73,7 +69,7 @@ module _ {R W : Type 0} {remaining : R → Option (List ℕ)} {contents : W → 
   pub too_many : (j : RowIntake R) (byte : ℕ) → TakesByte remaining i j (bytes.Byte byte) → done ≡ c.max_fields
       → RunsDrawing remaining contents c i0 j o0 o (Err faults.TooManyFields)
   too_many j byte t last = ends_here j (byte ∷ []) t.fetches (Err faults.TooManyFields) (record {
-    devices = (t.caused ∙ g.calm_reads, g.calm_writes);
+    devices = (t.got ∙ g.calm_reads, g.calm_writes);
     came = record {
       before = g.z;
       byte = byte;
@@ -150,7 +146,7 @@ module _ {R W : Type 0} {remaining : R → Option (List ℕ)} {contents : W → 
       → RunsDrawing remaining contents c i0 j o0 o (Err (faults.Read (n + 1)))
   byte_read_failed j t n max last =
       let P : ℕ → Type 0 = λ k. RunsDrawing remaining contents c i0 j o0 o (Err (faults.Read (k + 1))) in
-      subst P last (read_failed j [] t.fetches no_newline t.caused (inr (omega arith, refl)))
+      subst P last (read_failed j [] t.fetches no_newline t.got (inr (omega arith, refl)))
     where
       no_newline : HasNoNewline []
       no_newline = λ k d inside. absurd (omega arith)

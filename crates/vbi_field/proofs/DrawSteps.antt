@@ -7,29 +7,21 @@ use Rattle.std.specs.Io.KnownBytes.{IsAtEnd}
 use Rattle.std.proofs.lemmas.List.{append-nil, length-append}
 use Rattle.std.proofs.lemmas.Grind.{flat_map-append}
 use Rattle.vbi_words.specs.Drawn.{drawn_line_of}
-use Rattle.vbi_words.specs.Geometry.{field_bytes}
-use Rattle.vbi_words.specs.declared.system.System.TheVariants.{Pal}
-use Rattle.vbi_line.specs.Counted.{tries, device_of, failures_of, NoError, HasCause, IsSameDevice}
-use Rattle.vbi_field.specs.ConfigView.{ConfigView}
-use Rattle.vbi_field.specs.Limits.{most_rows, longest_row}
+use Rattle.vbi_field.specs.ConfigView.{field_bytes, Pal, ConfigView, most_rows, longest_row}
+use Rattle.vbi_field.specs.Outlet.{tries, device_of, failures_of, NoError, HasCause, IsSameDevice, Outlet}
 use Rattle.vbi_field.specs.Outlet as outlets
 use Rattle.vbi_field.specs.RowIntake as intakes
-use Rattle.vbi_field.specs.RowIntake.{IsFresh, HasNoNewline, Fetches, TakesRow}
-use Rattle.vbi_field.specs.WordRows.{newline, AreRows, rows_of, row_words, word_row_of}
-use Rattle.vbi_field.specs.Drawing.{draw_out, drawn_field_of}
-use Rattle.vbi_field.specs.Draws.{EndsRow, RunsDrawing}
-use Rattle.vbi_field.specs.declared.outlet.Outlet.{Outlet}
-use Rattle.vbi_field.specs.declared.row_intake.RowIntake.{RowIntake}
+use Rattle.vbi_field.specs.RowIntake.{IsFresh, HasNoNewline, Fetches, TakesRow, RowIntake}
+use Rattle.vbi_field.specs.WordRows.{newline, AreRows, rows_of, row_words, word_row_of, WordRow}
+use Rattle.vbi_field.specs.Draws.{draw_out, drawn_field_of, EndsRow, RunsDrawing}
 use Rattle.vbi_field.specs.declared.row_intake.NextRow.TheVariants.{Row, LastRow}
-use Rattle.vbi_field.specs.declared.word_row.WordRow.{WordRow}
 use Rattle.vbi_field.specs.declared.drawing.DrawFault.{DrawFault}
 use Rattle.vbi_field.specs.declared.drawing.DrawFault.TheVariants as faults
 use Rattle.vbi_field.proofs.Counts.{sizes_of}
 use Rattle.vbi_field.proofs.DrawnLemmas.{length-drawn_field_of}
 use Rattle.vbi_field.proofs.RowSteps.{Fetches-none, Fetches-more}
 use Rattle.vbi_field.proofs.Devices.{has_failed, inside_of, wrote_none, wrote_twice}
-use Rattle.vbi_field.proofs.WordRowLemmas.{rows_of-line, rows_of-part, row_words-line, row_words-part}
-use Rattle.vbi_field.proofs.WordRowLemmas.{AreRows-more}
+use Rattle.vbi_field.proofs.WordRowLemmas.{rows_of-line, rows_of-part, row_words-line, row_words-part, AreRows-more}
 
 -- a field more
 draw_out-more : (c : ConfigView) (rows : List WordRow) (words : WordRow)

@@ -5,16 +5,11 @@ use Rattle.std.specs.List.{join_by, range_with_len}
 use Rattle.std.proofs.lemmas.List.{length-append}
 use Rattle.std.proofs.lemmas.Option.{slice_get-get_or}
 use Rattle.std.proofs.Math.Nat.{zero-mul, suc-mul}
-use Rattle.vbi_words.specs.Geometry.{field_bytes}
-use Rattle.vbi_words.specs.declared.system.System.{System}
-use Rattle.vbi_words.specs.declared.system.System.TheVariants.{Ntsc, Pal}
-use Rattle.vbi_field.specs.ConfigView.{ConfigView}
-use Rattle.vbi_field.specs.Drawing.{draw_out, drawn_field_of, drawn_readings, drawn_text, no_words}
+use Rattle.vbi_field.specs.ConfigView.{field_bytes, System, ConfigView, Ntsc, Pal}
+use Rattle.vbi_field.specs.Draws.{draw_out, drawn_field_of, drawn_readings, drawn_text, no_words}
 use Rattle.vbi_field.specs.Stream.{fields_of, rest_of}
-use Rattle.vbi_field.specs.Texts.{whole_text}
-use Rattle.vbi_field.specs.Kinds.{Kind}
-use Rattle.vbi_field.specs.WordRows.{AreRows}
-use Rattle.vbi_field.specs.declared.word_row.WordRow.{WordRow}
+use Rattle.vbi_field.specs.Texts.{whole_text, Kind}
+use Rattle.vbi_field.specs.WordRows.{AreRows, WordRow}
 use Rattle.vbi_field.proofs.DrawnLemmas.{length-drawn_field_of}
 use Rattle.vbi_field.proofs.DrawnReads.{drawn_field}
 use Rattle.vbi_field.proofs.OneDocument.{one_document}

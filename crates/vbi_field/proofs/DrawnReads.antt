@@ -4,16 +4,14 @@ use Rattle.std.proofs.Common.{subst, ◌∙◌, arith, append_assoc}
 use Rattle.std.specs.Prelude.{Some, slice_get}
 use Rattle.std.proofs.Math.Nat.{mul_comm, suc-mul, zero-mul}
 use Rattle.std.proofs.lemmas.List.{take_at, drop_at, drop-drop}
-use Rattle.vbi_words.specs.Geometry.{height_of, line_bytes, field_bytes}
+use Rattle.vbi_field.specs.ConfigView.{height_of, line_bytes, field_bytes, ConfigView}
 use Rattle.vbi_words.specs.Drawn.{drawn_line_of, drawn_reading}
-use Rattle.vbi_words.specs.Levels.{row_levels}
+use Rattle.vbi_field.specs.Stream.{row_levels, line_at}
 use Rattle.vbi_words.specs.Readings.{IsReading}
-use Rattle.vbi_words.specs.Rows.{line_at}
 use Rattle.vbi_words.specs.Words.{IsWordOrNone}
 use Rattle.vbi_words.proofs.DrawnLines.{length-drawn_line_of, drawn_reads}
-use Rattle.vbi_field.specs.ConfigView.{ConfigView}
 use Rattle.vbi_field.specs.declared.word_row.WordRow.{WordRow}
-use Rattle.vbi_field.specs.Drawing.{word_at, drawn_field_of, draw_out, AreDrawable, drawn_readings}
+use Rattle.vbi_field.specs.Draws.{word_at, drawn_field_of, draw_out, AreDrawable, drawn_readings}
 use Rattle.vbi_field.specs.Texts.{RowReads, FieldReads}
 use Rattle.vbi_field.proofs.Counts.{sizes_of}
 use Rattle.vbi_field.proofs.DrawnLemmas.{length-drawn_field_of, drawn_rows_of, length-drawn_rows_of, drawn_rows_of-more}

@@ -5,11 +5,9 @@ use Rattle.std.specs.Prelude.{◌==◌}
 use Rattle.std.specs.List.{join_by, flat_map, range_with_len}
 use Rattle.std.proofs.lemmas.Grind.{flat_map-append}
 use Rattle.std.proofs.Math.Dec.{eqb-suc-zero}
-use Rattle.vbi_words.specs.Geometry.{height_of, line_bytes}
-use Rattle.vbi_field.specs.ConfigView.{ConfigView}
+use Rattle.vbi_field.specs.ConfigView.{height_of, line_bytes, ConfigView}
 use Rattle.vbi_field.specs.Stream.{fields_of, readings_at}
-use Rattle.vbi_field.specs.Texts.{text_before_tail, joined_entry_of}
-use Rattle.vbi_field.specs.Kinds.{Kind}
+use Rattle.vbi_field.specs.Texts.{text_before_tail, joined_entry_of, Kind}
 use Rattle.vbi_field.proofs.Growing.{readings_at-more}
 
 -- one number more

@@ -2,19 +2,14 @@ use Rattle.std.proofs.Common.{arith}
 -- How a stream that is pushed begins and ends.
 use Rattle.std.proofs.Common.{◌≡◌, ℕ, ◌+◌, ◌*◌, ◌<◌, List, length, sym, ap, subst, ◌∙◌}
 use Rattle.std.specs.Prelude.{Option, Result, Ok, Err, OnOk, OnErr, IfOk, IfErr}
-use Rattle.vbi_words.specs.Geometry.{line_bytes}
+use Rattle.vbi_field.specs.ConfigView.{line_bytes, ConfigView}
 use Rattle.vbi_line.specs.Line.{Line}
-use Rattle.vbi_field.specs.Kinds.{document}
-use Rattle.vbi_field.specs.Feed.{IsAt, IsFinished}
-use Rattle.vbi_field.specs.Outlet.{written_of, Puts, WrotePart}
-use Rattle.vbi_field.specs.ConfigView.{ConfigView}
-use Rattle.vbi_field.specs.FeederState.{IsFeederState, position_in}
+use Rattle.vbi_field.specs.Texts.{document}
+use Rattle.vbi_field.specs.Feed.{IsAt, IsFinished, IsFeederState, position_in}
+use Rattle.vbi_field.specs.Outlet.{written_of, Puts, WrotePart, Outlet}
 use Rattle.vbi_field.specs.Stream.{fields_of, rest_of, cut_of, looks_of}
-use Rattle.vbi_field.specs.declared.outlet.Outlet.{Outlet}
 use Rattle.vbi_field.specs.declared.progress.Progress.{Progress}
-use Rattle.vbi_field.specs.declared.summary.RunFault.{RunFault}
-use Rattle.vbi_field.specs.declared.summary.RunFault.TheVariants.{Write}
-use Rattle.vbi_field.specs.declared.summary.Summary.{Summary}
+use Rattle.vbi_field.specs.Ran.{RunFault, Write, Summary}
 use Rattle.vbi_field.proofs.Positions.{Split, split_of, split_fields, split_rest}
 use Rattle.vbi_field.proofs.Devices.{wrote_whole, put_in_part}
 

@@ -5,22 +5,17 @@ use Rattle.std.specs.Prelude.{Option, Result, Err, Ok}
 use Rattle.std.proofs.lemmas.List.{length-drop, take_all, take-append-drop}
 use Rattle.std.proofs.Math.Nat.{le_refl, le_of_eq}
 use Rattle.std.proofs.Math.Seq.{take-add}
-use Rattle.vbi_field.specs.Kinds.{document}
-use Rattle.vbi_field.specs.Feed.{IsAt, IsFed, IsFeedFault, StandsAt, Feeding}
-use Rattle.vbi_field.specs.FeedView.{feeding_of}
-use Rattle.vbi_line.specs.Counted.{NoError, IsSameDevice}
-use Rattle.vbi_field.specs.Outlet.{counted_of, Rises}
-use Rattle.vbi_field.specs.Position.{Position}
+use Rattle.vbi_field.specs.Texts.{document, text_before_tail}
+use Rattle.vbi_field.specs.Feed.{IsAt, IsFed, IsFeedFault, StandsAt, Feeding, feeding_of, IsFeederState, IsStep}
+use Rattle.vbi_field.specs.Feed.{position_in}
+use Rattle.vbi_field.specs.Outlet.{NoError, IsSameDevice, counted_of, Rises, Outlet}
+use Rattle.vbi_field.specs.Stream.{Position}
 use Rattle.vbi_field.specs.ConfigView.{ConfigView, allowed_bytes}
-use Rattle.vbi_field.specs.FeederState.{IsFeederState, IsStep, position_in}
-use Rattle.vbi_field.specs.Texts.{text_before_tail}
 use Rattle.vbi_field.specs.declared.feeder.Feeder.TheInside.{Inside}
 use Rattle.vbi_line.proofs.Causes.{cause_later}
 use Rattle.vbi_line.specs.Line.{Line}
 use Rattle.vbi_field.specs.declared.progress.Progress.{Progress}
-use Rattle.vbi_field.specs.declared.outlet.Outlet.{Outlet}
-use Rattle.vbi_field.specs.declared.summary.RunFault.{RunFault}
-use Rattle.vbi_field.specs.declared.summary.RunFault.TheVariants.{Read, Write, TooManyFields, Failed}
+use Rattle.vbi_field.specs.Ran.{RunFault, Read, Write, TooManyFields, Failed}
 use Rattle.vbi_field.proofs.FeedTexts.{completes_twice}
 use Rattle.vbi_field.proofs.Devices.{wrote_none, wrote_twice, later_part}
 

@@ -4,23 +4,13 @@ use Rattle.std.proofs.Common.{take, drop, refl, sym, ap, ◌∙◌, arith, appen
 use Rattle.std.specs.Prelude.{Option, Some, None, Result, Err, Ok, IsErrAnd, IsTrue, ◌↔◌}
 use Rattle.std.proofs.lemmas.List.{length-append, take-append-drop, take_at}
 use Rattle.vbi_words.specs.Geometry.{width_of, height_of, line_bytes, field_bytes}
-use Rattle.vbi_words.specs.Levels.{row_levels}
-use Rattle.vbi_words.specs.declared.system.System.{System}
-use Rattle.vbi_words.specs.declared.outcome.Reading.{Reading}
+use Rattle.vbi_field.specs.ConfigView.{System, ConfigView, allowed_bytes, most_fields}
+use Rattle.vbi_field.specs.Stream.{row_levels, Reading, fields_of, reading_of}
 use Rattle.vbi_line.specs.Line.{Line}
-use Rattle.vbi_line.specs.OneReading.{reading_of}
-use Rattle.vbi_field.specs.Kinds.{document}
-use Rattle.vbi_field.specs.Feed.{IsAt, IsFed}
-use Rattle.vbi_field.specs.Progress.{IsProgress, IsLineOf, MovesOneRow, AddsRow}
-use Rattle.vbi_field.specs.ConfigView.{ConfigView, allowed_bytes}
-use Rattle.vbi_field.specs.FeederState.{IsFeederState, IsStep, position_in}
-use Rattle.vbi_field.specs.Limits.{most_fields}
-use Rattle.vbi_field.specs.Stream.{fields_of}
-use Rattle.vbi_field.specs.Texts.{ExtendsInPart, IsTextBetween, text_before_tail}
-use Rattle.vbi_field.specs.declared.outlet.Outlet.{Outlet}
-use Rattle.vbi_field.specs.declared.progress.Progress.{Progress}
-use Rattle.vbi_field.specs.declared.summary.RunFault.{RunFault}
-use Rattle.vbi_field.specs.declared.summary.RunFault.TheVariants.{Write, TooManyFields}
+use Rattle.vbi_field.specs.Texts.{document, ExtendsInPart, IsTextBetween, text_before_tail, Outlet}
+use Rattle.vbi_field.specs.Feed.{IsAt, IsFed, IsFeederState, IsStep, position_in}
+use Rattle.vbi_field.specs.Progress.{IsProgress, IsLineOf, MovesOneRow, AddsRow, Progress}
+use Rattle.vbi_field.specs.Ran.{RunFault, Write, TooManyFields}
 use Rattle.vbi_field.proofs.Counts.{sizes_of, row_before, row_fits, exactly_fields}
 use Rattle.vbi_field.proofs.Positions.{Split, split_of, split_fields, split_long, at_of}
 use Rattle.vbi_field.proofs.FeedTexts.{begun_same, begun_grows, completes_twice, cut_longer}

@@ -4,11 +4,9 @@ use Rattle.std.proofs.Common.{take, refl, sym, ap, ◌∙◌, arith, append_asso
 use Rattle.std.proofs.lemmas.List.{length-append}
 use Rattle.std.proofs.Math.Seq.{take-append-add}
 use Rattle.std.proofs.Math.Nat.{le_refl}
-use Rattle.vbi_words.specs.Geometry.{height_of}
-use Rattle.vbi_field.specs.ConfigView.{ConfigView}
+use Rattle.vbi_field.specs.ConfigView.{height_of, ConfigView}
 use Rattle.vbi_field.specs.Stream.{fields_of, readings_at}
-use Rattle.vbi_field.specs.Texts.{IsTextBetween, text_before_tail, joined_entry_of}
-use Rattle.vbi_field.specs.Kinds.{Kind}
+use Rattle.vbi_field.specs.Texts.{IsTextBetween, text_before_tail, joined_entry_of, Kind}
 use Rattle.vbi_field.proofs.Counts.{whole_rows_fit, more_fields}
 use Rattle.vbi_field.proofs.Entries.{stood, stood-more, stood-stays, text_before_tail-stood}
 

@@ -6,19 +6,11 @@ use Rattle.std.proofs.lemmas.Bool.{cond_below, cond_above}
 use Rattle.std.proofs.Math.Nat.{eq-or-lt_of_le, eq-zero-or-pos, le_trans, mul-le-mul_right}
 use Rattle.std.proofs.lemmas.List.{length-append, length-drop, take-append-le, drop-append-le, take_all}
 use Rattle.std.proofs.Math.Seq.{drop_at}
-use Rattle.vbi_words.specs.Geometry.{height_of, line_bytes, field_bytes}
-use Rattle.vbi_words.specs.Levels.{row_levels}
-use Rattle.vbi_line.specs.OneReading.{reading_of}
-use Rattle.vbi_words.specs.declared.system.System.{System}
-use Rattle.vbi_words.specs.declared.outcome.Reading.{Reading}
-use Rattle.vbi_field.specs.ConfigView.{ConfigView}
-use Rattle.vbi_field.specs.declared.readings.FieldReadings.{FieldReadings}
+use Rattle.vbi_field.specs.ConfigView.{height_of, line_bytes, field_bytes, System, ConfigView}
+use Rattle.vbi_field.specs.Stream.{row_levels, reading_of, Reading, FieldReadings, reading_at, readings_at}
+use Rattle.vbi_field.specs.Stream.{reading_among, line_at}
 use Rattle.vbi_field.specs.declared.progress.PartialReadings.{PartialReadings}
-use Rattle.vbi_field.specs.declared.progress.Progress.{Progress}
-use Rattle.vbi_words.specs.Rows.{line_at}
-use Rattle.vbi_field.specs.Stream.{reading_at, readings_at}
-use Rattle.vbi_field.specs.Position.{reading_among}
-use Rattle.vbi_field.specs.Progress.{IsProgress, IsLineOf, IsKept, TakesReading, Advances, all_of}
+use Rattle.vbi_field.specs.Progress.{Progress, IsProgress, IsLineOf, IsKept, TakesReading, Advances, all_of}
 use Rattle.vbi_field.proofs.Counts.{sizes_of, times-next, bytes_before}
 
 -- a row that is whole stays as it is

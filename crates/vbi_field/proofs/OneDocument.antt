@@ -1,14 +1,10 @@
 -- A stream has one text of each kind.
 use Rattle.std.proofs.Common.{◌≡◌, ℕ, ◌+◌, List, ◌++◌, ap, ◌∙◌}
 use Rattle.std.specs.Prelude.{◌↔◌}
-use Rattle.vbi_words.specs.Levels.{row_levels}
+use Rattle.vbi_field.specs.Stream.{row_levels, line_at, fields_of, rest_of, readings_at, FieldReadings}
 use Rattle.vbi_line.proofs.OneReading.{is_reading, only_reading}
-use Rattle.vbi_field.specs.Texts.{FieldReads, IsWholeText, text_before_tail, whole_text}
+use Rattle.vbi_field.specs.Texts.{FieldReads, IsWholeText, text_before_tail, whole_text, Kind}
 use Rattle.vbi_field.specs.ConfigView.{ConfigView}
-use Rattle.vbi_words.specs.Rows.{line_at}
-use Rattle.vbi_field.specs.Stream.{fields_of, rest_of, readings_at}
-use Rattle.vbi_field.specs.Kinds.{Kind}
-use Rattle.vbi_field.specs.declared.readings.FieldReadings.{FieldReadings}
 use Rattle.vbi_field.proofs.Entries.{entry_of, joined-same}
 
 -- a field has no other readings

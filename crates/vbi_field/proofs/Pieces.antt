@@ -5,19 +5,12 @@ use Rattle.std.specs.Prelude.{Option, Result, Err, Ok}
 use Rattle.std.specs.List.{concat}
 use Rattle.std.proofs.lemmas.List.{length-append, take-append-le, take_all}
 use Rattle.std.proofs.Math.Nat.{zero-div, eq-zero-or-pos}
-use Rattle.vbi_words.specs.Geometry.{field_bytes}
-use Rattle.vbi_field.specs.ConfigView.{ConfigView, allowed_bytes}
+use Rattle.vbi_field.specs.ConfigView.{field_bytes, ConfigView, allowed_bytes}
 use Rattle.vbi_field.specs.Extracts.{ExtractsAll}
 use Rattle.vbi_field.specs.Feed.{IsFed, IsFinished, StandsAt, Feeds, FeedsAll, Pushes, Feeding}
-use Rattle.vbi_field.specs.Kinds.{document}
-use Rattle.vbi_field.specs.Outlet.{Wrote}
-use Rattle.vbi_field.specs.Position.{Position}
-use Rattle.vbi_field.specs.Stream.{fields_of, rest_of, cut_of, looks_of}
-use Rattle.vbi_field.specs.Texts.{IsTextBetween, text_before_tail, whole_text}
-use Rattle.vbi_field.specs.declared.outlet.Outlet.{Outlet}
-use Rattle.vbi_field.specs.declared.summary.RunFault.{RunFault}
-use Rattle.vbi_field.specs.declared.summary.RunFault.TheVariants.{Read, Write, TooManyFields, Failed}
-use Rattle.vbi_field.specs.declared.summary.Summary.{Summary}
+use Rattle.vbi_field.specs.Texts.{document, IsTextBetween, text_before_tail, whole_text, Wrote, Outlet}
+use Rattle.vbi_field.specs.Stream.{Position, fields_of, rest_of, cut_of, looks_of}
+use Rattle.vbi_field.specs.Ran.{RunFault, Read, Write, TooManyFields, Failed, Summary}
 use Rattle.vbi_field.proofs.Devices.{wrote_twice, longer_part}
 use Rattle.vbi_field.proofs.Entries.{stood-none, text_before_tail-stood}
 use Rattle.vbi_field.proofs.FeedLoop.{fed_none, fed_more, fed_fault}

@@ -5,15 +5,11 @@ use Rattle.std.proofs.lemmas.List.{length-append, take-append-drop}
 use Rattle.std.proofs.Math.Nat.{le_trans, le_of_eq, mul-le-mul_right}
 use Rattle.std.proofs.lemmas.Nat.{div-mul-add, mod-mul-add}
 use Rattle.std.proofs.Math.Seq.{drop_at}
-use Rattle.vbi_words.specs.Geometry.{height_of, line_bytes}
+use Rattle.vbi_field.specs.ConfigView.{height_of, line_bytes, ConfigView, allowed_bytes}
 use Rattle.vbi_line.specs.Line.{Line}
-use Rattle.vbi_field.specs.Feed.{IsAt}
-use Rattle.vbi_field.specs.Position.{reading_among}
-use Rattle.vbi_field.specs.Progress.{IsProgress}
-use Rattle.vbi_field.specs.ConfigView.{ConfigView, allowed_bytes}
-use Rattle.vbi_field.specs.FeederState.{position_in}
-use Rattle.vbi_field.specs.Stream.{fields_of, rest_of, reading_at}
-use Rattle.vbi_field.specs.declared.progress.Progress.{Progress}
+use Rattle.vbi_field.specs.Feed.{IsAt, position_in}
+use Rattle.vbi_field.specs.Stream.{reading_among, fields_of, rest_of, reading_at}
+use Rattle.vbi_field.specs.Progress.{IsProgress, Progress}
 use Rattle.vbi_field.proofs.Counts.{bytes_of_rows, whole_fields, past_fields}
 use Rattle.vbi_field.proofs.Growing.{reading_at-more, among_same}
 

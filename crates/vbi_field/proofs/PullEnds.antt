@@ -1,30 +1,22 @@
 -- How a run ends that fetched less than a row: its reader ended or failed, or too many bytes came.
-use Rattle.std.proofs.Common.{◌≡◌, ℕ, ◌+◌, ◌*◌, ◌≤◌, ◌<◌, inr, List, ◌++◌, length, take}
-use Rattle.std.proofs.Common.{sym, ap, ◌∙◌, arith, subst}
+use Rattle.std.proofs.Common.{◌≡◌, ℕ, ◌+◌, ◌*◌, ◌≤◌, ◌<◌, inr, List, ◌++◌, length, take, sym, ap, ◌∙◌, arith, subst}
 use Rattle.std.specs.Prelude.{Option, Result, Ok, Err, OnOk, IfOk, OnErr, IfErr, IsErrAnd}
 use Rattle.std.proofs.KnownBytes.{Appends-trans, Consumes-trans}
 use Rattle.std.proofs.lemmas.List.{length-append, take_at}
 use Rattle.std.proofs.Math.Nat.{le_of_eq, le_trans}
-use Rattle.vbi_words.specs.Geometry.{width_of, height_of, line_bytes}
-use Rattle.vbi_line.specs.Counted.{NoError, HasCause}
+use Rattle.vbi_field.specs.ConfigView.{width_of, height_of, line_bytes, ConfigView, allowed_bytes}
+use Rattle.vbi_field.specs.Outlet.{NoError, HasCause, Outlet}
 use Rattle.vbi_line.specs.Intake as intakes
 use Rattle.vbi_line.specs.declared.intake.Filled.{Filled}
 use Rattle.vbi_line.specs.declared.intake.Filled.TheVariants.{Ended}
 use Rattle.vbi_line.specs.declared.intake.Intake.{Intake}
-use Rattle.vbi_field.specs.ConfigView.{ConfigView, allowed_bytes}
-use Rattle.vbi_field.specs.Extracts.{Runs}
-use Rattle.vbi_field.specs.NextLine.{TakesLine}
+use Rattle.vbi_field.specs.Extracts.{Runs, TakesLine}
 use Rattle.vbi_field.specs.Outlet as outlets
-use Rattle.vbi_field.specs.Ran.{EndsInside}
+use Rattle.vbi_field.specs.Ran.{EndsInside, RunFault, Summary, Read, Write, TooManyFields}
 use Rattle.vbi_field.specs.Stream.{fields_of, rest_of, cut_of, looks_of}
-use Rattle.vbi_field.specs.FeederState.{selected}
-use Rattle.vbi_field.specs.Texts.{text_before_tail, whole_text}
-use Rattle.vbi_field.specs.Kinds.{Kind}
-use Rattle.vbi_field.specs.declared.outlet.Outlet.{Outlet}
+use Rattle.vbi_field.specs.Feed.{selected}
+use Rattle.vbi_field.specs.Texts.{text_before_tail, whole_text, Kind}
 use Rattle.vbi_field.specs.declared.progress.Progress.{Progress}
-use Rattle.vbi_field.specs.declared.summary.RunFault.{RunFault}
-use Rattle.vbi_field.specs.declared.summary.Summary.{Summary}
-use Rattle.vbi_field.specs.declared.summary.RunFault.TheVariants.{Read, Write, TooManyFields}
 use Rattle.vbi_field.proofs.Counts.{all_fields, bytes_of_fields, rows_fit}
 use Rattle.vbi_field.proofs.Counts.{whole_fields, past_fields, selected_is, selected_past}
 use Rattle.vbi_field.proofs.FeedTexts.{begun_same}
@@ -94,7 +86,7 @@ module _ {t : Kind} {R W : Type 0} {remaining : R → Option (List ℕ)} {conten
           ∙ sym (rest_is b short)
 
       looks : i'.line.looked ≡ looks_of c (g.z ++ b)
-      looks = let kept = row.kept in kept.looked ∙ looks_are b short
+      looks = let kept = row.fetches.kept in kept.looked ∙ looks_are b short
 
       few : length (g.z ++ b) ≤ allowed_bytes c
       few = let got =
@@ -120,9 +112,9 @@ module _ {t : Kind} {R W : Type 0} {remaining : R → Option (List ℕ)} {conten
           record {
             z = g.z ++ b;
             text = text_before_tail t c g.z ++ t.tail fields rest;
-            consumed = Consumes-trans _ _ _ g.z b g.consumed row.consumed;
+            consumed = Consumes-trans _ _ _ g.z b g.consumed row.fetches.consumed;
             appended = Appends-trans _ _ _ (text_before_tail t c g.z) (t.tail fields rest) g.appended wrote.appended;
-            fetched = omega (arith, row.fetched, g.fetched, length-append g.z b);
+            fetched = omega (arith, row.fetches.fetched, g.fetched, length-append g.z b);
             written = omega (arith, g.written, length-append (text_before_tail t c g.z) (t.tail fields rest));
             says = record {
               looks = looks;
@@ -149,8 +141,8 @@ module _ {t : Kind} {R W : Type 0} {remaining : R → Option (List ℕ)} {conten
           let inside =
           inside_of contents o o' (text_before_tail t c g.z) tail (whole_text t c (g.z ++ b)) w document_is in
           write_fault t remaining contents c i0 o0 i' o o' (g.z ++ b) (text_before_tail t c g.z) w.part e
-          (Consumes-trans _ _ _ g.z b g.consumed row.consumed)
-          (omega (arith, row.fetched, g.fetched, length-append g.z b)) g.appended g.written
+          (Consumes-trans _ _ _ g.z b g.consumed row.fetches.consumed)
+          (omega (arith, row.fetches.fetched, g.fetched, length-append g.z b)) g.appended g.written
           (got.no_error ∙ g.calm_reads) g.calm_writes w.wrote cause fails few looks
           (inr (inr (got.at_end, subst P (begun_is b short) inside)))
 
@@ -163,21 +155,21 @@ module _ {t : Kind} {R W : Type 0} {remaining : R → Option (List ℕ)} {conten
   read_fault {i'} row last (Err fault) is =
       let b : List ℕ = row.bytes in
       let got = row.got in
-      let short : length b < line_bytes c.system = rw (← g.system) got.short in
-      let held = ap length row.held in
-      let kept = row.kept in
+      let short : length b < line_bytes c.system = rw (← g.system) got.0 in
+      let held = ap length (row.fetches.held ∙ ap (λ h. h ++ b) g.held) in
+      let kept = row.fetches.kept in
       let rows : k * line_bytes c.system ≤ allowed_bytes c = rows_fit c.system k c.max_fields last in
       let bytes = all b short in
       record {
         z = g.z ++ b;
         text = text_before_tail t c g.z;
-        consumed = Consumes-trans _ _ _ g.z b g.consumed row.consumed;
+        consumed = Consumes-trans _ _ _ g.z b g.consumed row.fetches.consumed;
         appended = g.appended;
-        fetched = omega (arith, row.fetched, g.fetched, length-append g.z b);
+        fetched = omega (arith, row.fetches.fetched, g.fetched, length-append g.z b);
         written = g.written;
         says = rw is (record {
           looks = kept.looked ∙ looks_are b short;
-          devices = (has_failed i.device i'.device g.calm_reads got.failed, g.calm_writes);
+          devices = (has_failed i.device i'.device g.calm_reads got.1, g.calm_writes);
           came =
               record {
                 field_of = ap (λ n. n + 1) (sym (fields_are b short));
@@ -195,7 +187,7 @@ module _ {t : Kind} {R W : Type 0} {remaining : R → Option (List ℕ)} {conten
       → Runs t remaining contents c i0 i' o0 o (Err TooManyFields)
   too_many row last some few no_error =
       let b : List ℕ = row.bytes in
-      let kept = row.kept in
+      let kept = row.fetches.kept in
       let at = g.at in
       let rows : p.fields * height_of c.system + p.row ≡ c.max_fields * height_of c.system = g.rows ∙ last in
       let long : length g.z ≡ allowed_bytes c = at.whole ∙ ap (λ n. n * line_bytes c.system) rows
@@ -207,9 +199,9 @@ module _ {t : Kind} {R W : Type 0} {remaining : R → Option (List ℕ)} {conten
       record {
         z = g.z ++ b;
         text = text_before_tail t c g.z;
-        consumed = Consumes-trans _ _ _ g.z b g.consumed row.consumed;
+        consumed = Consumes-trans _ _ _ g.z b g.consumed row.fetches.consumed;
         appended = g.appended;
-        fetched = omega (arith, g.fetched, row.fetched, length-append g.z b);
+        fetched = omega (arith, g.fetched, row.fetches.fetched, length-append g.z b);
         written = g.written;
         says = record {
           devices = (no_error ∙ g.calm_reads, g.calm_writes);

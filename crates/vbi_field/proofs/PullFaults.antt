@@ -1,25 +1,18 @@
 -- A run whose writer failed, and a fault that is passed on.
-use Rattle.std.proofs.Common.{◌≡◌, ℕ, ◌+◌, ◌≤◌, ◌<◌, inl, List, [], ◌++◌, length}
-use Rattle.std.proofs.Common.{refl, sym, ◌∙◌, arith, zero-le}
+use Rattle.std.proofs.Common.{◌≡◌, ℕ, ◌+◌, ◌≤◌, ◌<◌, inl, List, [], ◌++◌, length, refl, sym, ◌∙◌, arith, zero-le}
 use Rattle.std.specs.Prelude.{Option, Result, Ok, Err, IsErrAnd}
-use Rattle.std.specs.Io.KnownBytes.{Consumes, Appends}
+use Rattle.vbi_field.specs.Ran.{Consumes, Appends, RunFault, Summary, Write}
 use Rattle.std.proofs.KnownBytes.{Appends-trans, Appends-nil, Consumes-nil}
 use Rattle.std.proofs.lemmas.List.{length-append}
 use Rattle.std.proofs.Math.Nat.{zero-div}
-use Rattle.vbi_words.specs.Geometry.{field_bytes}
-use Rattle.vbi_line.specs.Counted.{device_of, failures_of, HasCause}
+use Rattle.vbi_field.specs.ConfigView.{field_bytes, ConfigView, allowed_bytes}
+use Rattle.vbi_field.specs.Outlet.{device_of, failures_of, HasCause, Outlet}
 use Rattle.vbi_line.specs.Intake as intakes
 use Rattle.vbi_line.specs.declared.intake.Intake.{Intake}
-use Rattle.vbi_field.specs.ConfigView.{ConfigView, allowed_bytes}
 use Rattle.vbi_field.specs.Extracts.{EndsWithin, Runs}
 use Rattle.vbi_field.specs.Outlet as outlets
 use Rattle.vbi_field.specs.Stream.{looks_of}
-use Rattle.vbi_field.specs.Texts.{text_before_tail}
-use Rattle.vbi_field.specs.Kinds.{Kind}
-use Rattle.vbi_field.specs.declared.outlet.Outlet.{Outlet}
-use Rattle.vbi_field.specs.declared.summary.RunFault.{RunFault}
-use Rattle.vbi_field.specs.declared.summary.Summary.{Summary}
-use Rattle.vbi_field.specs.declared.summary.RunFault.TheVariants.{Write}
+use Rattle.vbi_field.specs.Texts.{text_before_tail, Kind}
 use Rattle.vbi_field.proofs.Counts.{no_looks}
 use Rattle.vbi_field.proofs.Entries.{stood-none, text_before_tail-stood}
 use Rattle.vbi_field.proofs.Devices.{has_failed, inside_of, put_in_part}

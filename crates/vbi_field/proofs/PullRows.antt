@@ -2,35 +2,23 @@
 use Rattle.std.proofs.Common.{◌≡◌, ℕ, ◌+◌, ◌*◌, ◌≤◌, ◌<◌, inl, inr, Bool, true, false, List, ◌++◌, length, take}
 use Rattle.std.proofs.Common.{drop, sym, ap, ◌∙◌, arith, subst, cond, zero-le, add-zero, append_assoc}
 use Rattle.std.specs.Prelude.{Option, Result, Ok, Err, IsErrAnd, IsTrue, ◌↔◌}
-use Rattle.vbi_field.specs.declared.summary.Summary.{Summary}
-use Rattle.std.specs.Io.KnownBytes.{Consumes, Appends}
+use Rattle.vbi_field.specs.Ran.{Summary, EndsInside, RunFault, Write, Consumes, Appends}
 use Rattle.std.proofs.KnownBytes.{Appends-trans, Consumes-trans}
 use Rattle.std.proofs.lemmas.List.{length-append, length-drop, length-take-le, take-append-drop}
 use Rattle.std.proofs.Math.Nat.{le_of_eq, le_trans, zero-mul, mul-le-mul_right}
-use Rattle.vbi_words.specs.Geometry.{width_of, height_of, line_bytes, field_bytes}
-use Rattle.vbi_words.specs.Levels.{Slicing}
-use Rattle.vbi_words.specs.declared.system.System.{System}
-use Rattle.vbi_words.specs.declared.system.System.TheVariants.{Pal}
-use Rattle.vbi_words.specs.declared.outcome.Reading.{Reading}
-use Rattle.vbi_line.specs.Counted.{tries, device_of, failures_of, NoError, HasCause, IsSameDevice}
+use Rattle.vbi_field.specs.ConfigView.{width_of, height_of, line_bytes, field_bytes, Slicing, System, ConfigView}
+use Rattle.vbi_field.specs.ConfigView.{allowed_bytes, Pal}
+use Rattle.vbi_field.specs.Stream.{Reading, fields_of, rest_of, looks_of}
+use Rattle.vbi_field.specs.Outlet.{tries, device_of, failures_of, NoError, HasCause, IsSameDevice, Outlet}
 use Rattle.vbi_line.specs.Intake as intakes
 use Rattle.vbi_line.specs.declared.intake.Filled.TheVariants.{Full}
 use Rattle.vbi_line.specs.declared.intake.Intake.{Intake}
-use Rattle.vbi_field.specs.ConfigView.{ConfigView, allowed_bytes}
-use Rattle.vbi_field.specs.Extracts.{Runs}
+use Rattle.vbi_field.specs.Extracts.{Runs, TakesLine}
 use Rattle.vbi_line.specs.OneReading.{ReadsLine}
-use Rattle.vbi_field.specs.NextLine.{TakesLine}
 use Rattle.vbi_field.specs.Outlet as outlets
-use Rattle.vbi_field.specs.Progress.{IsProgress, IsLineOf, MovesOneRow, AddsRow}
-use Rattle.vbi_field.specs.Ran.{EndsInside}
-use Rattle.vbi_field.specs.Stream.{fields_of, rest_of, looks_of}
-use Rattle.vbi_field.specs.FeederState.{selected}
-use Rattle.vbi_field.specs.Texts.{ExtendsInPart, text_before_tail}
-use Rattle.vbi_field.specs.Kinds.{Kind}
-use Rattle.vbi_field.specs.declared.outlet.Outlet.{Outlet}
-use Rattle.vbi_field.specs.declared.progress.Progress.{Progress}
-use Rattle.vbi_field.specs.declared.summary.RunFault.{RunFault}
-use Rattle.vbi_field.specs.declared.summary.RunFault.TheVariants.{Write}
+use Rattle.vbi_field.specs.Progress.{IsProgress, IsLineOf, MovesOneRow, AddsRow, Progress}
+use Rattle.vbi_field.specs.Feed.{selected}
+use Rattle.vbi_field.specs.Texts.{ExtendsInPart, text_before_tail, Kind}
 use Rattle.vbi_field.proofs.Counts.{sizes_of, few_fields, bytes_of_next_field, rows_fit}
 use Rattle.vbi_field.proofs.Counts.{whole_fields, past_fields, selected_is}
 use Rattle.vbi_field.proofs.FeedTexts.{begun_same}
@@ -105,7 +93,7 @@ module _ {t : Kind} {R W : Type 0} {remaining : R → Option (List ℕ)} {conten
     (reader : intakes.KeepsReader filled i') (named : IsSameDevice (intakes.counted_of i) (intakes.counted_of filled))
   where
     system : filled.line.system ≡ c.system
-    system = let kept = row.kept in kept.system ∙ g.system
+    system = let kept = row.fetches.kept in kept.system ∙ g.system
 
     took : Took remaining i i' row.bytes
     took = grind arith
@@ -127,7 +115,7 @@ module _ {t : Kind} {R W : Type 0} {remaining : R → Option (List ℕ)} {conten
         let l = length-append g.z row.bytes in
         let came = row_came.whole in
         let sizes = sizes_of c.system in
-        let kept = row.kept in
+        let kept = row.fetches.kept in
         let looks = cond_le is_selected (width_of filled.line.system) (narrow filled.line.system) in
         let on = further c p p' i'.line.looked looks_after next in
         let rows : p'.fields * height_of c.system + p'.row ≡ k + 1 = on.rows ∙ ap (λ n. n + 1) g.rows in

@@ -1,25 +1,18 @@
 -- What a run keeps from row to row, and that it holds before the first row.
-use Rattle.std.proofs.Common.{◌≡◌, ℕ, ◌+◌, ◌*◌, ◌≤◌, ◌<◌, List, [], length}
-use Rattle.std.proofs.Common.{refl, sym, ap, ◌∙◌, arith}
+use Rattle.std.proofs.Common.{◌≡◌, ℕ, ◌+◌, ◌*◌, ◌≤◌, ◌<◌, List, [], length, refl, sym, ap, ◌∙◌, arith}
 use Rattle.std.specs.Prelude.{Option, None}
 use Rattle.std.specs.Io.KnownBytes.{Consumes, Appends}
 use Rattle.std.proofs.KnownBytes.{Consumes-nil}
 use Rattle.std.proofs.Math.Nat.{zero-div}
-use Rattle.vbi_words.specs.Geometry.{width_of, height_of, line_bytes, field_bytes}
-use Rattle.vbi_words.specs.declared.system.System.{System}
-use Rattle.vbi_words.specs.declared.system.System.TheVariants.{Ntsc, Pal}
-use Rattle.vbi_line.specs.Counted.{tries, device_of, failures_of, NoError, IsSameDevice}
+use Rattle.vbi_field.specs.ConfigView.{width_of, height_of, line_bytes, field_bytes, System, ConfigView, longest_text}
+use Rattle.vbi_field.specs.ConfigView.{Ntsc, Pal}
+use Rattle.vbi_field.specs.Outlet.{tries, device_of, failures_of, NoError, IsSameDevice, Outlet}
 use Rattle.vbi_line.specs.Intake as intakes
 use Rattle.vbi_line.specs.declared.intake.Intake.{Intake}
-use Rattle.vbi_field.specs.ConfigView.{ConfigView}
-use Rattle.vbi_field.specs.Limits.{longest_text}
 use Rattle.vbi_field.specs.Outlet as outlets
-use Rattle.vbi_field.specs.Progress.{IsProgress}
-use Rattle.vbi_field.specs.FeederState.{selected}
-use Rattle.vbi_field.specs.Texts.{text_before_tail}
-use Rattle.vbi_field.specs.Kinds.{Kind}
-use Rattle.vbi_field.specs.declared.outlet.Outlet.{Outlet}
-use Rattle.vbi_field.specs.declared.progress.Progress.{Progress}
+use Rattle.vbi_field.specs.Progress.{IsProgress, Progress}
+use Rattle.vbi_field.specs.Feed.{selected}
+use Rattle.vbi_field.specs.Texts.{text_before_tail, Kind}
 use Rattle.vbi_field.proofs.Entries.{stood-none, text_before_tail-stood}
 use Rattle.vbi_field.proofs.Devices.{wrote_whole}
 

@@ -4,21 +4,17 @@ use Rattle.std.specs.Prelude.{Option, None}
 use Rattle.std.specs.Io.KnownBytes.{Appends}
 use Rattle.std.proofs.KnownBytes.{Appends-trans, Appends-nil}
 use Rattle.std.proofs.lemmas.List.{length-append}
-use Rattle.vbi_words.specs.Geometry.{height_of, line_bytes}
-use Rattle.vbi_words.specs.declared.system.System.TheVariants.{Pal}
-use Rattle.vbi_field.specs.ConfigView.{ConfigView}
-use Rattle.vbi_field.specs.Limits.{most_rows}
+use Rattle.vbi_field.specs.ConfigView.{height_of, line_bytes, Pal, ConfigView, most_rows}
 use Rattle.vbi_line.specs.Counted.{tries, device_of, failures_of, NoError, IsSameDevice}
-use Rattle.vbi_field.specs.Outlet.{counted_of, Puts, Wrote, WrotePart}
+use Rattle.vbi_field.specs.Outlet.{counted_of, Puts, Wrote, WrotePart, Outlet}
 use Rattle.vbi_words.specs.Drawn.{drawn_line_of}
-use Rattle.vbi_field.specs.Drawing.{drawn_field_of, word_at}
-use Rattle.vbi_field.specs.declared.outlet.Outlet.{Outlet}
+use Rattle.vbi_field.specs.Draws.{drawn_field_of, word_at}
 use Rattle.vbi_field.specs.declared.word_row.WordRow.{WordRow}
 use Rattle.vbi_field.proofs.Counts.{sizes_of}
 use Rattle.vbi_words.proofs.DrawnLines.{length-drawn_line_of}
 use Rattle.vbi_field.proofs.DrawnLemmas.{drawn_rows_of, drawn_rows_of-more}
-use Rattle.vbi_field.proofs.Devices.{wrote_whole, put_in_part, longer_part, later_part}
 use Rattle.vbi_field.proofs.DrawnLemmas.{drawn_rows_of-none, drawn_rows_of-all, drawn_rows_of-split, last_word}
+use Rattle.vbi_field.proofs.Devices.{wrote_whole, put_in_part, longer_part, later_part}
 
 module _ {W : Type 0} (contents : W → Option (List ℕ)) (c : ConfigView) (words : WordRow) (old : Outlet W) where
   -- this number of rows is written, and the line has the last of them

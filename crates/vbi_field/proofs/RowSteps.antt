@@ -4,12 +4,10 @@ use Rattle.std.proofs.Common.{length, take, inl, inr, refl, sym, subst, ◌∙�
 use Rattle.std.specs.Prelude.{Option, Some, None}
 use Rattle.std.proofs.KnownBytes.{Consumes-trans, Consumes-nil}
 use Rattle.std.proofs.lemmas.List.{length-append, length-take-le}
-use Rattle.vbi_field.specs.WordRows.{newline, word_row_of}
+use Rattle.vbi_field.specs.WordRows.{newline, word_row_of, WordRow}
 use Rattle.vbi_line.specs.Counted.{tries, failures_of, NoError}
-use Rattle.vbi_field.specs.Limits.{longest_row}
-use Rattle.vbi_field.specs.RowIntake.{counted_of, HasNoNewline, Fetches, TakesByte, TakesRow}
-use Rattle.vbi_field.specs.declared.word_row.WordRow.{WordRow}
-use Rattle.vbi_field.specs.declared.row_intake.RowIntake.{RowIntake}
+use Rattle.vbi_field.specs.ConfigView.{longest_row}
+use Rattle.vbi_field.specs.RowIntake.{counted_of, HasNoNewline, Fetches, TakesByte, TakesRow, RowIntake}
 use Rattle.vbi_field.specs.declared.row_intake.NextByte.TheVariants as bytes
 use Rattle.vbi_field.specs.declared.row_intake.NextRow.TheVariants.{Row, Malformed}
 use Rattle.vbi_field.proofs.WordRowLemmas.{long_row}
@@ -65,7 +63,7 @@ module _ {R : Type 0} {remaining : R → Option (List ℕ)} {old now : RowIntake
       short = few;
       most = omega (arith, h.most, t.most);
       got = (take held row, h.plain, refl, sym w);
-      caused = t.caused ∙ h.errors;
+      caused = t.got ∙ h.errors;
     }
 
     pub bad_newline_came : None ≡ word_row_of (take held row) → TakesRow remaining old new Malformed
@@ -75,7 +73,7 @@ module _ {R : Type 0} {remaining : R → Option (List ℕ)} {old now : RowIntake
       short = few;
       most = omega (arith, h.most, t.most);
       got = record { row = take held row; plain = h.plain; malformed = sym w; read_to = inl refl };
-      caused = t.caused ∙ h.errors;
+      caused = t.got ∙ h.errors;
     }
 
 -- a row as long as a malformed one may get

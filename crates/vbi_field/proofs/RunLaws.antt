@@ -1,16 +1,13 @@
 -- What follows from what a run says.
 use Rattle.std.proofs.Common.{◌≡◌, ℕ, ◌+◌, ◌*◌, ◌/◌, ◌%◌, ◌≤◌, ◌⊎◌, inl, inr, List, [], ◌++◌, length, take, Option}
 use Rattle.std.proofs.Common.{Some, None, refl, sym, ap, subst, ◌∙◌, arith, append-nil}
-use Rattle.std.specs.Io.KnownBytes.{Consumes, IsAtEnd}
+use Rattle.vbi_field.specs.Ran.{Consumes, IsAtEnd, EndsInside, IsFirstOf}
 use Rattle.std.proofs.lemmas.List.{length-append, take_at}
 use Rattle.std.proofs.Math.Nat.{zero-mod}
-use Rattle.vbi_words.specs.Geometry.{width_of, line_bytes, field_bytes}
+use Rattle.vbi_field.specs.ConfigView.{width_of, line_bytes, field_bytes, ConfigView}
 use Rattle.vbi_field.specs.Extracts.{EndsWithin}
-use Rattle.vbi_field.specs.Ran.{EndsInside, IsFirstOf}
-use Rattle.vbi_field.specs.ConfigView.{ConfigView}
 use Rattle.vbi_field.specs.Stream.{fields_of, rest_of, looks_of}
-use Rattle.vbi_field.specs.Texts.{text_before_tail, whole_text}
-use Rattle.vbi_field.specs.Kinds.{Kind}
+use Rattle.vbi_field.specs.Texts.{text_before_tail, whole_text, Kind}
 use Rattle.vbi_field.proofs.Counts.{rest-next, few_looks}
 
 pub first : (all z : List ℕ) (input : Option (List ℕ)) → Consumes (Some all) input z

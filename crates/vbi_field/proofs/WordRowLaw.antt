@@ -8,10 +8,9 @@ use Rattle.std.specs.Str.Parse.{AllDigits, digits_value}
 use Rattle.std.proofs.lemmas.Bool.{and_parts, eqb-true, ltb-true, leb-true, lt-ltb, le-leb}
 use Rattle.std.proofs.lemmas.Bool.Decides.{nat_tests}
 use Rattle.std.proofs.lemmas.List.Splits.{slice_split_at, slice_split_none, join_with_byte-slice_split}
-use Rattle.vbi_field.specs.declared.word_row.WordRow.{WordRow}
-use Rattle.vbi_field.specs.WordRows.{IsItem, IsWordRow, is_none_item, is_hex_item, is_word, item_of}
+use Rattle.vbi_field.specs.WordRows.{WordRow, IsItem, IsWordRow, is_none_item, is_hex_item, is_word, item_of}
 use Rattle.vbi_field.specs.WordRows.{row_of_items, row_of_parts, parts_of, word_row_of, row_words, rows_of, AreRows}
-use Rattle.vbi_field.specs.Drawing.{AreDrawable}
+use Rattle.vbi_field.specs.Draws.{AreDrawable}
 use Rattle.vbi_words.specs.Words.{IsWordOrNone}
 
 -- ---- items

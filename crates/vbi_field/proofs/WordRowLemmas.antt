@@ -11,9 +11,8 @@ use Rattle.std.proofs.lemmas.List.Elements.{All-from_get_or}
 use Rattle.std.proofs.lemmas.List.Splits.{slice_split_first, slice_split_none, length-slice_split}
 use Rattle.std.proofs.lemmas.List.Splits.{join_with_byte-slice_split}
 use Rattle.std.proofs.lemmas.Bool.Decides.{nat_tests}
-use Rattle.vbi_field.specs.declared.word_row.WordRow.{WordRow}
-use Rattle.vbi_field.specs.WordRows.{parts_of, item_of, row_of_items, row_of_parts, word_row_of, rows_of, row_words}
-use Rattle.vbi_field.specs.WordRows.{newline, space, AreRows}
+use Rattle.vbi_field.specs.WordRows.{WordRow, parts_of, item_of, row_of_items, row_of_parts, word_row_of, rows_of}
+use Rattle.vbi_field.specs.WordRows.{row_words, newline, space, AreRows}
 use Rattle.vbi_field.specs.RowIntake.{HasNoNewline}
 use Rattle.vbi_field.specs.Draws.{EndsRow}
 

@@ -2,13 +2,9 @@
 -- three per field. `videoParameters` has ld-decode's names; `version`, `vbiCause`, `vbiPass` and `cutField` are this
 -- project's own.
 use Rattle.std.specs.Prelude.{ℕ, ◌+◌, List, ◌++◌, ◌==◌, if◌then◌else◌, codes, decimal}
-use Rattle.vbi_words.specs.Geometry.{width_of, height_of, name_of}
-use Rattle.vbi_words.specs.declared.outcome.Outcome.{Outcome}
-use Rattle.vbi_words.specs.declared.outcome.Reading.{Reading}
-use Rattle.vbi_words.specs.declared.outcome.Outcome.TheVariants.{Word}
-use Rattle.vbi_field.specs.CodeTexts.{cause_text_of}
-use Rattle.vbi_field.specs.ConfigView.{ConfigView}
-use Rattle.vbi_field.specs.declared.readings.FieldReadings.{FieldReadings}
+use Rattle.vbi_field.specs.ConfigView.{width_of, height_of, name_of, ConfigView}
+use Rattle.vbi_field.specs.CodeTexts.{Outcome, Word, cause_text_of}
+use Rattle.vbi_field.specs.Stream.{Reading, FieldReadings}
 
 -- the number of the word, or 0 where there is none
 abbrev pub value_of : Outcome → ℕ

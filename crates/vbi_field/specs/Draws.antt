@@ -1,21 +1,64 @@
--- What `draw` does, by its answer: z are the bytes fetched, a text of words, text is what was written, and n what was
--- counted.
-use Rattle.std.specs.Prelude.{◌≡◌, ℕ, ◌+◌, ◌≤◌, ◌⊎◌, List, [], ◌∷◌, ◌++◌, length, Option, None, Result, Ok, Err}
-use Rattle.std.specs.Io.KnownBytes.{IsAtEnd}
-use Rattle.vbi_field.specs.ConfigView.{ConfigView}
-use Rattle.vbi_field.specs.Drawing.{draw_out}
-use Rattle.vbi_line.specs.Counted.{device_of, failures_of}
-use Rattle.vbi_field.specs.Limits.{longest_row}
-use Rattle.vbi_field.specs.Outlet as outlets
-use Rattle.vbi_field.specs.Ran.{Counts, HasFailed, IsCalm, Ran, EndsInside}
+-- The TBC stream that rows of words are drawn as: a field for each row, of this project's own picture (half cells of
+-- one microsecond, IEC 60857 and IEC 60856; no sync and no colour burst), in ld-decode's TBC format.
+use Rattle.std.specs.Prelude.{◌≡◌, ℕ, ◌+◌, ◌≤◌, ◌⊎◌, List, [], ◌∷◌, ◌++◌, length, Option, None, Result, Ok, Err, ◌==◌}
+use Rattle.std.specs.Prelude.{if◌then◌else◌, slice_index_or}
+use Rattle.vbi_field.specs.Ran.{IsAtEnd, Counts, HasFailed, IsCalm, Ran, EndsInside}
+use Rattle.vbi_field.specs.ConfigView.{ConfigView, longest_row, height_of}
+use Rattle.vbi_field.specs.Outlet.{device_of, failures_of, Outlet, counted_of, written_of}
 use Rattle.vbi_field.specs.RowIntake as intakes
-use Rattle.vbi_field.specs.RowIntake.{HasNoNewline}
-use Rattle.vbi_field.specs.WordRows.{newline, AreRows, rows_of, row_words}
+use Rattle.vbi_field.specs.WordRows.{newline, AreRows, rows_of, row_words, WordRow}
 use Rattle.vbi_field.specs.declared.drawing.DrawFault.{DrawFault}
 use Rattle.vbi_field.specs.declared.drawing.DrawFault.TheVariants.{Row, Read, Write, TooManyFields}
-use Rattle.vbi_field.specs.declared.outlet.Outlet.{Outlet}
-use Rattle.vbi_field.specs.declared.row_intake.RowIntake.{RowIntake}
-use Rattle.vbi_field.specs.declared.word_row.WordRow.{WordRow}
+use Rattle.std.specs.List.{flat_map, range_with_len, join_by}
+use Rattle.vbi_words.specs.Drawn.{drawn_line_of, drawn_reading}
+use Rattle.vbi_words.specs.Words.{IsWordOrNone}
+use Rattle.vbi_field.specs.Texts.{Kind}
+use Rattle.vbi_field.specs.declared.readings.FieldReadings.{FieldReadings}
+
+-- the word that a row of a field has: rows 15, 16 and 17, which are lines 16, 17 and 18, have the three items
+abbrev pub word_at : WordRow → ℕ → Option ℕ
+word_at words r =
+    if r == 15 then words.first else (if r == 16 then words.second else (if r == 17 then words.third else None))
+
+-- a drawn field: its rows in order
+unfoldable pub drawn_field_of : ConfigView → WordRow → List ℕ
+drawn_field_of c words =
+    flat_map (λ r. drawn_line_of c.system c.levels (word_at words r)) (range_with_len 0 (height_of c.system))
+
+-- a drawn stream: a field for each row of words
+unfoldable pub draw_out : ConfigView → List WordRow → List ℕ
+draw_out c rows = flat_map (drawn_field_of c) rows
+
+-- ---- what the fields of a drawn stream are read as, and the text that is written for it
+
+-- a word or none for each line
+pub record AreDrawable (words : WordRow) : Type 0 where
+  pub first : IsWordOrNone words.first
+  pub second : IsWordOrNone words.second
+  pub third : IsWordOrNone words.third
+
+-- the readings of a field that is drawn with these words
+abbrev pub drawn_readings : WordRow → FieldReadings
+drawn_readings words = record {
+  first = drawn_reading words.first;
+  second = drawn_reading words.second;
+  third = drawn_reading words.third;
+}
+
+-- no word in any line
+abbrev pub no_words : WordRow
+no_words = record { first = None; second = None; third = None }
+
+-- the text of a stream that is drawn of these rows: an entry for each, with its words in the first pass and blanks, and
+-- no cut field
+abbrev pub drawn_text : Kind → ConfigView → List WordRow → List ℕ
+drawn_text t c rows =
+    t.head c
+    ++ join_by (λ i. t.entry (i + 1) (drawn_readings (slice_index_or rows i no_words))) t.joint
+    (range_with_len 0 (length rows))
+    ++ t.tail (length rows) 0
+
+-- ---- what `draw` does, by its answer: z are the bytes fetched, text is what was written, and n what was counted
 
 -- the text is empty or ends with a newline, so it is whole rows
 abbrev pub EndsRow : List ℕ → Type 0
@@ -54,7 +97,7 @@ module _ (c : ConfigView) (input : Option (List ℕ)) (z text : List ℕ) where
     pub rows : List WordRow
     pub both : before ++ part ≡ z
     pub whole : EndsRow before
-    pub unfinished : HasNoNewline part
+    pub unfinished : intakes.HasNoNewline part
     pub well_formed : AreRows before rows
     pub number_of : number ≡ length rows + 1
     pub few : (number ≤ c.max_fields) ⊎ ((number ≡ c.max_fields + 1) × (part ≡ []))
@@ -102,20 +145,20 @@ pub record Draws (c : ConfigView) (input : Option (List ℕ)) (n : Counts) (resu
   pub came : EndsBy c input z text result
 
 -- what a fresh intake of rows and a fresh outlet counted since; no sample is looked at
-abbrev pub counts_of : {R W : Type 0} → RowIntake R → Outlet W → Counts
+abbrev pub counts_of : {R W : Type 0} → intakes.RowIntake R → Outlet W → Counts
 counts_of i o = record {
   fetched = intakes.fetched_of i;
-  written = outlets.written_of o;
+  written = written_of o;
   looked = 0;
   reader = failures_of (intakes.counted_of i);
-  writer = failures_of (outlets.counted_of o);
+  writer = failures_of (counted_of o);
 }
 
 -- the run of a fresh intake of rows and a fresh outlet that gave this answer
 abbrev pub RunsDrawing : {R W : Type 0} → (R → Option (List ℕ)) → (W → Option (List ℕ)) → ConfigView
-    → RowIntake R → RowIntake R → Outlet W → Outlet W → Result ℕ DrawFault → Type 0
+    → intakes.RowIntake R → intakes.RowIntake R → Outlet W → Outlet W → Result ℕ DrawFault → Type 0
 RunsDrawing remaining contents c i0 i o0 o result =
     Ran (remaining (device_of (intakes.counted_of i0))) (remaining (device_of (intakes.counted_of i)))
-    (contents (device_of (outlets.counted_of o0)))
-    (contents (device_of (outlets.counted_of o)))
+    (contents (device_of (counted_of o0)))
+    (contents (device_of (counted_of o)))
     (counts_of i o) (Draws c (remaining (device_of (intakes.counted_of i))) (counts_of i o) result)

@@ -1,21 +1,17 @@
 -- What `extract` and `show` do, by their answer, for a kind t of text: z are the bytes fetched, text is what was
 -- written, and n what was counted.
 use Rattle.std.specs.Prelude.{◌≡◌, ℕ, ◌+◌, ◌<◌, ◌≤◌, ◌⊎◌, List, [], ◌++◌, length, take, Option, Result, Ok, Err}
-use Rattle.std.specs.Io.KnownBytes.{IsAtEnd}
-use Rattle.vbi_words.specs.Geometry.{line_bytes, field_bytes}
-use Rattle.vbi_line.specs.Counted.{device_of, failures_of}
-use Rattle.vbi_line.specs.Intake as intakes
+use Rattle.vbi_field.specs.Ran.{IsAtEnd, Counts, HasFailed, IsCalm, Ran, EndsInside, Summary, RunFault, Read, Write}
+use Rattle.vbi_field.specs.Ran.{TooManyFields, Failed}
+use Rattle.vbi_field.specs.ConfigView.{line_bytes, field_bytes, ConfigView, allowed_bytes}
+use Rattle.vbi_field.specs.Outlet.{device_of, failures_of, NoError, HasCause, Outlet}
 use Rattle.vbi_line.specs.declared.intake.Intake.{Intake}
-use Rattle.vbi_field.specs.ConfigView.{ConfigView, allowed_bytes}
 use Rattle.vbi_field.specs.Outlet as outlets
-use Rattle.vbi_field.specs.Ran.{Counts, HasFailed, Ran, EndsInside}
 use Rattle.vbi_field.specs.Stream.{fields_of, rest_of, cut_of, looks_of}
-use Rattle.vbi_field.specs.Texts.{text_before_tail, whole_text}
-use Rattle.vbi_field.specs.Kinds.{Kind}
-use Rattle.vbi_field.specs.declared.outlet.Outlet.{Outlet}
-use Rattle.vbi_field.specs.declared.summary.Summary.{Summary}
-use Rattle.vbi_field.specs.declared.summary.RunFault.{RunFault}
-use Rattle.vbi_field.specs.declared.summary.RunFault.TheVariants.{Read, Write, TooManyFields, Failed}
+use Rattle.vbi_field.specs.Texts.{text_before_tail, whole_text, Kind}
+use Rattle.vbi_line.specs.Intake.{counted_of, fetched_of, line_of, FetchesBytes}
+use Rattle.vbi_line.specs.declared.intake.Filled.{Filled}
+use Rattle.vbi_line.specs.declared.intake.Filled.TheVariants.{Full, Ended}
 
 module _ (t : Kind) (c : ConfigView) (input : Option (List ℕ)) (z text : List ℕ) where
   -- the text ends inside one of three parts: the head, which is due before the first read; the entry of a field, which
@@ -68,7 +64,7 @@ module _ (t : Kind) (c : ConfigView) (input : Option (List ℕ)) (z text : List 
 abbrev pub FailsBy : Result Summary RunFault → Counts → Type 0
 FailsBy (Err (Read field offset)) n = HasFailed n.reader × (n.writer.errors ≡ 0)
 FailsBy (Err (Write written)) n = HasFailed n.writer × (n.reader.errors ≡ 0)
-FailsBy _ n = (n.reader.errors ≡ 0) × (n.writer.errors ≡ 0)
+FailsBy _ n = IsCalm n
 
 -- what was done, by the answer: the samples looked at, which device failed, and how far the run came
 pub record Extracts (t : Kind) (c : ConfigView) (input : Option (List ℕ)) (n : Counts)
@@ -80,10 +76,10 @@ pub record Extracts (t : Kind) (c : ConfigView) (input : Option (List ℕ)) (n :
 -- what a fresh intake and a fresh outlet counted since
 abbrev pub counts_of : {R W : Type 0} → Intake R → Outlet W → Counts
 counts_of i o = record {
-  fetched = intakes.fetched_of i;
+  fetched = fetched_of i;
   written = outlets.written_of o;
-  looked = (intakes.line_of i).looked;
-  reader = failures_of (intakes.counted_of i);
+  looked = (line_of i).looked;
+  reader = failures_of (counted_of i);
   writer = failures_of (outlets.counted_of o);
 }
 
@@ -91,6 +87,29 @@ counts_of i o = record {
 abbrev pub Runs : {R W : Type 0} → Kind → (R → Option (List ℕ)) → (W → Option (List ℕ)) → ConfigView
     → Intake R → Intake R → Outlet W → Outlet W → Result Summary RunFault → Type 0
 Runs t remaining contents c i0 i o0 o result =
-    Ran (remaining (device_of (intakes.counted_of i0))) (remaining (device_of (intakes.counted_of i)))
+    Ran (remaining (device_of (counted_of i0))) (remaining (device_of (counted_of i)))
     (contents (device_of (outlets.counted_of o0))) (contents (device_of (outlets.counted_of o)))
-    (counts_of i o) (Extracts t c (remaining (device_of (intakes.counted_of i))) (counts_of i o) result)
+    (counts_of i o) (Extracts t c (remaining (device_of (counted_of i))) (counts_of i o) result)
+
+-- ---- what a run does with the next line of a reader
+
+module _ {R : Type 0} (remaining : R → Option (List ℕ)) (old new : Intake R) where
+  -- the rest of the stream, less than a line
+  pub record GotRest (bytes : List ℕ) (count : ℕ) : Type 0 where
+    pub count_of : count ≡ length bytes
+    pub short : length bytes < line_bytes (line_of old).system
+    pub at_end : IsAtEnd (remaining (device_of (counted_of new)))
+    pub no_error : NoError (counted_of old) (counted_of new)
+
+  -- these bytes were got, by the answer: a whole line, the rest, or less than a line before a fault of the reader
+  abbrev pub Got : List ℕ → Result Filled RunFault → Type 0
+  Got bytes (Ok Full) = (length bytes ≡ line_bytes (line_of old).system) × NoError (counted_of old) (counted_of new)
+  Got bytes (Ok (Ended count)) = GotRest bytes count
+  Got bytes (Err fault) =
+      (length bytes < line_bytes (line_of old).system) × HasCause (counted_of old) (counted_of new)
+
+  -- some bytes of the reader were got
+  pub record TakesLine (result : Result Filled RunFault) : Type 0 where
+    pub bytes : List ℕ
+    pub fetches : FetchesBytes remaining old new bytes
+    pub got : Got bytes result

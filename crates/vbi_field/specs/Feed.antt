@@ -1,17 +1,14 @@
 -- What a feeder does with a stream in pieces. The bytes z are those of the pieces before.
 use Rattle.std.specs.Prelude.{◌≡◌, ◌↔◌, ℕ, ◌<◌, ◌≤◌, ◌⊎◌, false, IsTrue, List, [], ◌∷◌, ◌++◌, length, take, Option}
-use Rattle.std.specs.Prelude.{Result, Ok, Err, IsErr, Bool}
-use Rattle.vbi_field.specs.Kinds.{document}
-use Rattle.vbi_line.specs.Counted.{NoError, HasCause}
-use Rattle.vbi_field.specs.Outlet.{counted_of, written_of, Wrote, WrotePart}
-use Rattle.vbi_field.specs.Position.{Position, position_of}
-use Rattle.vbi_field.specs.ConfigView.{ConfigView, allowed_bytes}
-use Rattle.vbi_field.specs.Stream.{fields_of, rest_of, cut_of, looks_of}
-use Rattle.vbi_field.specs.Texts.{Extends, ExtendsInPart}
-use Rattle.vbi_field.specs.declared.outlet.Outlet.{Outlet}
-use Rattle.vbi_field.specs.declared.summary.Summary.{Summary}
-use Rattle.vbi_field.specs.declared.summary.RunFault.{RunFault}
-use Rattle.vbi_field.specs.declared.summary.RunFault.TheVariants.{Read, Write, TooManyFields, Failed}
+use Rattle.std.specs.Prelude.{Result, Ok, Err, IsErr, Bool, ◌+◌, ◌-◌, ◌*◌, min}
+use Rattle.vbi_field.specs.Texts.{document, Extends, ExtendsInPart}
+use Rattle.vbi_field.specs.Outlet.{NoError, HasCause, counted_of, written_of, Wrote, WrotePart, Outlet}
+use Rattle.vbi_field.specs.Stream.{Position, position_of, fields_of, rest_of, cut_of, looks_of}
+use Rattle.vbi_field.specs.ConfigView.{ConfigView, allowed_bytes, most_fields, width_of, height_of, line_bytes}
+use Rattle.vbi_field.specs.Ran.{Summary, RunFault, Read, Write, TooManyFields, Failed}
+use Rattle.vbi_line.specs.Line.{Line}
+use Rattle.vbi_field.specs.declared.progress.Progress.{Progress}
+use Rattle.vbi_field.specs.declared.feeder.Feeder.TheInside.{Inside}
 
 -- what a contract sees of a feeder: its config, the position to which its stream has come, whether it has failed,
 -- and how many samples were looked at
@@ -95,8 +92,54 @@ module _ {W : Type 0} (o o' : Outlet W) where
   IsFeedFault Failed = Unit {0}
   IsFeedFault (Read field offset) = ⊥
 
-  -- the end answers `Write` where the writer failed, and neither `Read` nor `TooManyFields`
+  -- so does the end, which never answers `TooManyFields` either
   abbrev pub IsEndFault : RunFault → Type 0
-  IsEndFault (Write written) = (written ≡ written_of o') × HasCause (counted_of o) (counted_of o')
-  IsEndFault Failed = Unit {0}
-  IsEndFault _ = ⊥
+  IsEndFault TooManyFields = ⊥
+  IsEndFault fault = IsFeedFault fault
+
+-- ---- the state of a feeder: its line and its progress, and the position that they make
+
+-- the position that the whole rows and the bytes of the unfinished one make
+abbrev pub position_in : ConfigView → Line → Progress → Position
+position_in c l p = record {
+  fields = p.fields;
+  rest = p.row * line_bytes c.system + length l.held;
+  held = l.held;
+  first = p.readings.first;
+  second = p.readings.second;
+  third = p.readings.third;
+}
+
+-- how many of the rows 15, 16 and 17 are among the rows of f fields and r rows more
+abbrev pub selected : ℕ → ℕ → ℕ
+selected f r = 3 * f + min 3 (r - 15)
+
+-- less than a line is held and no pass was started, no more fields are whole than are allowed, and the samples of the
+-- selected rows were looked at once each
+pub record IsFeederState (c : ConfigView) (l : Line) (p : Progress) : Type 0 where
+  pub system : l.system ≡ c.system
+  pub cursors : l.cursors ≡ []
+  pub short : length l.held < line_bytes c.system
+  pub inside : p.row < height_of c.system
+  pub few : p.fields ≤ c.max_fields
+  pub most : p.fields ≤ most_fields
+  pub looked : l.looked ≡ width_of c.system * selected p.fields p.row
+
+-- what the first bytes of a piece did, where the line and the progress were those of z before
+abbrev pub IsStep : {W : Type 0} → (W → Option (List ℕ)) → ConfigView → Outlet W → Outlet W → List ℕ → List ℕ → Position
+    → Result ℕ RunFault → Type 0
+IsStep contents c o o' z bytes now (Ok n) = IsFed contents c o o' z (take n bytes) now (Ok tt)
+IsStep contents c o o' z bytes now (Err fault) = IsFed contents c o o' z bytes now (Err fault)
+
+-- how the fields of a feeder are seen
+abbrev pub feeding_of : Inside → Feeding
+feeding_of f = record {
+  config = f.config;
+  position = position_in f.config f.line f.progress;
+  has_failed = f.has_failed;
+  looked = f.line.looked;
+}
+
+-- what holds of every feeder, also of one that has failed
+abbrev pub IsFeeder : Inside → Type 0
+IsFeeder f = IsFeederState f.config f.line f.progress

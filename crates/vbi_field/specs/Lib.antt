@@ -1,17 +1,10 @@
 pub mod CodeTexts
 pub mod ConfigView
 pub mod Document
-pub mod Drawing
 pub mod Draws
 pub mod Extracts
 pub mod Feed
-pub mod FeedView
-pub mod FeederState
-pub mod Kinds
-pub mod Limits
-pub mod NextLine
 pub mod Outlet
-pub mod Position
 pub mod Progress
 pub mod Ran
 pub mod Report
@@ -19,4 +12,3 @@ pub mod RowIntake
 pub mod Stream
 pub mod Texts
 pub mod WordRows
-pub mod WorkedTexts

@@ -1,19 +1,11 @@
 -- How far a stream has come in whole rows, as the code keeps it.
 use Rattle.std.specs.Prelude.{◌≡◌, ◌≢◌, ℕ, ◌+◌, ◌*◌, ◌<◌, ◌≤◌, ◌⊎◌, List, ◌++◌, length, Option, Some, None}
 use Rattle.std.specs.Prelude.{Result, Ok, Err}
-use Rattle.vbi_words.specs.Geometry.{height_of, line_bytes}
-use Rattle.vbi_words.specs.Levels.{row_levels}
-use Rattle.vbi_words.specs.declared.outcome.Reading.{Reading}
-use Rattle.vbi_line.specs.OneReading.{reading_of}
-use Rattle.vbi_field.specs.declared.readings.FieldReadings.{FieldReadings}
-use Rattle.vbi_field.specs.declared.progress.PartialReadings.{PartialReadings}
-use Rattle.vbi_field.specs.declared.progress.Progress.{Progress}
-use Rattle.vbi_field.specs.ConfigView.{ConfigView}
-use Rattle.vbi_field.specs.Position.{reading_among}
-use Rattle.vbi_field.specs.Stream.{readings_at}
-use Rattle.vbi_field.specs.Texts.{Extends, ExtendsInPart}
-use Rattle.vbi_field.specs.Kinds.{Kind}
-use Rattle.vbi_field.specs.declared.outlet.Outlet.{Outlet}
+use Rattle.vbi_field.specs.ConfigView.{height_of, line_bytes, ConfigView}
+use Rattle.vbi_field.specs.Stream.{row_levels, Reading, FieldReadings, reading_among, readings_at, reading_of}
+pub use Rattle.vbi_field.specs.declared.progress.PartialReadings.{PartialReadings}
+pub use Rattle.vbi_field.specs.declared.progress.Progress.{Progress}
+use Rattle.vbi_field.specs.Texts.{Extends, ExtendsInPart, Kind, Outlet}
 use Rattle.vbi_field.specs.declared.summary.RunFault.{RunFault}
 
 -- the readings of a field, if all three are there

@@ -2,9 +2,12 @@
 -- belong together. The reader is seen by the bytes that it has yet to give and the writer by those that it has taken,
 -- where they tell them.
 use Rattle.std.specs.Prelude.{◌≡◌, ℕ, ◌<◌, ◌≤◌, ◌⊎◌, List, ◌++◌, length, take, Option}
-use Rattle.std.specs.Io.KnownBytes.{Consumes, Appends}
+pub use Rattle.std.specs.Io.KnownBytes.{Consumes, Appends, IsAtEnd}
 use Rattle.vbi_line.specs.Counted.{tries}
 use Rattle.vbi_line.specs.declared.counted.Failures.{Failures}
+pub use Rattle.vbi_field.specs.declared.summary.Summary.{Summary}
+pub use Rattle.vbi_field.specs.declared.summary.RunFault.{RunFault}
+pub use Rattle.vbi_field.specs.declared.summary.RunFault.TheVariants.{Read, Write, TooManyFields, Failed}
 
 -- a device that failed for good: its one error was its last answer, or its last seventeen answers or more were
 -- interruptions

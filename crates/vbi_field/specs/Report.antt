@@ -1,17 +1,13 @@
 -- The report of `show`: a head line, four lines a whole field, and a last line; lists of ASCII codes.
-use Rattle.std.specs.Prelude.{ℕ, ◌+◌, List, [], ◌∷◌, ◌++◌, ◌==◌, if◌then◌else◌, codes, decimal, Option}
-use Rattle.vbi_words.specs.declared.system.System.{System}
-use Rattle.vbi_words.specs.declared.outcome.Outcome.{Outcome}
-use Rattle.vbi_words.specs.declared.outcome.Outcome.TheVariants.{Word}
+use Rattle.std.specs.Prelude.{ℕ, ◌+◌, List, [], ◌∷◌, ◌++◌, ◌==◌, if◌then◌else◌, codes, decimal}
+use Rattle.vbi_field.specs.ConfigView.{System, name_of, width_of, height_of, Slicing}
+use Rattle.vbi_field.specs.CodeTexts.{Outcome, Word, hex_text_of, code_text_of, cause_text_of}
 use Rattle.vbi_words.specs.declared.format.Format.{Format}
 use Rattle.vbi_words.specs.declared.format.Format.TheVariants.{Cav, Clv, Both, Neither}
-use Rattle.vbi_words.specs.Geometry.{name_of, width_of, height_of}
-use Rattle.vbi_words.specs.Levels.{Slicing}
 use Rattle.vbi_words.specs.Outcomes.{word_of}
-use Rattle.vbi_words.specs.CodeTable.{code_of}
+use Rattle.vbi_words.specs.Codes.{code_of}
 use Rattle.vbi_words.specs.Formats.{format_of_lines}
 use Rattle.vbi_field.specs.declared.readings.FieldReadings.{FieldReadings}
-use Rattle.vbi_field.specs.CodeTexts.{hex_text_of, code_text_of, cause_text_of}
 
 -- the first line
 unfoldable pub report_head_of : System → Slicing → List ℕ
@@ -19,11 +15,6 @@ report_head_of system slicing =
     codes "system " ++ name_of system ++ codes " " ++ decimal (width_of system) ++ codes "x"
     ++ decimal (height_of system)
     ++ codes " black " ++ decimal slicing.black ++ codes " white " ++ decimal slicing.white ++ codes "\n"
-
--- a field's words
-abbrev pub field_words_of : FieldReadings → List (Option ℕ)
-field_words_of readings =
-    word_of readings.first.outcome ∷ word_of readings.second.outcome ∷ word_of readings.third.outcome ∷ []
 
 -- what a format is called
 abbrev pub format_text_of : Format → List ℕ
@@ -40,7 +31,9 @@ shown_of outcome = codes "none " ++ cause_text_of outcome
 -- the four lines of a whole field, from its number and its readings
 unfoldable pub report_entry_of : ℕ → FieldReadings → List ℕ
 report_entry_of number readings =
-    codes "field " ++ decimal number ++ codes " " ++ format_text_of (format_of_lines (field_words_of readings))
+    let words =
+    word_of readings.first.outcome ∷ word_of readings.second.outcome ∷ word_of readings.third.outcome ∷ [] in
+    codes "field " ++ decimal number ++ codes " " ++ format_text_of (format_of_lines words)
     ++ codes "\n16 " ++ shown_of readings.first.outcome
     ++ codes "\n17 " ++ shown_of readings.second.outcome
     ++ codes "\n18 " ++ shown_of readings.third.outcome ++ codes "\n"

@@ -1,12 +1,11 @@
 -- What a contract sees of an intake of rows of words, and what its calls take from the reader.
-use Rattle.std.specs.Prelude.{◌≡◌, ◌≢◌, ℕ, ◌+◌, ◌*◌, ◌<◌, ◌≤◌, ◌⊎◌, List, [], ◌∷◌, ◌++◌, All, length, ⊤, Option, Some}
+use Rattle.std.specs.Prelude.{◌≡◌, ◌≢◌, ℕ, ◌+◌, ◌*◌, ◌<◌, ◌≤◌, ◌⊎◌, List, [], ◌∷◌, ◌++◌, All, length, Option, Some}
 use Rattle.std.specs.Prelude.{None}
 use Rattle.std.specs.Io.KnownBytes.{Consumes, IsAtEnd}
-use Rattle.vbi_line.specs.Counted.{tries, device_of, failures_of, NoError, HasCause, IsSameDevice}
-use Rattle.vbi_line.specs.declared.counted.Counted.{Counted}
-use Rattle.vbi_field.specs.Limits.{longest_row}
+use Rattle.vbi_field.specs.Outlet.{tries, device_of, failures_of, NoError, HasCause, IsSameDevice, Counted}
+use Rattle.vbi_field.specs.ConfigView.{longest_row}
 use Rattle.vbi_field.specs.WordRows.{newline, word_row_of}
-use Rattle.vbi_field.specs.declared.row_intake.RowIntake.{RowIntake}
+pub use Rattle.vbi_field.specs.declared.row_intake.RowIntake.{RowIntake}
 use Rattle.vbi_field.specs.declared.row_intake.NextByte.{NextByte}
 use Rattle.vbi_field.specs.declared.row_intake.NextByte.TheVariants as bytes
 use Rattle.vbi_field.specs.declared.row_intake.NextRow.{NextRow}
@@ -42,22 +41,18 @@ module _ {R : Type 0} where
     pub least : (failures_of (counted_of old)).all ≤ (failures_of (counted_of new)).all
     pub same : IsSameDevice (counted_of old) (counted_of new)
 
-  -- the reader is at its end where that is the answer
+  -- no error was given, or else the answer is a fault, which has its cause; the reader is at its end where it says so
   abbrev pub GotByte : (R → Option (List ℕ)) → RowIntake R → RowIntake R → NextByte → Type 0
-  GotByte remaining old new bytes.AtEnd = IsAtEnd (remaining (device_of (counted_of new)))
-  GotByte remaining old new _ = ⊤
-
-  -- no error was given, or else the answer is a fault, which has its cause
-  abbrev pub HasByteCause : RowIntake R → RowIntake R → NextByte → Type 0
-  HasByteCause old new bytes.Failed = HasCause (counted_of old) (counted_of new)
-  HasByteCause old new _ = NoError (counted_of old) (counted_of new)
+  GotByte remaining old new (bytes.Byte byte) = NoError (counted_of old) (counted_of new)
+  GotByte remaining old new bytes.AtEnd =
+      NoError (counted_of old) (counted_of new) × IsAtEnd (remaining (device_of (counted_of new)))
+  GotByte remaining old new bytes.Failed = HasCause (counted_of old) (counted_of new)
 
   pub record TakesByte (remaining : R → Option (List ℕ)) (old new : RowIntake R) (answer : NextByte) : Type 0 where
     pub fetches : Fetches remaining old new (byte_of answer)
     pub most : (failures_of (counted_of new)).all ≤ (failures_of (counted_of old)).all + tries
     pub streak : (failures_of (counted_of new)).streak ≤ (failures_of (counted_of old)).streak + tries
     pub got : GotByte remaining old new answer
-    pub caused : HasByteCause old new answer
 
   -- a malformed row was read up to its newline, the reader's end or its 21st byte
   pub record IsMalformed (remaining : R → Option (List ℕ)) (new : RowIntake R) (bytes : List ℕ) : Type 0 where

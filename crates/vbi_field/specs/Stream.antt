@@ -1,15 +1,14 @@
 -- Fields and rows of a TBC stream (ld-decode's TBC format: samples of 16 bits, low byte first, line after line and
 -- field after field), and the readings of its fields. Fields and rows are counted from 0; a stream is the list of its
 -- bytes.
-use Rattle.std.specs.Prelude.{ℕ, ◌+◌, ◌-◌, ◌*◌, ◌/◌, ◌%◌, ◌==◌, min, if◌then◌else◌, List, length, Option}
-use Rattle.std.specs.Prelude.{Some, None}
-use Rattle.vbi_words.specs.Geometry.{width_of, line_bytes, field_bytes}
-use Rattle.vbi_words.specs.Levels.{row_levels}
-use Rattle.vbi_words.specs.Rows.{line_at}
-use Rattle.vbi_words.specs.declared.outcome.Reading.{Reading}
-use Rattle.vbi_line.specs.OneReading.{reading_of}
-use Rattle.vbi_field.specs.ConfigView.{ConfigView}
-use Rattle.vbi_field.specs.declared.readings.FieldReadings.{FieldReadings}
+use Rattle.std.specs.Prelude.{ℕ, ◌+◌, ◌-◌, ◌*◌, ◌/◌, ◌%◌, ◌==◌, min, if◌then◌else◌, List, length, Option, Some, None}
+use Rattle.std.specs.Prelude.{drop, nat_lt}
+use Rattle.vbi_field.specs.ConfigView.{width_of, line_bytes, field_bytes, ConfigView}
+pub use Rattle.vbi_words.specs.Levels.{row_levels}
+pub use Rattle.vbi_words.specs.Geometry.{line_at}
+pub use Rattle.vbi_words.specs.declared.outcome.Reading.{Reading}
+pub use Rattle.vbi_line.specs.OneReading.{reading_of}
+pub use Rattle.vbi_field.specs.declared.readings.FieldReadings.{FieldReadings}
 
 -- how many whole fields a stream has
 abbrev pub fields_of : ConfigView → List ℕ → ℕ
@@ -34,3 +33,30 @@ readings_at c z i = record { first = reading_at c z i 15; second = reading_at c 
 -- how many samples are looked at: those of the rows 15, 16 and 17 that the stream has whole, once each
 abbrev pub looks_of : ConfigView → List ℕ → ℕ
 looks_of c z = width_of c.system * (3 * fields_of c z + min 3 (rest_of c z / line_bytes c.system - 15))
+
+-- ---- how far a stream has come
+
+-- the number of whole fields, the bytes past them, the bytes of the unfinished row, and of rows 15, 16 and 17 of the
+-- unfinished field each reading, once the row is whole
+pub record Position : Type 0 where
+  pub fields : ℕ
+  pub rest : ℕ
+  pub held : List ℕ
+  pub first : Option Reading
+  pub second : Option Reading
+  pub third : Option Reading
+
+-- the reading of row r of field i, if r is less than the number of whole rows of that field
+abbrev pub reading_among : ConfigView → List ℕ → ℕ → ℕ → ℕ → Option Reading
+reading_among c z i rows r = if nat_lt r rows then Some (reading_at c z i r) else None
+
+-- the position of a stream of these bytes, of which the last are those of the unfinished row
+abbrev pub position_of : ConfigView → List ℕ → Position
+position_of c z = record {
+  fields = fields_of c z;
+  rest = rest_of c z;
+  held = drop (length z - rest_of c z % line_bytes c.system) z;
+  first = reading_among c z (fields_of c z) (rest_of c z / line_bytes c.system) 15;
+  second = reading_among c z (fields_of c z) (rest_of c z / line_bytes c.system) 16;
+  third = reading_among c z (fields_of c z) (rest_of c z / line_bytes c.system) 17;
+}

@@ -1,17 +1,31 @@
--- The text that is written for a TBC stream, for any kind of text: its head, an entry for each whole field, and its
--- tail; and that text by what the stream's lines show (IEC 60857 and IEC 60856 by the words of `vbi_words`).
-use Rattle.std.specs.Prelude.{◌≡◌, ℕ, ◌+◌, ◌==◌, if◌then◌else◌, List, [], ◌++◌, Option, ◌<◌}
+-- The text that is written for a TBC stream, of two kinds: its head, an entry for each whole field, and its tail; and
+-- that text by what the stream's lines show (IEC 60857 and IEC 60856 by the words of `vbi_words`).
+use Rattle.std.specs.Prelude.{◌≡◌, ℕ, ◌+◌, ◌==◌, if◌then◌else◌, List, [], ◌++◌, Option, ◌<◌, codes}
 use Rattle.std.specs.List.{join_by, range_with_len}
-use Rattle.vbi_field.specs.ConfigView.{ConfigView}
-use Rattle.vbi_field.specs.Kinds.{Kind}
-use Rattle.vbi_field.specs.Outlet.{Wrote, WrotePart}
-use Rattle.vbi_field.specs.Stream.{fields_of, rest_of, readings_at}
-use Rattle.vbi_field.specs.declared.outlet.Outlet.{Outlet}
-use Rattle.vbi_field.specs.declared.readings.FieldReadings.{FieldReadings}
-use Rattle.vbi_words.specs.Levels.{row_levels}
+use Rattle.vbi_field.specs.ConfigView.{ConfigView, System}
+pub use Rattle.vbi_field.specs.Outlet.{Wrote, WrotePart, Outlet}
+use Rattle.vbi_field.specs.Stream.{fields_of, rest_of, readings_at, FieldReadings, Reading, row_levels, line_at}
 use Rattle.vbi_words.specs.Readings.{IsReading}
-use Rattle.vbi_words.specs.declared.outcome.Reading.{Reading}
-use Rattle.vbi_words.specs.Rows.{line_at}
+use Rattle.vbi_field.specs.Document.{head_of, record_of, tail_of}
+use Rattle.vbi_field.specs.Report.{report_head_of, report_entry_of, report_tail_of}
+use Rattle.vbi_field.specs.CodeTexts.{Outcome, Word, Blank, Unfinished, Change, Hold}
+
+-- A kind of text: its head; what joins two entries; the entry of a field, by its number from 1 and its readings; its
+-- tail, by the number of whole fields and the bytes past them.
+pub record Kind : Type 0 where
+  pub head : ConfigView → List ℕ
+  pub joint : List ℕ
+  pub entry : ℕ → FieldReadings → List ℕ
+  pub tail : ℕ → ℕ → List ℕ
+
+-- the document of `extract`: records joined by a comma and a newline
+abbrev pub document : Kind
+document = record { head = head_of; joint = codes ",\n"; entry = record_of; tail = tail_of }
+
+-- the report of `show`: there is nothing between two fields
+abbrev pub report : Kind
+report =
+    record { head = λ c. report_head_of c.system c.levels; joint = []; entry = report_entry_of; tail = report_tail_of }
 
 -- the head, and the entries of the whole fields in order, joined
 unfoldable pub text_before_tail : Kind → ConfigView → List ℕ → List ℕ
@@ -63,3 +77,41 @@ IsWholeText t c z text =
     (readings : ℕ → FieldReadings) × ((i : ℕ) → i < fields_of c z → FieldReads c z i (readings i))
     × (text ≡ t.head c ++ join_by (λ i. t.entry (i + 1) (readings i)) t.joint (range_with_len 0 (fields_of c z))
     ++ t.tail (fields_of c z) (rest_of c z))
+
+-- ---- fields of which the law `worked_texts` has the texts
+
+-- levels that 16-bit captures have
+abbrev pub plain_config : System → ConfigView
+plain_config system = record { system = system; levels = record { black = 16384; white = 51200 }; max_fields = 1 }
+
+-- a line with this word, in this pass
+abbrev pub has_word : ℕ → ℕ → Reading
+has_word word pass = record { outcome = Word word; pass = pass }
+
+-- a line without a word
+abbrev pub has_none : Outcome → Reading
+has_none outcome = record { outcome = outcome; pass = 0 }
+
+-- lines 16, 17 and 18 of a field
+abbrev pub of_lines : Reading → Reading → Reading → FieldReadings
+of_lines first second third = record { first = first; second = second; third = third }
+
+-- a black field
+abbrev pub black_field : FieldReadings
+black_field = of_lines (has_none Blank) (has_none Blank) (has_none Blank)
+
+-- a field of a CAV disc
+abbrev pub picture_field : FieldReadings
+picture_field = of_lines (has_word 0x82CFFF 1) (has_word 0xF12345 1) (has_word 0xF12345 1)
+
+-- a field of a CLV disc
+abbrev pub time_field : FieldReadings
+time_field = of_lines (has_word 0x8AE012 1) (has_word 0x87FFFF 1) (has_word 0xF0DD00 1)
+
+-- a field whose lines 16 and 17 were each read in one of the passes, and whose line 18 ends too soon
+abbrev pub second_pass_field : FieldReadings
+second_pass_field = of_lines (has_word 0x82CFFF 2) (has_word 0xF12345 1) (has_none Unfinished)
+
+-- a field whose lines 16 and 17 were each refused at a column
+abbrev pub refused_field : FieldReadings
+refused_field = of_lines (has_none (Change 34)) (has_none (Hold 909)) (has_word 0x8DC0A1 1)

@@ -5,7 +5,7 @@ use Rattle.std.specs.List.{slice_split, onto_first, list_all, before_first}
 use Rattle.std.specs.Char.{is_digit}
 use Rattle.std.specs.Str.Parse.{AllDigits, digits_value}
 use Rattle.vbi_words.specs.Words.{IsWord}
-use Rattle.vbi_field.specs.declared.word_row.WordRow.{WordRow}
+pub use Rattle.vbi_field.specs.declared.word_row.WordRow.{WordRow}
 
 -- the code of the newline behind a row
 abbrev pub newline : ℕ

@@ -1,7 +1,7 @@
 //! What a run is given.
 ghost use Rattle.std.specs.Prelude.{◌≡◌, ◌*◌, ◌<◌, ◌≤◌, ◌↔◌, ◌⊎◌, IfOk, Err};
 ghost use Rattle.vbi_words.specs.Geometry.{height_of, line_bytes};
-ghost use Rattle.vbi_field.specs.Limits.{most_fields, most_rows};
+ghost use Rattle.vbi_field.specs.ConfigView.{most_fields, most_rows};
 
 use std::error::Error;
 use std::fmt;
@@ -38,8 +38,7 @@ pub struct Config {
 
 impl Model for Config {
     ghost use Rattle.std.specs.Prelude.{◌≤◌};
-    ghost use Rattle.vbi_field.specs.ConfigView.{ConfigView};
-    ghost use Rattle.vbi_field.specs.Limits.{most_fields};
+    ghost use Rattle.vbi_field.specs.ConfigView.{ConfigView, most_fields};
 
     ghost Value = { ConfigView };
 

@@ -18,8 +18,7 @@
 ghost use Rattle.std.specs.Prelude.{◌≡◌, ◌-◌, ◌^◌, ◌<◌, ◌++◌, codes, decimal};
 ghost use Rattle.vbi_field.specs.CodeTexts.{cause_text_of};
 ghost use Rattle.vbi_field.specs.Document.{value_of, lines_of, head_of, tail_of};
-ghost use Rattle.vbi_field.specs.Kinds.{document};
-ghost use Rattle.vbi_field.specs.Texts.{joined_entry_of};
+ghost use Rattle.vbi_field.specs.Texts.{document, joined_entry_of};
 
 use crate::cause_texts::cause_text;
 use crate::config::Config;

@@ -4,7 +4,7 @@
 //! Both advance by `Progress::add_row` and write by texts.rt. What differs is who holds the line: an `Intake` fills it
 //! from its reader up to the end, a feeder copies what a piece has of it and waits for the next piece.
 //!
-//! The state between two pieces is a **position** (`specs/Position.antt`): how many fields are whole, the bytes held of
+//! The state between two pieces is a **position** (`specs/Stream.antt`): how many fields are whole, the bytes held of
 //! the unfinished row, and the readings that the unfinished field has so far. It depends on the bytes that came and not
 //! on how they were cut (law `pieces_join`). That is why `take_bytes` stops at the end of a row: then each step takes
 //! one position to the next, whatever the piece.
@@ -16,18 +16,16 @@
 //! can ask for the same outlet in each call, so that is left to the caller. A fault may have cut a record off in the
 //! middle, so `has_failed` keeps the feeder from writing behind it.
 //!
-//! A new field of `Feeder` has to be seen in `specs/FeedView.antt` and `Feed.antt`, and what always holds of it said
-//! in `IsFeederState` (`FeederState.antt`). What is written is changed in document.rt, and when it is written in
-//! progress.rt.
+//! A new field of `Feeder` has to be seen in `feeding_of` (`specs/Feed.antt`), and what always holds of it said in
+//! `IsFeederState`. What is written is changed in document.rt, and when it is written in progress.rt.
 ghost use Rattle.std.specs.Prelude.{◌≡◌, ◌≢◌, ℕ, List, ◌+◌, ◌*◌, ◌^◌, ◌<◌, ◌≤◌, ◌↔◌, [], ◌++◌, length, take};
 ghost use Rattle.std.specs.Prelude.{IsTrue, OnOk, OnErr, IfOk, IfErr, Err};
 ghost use Rattle.vbi_words.specs.Geometry.{width_of, line_bytes};
 ghost use Rattle.vbi_line.specs.Line.{IsFull, KeepsPasses};
 ghost use Rattle.vbi_field.specs.Document.{head_of};
-ghost use Rattle.vbi_field.specs.Feed.{IsAt, IsFeedFault};
+ghost use Rattle.vbi_field.specs.Feed.{IsAt, IsFeedFault, IsFeederState, IsStep, position_in};
 ghost use Rattle.vbi_line.specs.Counted.{failures_of, NoError, HasCause, IsSameDevice};
 ghost use Rattle.vbi_field.specs.Outlet.{counted_of, written_of, IsFresh, Rises, Wrote, WrotePart};
-ghost use Rattle.vbi_field.specs.FeederState.{IsFeederState, IsStep, position_in};
 
 use crate::config::Config;
 use crate::document::Document;
@@ -114,7 +112,7 @@ impl Model for Feeder {
 
     ghost Value = { Feeding };
 
-    ghost use Rattle.vbi_field.specs.FeedView.{feeding_of, IsFeeder};
+    ghost use Rattle.vbi_field.specs.Feed.{feeding_of, IsFeeder};
 
     ghost view = { feeding_of };
 

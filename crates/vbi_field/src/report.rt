@@ -2,9 +2,8 @@
 
 ghost use Rattle.std.specs.Prelude.{◌≡◌, ◌+◌, ◌-◌, ◌≤◌, ◌<◌, ◌^◌, ◌++◌, length};
 ghost use Rattle.arrayvec.specs.ArrayString.{array_string_len};
-ghost use Rattle.vbi_field.specs.Kinds.{report};
-ghost use Rattle.vbi_field.specs.Report.{report_head_of, report_entry_of, report_tail_of, shown_of};
-ghost use Rattle.vbi_field.specs.Report.{format_text_of};
+ghost use Rattle.vbi_field.specs.Texts.{report};
+ghost use Rattle.vbi_field.specs.Report.{report_head_of, report_entry_of, report_tail_of, shown_of, format_text_of};
 
 use crate::cause_texts::cause_text;
 use crate::code_texts::{code_text, hex_text};

@@ -4,10 +4,9 @@ ghost use Rattle.vbi_words.specs.Geometry.{height_of, line_bytes};
 ghost use Rattle.vbi_line.specs.Counted.{failures_of, IsSameDevice};
 ghost use Rattle.vbi_line.specs.Intake as intakes;
 ghost use Rattle.vbi_line.specs.Intake.{fetched_of, held_of, line_of, IsFresh};
-ghost use Rattle.vbi_field.specs.Extracts.{Runs};
-ghost use Rattle.vbi_field.specs.Kinds.{document, report};
-ghost use Rattle.vbi_field.specs.Limits.{most_fields};
-ghost use Rattle.vbi_field.specs.NextLine.{TakesLine};
+ghost use Rattle.vbi_field.specs.Extracts.{Runs, TakesLine};
+ghost use Rattle.vbi_field.specs.Texts.{document, report};
+ghost use Rattle.vbi_field.specs.ConfigView.{most_fields};
 ghost use Rattle.vbi_field.specs.Outlet as outlets;
 
 use crate::config::Config;

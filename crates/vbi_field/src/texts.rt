@@ -1,8 +1,8 @@
 //! The texts of a stream, of either kind, and how they are written.
 ghost use Rattle.std.specs.Prelude.{◌≡◌, ◌+◌, ◌-◌, ◌^◌, ◌<◌, ◌≤◌, length, OnOk, OnErr, IfOk, IfErr};
 ghost use Rattle.vbi_line.specs.Counted.{failures_of, NoError, HasCause, IsSameDevice};
-ghost use Rattle.vbi_field.specs.Kinds as kinds;
-ghost use Rattle.vbi_field.specs.Limits.{most_fields};
+ghost use Rattle.vbi_field.specs.Texts as kinds;
+ghost use Rattle.vbi_field.specs.ConfigView.{most_fields};
 ghost use Rattle.vbi_field.specs.Outlet.{counted_of, written_of, Puts};
 ghost use Rattle.vbi_field.specs.Stream.{cut_of};
 ghost use Rattle.vbi_field.specs.Texts.{joined_entry_of};

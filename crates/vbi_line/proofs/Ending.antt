@@ -1,6 +1,5 @@
-use Rattle.std.proofs.Common.{arith}
+use Rattle.std.proofs.Common.{arith, ◌≡◌, ℕ, ◌≤◌, Bool, true, false, List, length, None, sym, ap, subst, ◌∙◌, Some}
 -- The outcome that a decoder gives at the end of a line.
-use Rattle.std.proofs.Common.{◌≡◌, ℕ, ◌≤◌, Bool, true, false, List, length, None, sym, ap, subst, ◌∙◌}
 use Rattle.std.proofs.lemmas.List.{take_all}
 use Rattle.vbi_words.specs.declared.system.System.{System}
 use Rattle.vbi_words.specs.declared.outcome.Outcome.TheVariants.{Word, Blank, Unfinished}
@@ -11,7 +10,6 @@ use Rattle.vbi_words.proofs.SystemMachine.{IsFit, ending_of, state_after, state_
 use Rattle.vbi_words.proofs.Outcomes.{word_outcome, blank_outcome, unfinished_outcome}
 use Rattle.vbi_line.specs.declared.decoder.Decoder.{Decoder}
 use Rattle.vbi_line.specs.Decoder.{state_of}
-use Rattle.std.proofs.Common.{Some}
 
 -- a decoder's state is never the dead one
 pub alive : (decoder : Decoder) → state_of decoder ≡ dead → ⊥

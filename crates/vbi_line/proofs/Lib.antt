@@ -4,7 +4,6 @@ pub mod Ending
 pub mod FillSteps
 pub mod InPlace
 pub mod Middles
-pub mod OneOutcome
 pub mod OneReading
 pub mod PackedRuns
 pub mod Packs
@@ -12,7 +11,6 @@ pub mod Parts
 pub mod Retries
 pub mod RunLoop
 pub mod RunSteps
-pub mod Sizes
 pub mod Slicing
 pub mod SmoothRuns
 pub mod Steps

@@ -1,6 +1,5 @@
-use Rattle.std.proofs.Common.{arith}
--- A list of levels has one reading.
-use Rattle.std.proofs.Common.{◌≡◌, ℕ, List, Bool, inl, inr, refl, sym, ◌∙◌, ap, subst}
+use Rattle.std.proofs.Common.{arith, ◌≡◌, ℕ, List, Bool, inl, inr, refl, sym, ◌∙◌, ap, subst}
+-- A list of levels has one outcome and one reading.
 use Rattle.vbi_words.specs.declared.system.System.{System}
 use Rattle.vbi_words.specs.declared.outcome.Outcome.{Outcome}
 use Rattle.vbi_words.specs.declared.outcome.Outcome.TheVariants.{Word, Blank, Unfinished, Change, Hold}
@@ -8,11 +7,19 @@ use Rattle.vbi_words.specs.declared.outcome.Reading.{Reading}
 use Rattle.vbi_words.specs.Shows.{ShowsNone}
 use Rattle.vbi_words.specs.Outcomes.{AllLow, IsOutcome}
 use Rattle.vbi_words.specs.Smooth.{smooth_of}
-use Rattle.vbi_words.specs.Readings.{Reads, IsReading, second_reading, reading_from}
+use Rattle.vbi_words.specs.Readings.{Reads, IsReading, reading_from}
+use Rattle.vbi_words.proofs.Found.{found, one_outcome}
 use Rattle.vbi_words.proofs.Lows.{blank_reads}
-use Rattle.vbi_line.specs.OneOutcome.{outcome_of}
-use Rattle.vbi_line.specs.OneReading.{reading_of}
-use Rattle.vbi_line.proofs.OneOutcome.{is_outcome, same_outcome}
+use Rattle.vbi_line.specs.OneReading.{outcome_of, reading_of}
+
+pub is_outcome : (system : System) (levels : List Bool) → IsOutcome system levels (outcome_of system levels)
+unfolding outcome_of
+is_outcome system levels = (found system levels).1
+
+pub same_outcome : (system : System) (levels : List Bool) (o : Outcome) → IsOutcome system levels o
+    → o ≡ outcome_of system levels
+same_outcome system levels o is =
+    one_outcome system levels o (outcome_of system levels) is (is_outcome system levels)
 
 pub by_outcomes : (system : System) (levels : List Bool)
     → reading_of system levels ≡ reading_from (outcome_of system levels) (outcome_of system (smooth_of levels))
@@ -79,17 +86,13 @@ module _ (system : System) (levels : List Bool) where
 
   -- ---- there is one, from the outcomes of both lists
 
-  from_second : (o p : Outcome) → ShowsNone system levels → (AllLow levels → ⊥) → IsOutcome system (smooth_of levels) p
-      → (ShowsNone system (smooth_of levels) → Reads system levels o 0) → IsReading system levels (second_reading o p)
-  from_second o p none high is reads = grind arith
-
   pub from_outcomes : (o p : Outcome) → IsOutcome system levels o → IsOutcome system (smooth_of levels) p
       → IsReading system levels (reading_from o p)
   from_outcomes (Word w) p is second = inl (refl, is)
   from_outcomes Blank p is second = blank_reads system levels is
-  from_outcomes Unfinished p is second = from_second Unfinished p is.0 is.1 second (λ none. (refl, is, none))
-  from_outcomes (Change c) p is second = from_second (Change c) p is.0 is.1 second (λ none. (refl, is, none))
-  from_outcomes (Hold c) p is second = from_second (Hold c) p is.0 is.1 second (λ none. (refl, is, none))
+  from_outcomes Unfinished p is second = grind arith
+  from_outcomes (Change c) p is second = grind arith
+  from_outcomes (Hold c) p is second = grind arith
 
 pub only_reading : (system : System) (levels : List Bool) (reading : Reading) → IsReading system levels reading
     → reading ≡ reading_of system levels

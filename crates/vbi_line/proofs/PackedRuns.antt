@@ -7,8 +7,7 @@ use Rattle.std.proofs.Math.Nat.{div-le_self}
 use Rattle.std.proofs.lemmas.Bool.{cases_lt}
 use Rattle.std.proofs.lemmas.Nat.Bits.{bit_at-lt, bit_at-zero, bit_at_not, bit_at-trailing_zeros, bit_at_above}
 use Rattle.vbi_words.specs.Levels.{level_at}
-use Rattle.vbi_line.specs.Packing.{level_of_bit, packed_level, unpacked, EqualBits}
-use Rattle.vbi_line.specs.Runs.{IsRun}
+use Rattle.vbi_line.specs.Packing.{level_of_bit, packed_level, unpacked, EqualBits, IsRun}
 use Rattle.vbi_line.proofs.Packs.{bit_low, bit_behind, length-unpacked, level_unpacked}
 
 -- ---- equal bits of a word

@@ -1,7 +1,6 @@
 -- What the loop over a line's runs needs.
-use Rattle.std.proofs.Common.{◌≡◌, ℕ, zero, suc, ◌+◌, ◌<◌, ◌≤◌, Bool, false, List, [], ◌∷◌}
-use Rattle.std.proofs.Common.{◌++◌, length, take, sym, ap, subst, ◌∙◌, arith}
-use Rattle.std.proofs.Common.{add-zero, add-one, append_assoc}
+use Rattle.std.proofs.Common.{◌≡◌, ℕ, zero, suc, ◌+◌, ◌<◌, ◌≤◌, Bool, false, List, [], ◌∷◌, ◌++◌, length, take, sym, ap}
+use Rattle.std.proofs.Common.{subst, ◌∙◌, arith, add-zero, add-one, append_assoc}
 use Rattle.std.proofs.Math.ListN.{replicate}
 use Rattle.std.proofs.lemmas.List.{take_more, replicate_more, append-nil}
 use Rattle.vbi_words.specs.declared.system.System.{System}
@@ -15,7 +14,7 @@ use Rattle.vbi_words.proofs.SystemMachine.{next_of, after_of, state_after, state
 use Rattle.vbi_words.proofs.Outcomes.{DiesAt, GoesOn, hold_outcome, change_outcome}
 use Rattle.vbi_line.specs.declared.decoder.Decoder.{Decoder}
 use Rattle.vbi_line.specs.Decoder.{state_of, DiesAfter}
-use Rattle.vbi_line.specs.Runs.{IsRun}
+use Rattle.vbi_line.specs.Packing.{IsRun}
 use Rattle.vbi_line.proofs.Ending.{alive}
 
 -- a run with its length by another name

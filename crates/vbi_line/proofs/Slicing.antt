@@ -1,7 +1,7 @@
 -- Slicing samples into levels.
 use Rattle.std.proofs.Common.{◌≡◌, ℕ, zero, suc, ◌+◌, ◌-◌, ◌*◌, ◌%◌, ◌^◌, ◌<◌, Bool}
 use Rattle.std.proofs.Common.{true, false, cond, ltb, nat_eq, nat_lt, List, [], ◌∷◌, ◌++◌}
-use Rattle.std.proofs.Common.{inl, inr, map, length, get_or, Some, None, refl, sym, ap, subst, ◌∙◌, arith, lit≤}
+use Rattle.std.proofs.Common.{inl, inr, map, length, get_or, refl, sym, ap, ◌∙◌, arith, lit≤}
 use Rattle.std.specs.Prelude.{replicate}
 use Rattle.std.proofs.lemmas.Bool.{cases_lt}
 use Rattle.std.proofs.lemmas.List.{get_or-map, length-map, length-append, ext_get_or}
@@ -12,9 +12,7 @@ use lib.Lanes.{zip2, mask_l, top}
 use mir.Val.{bits, hbits}
 use mir.Syntax.{w16}
 use Rattle.vbi_words.specs.Levels.{Slicing, is_high_of, samples_of, row_levels, level_at}
-use Rattle.vbi_words.specs.Geometry.{width_of}
-use Rattle.vbi_line.specs.Line.{Line, sample_at, KeepsBytes, LooksAtBlock, IsNextBlock}
-use Rattle.vbi_line.specs.Line.{IsNextBlockAt, IsNextSample, IsNextSampleAt}
+use Rattle.vbi_line.specs.Line.{Line, sample_at, KeepsBytes, LooksAtBlock}
 use Rattle.vbi_line.specs.Packing.{level_of_bit, levels_in}
 
 -- ---- sixteen samples
@@ -116,17 +114,6 @@ sliced_all slicing held levels width full long sliced =
 -- the same bytes before and after two steps
 pub keeps_on : (first middle last : Line) → KeepsBytes first middle → KeepsBytes middle last → KeepsBytes first last
 keeps_on first middle last k l = record { system = l.system ∙ k.system; held = l.held ∙ k.held; room = l.room ∙ k.room }
-
--- what the latest pass gives at a known cursor
-pub block_given : (old new : Line) (cursor : ℕ) (before block : List ℕ) → old.cursors ≡ cursor ∷ before
-    → IsNextBlock old (Some block) new → LooksAtBlock old cursor before block new
-block_given old new cursor before block at gives =
-    subst (λ (cursors : List ℕ). IsNextBlockAt cursors old (Some block) new) at gives
-
-pub line_ended : (old new : Line) (cursor : ℕ) (before : List ℕ) → old.cursors ≡ cursor ∷ before
-    → IsNextSample old None new → cursor ≡ width_of old.system
-line_ended old new cursor before at gives =
-    (subst (λ (cursors : List ℕ). IsNextSampleAt cursors old None new) at gives).0
 
 -- a pass that gave as many samples as there are levels gives a block, and the levels of the block are added
 module _ (slicing : Slicing) (levels : List Bool) (low : ℕ) {first old new : Line} {before block : List ℕ}

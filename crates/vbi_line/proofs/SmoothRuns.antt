@@ -1,7 +1,6 @@
 -- Smoothed levels by whole runs.
-use Rattle.std.proofs.Common.{◌≡◌, ℕ, suc, zero, ◌+◌, ◌-◌, ◌<◌, ◌≤◌, Bool, false, true}
-use Rattle.std.proofs.Common.{List, [], ◌∷◌, ◌++◌, ◌⊎◌, inl, inr, length, drop, refl, sym}
-use Rattle.std.proofs.Common.{ap, subst, ◌∙◌, arith, append_assoc, Some, None}
+use Rattle.std.proofs.Common.{◌≡◌, ℕ, suc, zero, ◌+◌, ◌-◌, ◌<◌, ◌≤◌, Bool, false, true, List, [], ◌∷◌, ◌++◌, ◌⊎◌, inl}
+use Rattle.std.proofs.Common.{inr, length, drop, refl, sym, ap, subst, ◌∙◌, arith, append_assoc, Some, None}
 use Rattle.std.proofs.Math.ListN.{replicate}
 use Rattle.std.proofs.lemmas.List.{append-nil, drop_all}
 use Rattle.std.specs.Prelude.{not}
@@ -16,7 +15,7 @@ use Rattle.vbi_words.proofs.SystemMachine.{after_of, ending_of, IsFit, state_aft
 use Rattle.vbi_words.proofs.Shown.{viable_alive, ended_shows, ended_none}
 use Rattle.vbi_words.proofs.Smoothing.{window, smooth_window}
 use Rattle.vbi_words.proofs.SmoothKeeps.{steady, steady_same}
-use Rattle.vbi_line.specs.Runs.{IsRun}
+use Rattle.vbi_line.specs.Packing.{IsRun}
 use Rattle.vbi_line.specs.Decoder.{DiesAfter}
 
 -- ---- a run in the window

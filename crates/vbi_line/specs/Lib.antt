@@ -3,11 +3,7 @@ pub mod Decoder
 pub mod Intake
 pub mod Line
 pub mod LineLends
-pub mod LineView
-pub mod OneOutcome
 pub mod OneReading
-pub mod PackedView
 pub mod Packing
-pub mod Runs
 pub mod StoreLends
 pub mod Straight

@@ -1,8 +1,10 @@
 -- What a contract sees of the buffer of a line: the bytes held, the room left, the cursors of its passes and the count
 -- of samples looked at. A sample is two bytes, the low one first, as in ld-decode's TBC files.
-use Rattle.std.specs.Prelude.{◌≡◌, ℕ, ◌+◌, ◌*◌, ◌<◌, ◌≤◌, List, [], ◌∷◌, length, slice_index, ⊤, Option, Some, None}
+use Rattle.std.specs.Prelude.{◌≡◌, ℕ, ◌+◌, ◌-◌, ◌*◌, ◌^◌, ◌<◌, ◌≤◌, List, [], ◌∷◌, length, slice_index, take, drop}
+use Rattle.std.specs.Prelude.{Option, MatchOption}
 use Rattle.vbi_words.specs.declared.system.System.{System}
 use Rattle.vbi_words.specs.Geometry.{width_of, line_bytes}
+use Rattle.vbi_line.specs.declared.line.LineBuf.TheInside.{Inside}
 
 -- the bytes held, the bytes of the part that isn't filled, the cursor of each pass, the latest first, and the count of
 -- samples looked at
@@ -50,15 +52,10 @@ pub record Looks (old : Line) (cursor : ℕ) (before : List ℕ) (s : ℕ) (new 
   pub looked : new.looked ≡ old.looked + 1
   pub bytes : KeepsBytes old new
 
--- what the latest pass gives at these cursors: a sample, or none at the line's end
-abbrev pub IsNextSampleAt : List ℕ → Line → Option ℕ → Line → Type 0
-IsNextSampleAt [] old result new = ⊤
-IsNextSampleAt (cursor ∷ before) old None new = (cursor ≡ width_of old.system) × (new ≡ old)
-IsNextSampleAt (cursor ∷ before) old (Some s) new = Looks old cursor before s new
-
--- what the latest pass gives
+-- what the latest pass gives: a sample, or none at the line's end
 abbrev pub IsNextSample : Line → Option ℕ → Line → Type 0
-IsNextSample old result new = IsNextSampleAt old.cursors old result new
+IsNextSample old result new = (cursor : ℕ) (before : List ℕ) → old.cursors ≡ cursor ∷ before
+    → MatchOption result ((cursor ≡ width_of old.system) × (new ≡ old)) (λ s. Looks old cursor before s new)
 
 -- ---- the next block of a pass
 
@@ -71,13 +68,30 @@ pub record LooksAtBlock (old : Line) (cursor : ℕ) (before : List ℕ) (block :
   pub looked : new.looked ≡ old.looked + 16
   pub bytes : KeepsBytes old new
 
--- what the latest pass gives at these cursors where a block is asked for: none where fewer than sixteen samples are
--- left
-abbrev pub IsNextBlockAt : List ℕ → Line → Option (List ℕ) → Line → Type 0
-IsNextBlockAt [] old result new = ⊤
-IsNextBlockAt (cursor ∷ before) old None new = (width_of old.system < cursor + 16) × (new ≡ old)
-IsNextBlockAt (cursor ∷ before) old (Some block) new = LooksAtBlock old cursor before block new
-
--- what the latest pass gives where a block is asked for
+-- what the latest pass gives where a block is asked for: none where fewer than sixteen samples are left
 abbrev pub IsNextBlock : Line → Option (List ℕ) → Line → Type 0
-IsNextBlock old result new = IsNextBlockAt old.cursors old result new
+IsNextBlock old result new = (cursor : ℕ) (before : List ℕ) → old.cursors ≡ cursor ∷ before
+    → MatchOption result ((width_of old.system < cursor + 16) × (new ≡ old))
+    (λ block. LooksAtBlock old cursor before block new)
+
+-- ---- as the fields of a `LineBuf`
+
+-- the first bytes of the array are held, and the rest of a line's are room
+abbrev pub line_of : Inside → Line
+line_of b = record {
+  system = b.system;
+  held = take b.held b.store.bytes;
+  room = take (line_bytes b.system - b.held) (drop b.held b.store.bytes);
+  cursors = take b.passes (b.cursor ∷ b.earlier ∷ []);
+  looked = b.looked;
+}
+
+-- the bytes fit, a pass needs a whole line, and the count of samples has room for the rest of a pass
+pub record IsLine (b : Inside) : Type 0 where
+  pub bytes : length b.store.bytes ≡ 2270
+  pub held : b.held ≤ line_bytes b.system
+  pub passes : b.passes ≤ 2
+  pub cursor : b.cursor ≤ width_of b.system
+  pub earlier : b.earlier ≤ width_of b.system
+  pub looked : b.looked + (width_of b.system - b.cursor) ≤ 2 ^ 63
+  pub whole : 0 < b.passes → b.held ≡ line_bytes b.system

@@ -1,13 +1,19 @@
--- The reading of a line's levels as a function, and a line that is read and held no longer.
+-- The outcome and the reading of a line's levels as functions, and a line that is read and held no longer.
 use Rattle.std.specs.Prelude.{◌≡◌, ◌+◌, Bool, if◌then◌else◌, List, [], Option, Some, None}
 use Rattle.vbi_words.specs.Geometry.{width_of}
 use Rattle.vbi_words.specs.Levels.{Slicing, row_levels}
 use Rattle.vbi_words.specs.declared.system.System.{System}
+use Rattle.vbi_words.specs.declared.outcome.Outcome.{Outcome}
 use Rattle.vbi_words.specs.declared.outcome.Reading.{Reading}
 use Rattle.vbi_words.specs.Smooth.{smooth_of}
 use Rattle.vbi_words.specs.Readings.{reading_from}
+use Rattle.vbi_words.proofs.Found.{found}
 use Rattle.vbi_line.specs.Line.{Line}
-use Rattle.vbi_line.specs.OneOutcome.{outcome_of}
+
+-- the outcome of the levels. Its body is taken from a proof, and nobody needs to read it: the law
+-- `vbi_line::laws::one_outcome` shows that `outcome_of system levels` meets `IsOutcome`, and that nothing else does.
+unfoldable pub outcome_of : System → List Bool → Outcome
+outcome_of system levels = (found system levels).0
 
 -- the reading of the levels; the law `vbi_line::laws::one_reading` shows that it meets `IsReading`, and nothing else
 -- does

@@ -1,7 +1,10 @@
 -- Levels packed into words of 64 bits: the level of column k is bit k mod 64 of word k div 64.
-use Rattle.std.specs.Prelude.{ℕ, ◌≡◌, ◌≢◌, ◌<◌, ◌≤◌, ◌+◌, ◌/◌, ◌%◌, Bool, List, map, nat_eq, nat_lt, slice_index}
+use Rattle.std.specs.Prelude.{ℕ, ◌≡◌, ◌≢◌, ◌<◌, ◌≤◌, ◌+◌, ◌/◌, ◌%◌, Bool, false, List, length, map, nat_eq, nat_lt}
+use Rattle.std.specs.Prelude.{slice_index}
 use Rattle.std.specs.List.{range_with_len}
 use Rattle.std.specs.Int.{bit_at}
+use Rattle.vbi_words.specs.Levels.{level_at}
+use Rattle.vbi_line.specs.declared.packed.Packed.TheInside.{Inside}
 use Rattle.vbi_line.specs.Line.{sample_at}
 
 -- the level that a bit of a word stands for
@@ -19,6 +22,23 @@ packed_level words column = level_of_bit (slice_index words (column / 64)) (colu
 -- the levels of the first columns
 abbrev pub unpacked : List ℕ → ℕ → List Bool
 unpacked words width = map (packed_level words) (range_with_len 0 width)
+
+-- the levels of the line's columns
+abbrev pub packed_levels : Inside → List Bool
+packed_levels p = unpacked p.words p.width
+
+-- there is room for the longest line, and no bit past the width is set
+pub record IsPacked (p : Inside) : Type 0 where
+  pub words : length p.words ≡ 18
+  pub width : p.width ≤ 1152
+  pub rest : (column : ℕ) → p.width ≤ column → column < 1152 → packed_level p.words column ≡ false
+
+-- from the column on there are exactly count levels like this one
+pub record IsRun (levels : List Bool) (column : ℕ) (level : Bool) (count : ℕ) : Type 0 where
+  pub some : 0 < count
+  pub inside : column + count ≤ length levels
+  pub each : (i : ℕ) → i < count → level_at levels (column + i) ≡ level
+  pub ends : column + count < length levels → level_at levels (column + count) ≢ level
 
 -- count bits of the word from a place on have this level, and the next bit, if there is one, has the other
 pub record EqualBits (word place : ℕ) (level : Bool) (count : ℕ) : Type 0 where

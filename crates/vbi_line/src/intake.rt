@@ -4,8 +4,7 @@ ghost use Rattle.std.specs.Prelude.{◌≡◌, ◌+◌, ◌*◌, ◌^◌, ◌<�
 ghost use Rattle.vbi_words.specs.Geometry.{width_of, line_bytes};
 ghost use Rattle.vbi_words.specs.Levels.{row_levels};
 ghost use Rattle.vbi_line.specs.Line.{IsFull, KeepsBytes, IsCleared};
-ghost use Rattle.vbi_line.specs.OneOutcome.{outcome_of};
-ghost use Rattle.vbi_line.specs.OneReading.{ReadsLine, reading_of};
+ghost use Rattle.vbi_line.specs.OneReading.{ReadsLine, reading_of, outcome_of};
 
 use crate::counted::Counted;
 use crate::line::LineBuf;

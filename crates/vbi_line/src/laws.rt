@@ -8,11 +8,10 @@ ghost use Rattle.vbi_words.specs.declared.outcome.Reading.{Reading};
 ghost use Rattle.vbi_words.specs.Outcomes.{IsOutcome};
 ghost use Rattle.vbi_words.specs.Readings.{IsReading, reading_from};
 ghost use Rattle.vbi_words.specs.Smooth.{smooth_of};
-ghost use Rattle.vbi_line.specs.OneOutcome.{outcome_of};
-ghost use Rattle.vbi_line.specs.OneReading.{reading_of};
+ghost use Rattle.vbi_line.specs.OneReading.{reading_of, outcome_of};
 
 /// A list of levels has exactly one outcome.
-#[tactic(auto, using(crate::proofs::OneOutcome::is_outcome, crate::proofs::OneOutcome::same_outcome))]
+#[tactic(auto, using(crate::proofs::OneReading::is_outcome, crate::proofs::OneReading::same_outcome))]
 pub fn one_outcome()
     ensures is { (system : System) (levels : List Bool) → IsOutcome system levels (outcome_of system levels) }
     ensures only { (system : System) (levels : List Bool) (outcome : Outcome)

@@ -5,7 +5,7 @@ ghost use Rattle.vbi_words.specs.Geometry.{width_of};
 ghost use Rattle.vbi_words.specs.Levels.{row_levels};
 ghost use Rattle.vbi_words.specs.Outcomes.{IsOutcome};
 ghost use Rattle.vbi_line.specs.Line.{IsFull, KeepsBytes};
-ghost use Rattle.vbi_line.specs.OneOutcome.{outcome_of};
+ghost use Rattle.vbi_line.specs.OneReading.{outcome_of};
 
 use crate::decoder::Decoder;
 use crate::lanes::slice_lanes;
@@ -33,7 +33,7 @@ pub fn read_line(line: &mut LineBuf, system: System, slicing: Levels) -> Outcome
 }
 
 /// The outcome of a line's levels. Columns in it are counted from 0.
-#[tactic(auto, using(crate::proofs::OneOutcome::same_outcome))]
+#[tactic(auto, using(crate::proofs::OneReading::same_outcome))]
 pub fn read_packed(packed: &Packed, system: System) -> Outcome
     requires { length packed.now ≡ width_of system }
     ensures { result ≡ outcome_of system packed.now }

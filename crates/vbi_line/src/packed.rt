@@ -2,8 +2,7 @@
 
 ghost use Rattle.std.specs.Prelude.{◌≡◌, ℕ, ◌+◌, ◌-◌, ◌^◌, ◌<◌, ◌≤◌, ◌%◌, [], ◌++◌, length};
 ghost use Rattle.vbi_words.specs.Levels.{level_at};
-ghost use Rattle.vbi_line.specs.Packing.{level_of_bit, levels_in, EqualBits};
-ghost use Rattle.vbi_line.specs.Runs.{IsRun};
+ghost use Rattle.vbi_line.specs.Packing.{level_of_bit, levels_in, EqualBits, IsRun};
 
 use std::marker::Model;
 
@@ -21,7 +20,7 @@ impl Model for Packed {
 
     ghost Value = { List Bool };
 
-    ghost use Rattle.vbi_line.specs.PackedView.{packed_levels, IsPacked};
+    ghost use Rattle.vbi_line.specs.Packing.{packed_levels, IsPacked};
 
     ghost view = { packed_levels };
 

@@ -6,7 +6,7 @@ ghost use Rattle.vbi_line.specs.OneReading.{reading_of};
 ghost use Rattle.vbi_near.specs.Distances.{lines_of};
 ghost use Rattle.vbi_near.specs.Nearest.{far_from};
 ghost use Rattle.vbi_near.specs.Pictures.{IsPlace};
-ghost use Rattle.vbi_words.specs.CodeTable.{code_of};
+ghost use Rattle.vbi_words.specs.Codes.{code_of};
 ghost use Rattle.vbi_words.specs.Drawn.{drawn_line_of};
 ghost use Rattle.vbi_words.specs.Geometry.{line_bytes};
 ghost use Rattle.vbi_words.specs.Levels.{row_levels};

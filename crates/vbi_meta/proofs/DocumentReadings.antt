@@ -5,27 +5,20 @@ use Rattle.std.proofs.lemmas.Bool.{cases_lt}
 use Rattle.std.specs.List.{range_with_len}
 use Rattle.std.specs.Prelude.{codes}
 use Rattle.serde_json.specs.Data.{Data}
-use Rattle.serde_json.specs.Find.{at, get_item, as_str}
+use Rattle.serde_json.specs.Find.{at, get_item}
 use Rattle.serde_json.specs.Read.{read}
 use Rattle.serde_json.specs.View.{items_of}
-use Rattle.vbi_words.specs.declared.outcome.Outcome.{Outcome}
-use Rattle.vbi_words.specs.declared.outcome.Outcome.TheVariants.{Word}
-use Rattle.vbi_words.specs.declared.outcome.Reading.{Reading}
-use Rattle.vbi_words.specs.declared.system.System.{System}
-use Rattle.vbi_words.specs.Levels.{row_levels}
+use Rattle.vbi_field.specs.CodeTexts.{Outcome, Word, cause_text_of}
+use Rattle.vbi_field.specs.Stream.{Reading, fields_of, rest_of, reading_at, readings_at, row_levels, line_at}
+use Rattle.vbi_field.specs.ConfigView.{System, ConfigView}
 use Rattle.vbi_words.specs.Readings.{Reads}
 use Rattle.vbi_line.proofs.OneReading.{is_reading, only_reading}
-use Rattle.vbi_field.specs.Texts.{RowReads, whole_text}
-use Rattle.vbi_field.specs.CodeTexts.{cause_text_of}
-use Rattle.vbi_field.specs.ConfigView.{ConfigView}
+use Rattle.vbi_field.specs.Texts.{RowReads, whole_text, document}
 use Rattle.vbi_field.specs.Document.{value_of}
-use Rattle.vbi_field.specs.Kinds.{document}
-use Rattle.vbi_words.specs.Rows.{line_at}
-use Rattle.vbi_field.specs.Stream.{fields_of, rest_of, reading_at, readings_at}
 use Rattle.vbi_meta.specs.DocumentValue.{IsOfRun, document_value, field_value}
-use Rattle.vbi_meta.specs.ReadBack.{IsReadAs, field_in, word_in, HasReading, HasCut, ReadsWord, HasReadings}
-use Rattle.vbi_meta.specs.ReadBack.{ReadsBack}
-use Rattle.vbi_meta.specs.Settings.{whole, member_of}
+use Rattle.vbi_meta.specs.ReadBack.{IsReadAs, field_in, number_of, word_of, cause_of, pass_of, HasReading, HasCut}
+use Rattle.vbi_meta.specs.ReadBack.{ReadsWord, HasReadings, ReadsBack}
+use Rattle.vbi_meta.specs.Settings.{member_of}
 use Rattle.vbi_meta.proofs.DocumentReads.{document_is_read}
 
 -- ---- lists
@@ -45,21 +38,6 @@ no_item_at f a (suc n) (suc i) h = no_item_at f (a + 1) n i (omega arith)
 
 -- ---- a field
 
--- what is found in a field, as `specs/ReadBack` finds it in a text
-abbrev number_of_field : Option Data → Option ℕ
-number_of_field field = option_and_then whole (member_of field (codes "seqNo"))
-
-abbrev word_of_field : ℕ → Option Data → Option ℕ
-word_of_field k field =
-    let words = member_of (member_of field (codes "vbi")) (codes "vbiData") in
-    option_and_then whole (option_and_then (at k) words)
-
-abbrev cause_of_field : ℕ → Option Data → Option (List ℕ)
-cause_of_field k field = option_and_then as_str (option_and_then (at k) (member_of field (codes "vbiCause")))
-
-abbrev pass_of_field : ℕ → Option Data → Option ℕ
-pass_of_field k field = option_and_then whole (option_and_then (at k) (member_of field (codes "vbiPass")))
-
 module _ (c : ConfigView) (z : List ℕ) where
   -- field i as a value
   abbrev field : ℕ → Data
@@ -68,28 +46,23 @@ module _ (c : ConfigView) (z : List ℕ) where
   abbrev of_line : ℕ → ℕ → Reading
   of_line i k = reading_at c z i (15 + k)
 
-  word_there : (i k : ℕ) → k < 3 → word_of_field k (Some (field i)) ≡ Some (value_of (of_line i k).outcome)
+  word_there : (i k : ℕ) → k < 3 → word_of k (Some (field i)) ≡ Some (value_of (of_line i k).outcome)
   word_there i zero h = refl
   word_there i (suc zero) h = refl
   word_there i (suc (suc zero)) h = refl
   word_there i (suc (suc (suc k))) h = absurd (omega arith)
 
-  no_word_there : (i k : ℕ) → 3 ≤ k → word_of_field k (Some (field i)) ≡ None
+  no_word_there : (i k : ℕ) → 3 ≤ k → word_of k (Some (field i)) ≡ None
   no_word_there i k h = grind arith
 
-  cause_there : (i k : ℕ) → k < 3 → cause_of_field k (Some (field i)) ≡ Some (cause_text_of (of_line i k).outcome)
+  cause_there : (i k : ℕ) → k < 3 → cause_of k (Some (field i)) ≡ Some (cause_text_of (of_line i k).outcome)
   cause_there i zero h = refl
   cause_there i (suc zero) h = refl
   cause_there i (suc (suc zero)) h = refl
   cause_there i (suc (suc (suc k))) h = absurd (omega arith)
 
-  pass_there : (i k : ℕ) → k < 3 → pass_of_field k (Some (field i)) ≡ Some (of_line i k).pass
+  pass_there : (i k : ℕ) → k < 3 → pass_of k (Some (field i)) ≡ Some (of_line i k).pass
   pass_there i k h = grind arith
-
--- ---- the cut field
-
-abbrev number_of_cut : Data → List ℕ → Option ℕ
-number_of_cut cut name = option_and_then whole (member_of (Some cut) name)
 
 -- ---- a number other than 0 is a word
 
@@ -117,14 +90,15 @@ module _ (c : ConfigView) (z text : List ℕ) (is : read text ≡ Some (document
   not_found : (i : ℕ) → fields_of c z ≤ i → field_in text i ≡ None
   not_found i past = field_is i ∙ no_item_at (field c z) 0 (fields_of c z) i past
 
-  word_found : (i k : ℕ) → i < fields_of c z → k < 3 → word_in text i k ≡ Some (value_of (of_line c z i k).outcome)
-  word_found i k inside line = ap (word_of_field k) (found i inside) ∙ word_there c z i k line
+  word_found : (i k : ℕ) → i < fields_of c z → k < 3
+      → word_of k (field_in text i) ≡ Some (value_of (of_line c z i k).outcome)
+  word_found i k inside line = ap (word_of k) (found i inside) ∙ word_there c z i k line
 
   has_reading : (i k : ℕ) → i < fields_of c z → k < 3 → HasReading text i k (of_line c z i k)
   has_reading i k inside line = record {
     word = word_found i k inside line;
-    cause = ap (cause_of_field k) (found i inside) ∙ cause_there c z i k line;
-    pass = ap (pass_of_field k) (found i inside) ∙ pass_there c z i k line;
+    cause = ap (cause_of k) (found i inside) ∙ cause_there c z i k line;
+    pass = ap (pass_of k) (found i inside) ∙ pass_there c z i k line;
   }
 
   has_same_reading : (i k : ℕ) (reading : Reading) → i < fields_of c z → k < 3 → RowReads c z i (15 + k) reading
@@ -134,14 +108,14 @@ module _ (c : ConfigView) (z text : List ℕ) (is : read text ≡ Some (document
       (row_levels c.levels (line_at c.system z i (15 + k))) reading reads in
       subst (HasReading text i k) (sym same) (has_reading i k inside line)
 
-  reads_word : (i k word : ℕ) → word_in text i k ≡ Some word → 0 < word → ReadsWord c z text i k word
+  reads_word : (i k word : ℕ) → word_of k (field_in text i) ≡ Some word → 0 < word → ReadsWord c z text i k word
   reads_word i k word e some = go (cases_lt i (fields_of c z)) (cases_lt k 3)
     where
       go : (i < fields_of c z) ⊎ (fields_of c z ≤ i) → (k < 3) ⊎ (3 ≤ k) → ReadsWord c z text i k word
       go (inr past) line =
-          let none : 0 ≡ word = ap value_or (sym (ap (word_of_field k) (not_found i past)) ∙ e) in absurd (omega arith)
+          let none : 0 ≡ word = ap value_or (sym (ap (word_of k) (not_found i past)) ∙ e) in absurd (omega arith)
       go (inl inside) (inr past) =
-          let none : 0 ≡ word = ap value_or (sym (ap (word_of_field k) (found i inside) ∙ no_word_there c z i k past)
+          let none : 0 ≡ word = ap value_or (sym (ap (word_of k) (found i inside) ∙ no_word_there c z i k past)
           ∙ e) in
           absurd (omega arith)
       go (inl inside) (inl line) =
@@ -162,7 +136,7 @@ module _ (c : ConfigView) (z text : List ℕ) (is : read text ≡ Some (document
 
   pub has_readings : HasReadings c z text
   has_readings = record {
-    numbers = λ i inside. ap (λ d. number_of_field d) (found i inside);
+    numbers = λ i inside. ap number_of (found i inside);
     nothing = not_found;
     each = λ i k inside line. (of_line c z i k, is_reading c.system _, has_reading i k inside line);
     lines = has_same_reading;

@@ -13,14 +13,9 @@ use Rattle.json.specs.Spaced.{AreGaps, print_spaced}
 use Rattle.json.specs.Tree.{json_tokens, depth}
 use Rattle.serde_json.specs.Data.{Data}
 use Rattle.serde_json.specs.Read.{of_json, max_depth, read}
-use Rattle.vbi_words.specs.declared.system.System.{System}
-use Rattle.vbi_words.specs.declared.system.System.TheVariants.{Ntsc, Pal}
-use Rattle.vbi_words.specs.Geometry.{field_bytes}
-use Rattle.vbi_field.specs.ConfigView.{ConfigView}
-use Rattle.vbi_field.specs.Kinds.{document}
-use Rattle.vbi_field.specs.Limits.{most_fields}
+use Rattle.vbi_field.specs.ConfigView.{System, ConfigView, most_fields, Ntsc, Pal, field_bytes}
+use Rattle.vbi_field.specs.Texts.{document, text_before_tail, whole_text}
 use Rattle.vbi_field.specs.Stream.{fields_of, rest_of, readings_at}
-use Rattle.vbi_field.specs.Texts.{text_before_tail, whole_text}
 use Rattle.vbi_meta.specs.DocumentValue.{IsOfRun, document_value}
 use Rattle.vbi_meta.specs.ReadBack.{IsReadAs}
 use Rattle.vbi_meta.proofs.DocumentTexts.{tokens_of, document_json, pieces, pieces_tokens, pieces_gaps, pieces_print}

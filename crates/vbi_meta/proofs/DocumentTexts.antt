@@ -1,7 +1,6 @@
 -- The text of a whole document as tokens, each with a gap before it.
 use Rattle.std.proofs.Common.{◌≡◌, ℕ, ◌+◌, ◌==◌, Bool, true, false, cond, List, [], ◌∷◌, ◌++◌, decimal, refl, sym, ap}
-use Rattle.std.proofs.Common.{◌∙◌, subst}
-use Rattle.std.proofs.Common.{append_assoc, append-nil, map, inr}
+use Rattle.std.proofs.Common.{◌∙◌, subst, append_assoc, append-nil, map, inr}
 use Rattle.std.specs.List.{join_by}
 use Rattle.std.specs.Prelude.{codes, flat_map}
 use Rattle.json.specs.Json as json
@@ -9,10 +8,7 @@ use Rattle.json.specs.Print.{escape, escape_byte}
 use Rattle.json.specs.Spaced.{IsGap, AreGaps, print_spaced}
 use Rattle.json.specs.Token.{Token, begin_object, begin_array, end_array, key, number}
 use Rattle.json.specs.Tree.{json_tokens, items_tokens, members_tokens}
-use Rattle.vbi_words.specs.declared.system.System.{System}
-use Rattle.vbi_words.specs.declared.system.System.TheVariants.{Ntsc, Pal}
-use Rattle.vbi_words.specs.Geometry.{width_of, height_of, name_of}
-use Rattle.vbi_field.specs.ConfigView.{ConfigView}
+use Rattle.vbi_field.specs.ConfigView.{System, ConfigView, Ntsc, Pal, width_of, height_of, name_of}
 use Rattle.vbi_field.specs.Document.{head_of, record_of, tail_of}
 use Rattle.vbi_field.specs.declared.readings.FieldReadings.{FieldReadings}
 use Rattle.vbi_meta.proofs.RecordTexts.{Pieces, plain, gapped, count_json, record_json, quoted_then, record_prints}

@@ -1,8 +1,7 @@
 -- A line feed behind a text adds no token to it (JSON of RFC 8259, by the rules of the library `json`).
-use Rattle.std.proofs.Common.{◌≡◌, ℕ, ◌+◌, ◌-◌, Bool, true, false, cond, ◌&&◌, ◌||◌, ◌==◌, not, nat_lt, nat_eq}
-use Rattle.std.proofs.Common.{List, [], ◌∷◌, ◌++◌}
-use Rattle.std.proofs.Common.{length, take, drop, Option, Some, None, option_map, option_and_then, refl, ap, ap₂, ◌∙◌}
-use Rattle.std.proofs.Common.{arith}
+use Rattle.std.proofs.Common.{◌≡◌, ℕ, ◌+◌, ◌-◌, Bool, true, false, cond, ◌&&◌, ◌||◌, ◌==◌, not, nat_lt, nat_eq, List}
+use Rattle.std.proofs.Common.{[], ◌∷◌, ◌++◌, length, take, drop, Option, Some, None, option_map, option_and_then, refl}
+use Rattle.std.proofs.Common.{ap, ap₂, ◌∙◌, arith}
 use Rattle.std.proofs.lemmas.Bool.{not-true, and_parts}
 use Rattle.std.proofs.lemmas.List.{drop-append-le, take-append-le, length-append}
 use Rattle.std.proofs.lemmas.List.Sums.{prefix_len-le-length}
@@ -10,15 +9,12 @@ use Rattle.std.specs.Char.{is_ascii_digit, is_digit, encode_utf8}
 use Rattle.std.specs.Cmp.Lexicographic.{pointwise}
 use Rattle.std.specs.List.{prefix_len}
 use Rattle.json.specs.Lex.{Class, quote, backslash, operator, space, other, class, Mode, between, in_word, in_string}
-use Rattle.json.specs.Lex.{in_escape}
-use Rattle.json.specs.Lex.{token, string_token, operator_lexeme, lex_byte, lex, fresh, punctuate, tokens}
+use Rattle.json.specs.Lex.{in_escape, token, string_token, operator_lexeme, lex_byte, lex, fresh, punctuate, tokens}
 use Rattle.json.specs.Text.{Within, plain, after_backslash, after_u, after_high, code_unit, short_escape, content}
-use Rattle.json.specs.Text.{prepend}
-use Rattle.json.specs.Text.{is_high_surrogate, is_low_surrogate, surrogate_pair}
+use Rattle.json.specs.Text.{prepend, is_high_surrogate, is_low_surrogate, surrogate_pair}
 use Rattle.json.specs.Token.{Token, number, boolean, null, bad}
 use Rattle.json.specs.Word.{ends_word, after_digits, after_minus, after_sign, after_whole, after_fraction}
-use Rattle.json.specs.Word.{after_exponent}
-use Rattle.json.specs.Word.{after_number, number_before, literal, word}
+use Rattle.json.specs.Word.{after_exponent, after_number, number_before, literal, word}
 use Rattle.json.specs.Ascii.{true_text, false_text, null_text}
 
 -- the text, and a line feed behind it

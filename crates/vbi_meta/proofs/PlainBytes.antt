@@ -6,7 +6,7 @@ use Rattle.std.proofs.lemmas.Fmt.{decimal_is_IsNumeral}
 use Rattle.std.proofs.lemmas.Str.Parse.{digit_from_value}
 use Rattle.std.specs.List.{AllByRecursion}
 use Rattle.std.specs.Str.Parse.{AllDigits}
-use Rattle.vbi_meta.specs.Plain.{IsPlain}
+use Rattle.vbi_meta.specs.ReadBack.{IsPlain}
 
 -- each byte of the text is plain
 pub record Plain (text : List ℕ) : Type 0 where

@@ -11,21 +11,14 @@ use Rattle.json.specs.Print.{ArePrintable}
 use Rattle.json.specs.Spaced.{print_spaced}
 use Rattle.json.specs.Token.{Token}
 use Rattle.json.specs.Tree.{json_tokens}
-use Rattle.vbi_words.specs.declared.outcome.Outcome.{Outcome}
-use Rattle.vbi_words.specs.declared.outcome.Outcome.TheVariants.{Word, Blank, Unfinished, Change, Hold}
-use Rattle.vbi_words.specs.declared.system.System.{System}
-use Rattle.vbi_words.specs.declared.system.System.TheVariants.{Ntsc, Pal}
-use Rattle.vbi_words.specs.Geometry.{field_bytes}
-use Rattle.vbi_words.specs.Levels.{row_levels}
+use Rattle.vbi_field.specs.CodeTexts.{Outcome, Word, Blank, Unfinished, Change, Hold}
+use Rattle.vbi_field.specs.ConfigView.{System, ConfigView, Ntsc, Pal, field_bytes}
+use Rattle.vbi_field.specs.Stream.{row_levels, line_at, fields_of, rest_of, reading_at, readings_at}
 use Rattle.vbi_words.specs.Readings.{Reads}
 use Rattle.vbi_line.proofs.OneReading.{is_reading}
-use Rattle.vbi_field.specs.ConfigView.{ConfigView}
-use Rattle.vbi_field.specs.Kinds.{document}
-use Rattle.vbi_words.specs.Rows.{line_at}
-use Rattle.vbi_field.specs.Stream.{fields_of, rest_of, reading_at, readings_at}
-use Rattle.vbi_field.specs.Texts.{text_before_tail, whole_text}
+use Rattle.vbi_field.specs.Texts.{document, text_before_tail, whole_text}
 use Rattle.vbi_meta.specs.DocumentValue.{IsOfRun}
-use Rattle.vbi_meta.specs.Plain.{IsPlain, IsSmall, IsPlainText}
+use Rattle.vbi_meta.specs.ReadBack.{IsPlain, IsSmall, IsPlainText}
 use Rattle.vbi_meta.proofs.DocumentReads.{few_fields}
 use Rattle.vbi_meta.proofs.DocumentTexts.{tokens_of, document_json, pieces, pieces_tokens, pieces_gaps, pieces_print}
 use Rattle.vbi_meta.proofs.LineFeeds.{tokens-line_feed}

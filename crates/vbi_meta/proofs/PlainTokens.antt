@@ -9,15 +9,12 @@ use Rattle.json.specs.Print.{escape, escape_byte, quoted, token_text, begins, en
 use Rattle.json.specs.Spaced.{IsGap, AreGaps, print_spaced}
 use Rattle.json.specs.Token.{Token}
 use Rattle.json.specs.Tree.{json_tokens, items_tokens, members_tokens}
-use Rattle.vbi_words.specs.declared.outcome.Reading.{Reading}
-use Rattle.vbi_words.specs.declared.system.System.{System}
-use Rattle.vbi_words.specs.declared.system.System.TheVariants.{Ntsc, Pal}
-use Rattle.vbi_words.specs.Geometry.{width_of, height_of, name_of}
-use Rattle.vbi_field.specs.CodeTexts.{cause_text_of}
-use Rattle.vbi_field.specs.ConfigView.{ConfigView}
-use Rattle.vbi_field.specs.Document.{value_of}
+use Rattle.vbi_field.specs.Stream.{Reading}
 use Rattle.vbi_field.specs.declared.readings.FieldReadings.{FieldReadings}
-use Rattle.vbi_meta.specs.Plain.{IsPlain, IsSmall}
+use Rattle.vbi_field.specs.ConfigView.{System, ConfigView, Ntsc, Pal, width_of, height_of, name_of}
+use Rattle.vbi_field.specs.CodeTexts.{cause_text_of}
+use Rattle.vbi_field.specs.Document.{value_of}
+use Rattle.vbi_meta.specs.ReadBack.{IsPlain, IsSmall}
 use Rattle.vbi_meta.proofs.DocumentTexts.{tokens_of, parameters_json, cut_json, entries_json, document_json}
 use Rattle.vbi_meta.proofs.PlainBytes.{Plain, then, known, are_plain, count}
 use Rattle.vbi_meta.proofs.RecordTexts.{Pieces, count_json, lines_json, words_json, record_json}

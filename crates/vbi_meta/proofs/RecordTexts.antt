@@ -6,10 +6,10 @@ use Rattle.json.specs.Print.{escape, escape_byte, quoted}
 use Rattle.json.specs.Spaced.{print_spaced}
 use Rattle.json.specs.Token.{Token}
 use Rattle.json.specs.Tree.{json_tokens}
-use Rattle.vbi_words.specs.declared.outcome.Reading.{Reading}
+use Rattle.vbi_field.specs.Stream.{Reading}
+use Rattle.vbi_field.specs.declared.readings.FieldReadings.{FieldReadings}
 use Rattle.vbi_field.specs.CodeTexts.{cause_text_of}
 use Rattle.vbi_field.specs.Document.{value_of, record_of, lines_of}
-use Rattle.vbi_field.specs.declared.readings.FieldReadings.{FieldReadings}
 use Rattle.vbi_meta.proofs.ShownLines.{AreShown}
 
 -- ---- tokens and gaps

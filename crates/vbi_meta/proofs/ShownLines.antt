@@ -10,22 +10,15 @@ use Rattle.std.specs.Str.Parse.{AllDigits}
 use Rattle.json.proofs.Printed.Strings.{escape_byte_plain}
 use Rattle.json.proofs.Printed.Utf8.{are_ascii, IsUtf8-are_ascii}
 use Rattle.json.specs.Print.{escape, escape_byte}
-use Rattle.vbi_words.specs.declared.outcome.Outcome.{Outcome}
-use Rattle.vbi_words.specs.declared.outcome.Outcome.TheVariants.{Word, Blank, Unfinished, Change, Hold}
-use Rattle.vbi_words.specs.declared.outcome.Reading.{Reading}
-use Rattle.vbi_words.specs.declared.system.System.{System}
-use Rattle.vbi_words.specs.declared.system.System.TheVariants.{Ntsc, Pal}
-use Rattle.vbi_words.specs.Geometry.{line_bytes, field_bytes}
-use Rattle.vbi_words.specs.Levels.{samples_of, is_high_of, row_levels}
+use Rattle.vbi_field.specs.CodeTexts.{Outcome, Word, Blank, Unfinished, Change, Hold, cause_text_of}
+use Rattle.vbi_field.specs.Stream.{Reading, reading_at, readings_at, row_levels, line_at}
+use Rattle.vbi_field.specs.declared.readings.FieldReadings.{FieldReadings}
+use Rattle.vbi_field.specs.ConfigView.{System, ConfigView, Ntsc, Pal, line_bytes, field_bytes}
+use Rattle.vbi_words.specs.Levels.{samples_of, is_high_of}
 use Rattle.vbi_words.specs.Outcomes.{FirstHopeless}
 use Rattle.vbi_words.specs.Readings.{Reads}
 use Rattle.vbi_line.proofs.OneReading.{is_reading}
-use Rattle.vbi_field.specs.CodeTexts.{cause_text_of}
-use Rattle.vbi_field.specs.ConfigView.{ConfigView}
 use Rattle.vbi_field.specs.Document.{value_of}
-use Rattle.vbi_words.specs.Rows.{line_at}
-use Rattle.vbi_field.specs.Stream.{reading_at, readings_at}
-use Rattle.vbi_field.specs.declared.readings.FieldReadings.{FieldReadings}
 
 -- a reading that a line of a stream can have
 pub record IsShown (reading : Reading) : Type 0 where

@@ -1,9 +1,7 @@
 -- Trees of JSON and the values that they are read as, built together, and those of a document.
 use Rattle.std.proofs.Common.{◌≡◌, ◌≢◌, ℕ, suc, zero, ◌+◌, ◌<◌, ◌≤◌, ◌^◌, ◌==◌, ◌&&◌, not, Bool, true, false, cond}
-use Rattle.std.proofs.Common.{bytes_eq, get_or, length}
-use Rattle.std.proofs.Common.{List, [], ◌∷◌, ◌++◌, Some, option_map, option_and_then, decimal, IsUtf8, map, refl, sym}
-use Rattle.std.proofs.Common.{ap, ap₂, ◌∙◌, subst}
-use Rattle.std.proofs.Common.{arith, lit<, lit≤}
+use Rattle.std.proofs.Common.{bytes_eq, get_or, length, List, [], ◌∷◌, ◌++◌, Some, option_map, option_and_then, decimal}
+use Rattle.std.proofs.Common.{IsUtf8, map, refl, sym, ap, ap₂, ◌∙◌, subst, arith, lit<, lit≤}
 use Rattle.std.proofs.lemmas.Bool.{true≢false, not-true, and_parts}
 use Rattle.std.proofs.lemmas.Slice.Eq.{bytes_eq-Decides}
 use Rattle.std.proofs.lemmas.Str.{IsUtf8-append, IsUtf8-nil}
@@ -24,16 +22,13 @@ use Rattle.serde_json.proofs.Numbers.{number_of-decimal}
 use Rattle.serde_json.specs.Data.{Data, null, number, string, array, object, item, Members, put}
 use Rattle.serde_json.specs.Read.{max_depth, of_json, of_items, of_members}
 use Rattle.serde_json.specs.View.{items_of}
-use Rattle.vbi_words.specs.declared.system.System.{System}
-use Rattle.vbi_words.specs.declared.system.System.TheVariants.{Ntsc, Pal}
-use Rattle.vbi_words.specs.declared.outcome.Reading.{Reading}
-use Rattle.vbi_words.specs.Geometry.{width_of, height_of, name_of}
-use Rattle.vbi_field.specs.CodeTexts.{cause_text_of}
-use Rattle.vbi_field.specs.ConfigView.{ConfigView}
-use Rattle.vbi_field.specs.Document.{value_of}
+use Rattle.vbi_field.specs.ConfigView.{System, ConfigView, Ntsc, Pal, width_of, height_of, name_of}
+use Rattle.vbi_field.specs.Stream.{Reading}
 use Rattle.vbi_field.specs.declared.readings.FieldReadings.{FieldReadings}
-use Rattle.vbi_meta.specs.DocumentValue.{object_of, array_of, whole_of, lines_value, words_value, field_value}
-use Rattle.vbi_meta.specs.DocumentValue.{parameters_value, cut_field_value, cut_value}
+use Rattle.vbi_field.specs.CodeTexts.{cause_text_of}
+use Rattle.vbi_field.specs.Document.{value_of}
+use Rattle.vbi_meta.specs.DocumentValue.{object_of, array_of, whole_of, lines_value, field_value}
+use Rattle.vbi_meta.specs.DocumentValue.{parameters_value, cut_value}
 use Rattle.vbi_meta.proofs.DocumentTexts.{tokens_of, parameters_json, cut_json, entries_json, document_json}
 use Rattle.vbi_meta.proofs.RecordTexts.{Pieces, count_json, lines_json, words_json, record_json}
 use Rattle.vbi_meta.proofs.ShownLines.{AreShown, decimal_utf8}
@@ -173,7 +168,8 @@ lines_read : (tree : Reading → json.Json) (said : Reading → Data) (readings 
     → Reads (tree readings.third) (said readings.third) → Reads (lines_json tree readings) (lines_value said readings)
 lines_read tree said readings a b c = array_reads (with_item a (with_item b (with_item c no_item)))
 
-words_read : (readings : FieldReadings) → AreShown readings → Reads (words_json readings) (words_value readings)
+words_read : (readings : FieldReadings) → AreShown readings → Reads (words_json readings)
+    (object_of ((codes "vbiData", lines_value (λ x. whole_of (value_of x.outcome)) readings) ∷ []))
 words_read readings shown =
     object_reads refl
     (with_member (codes "vbiData") refl
@@ -227,7 +223,8 @@ parameters_read c black white =
     (with_member (codes "white16bIre") refl (count_reads c.levels.white white) no_member)))))
 
 cut_reads : (whole : Bool) (n bytes : ℕ) → n < 2 ^ 64 → bytes < 2 ^ 64
-    → Reads (cut_json whole n bytes) (cond whole null (cut_field_value n bytes))
+    → Reads (cut_json whole n bytes)
+    (cond whole null (object_of ((codes "seqNo", whole_of n) ∷ (codes "bytes", whole_of bytes) ∷ [])))
 cut_reads true n bytes hn hb = null_reads
 cut_reads false n bytes hn hb =
     object_reads refl

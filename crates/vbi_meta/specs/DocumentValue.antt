@@ -5,14 +5,11 @@ use Rattle.std.specs.Prelude.{ℕ, ◌+◌, ◌^◌, ◌<◌, ◌≤◌, ◌==�
 use Rattle.std.specs.List.{range_with_len}
 use Rattle.serde_json.specs.Data.{Data, unsigned, null, number, string, array, object, no_members, put}
 use Rattle.serde_json.specs.View.{items_of}
-use Rattle.vbi_words.specs.declared.outcome.Reading.{Reading}
-use Rattle.vbi_words.specs.Geometry.{width_of, height_of, name_of}
-use Rattle.vbi_field.specs.Limits.{most_fields}
-use Rattle.vbi_field.specs.CodeTexts.{cause_text_of}
-use Rattle.vbi_field.specs.ConfigView.{ConfigView, allowed_bytes}
-use Rattle.vbi_field.specs.Document.{value_of}
-use Rattle.vbi_field.specs.Stream.{fields_of, rest_of, readings_at}
+use Rattle.vbi_field.specs.Stream.{Reading, fields_of, rest_of, readings_at}
 use Rattle.vbi_field.specs.declared.readings.FieldReadings.{FieldReadings}
+use Rattle.vbi_field.specs.ConfigView.{width_of, height_of, name_of, most_fields, ConfigView, allowed_bytes}
+use Rattle.vbi_field.specs.CodeTexts.{cause_text_of}
+use Rattle.vbi_field.specs.Document.{value_of}
 
 -- ---- which streams
 
@@ -47,16 +44,14 @@ whole_of n = number (unsigned n)
 abbrev pub lines_value : (Reading → Data) → FieldReadings → Data
 lines_value said readings = array_of (said readings.first ∷ said readings.second ∷ said readings.third ∷ [])
 
--- the words of a field's lines, 0 where there is none
-abbrev pub words_value : FieldReadings → Data
-words_value readings =
-    object_of ((codes "vbiData", lines_value (λ reading. whole_of (value_of reading.outcome)) readings) ∷ [])
-
--- a field, by its number from 1 and its readings
+-- a field, by its number from 1 and its readings; the words of its lines are 0 where there is none
 abbrev pub field_value : ℕ → FieldReadings → Data
 field_value n readings = object_of (
     (codes "seqNo", whole_of n)
-    ∷ (codes "vbi", words_value readings)
+    ∷ (
+      codes "vbi",
+      object_of ((codes "vbiData", lines_value (λ reading. whole_of (value_of reading.outcome)) readings) ∷ []),
+    )
     ∷ (codes "vbiCause", lines_value (λ reading. string (cause_text_of reading.outcome)) readings)
     ∷ (codes "vbiPass", lines_value (λ reading. whole_of reading.pass) readings)
     ∷ [])
@@ -71,23 +66,17 @@ parameters_value c = object_of (
     ∷ (codes "white16bIre", whole_of c.levels.white)
     ∷ [])
 
--- the whole fields of a stream, in order
-abbrev pub fields_value : ConfigView → List ℕ → Data
-fields_value c z = array_of (map (λ i. field_value (i + 1) (readings_at c z i)) (range_with_len 0 (fields_of c z)))
-
--- a cut field, by its number from 1 and its bytes
-abbrev pub cut_field_value : ℕ → ℕ → Data
-cut_field_value n bytes = object_of ((codes "seqNo", whole_of n) ∷ (codes "bytes", whole_of bytes) ∷ [])
-
 -- a cut last field, by the number of whole fields and the bytes past them, or null
 abbrev pub cut_value : ℕ → ℕ → Data
-cut_value fields rest = if rest == 0 then null else cut_field_value (fields + 1) rest
+cut_value fields rest =
+    if rest == 0 then null
+    else object_of ((codes "seqNo", whole_of (fields + 1)) ∷ (codes "bytes", whole_of rest) ∷ [])
 
 -- the document of a stream
 abbrev pub document_value : ConfigView → List ℕ → Data
 document_value c z = object_of (
     (codes "version", whole_of 2)
     ∷ (codes "videoParameters", parameters_value c)
-    ∷ (codes "fields", fields_value c z)
+    ∷ (codes "fields", array_of (map (λ i. field_value (i + 1) (readings_at c z i)) (range_with_len 0 (fields_of c z))))
     ∷ (codes "cutField", cut_value (fields_of c z) (rest_of c z))
     ∷ [])

@@ -1,6 +1,4 @@
 pub mod DocumentValue
-pub mod Metadata
-pub mod Plain
 pub mod ReadBack
 pub mod Settings
 pub use Rattle.serde_json.specs.Data

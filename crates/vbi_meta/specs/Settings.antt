@@ -1,20 +1,19 @@
 -- The settings that metadata and options give together: refusals in their order, of which the first that holds counts,
 -- and the values where none holds. The members are those of ld-decode's `.tbc.json`; the order is this project's own.
-use Rattle.std.specs.Prelude.{◌≡◌, ℕ, ◌^◌, ◌==◌, ◌&&◌, ◌||◌, Bool, true, false, not, nat_lt, nat_le}
-use Rattle.std.specs.Prelude.{List, [], ◌∷◌, ◌++◌, codes, if◌then◌else◌}
-use Rattle.std.specs.Prelude.{Option, Some, None, is_some, is_none, option_map, option_and_then, unwrap_or}
-use Rattle.serde_json.specs.Data.{Data}
+use Rattle.std.specs.Prelude.{◌≡◌, ℕ, ◌^◌, ◌==◌, ◌&&◌, ◌||◌, Bool, true, false, not, nat_lt, nat_le, List, [], ◌∷◌}
+use Rattle.std.specs.Prelude.{◌++◌, codes, if◌then◌else◌, Option, Some, None, is_some, is_none, option_map}
+use Rattle.std.specs.Prelude.{option_and_then, unwrap_or, ◌<◌, ◌≤◌, length, IsUtf8}
+use Rattle.std.specs.Option.{option_or, option_map_or}
+pub use Rattle.serde_json.specs.Data.{Data, depth}
 use Rattle.serde_json.specs.Find.{get, as_bool, as_number, as_str, as_object, as_u64}
-use Rattle.vbi_words.specs.declared.system.System.{System}
-use Rattle.vbi_words.specs.declared.system.System.TheVariants.{Ntsc, Pal}
-use Rattle.vbi_words.specs.Geometry.{width_of, height_of, system_named}
-use Rattle.vbi_field.specs.ConfigView.{ConfigView}
-use Rattle.vbi_field.specs.Limits.{most_fields}
+use Rattle.vbi_field.specs.ConfigView.{System, ConfigView, most_fields, Ntsc, Pal, width_of, height_of, system_named}
 use Rattle.vbi_meta.specs.declared.choosing.Overrides.{Overrides}
 use Rattle.vbi_meta.specs.declared.fault.MetaFault.{MetaFault}
 use Rattle.vbi_meta.specs.declared.fault.MetaFault.TheVariants.{NoVideoParameters, NoSystem, UnknownSystem}
 use Rattle.vbi_meta.specs.declared.fault.MetaFault.TheVariants.{SystemsDisagree, NoBlack, BadBlack, NoWhite, BadWhite}
 use Rattle.vbi_meta.specs.declared.fault.MetaFault.TheVariants.{LevelsOrder, WidthDiffers, HeightDiffers, BadMaxFields}
+use Rattle.vbi_meta.specs.declared.fault.MetaFault.TheVariants.{TooLarge, NotJson, OutOfMemory}
+use Rattle.serde_json.specs.Read.{read}
 
 -- ---- the members
 
@@ -45,19 +44,14 @@ level_of member = option_and_then (λ n. if nat_lt n (2 ^ 16) then Some n else N
 
 -- ---- what is chosen
 
--- the first of two values that is there
-abbrev pub or_else : {A : Type 0} → Option A → Option A → Option A
-or_else (Some a) b = Some a
-or_else None b = b
-
 -- the option's system, else that of `system`, else that of `isSourcePal`
 abbrev pub chosen_system : Option System → Option Data → Option Data → Option System
 chosen_system given name flag =
-    or_else given (or_else (option_and_then named_system name) (option_and_then flagged_system flag))
+    option_or given (option_or (option_and_then named_system name) (option_and_then flagged_system flag))
 
 -- the option's level, else the member's
 abbrev pub chosen_level : Option ℕ → Option Data → Option ℕ
-chosen_level given member = or_else given (option_and_then level_of member)
+chosen_level given member = option_or given (option_and_then level_of member)
 
 -- the option's limit of fields, else the greatest
 abbrev pub chosen_limit : Option ℕ → ℕ
@@ -67,23 +61,16 @@ chosen_limit given = unwrap_or given most_fields
 
 -- it is there, and gives no value
 abbrev pub is_bad : {A B : Type 0} → (A → Option B) → Option A → Bool
-is_bad value None = false
-is_bad value (Some a) = is_none (value a)
+is_bad value member = option_map_or (λ a. is_none (value a)) member false
 
 -- it is there, and isn't this whole number
 abbrev pub is_other : ℕ → Option Data → Bool
-is_other n None = false
-is_other n (Some member) = not (unwrap_or (option_map (λ m. m == n) (whole member)) false)
-
--- two systems are one
-abbrev pub same_system : System → System → Bool
-same_system Ntsc Ntsc = true
-same_system Pal Pal = true
-same_system _ _ = false
+is_other n member = option_map_or (λ m. not (option_map_or (λ k. k == n) (whole m) false)) member false
 
 -- both are there, and differ
 abbrev pub disagree : Option System → Option System → Bool
-disagree (Some s) (Some t) = not (same_system s t)
+disagree (Some Ntsc) (Some Pal) = true
+disagree (Some Pal) (Some Ntsc) = true
 disagree _ _ = false
 
 -- ---- the refusals in order
@@ -165,3 +152,24 @@ pub record IsSettled (document : Option Data) (given : Overrides) (config : Conf
   pub white : chosen_level given.white (member_of (option_and_then parameters_of document) (codes "white16bIre"))
       ≡ Some config.levels.white
   pub max_fields : config.max_fields ≡ chosen_limit given.max_fields
+
+-- ---- the bytes of a metadata file (JSON of RFC 8259, in serde_json's reading; the limits are this project's own)
+
+-- the most bytes of a document
+abbrev pub most_bytes : ℕ
+most_bytes = 268435456
+
+-- the bytes are JSON in UTF-8, nested at most 127 deep, and this is what it says
+pub record IsMetadata (bytes : List ℕ) (document : Data) : Type 0 where
+  pub short : length bytes ≤ most_bytes
+  pub utf8 : IsUtf8 bytes
+  pub reading : read bytes ≡ Some document
+  pub nested : depth document ≤ 127
+
+-- these bytes give no document for this reason: they are over the limit; or they are within it and are none; or they
+-- are within it, and memory was refused, as it can be where there is a byte at all
+abbrev pub IsUnread : List ℕ → MetaFault → Type 0
+IsUnread bytes TooLarge = most_bytes < length bytes
+IsUnread bytes NotJson = (length bytes ≤ most_bytes) × ((document : Data) → ¬ IsMetadata bytes document)
+IsUnread bytes OutOfMemory = (length bytes ≤ most_bytes) × (0 < length bytes)
+IsUnread bytes _ = ⊥

@@ -3,12 +3,10 @@
 ghost use Rattle.std.specs.Prelude.{ℕ, List, Option};
 ghost use Rattle.vbi_field.specs.ConfigView.{ConfigView};
 ghost use Rattle.vbi_field.specs.Extracts.{ExtractsAll};
-ghost use Rattle.vbi_field.specs.Kinds.{document};
-ghost use Rattle.vbi_meta.specs.Plain.{IsPlainText};
-ghost use Rattle.vbi_field.specs.Texts.{whole_text};
+ghost use Rattle.vbi_field.specs.Texts.{document, whole_text};
+ghost use Rattle.vbi_meta.specs.ReadBack.{IsPlainText, IsReadAs, HasReadings, ReadsBack};
 ghost use Rattle.vbi_field.specs.declared.summary.Summary.{Summary};
 ghost use Rattle.vbi_meta.specs.DocumentValue.{IsConfig, IsOfRun, document_value};
-ghost use Rattle.vbi_meta.specs.ReadBack.{IsReadAs, HasReadings, ReadsBack};
 
 /// The document of a stream is JSON in UTF-8, its value is the one that `specs/DocumentValue` names member by member,
 /// and no object in it has a key twice.

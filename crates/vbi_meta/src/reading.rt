@@ -2,7 +2,7 @@
 
 ghost use Rattle.std.specs.Prelude.{◌<◌, ◌↔◌, length, IfOk, IfErr, IsErrOf};
 ghost use Rattle.serde_json.specs.View.{view};
-ghost use Rattle.vbi_meta.specs.Metadata.{IsMetadata, IsUnread};
+ghost use Rattle.vbi_meta.specs.Settings.{IsMetadata, IsUnread};
 
 use crate::fault::MetaFault;
 use serde_json::Value;

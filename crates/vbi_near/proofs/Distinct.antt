@@ -14,7 +14,7 @@ use Rattle.vbi_words.specs.declared.system.System.{System}
 use Rattle.vbi_words.specs.Geometry.{width_of}
 use Rattle.vbi_words.specs.Levels.{Slicing}
 use Rattle.vbi_words.specs.Words.{IsWord, halves_of}
-use Rattle.vbi_words.specs.Distance.{differs, differences}
+use Rattle.vbi_words.specs.Jitter.{differs, differences}
 use Rattle.vbi_words.proofs.Bits
 use Rattle.vbi_words.proofs.Shown.{word_bits}
 use Rattle.vbi_words.proofs.Apart.{differences_sym}

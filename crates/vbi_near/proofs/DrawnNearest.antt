@@ -12,7 +12,7 @@ use Rattle.vbi_words.specs.declared.system.System.TheVariants.{Ntsc, Pal}
 use Rattle.vbi_words.specs.Geometry.{width_of}
 use Rattle.vbi_words.specs.Levels.{Slicing}
 use Rattle.vbi_words.specs.Words.{IsWord, cell_of, halves_of}
-use Rattle.vbi_words.specs.Distance.{differences}
+use Rattle.vbi_words.specs.Jitter.{differences}
 use Rattle.vbi_words.proofs.Shown.{word_bits}
 use Rattle.vbi_near.specs.declared.near.Near.{Near}
 use Rattle.vbi_near.specs.Pictures.{half_length, IsPlace, picture_of, sample_of, drawn_as}

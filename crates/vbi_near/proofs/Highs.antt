@@ -7,7 +7,7 @@ use Rattle.std.proofs.lemmas.List.{length-replicate, replicate-append-replicate}
 use Rattle.vbi_words.specs.declared.system.System.{System}
 use Rattle.vbi_words.specs.declared.system.System.TheVariants.{Ntsc, Pal}
 use Rattle.vbi_words.specs.Words.{cell_of}
-use Rattle.vbi_words.specs.Distance.{differs, differences}
+use Rattle.vbi_words.specs.Jitter.{differs, differences}
 use Rattle.vbi_words.proofs.Apart.{differences_sym}
 use Rattle.vbi_near.specs.Pictures.{half_length, column_of, drawn_halves}
 use Rattle.vbi_near.specs.Apart.{picture_distance}

@@ -10,7 +10,7 @@ use Rattle.std.proofs.lemmas.Bool.{leb-true}
 use Rattle.std.proofs.lemmas.Bool.Decides.{leb_tells, eqb_tells}
 use Rattle.vbi_words.specs.declared.system.System.{System}
 use Rattle.vbi_words.specs.declared.system.System.TheVariants.{Ntsc, Pal}
-use Rattle.vbi_words.specs.Distance.{differences}
+use Rattle.vbi_words.specs.Jitter.{differences}
 use Rattle.vbi_near.specs.Pictures.{drawn_halves}
 use Rattle.vbi_near.specs.Apart.{picture_distance}
 use Rattle.vbi_near.proofs.Highs.{highs, differences-append, low-differs, cell_columns, cell_levels, length-cell}

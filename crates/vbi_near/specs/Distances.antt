@@ -4,9 +4,8 @@ use Rattle.std.specs.Prelude.{slice_index_or, Option, Some, None}
 use Rattle.std.specs.List.{All, range_with_len}
 use Rattle.std.specs.Int.{abs_diff}
 use Rattle.vbi_words.specs.declared.system.System.{System}
-use Rattle.vbi_words.specs.Geometry.{width_of}
+use Rattle.vbi_words.specs.Geometry.{width_of, line_at}
 use Rattle.vbi_words.specs.Levels.{Slicing, samples_of}
-use Rattle.vbi_words.specs.Rows.{line_at}
 use Rattle.vbi_near.specs.Pictures.{sample_of}
 
 -- the samples of a line, of which none is known where it is erased

@@ -9,13 +9,10 @@ use Rattle.vbi_words.specs.declared.system.System.{System}
 use Rattle.vbi_words.specs.declared.outcome.Outcome.{Outcome}
 use Rattle.vbi_words.specs.declared.outcome.Outcome.TheVariants.{Word, Blank}
 use Rattle.vbi_words.specs.declared.outcome.Reading.{Reading}
-use Rattle.vbi_words.specs.Geometry.{line_bytes}
+use Rattle.vbi_words.specs.Geometry.{line_bytes, line_at}
 use Rattle.vbi_words.specs.Levels.{Slicing, row_levels}
-use Rattle.vbi_words.specs.Rows.{line_at}
-use Rattle.vbi_words.specs.CodeTable.{code_of}
-use Rattle.vbi_words.specs.Codes.{may_stand}
-use Rattle.vbi_line.specs.OneOutcome.{outcome_of}
-use Rattle.vbi_line.specs.OneReading.{reading_of}
+use Rattle.vbi_words.specs.Codes.{may_stand, code_of}
+use Rattle.vbi_line.specs.OneReading.{reading_of, outcome_of}
 use Rattle.vbi_near.specs.declared.near.Near.{Near}
 use Rattle.vbi_near.specs.declared.recovery.Margins.{Margins}
 use Rattle.vbi_near.specs.declared.recovery.Recovered.{Recovered}

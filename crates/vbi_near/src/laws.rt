@@ -8,7 +8,7 @@ ghost use Rattle.vbi_words.specs.declared.system.System.TheVariants.{Ntsc, Pal};
 ghost use Rattle.vbi_words.specs.Geometry.{width_of, start_of};
 ghost use Rattle.vbi_words.specs.Levels.{Slicing};
 ghost use Rattle.vbi_words.specs.Words.{IsWordOrNone};
-ghost use Rattle.vbi_words.specs.Distance.{differences};
+ghost use Rattle.vbi_words.specs.Jitter.{differences};
 ghost use Rattle.vbi_words.specs.Drawn.{drawn_row_of};
 ghost use Rattle.vbi_near.specs.declared.near.Near.{Near};
 ghost use Rattle.vbi_words.specs.WorkedLines.{changing};

@@ -1,8 +1,7 @@
 //! The nearest word of lines that lie one behind the other.
 
 ghost use Rattle.std.specs.Prelude.{◌≡◌, ◌+◌, ◌*◌, ◌≤◌, ◌<◌, length};
-ghost use Rattle.vbi_words.specs.Geometry.{line_bytes};
-ghost use Rattle.vbi_words.specs.Rows.{line_at};
+ghost use Rattle.vbi_words.specs.Geometry.{line_bytes, line_at};
 ghost use Rattle.vbi_near.specs.Distances.{lines_of};
 ghost use Rattle.vbi_near.specs.Nearest.{IsNearest};
 ghost use Rattle.vbi_near.specs.Longer.{IsLonger};

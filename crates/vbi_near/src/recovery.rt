@@ -1,10 +1,9 @@
 //! The words of a field's three lines, by their readings and their nearest words.
 
 ghost use Rattle.std.specs.Prelude.{◌≡◌, ◌+◌, ◌-◌, ◌*◌, ◌≤◌, ◌<◌, ◌^◌, ◌∷◌, [], length, IsTrue};
-ghost use Rattle.vbi_words.specs.Geometry.{line_bytes};
+ghost use Rattle.vbi_words.specs.Geometry.{line_bytes, line_at};
 ghost use Rattle.vbi_words.specs.Levels.{row_levels};
-ghost use Rattle.vbi_words.specs.Rows.{line_at};
-ghost use Rattle.vbi_line.specs.OneOutcome.{outcome_of};
+ghost use Rattle.vbi_line.specs.OneReading.{outcome_of};
 ghost use Rattle.vbi_near.specs.Recovery.{is_ahead, goes_on, columns_for, said_of, is_said, stays, own_of, is_open};
 ghost use Rattle.vbi_near.specs.Recovery.{are_open, is_same, have_one, do_agree, stand_of, said_in};
 ghost use Rattle.vbi_near.specs.Recovery.{recovered_as, shown_in};

@@ -8,7 +8,7 @@ ghost use Rattle.vbi_near.specs.Recovery.{said_of, recovered_of, lone_margins, a
 ghost use Rattle.vbi_near.specs.WorkedRules.{near_with, worn, smoothed, read_as, together_at, Shows};
 
 /// By how much a nearest word has to be ahead: the least of each kind is said, and one less isn't.
-#[tactic(auto, unfolding(vbi_words::specs::CodeTable::code_of))]
+#[tactic(auto, unfolding(vbi_words::specs::Codes::code_of))]
 pub fn worked_margins()
     ensures code { (said_of Ntsc 100 17 lone_margins 1 (near_with 0xF12345 10600 10000) ≡ Some 0xF12345)
         × (said_of Ntsc 100 17 lone_margins 1 (near_with 0xF12345 10599 10000) ≡ None) }
@@ -30,7 +30,7 @@ pub fn worked_margins()
 {}
 
 /// Fields written down, NTSC with white 100 above black: which words their lines show, and of which pass.
-#[tactic(auto, unfolding(vbi_words::specs::CodeTable::code_of))]
+#[tactic(auto, unfolding(vbi_words::specs::Codes::code_of))]
 pub fn worked_fields()
     // The two agree up to 10 columns, or where their words are the same, and then say their word together, whatever
     // each of them says.

@@ -10,7 +10,7 @@ use Rattle.vbi_words.specs.declared.system.System.{System}
 use Rattle.vbi_words.specs.declared.code.Code.{Code}
 use Rattle.vbi_words.specs.declared.code.Code.TheVariants.{Picture, Chapter, Time, ClvPicture, CxOn, CxOff}
 use Rattle.vbi_words.specs.declared.code.Code.TheVariants.{Users, LeadIn, LeadOut, PictureStop, ClvMark, Other}
-use Rattle.vbi_words.specs.CodeTable.{code_of}
+use Rattle.vbi_words.specs.Codes.{code_of}
 use Rattle.vbi_side.specs.declared.lines.Counted.{Counted}
 use Rattle.vbi_side.specs.declared.lines.Counted.TheVariants.{Pictures, Times}
 use Rattle.vbi_side.specs.declared.lines.Shown.{Shown}

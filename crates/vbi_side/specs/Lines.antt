@@ -8,7 +8,7 @@ use Rattle.vbi_words.specs.declared.outcome.Reading.{Reading}
 use Rattle.vbi_words.specs.declared.code.Code.{Code}
 use Rattle.vbi_words.specs.declared.code.Code.TheVariants.{Picture, Time, ClvPicture, Chapter, LeadIn, LeadOut}
 use Rattle.vbi_words.specs.Outcomes.{word_of}
-use Rattle.vbi_words.specs.CodeTable.{code_of}
+use Rattle.vbi_words.specs.Codes.{code_of}
 use Rattle.vbi_side.specs.declared.lines.Counted.{Counted}
 use Rattle.vbi_side.specs.declared.lines.Counted.TheVariants.{Pictures, Times}
 use Rattle.vbi_side.specs.declared.lines.Shown.{Shown}

@@ -2,7 +2,7 @@
 use Rattle.std.specs.Prelude.{◌≡◌, ℕ, zero, suc, ◌+◌, ◌*◌, ◌-◌, ◌<◌, ◌==◌, not, nat_le, if◌then◌else◌, ◌⊎◌}
 use Rattle.std.specs.Prelude.{Bool, true, false, List, Option, Some, None, option_map, slice_get}
 use Rattle.vbi_words.specs.declared.system.System.{System}
-use Rattle.vbi_words.specs.CodeTable.{code_of}
+use Rattle.vbi_words.specs.Codes.{code_of}
 use Rattle.vbi_side.specs.declared.lines.Counted.{Counted}
 use Rattle.vbi_side.specs.declared.lines.Counted.TheVariants.{Pictures, Times}
 use Rattle.vbi_side.specs.declared.lines.Shown.{Shown}

@@ -44,7 +44,7 @@ pub fn one_stop_answer()
 {}
 
 /// What words weigh as stops: 82CFFF alone is one, and weighs half in passes 2 and 3.
-#[tactic(auto, unfolding(vbi_words::specs::CodeTable::code_of))]
+#[tactic(auto, unfolding(vbi_words::specs::Codes::code_of))]
 pub fn worked_stop_words()
     ensures passes { map (λ pass. stop_weight (shown_in pass 0x82CFFF)) (1 ∷ 2 ∷ 3 ∷ []) ≡ 2 ∷ 1 ∷ 1 ∷ [] }
     ensures others { map (λ word. stop_weight (shown_in 1 word))
@@ -53,7 +53,7 @@ pub fn worked_stop_words()
 
 /// The edges of the rule, by lines 16 and 17: one line of pass 1 is enough on either, one of pass 2 or 3 is not, and two
 /// of these are.
-#[tactic(auto, unfolding(vbi_words::specs::CodeTable::code_of))]
+#[tactic(auto, unfolding(vbi_words::specs::Codes::code_of))]
 pub fn worked_stops()
     ensures first { BelievedStop (shown_in 1 0x82CFFF) (shown_in 1 0) }
     ensures second { BelievedStop (shown_in 1 0) (shown_in 1 0x82CFFF) }

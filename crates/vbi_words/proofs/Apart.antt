@@ -9,7 +9,7 @@ use Rattle.vbi_words.specs.declared.system.System.{System}
 use Rattle.vbi_words.specs.declared.system.System.TheVariants.{Ntsc, Pal}
 use Rattle.vbi_words.specs.Geometry.{half_min, half_max}
 use Rattle.vbi_words.specs.Shows.{Shows}
-use Rattle.vbi_words.specs.Distance.{differs, differences, least_distance}
+use Rattle.vbi_words.specs.Jitter.{differs, differences, least_distance}
 use Rattle.vbi_words.proofs.Bits
 use Rattle.vbi_words.proofs.Shown.{word_bits, draws_from_shows}
 use Rattle.vbi_words.proofs.Sizes.{Sizes, AreApart, sizes_of, apart_of}

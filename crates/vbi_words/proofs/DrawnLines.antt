@@ -12,7 +12,7 @@ use Rattle.vbi_words.specs.Levels.{Slicing, samples_of, levels_of, row_levels}
 use Rattle.vbi_words.specs.Words.{IsWordOrNone}
 use Rattle.vbi_words.specs.Readings.{IsReading}
 use Rattle.vbi_words.specs.Drawn.{drawn_sample_of, drawn_row_of, sample_bytes, drawn_line_of, drawn_reading}
-use Rattle.vbi_words.proofs.LineSizes.{line_bytes-twice}
+use Rattle.vbi_words.proofs.Sizes.{line_bytes-twice}
 use Rattle.vbi_words.proofs.DrawnShows.{row_shows, row_low}
 use Rattle.vbi_words.proofs.Lows.{blank_reads}
 use Rattle.vbi_words.proofs.Outcomes.{blank_outcome}

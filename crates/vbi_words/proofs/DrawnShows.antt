@@ -1,8 +1,7 @@
 -- A drawn row shows its word.
-use Rattle.std.proofs.Common.{◌≡◌, ℕ, suc, ◌≤◌, ◌<◌, ◌+◌, ◌-◌, ◌*◌, Bool}
-use Rattle.std.proofs.Common.{true, false, List, [], ◌∷◌, ◌++◌, ◌⊎◌, inl}
-use Rattle.std.proofs.Common.{inr, length, get_or, drop, refl, sym, ap, subst}
-use Rattle.std.proofs.Common.{◌∙◌, arith, add-zero, append_assoc, Some, None}
+use Rattle.std.proofs.Common.{◌≡◌, ℕ, suc, ◌≤◌, ◌<◌, ◌+◌, ◌-◌, ◌*◌, Bool, true, false, List, [], ◌∷◌, ◌++◌, ◌⊎◌, inl}
+use Rattle.std.proofs.Common.{inr, length, get_or, drop, refl, sym, ap, subst, ◌∙◌, arith, add-zero, append_assoc, Some}
+use Rattle.std.proofs.Common.{None}
 use Rattle.std.proofs.Math.ListN.{replicate}
 use Rattle.std.proofs.lemmas.List.{append-nil, get_or-map, length-map, drop_all}
 use Rattle.std.proofs.lemmas.List.Elements.{All-from_get_or}
@@ -95,18 +94,6 @@ module _ (system : System) (s : List Bool) (after : ℕ) (long : length s ≡ wi
 
 -- ---- the levels of a drawn row
 
-amply_shows : (system : System) (levels : List Bool) (word : ℕ) → ShowsAmply system levels word
-    → Shows system levels word
-amply_shows system levels word s = record {
-  is_word = s.is_word;
-  before = s.before;
-  drawn = s.drawn;
-  after = s.after;
-  spelled = spells_wider (half_min system + 2) (half_max system - 2) (half_min system) (half_max system)
-      (omega arith) (omega arith) (halves_of word) s.drawn s.spelled;
-  whole = s.whole;
-}
-
 module _ (system : System) (slicing : Slicing) (word : ℕ) (order : slicing.black < slicing.white) (samples : List ℕ)
     (row : IsDrawnRow system slicing (Some word) samples) where
   -- the row's levels
@@ -196,13 +183,17 @@ module _ (system : System) (slicing : Slicing) (word : ℕ) (order : slicing.bla
   drawn_amply is_word =
       let d = spelled system levels left same_length back (halves_of word) 0 (omega (arith, many_halves)) has_halves in
       record {
-        is_word = is_word;
-        before = edge 0;
-        drawn = d.0;
-        after = left;
+        cut = record {
+          is_word = is_word;
+          before = edge 0;
+          drawn = d.0;
+          after = left;
+          spelled = spells_wider (half_min system + 2) (half_max system - 2) (half_min system) (half_max system)
+              (omega arith) (omega arith) (halves_of word) d.0 d.1;
+          whole = front ∙ ap (λ (t : List Bool). replicate (edge 0) false ++ t) d.2;
+        };
         lows = some_left system;
         spelled = d.1;
-        whole = front ∙ ap (λ (t : List Bool). replicate (edge 0) false ++ t) d.2;
       }
 
 -- the drawn row of no word has no high level
@@ -228,9 +219,7 @@ row_amply system slicing word order is_word =
 
 pub row_shows : (system : System) (slicing : Slicing) (word : ℕ) → slicing.black < slicing.white → IsWord word
     → Shows system (levels_of slicing (drawn_row_of system slicing (Some word))) word
-row_shows system slicing word order is_word =
-    amply_shows system (levels_of slicing (drawn_row_of system slicing (Some word))) word
-    (row_amply system slicing word order is_word)
+row_shows system slicing word order is_word = (row_amply system slicing word order is_word).cut
 
 pub row_low : (system : System) (slicing : Slicing) → slicing.black < slicing.white
     → AllLow (levels_of slicing (drawn_row_of system slicing None))

@@ -1,6 +1,5 @@
 -- A row that is blurred at its changes of level, without its columns that stand alone.
-use Rattle.std.proofs.Common.{◌≡◌, ◌≤◌, ◌+◌, ◌-◌, Bool, false, List, ◌++◌, length, drop, sym, ap, ◌∙◌, arith}
-use Rattle.std.proofs.Common.{ℕ, refl}
+use Rattle.std.proofs.Common.{◌≡◌, ◌≤◌, ◌+◌, ◌-◌, Bool, false, List, ◌++◌, length, drop, sym, ap, ◌∙◌, arith, ℕ, refl}
 use Rattle.std.proofs.Math.ListN.{replicate}
 use Rattle.std.proofs.lemmas.List.{length-append}
 use Rattle.std.specs.List.{flat_map}
@@ -35,30 +34,31 @@ pub mend : (system : System) (drawn levels : List Bool) (word : ℕ) → ShowsAm
     → IsBlurred drawn levels → Mended system levels word
 mend system drawn levels word s blurred =
     let sizes = sizes_fit system in
+    let before : ℕ = s.cut.before in
     let r = whole_goes drawn levels blurred (half_min system + 2) (half_max system - 2)
-    (half_min system) (half_max system) sizes.0 (omega arith) sizes.1 (halves_of word) s.drawn s.before s.after
-    s.lows (begins_low word s.is_word) s.spelled s.whole in
+    (half_min system) (half_max system) sizes.0 (omega arith) sizes.1 (halves_of word) s.cut.drawn before s.cut.after
+    s.lows (begins_low word s.cut.is_word) s.spelled s.cut.whole in
     let x = r.0 in
     let rest : List Bool = x.drawn ++ replicate x.after false in
     record {
-      mended = replicate s.before false ++ rest;
+      mended = replicate before false ++ rest;
       shows = record {
-        is_word = s.is_word;
-        before = s.before;
+        is_word = s.cut.is_word;
+        before = before;
         drawn = x.drawn;
         after = x.after;
         spelled = x.spelled;
         whole = refl;
       };
       three = x.three;
-      long = ap length r.1 ∙ length-append (replicate s.before false) (drop s.before levels)
-          ∙ ap (λ (i : ℕ). length (replicate s.before false) + i) x.long
-          ∙ sym (length-append (replicate s.before false) rest);
-      alike = ap smooth_of r.1 ∙ smooth_window (replicate s.before false ++ drop s.before levels)
-          ∙ steady_same false s.before (drop s.before levels)
-          ∙ ap (λ (t : List Bool). replicate s.before false ++ t) (x.alike false)
-          ∙ sym (steady_same false s.before rest) ∙ sym (smooth_window (replicate s.before false ++ rest));
-      same = λ none. r.1 ∙ ap (λ (t : List Bool). replicate s.before false ++ t) (x.whole none);
+      long = ap length r.1 ∙ length-append (replicate before false) (drop before levels)
+          ∙ ap (λ (i : ℕ). length (replicate before false) + i) x.long
+          ∙ sym (length-append (replicate before false) rest);
+      alike = ap smooth_of r.1 ∙ smooth_window (replicate before false ++ drop before levels)
+          ∙ steady_same false before (drop before levels)
+          ∙ ap (λ (t : List Bool). replicate before false ++ t) (x.alike false)
+          ∙ sym (steady_same false before rest) ∙ sym (smooth_window (replicate before false ++ rest));
+      same = λ none. r.1 ∙ ap (λ (t : List Bool). replicate before false ++ t) (x.whole none);
     }
   where
     sizes_fit : (system : System) → (6 ≤ half_min system + 2) × (half_max system - 2 + 2 ≤ half_max system)

@@ -6,7 +6,7 @@ use Rattle.std.specs.List.{list_all, list_any, range_with_len}
 use Rattle.vbi_words.specs.declared.code.Code.{Code}
 use Rattle.vbi_words.specs.declared.code.Code.TheVariants.{Other}
 use Rattle.vbi_words.specs.Codes.{digit_of, Pattern, patterns_of, HasPattern, HasCodeOf, IsCode}
-use Rattle.vbi_words.specs.CodeTable.{first_code, fits_at, fits, code_of}
+use Rattle.vbi_words.specs.Codes.{first_code, fits, code_of}
 
 -- ---- tests of consecutive numbers
 
@@ -110,13 +110,13 @@ one_code word c d (inr x) (inr y) = x.1 ∙ sym y.1
 -- the test is that of the relation
 fits-between : (word : ℕ) (pattern : Pattern) → fits word pattern ≡ true → HasPattern word pattern
 fits-between word pattern e place low high =
-    let parts = and_parts (leb (digit_of pattern.least place) (digit_of word place))
-    (leb (digit_of word place) (digit_of pattern.greatest place))
-    (each_passes (fits_at word pattern) 1 6 e place low (omega arith)) in
+    let parts = and_parts _ _ (each_passes
+    (λ x. leb (digit_of pattern.least x) (digit_of word x) && leb (digit_of word x) (digit_of pattern.greatest x))
+    1 6 e place low (omega arith)) in
     (leb-true _ _ parts.0, leb-true _ _ parts.1)
 
 between-fits : (word : ℕ) (pattern : Pattern) → HasPattern word pattern → fits word pattern ≡ true
-between-fits word pattern x = all_pass (fits_at word pattern) 1 6 (λ place low high.
+between-fits word pattern x = all_pass _ 1 6 (λ place low high.
     let here = x place low (omega arith) in
     and_from (leb (digit_of pattern.least place) (digit_of word place))
     (leb (digit_of word place) (digit_of pattern.greatest place)) (le-leb _ _ here.0) (le-leb _ _ here.1))

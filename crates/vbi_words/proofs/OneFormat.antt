@@ -1,12 +1,11 @@
-use Rattle.std.proofs.Common.{arith}
+use Rattle.std.proofs.Common.{arith, ◌≡◌, ℕ, Bool, true, List, Option, Some, None, Any, IsTrue, ◌↔◌, ap, sym, ◌∙◌}
 -- A field has one format.
-use Rattle.std.proofs.Common.{◌≡◌, ℕ, Bool, true, List, Option, Some, None, Any, IsTrue, ◌↔◌}
-use Rattle.std.proofs.Common.{ap, sym, ◌∙◌, subst}
+use Rattle.std.proofs.Common.{subst}
 use Rattle.std.specs.List.{list_any}
 use Rattle.std.proofs.lemmas.List.Folds.{Any-from_list_any, list_any_at}
 use Rattle.vbi_words.specs.declared.code.Code.{Code}
 use Rattle.vbi_words.specs.declared.format.Format.{Format}
-use Rattle.vbi_words.specs.CodeTable.{code_of}
+use Rattle.vbi_words.specs.Codes.{code_of}
 use Rattle.vbi_words.specs.Formats.{is_cav_code, is_clv_code, HasCode, names_cav, names_clv, IsFormat}
 use Rattle.vbi_words.specs.Formats.{has_code, format_from, format_of_lines}
 use Rattle.vbi_words.proofs.OneCode.{code_of_is, only_code_of}

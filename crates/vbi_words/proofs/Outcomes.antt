@@ -2,6 +2,7 @@
 use Rattle.std.proofs.Common.{◌≡◌, ℕ, suc, zero, ◌<◌, ◌+◌, ◌-◌, Bool, true, false, List}
 use Rattle.std.proofs.Common.{None, refl, ap, sym, ◌∙◌, subst, arith, length, take}
 use Rattle.std.proofs.lemmas.List.{take-take}
+use Rattle.std.specs.Prelude.{not}
 use Rattle.vbi_words.specs.declared.system.System.{System}
 use Rattle.vbi_words.specs.declared.outcome.Outcome.TheVariants.{Word, Blank, Unfinished, Change, Hold}
 use Rattle.vbi_words.specs.Words.{IsWord}
@@ -13,6 +14,7 @@ use Rattle.vbi_words.proofs.Machine
 use Rattle.vbi_words.proofs.Machine.{State, lead, first, second, tail, dead, level_of, is_lead}
 use Rattle.vbi_words.proofs.SystemMachine.{ending_of, state_after, state_at, state_next, dead_later}
 use Rattle.vbi_words.proofs.Shown
+use Rattle.vbi_words.proofs.Runs.{not_same}
 
 pub dead_none : (system : System) (levels : List Bool) → state_after system levels ≡ dead → ShowsNone system levels
 dead_none system levels e = Shown.ended_none system levels (ap (ending_of system) e)
@@ -99,3 +101,18 @@ module _ (system : System) (levels : List Bool) where
     (λ low. let e : false ≡ true = sym high ∙ Shown.low_lead system levels low in cc),
     Shown.alive_viable system levels alive,
   )
+
+-- ---- by what the machine computes of a line
+
+-- it dies at column c
+module _ (system : System) (levels : List Bool) (c : ℕ) (v : Bool) (within : c < length levels)
+    (alive : state_at system levels c ≡ dead → ⊥) (dies : state_at system levels (c + 1) ≡ dead)
+    (run : level_of (state_at system levels c) ≡ v) where
+  -- by a level that isn't its last run's
+  pub changes : level_at levels c ≡ not v → IsOutcome system levels (Change c)
+  changes at = change_outcome system levels c (record { within = within; alive = alive; dies = dies })
+      (λ same. not_same v (sym run ∙ sym same ∙ at))
+
+  -- by a level of its last run
+  pub holds : level_at levels c ≡ v → IsOutcome system levels (Hold c)
+  holds at = hold_outcome system levels c (record { within = within; alive = alive; dies = dies }) (at ∙ sym run)

@@ -1,8 +1,8 @@
--- The sizes by which a machine reads words, and what has to hold of them.
-use Rattle.std.proofs.Common.{ℕ, ◌≤◌, ◌<◌, ◌+◌, arith}
+-- The sizes by which a machine reads words, what has to hold of them, and those of a line.
+use Rattle.std.proofs.Common.{◌≡◌, ℕ, ◌≤◌, ◌<◌, ◌+◌, ◌*◌, refl, lit≤, arith}
 use Rattle.vbi_words.specs.declared.system.System.{System}
 use Rattle.vbi_words.specs.declared.system.System.TheVariants.{Ntsc, Pal}
-use Rattle.vbi_words.specs.Geometry.{half_min, half_max}
+use Rattle.vbi_words.specs.Geometry.{width_of, line_bytes, half_min, half_max}
 
 -- the fewest and the most columns of a half cell, and the cells of a word
 pub record Sizes : Type 0 where
@@ -24,3 +24,20 @@ sizes_of system = record { least = half_min system; greatest = half_max system; 
 pub apart_of : (system : System) → AreApart (sizes_of system)
 apart_of Ntsc = record { positive = omega arith; order = omega arith; apart = omega arith; some = omega arith }
 apart_of Pal = record { positive = omega arith; order = omega arith; apart = omega arith; some = omega arith }
+
+-- ---- of a line
+
+-- a line has two bytes a sample
+pub line_bytes-twice : (s : System) → line_bytes s ≡ 2 * width_of s
+line_bytes-twice Ntsc = refl
+line_bytes-twice Pal = refl
+
+-- a line fits its buffer
+pub line_bytes-le : (s : System) → line_bytes s ≤ 2270
+line_bytes-le Ntsc = lit≤ tt
+line_bytes-le Pal = lit≤ tt
+
+-- two half cells fit a word of 64 bits
+pub half_max-le : (s : System) → half_max s ≤ 22
+half_max-le Ntsc = lit≤ tt
+half_max-le Pal = lit≤ tt

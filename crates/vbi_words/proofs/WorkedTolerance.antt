@@ -4,39 +4,38 @@ use Rattle.std.proofs.Common.{inl, inr, refl, ap, ◌∙◌, arith, lit<, length
 use Rattle.std.proofs.Math.ListN.{replicate}
 use Rattle.std.proofs.lemmas.Bool.{cases_lt}
 use Rattle.std.proofs.lemmas.List.{length-append, length-replicate}
+use Rattle.std.specs.List.{flat_map}
 use Rattle.vbi_words.specs.Jitter.{ShowsAmply, IsBlurred, NoneAlone, IsJittered, HasGlitches}
 use Rattle.vbi_words.specs.Levels.{level_at}
 use Rattle.vbi_words.specs.declared.system.System.TheVariants.{Ntsc}
 use Rattle.vbi_words.specs.Shows.{Spells}
 use Rattle.vbi_words.specs.Words.{lowest_bits, halves_of}
-use Rattle.vbi_words.specs.WorkedLines.{low, high, little_row, little_early, little_spiked, little_late, ones_and_five}
+use Rattle.vbi_words.specs.WorkedLines.{low, high, little_row}
 use Rattle.vbi_words.proofs.HalfCells.{all_low}
 
 -- ---- a row and its changes of level
 
-pub early_blurred : IsBlurred little_row little_early
-early_blurred = grind arith
+-- its first change a column early
+pub early_jittered : IsJittered little_row (low 1 ++ (high 4 ++ low 2))
+early_jittered = (grind arith, λ c. grind arith)
 
-early_none_alone : NoneAlone little_early
-early_none_alone c = grind arith
+-- the two columns beside its first change turned over
+abbrev spiked : List Bool
+spiked = low 1 ++ (high 1 ++ (low 1 ++ (high 2 ++ low 2)))
 
-pub early_jittered : IsJittered little_row little_early
-early_jittered = (early_blurred, early_none_alone)
-
-pub spiked_blurred : IsBlurred little_row little_spiked
+pub spiked_blurred : IsBlurred little_row spiked
 spiked_blurred = grind arith
 
 -- column 1 stands alone
-pub spiked_alone : NoneAlone little_spiked → ⊥
+pub spiked_alone : NoneAlone spiked → ⊥
 spiked_alone none = go (none 1)
   where
-    go : (level_at little_spiked 1 ≡ level_at little_spiked 0) ⊎ (level_at little_spiked 1 ≡ level_at little_spiked 2)
-        → ⊥
+    go : (level_at spiked 1 ≡ level_at spiked 0) ⊎ (level_at spiked 1 ≡ level_at spiked 2) → ⊥
     go (inl e) = let bad : true ≡ false = e in cc
     go (inr e) = let bad : true ≡ false = e in cc
 
--- column 3 isn't beside a change, and is turned over
-pub late_not_blurred : IsBlurred little_row little_late → ⊥
+-- its first change two columns late: column 3 isn't beside a change, and is turned over
+pub late_not_blurred : IsBlurred little_row (low 4 ++ (high 1 ++ low 2)) → ⊥
 late_not_blurred b = let bad : false ≡ true = b.others 3 refl refl in cc
 
 -- ---- a glitch
@@ -66,15 +65,19 @@ spelled_long lo hi (h ∷ halves) drawn (n, rest, low, high, e, spelled) =
     ∙ ap (λ (i : ℕ). i + length rest) (length-replicate n h) in
     omega (arith, all, spelled_long lo hi halves rest spelled)
 
--- half cells of the fewest columns show their word, and not amply
-pub ones_not_amply : ShowsAmply Ntsc ones_and_five 16777215 → ⊥
+-- 24 ones, each half cell of the fewest columns, and five lows
+abbrev ones : List Bool
+ones = flat_map (λ (cell : Bool). low 11 ++ high 11) (replicate 24 true) ++ low 5
+
+-- they show their word, and not amply
+pub ones_not_amply : ShowsAmply Ntsc ones 16777215 → ⊥
 unfolding lowest_bits
 ones_not_amply s =
-    let long : 48 * 13 ≤ length s.drawn = spelled_long 13 16 (halves_of 16777215) s.drawn s.spelled in
-    let before : List Bool = replicate s.before false in
-    let after : List Bool = replicate s.after false in
-    let whole : length ones_and_five ≡ length before + (length s.drawn + length after)
-    = ap length s.whole ∙ length-append before (s.drawn ++ after)
-    ∙ ap (λ (i : ℕ). length before + i) (length-append s.drawn after) in
-    let count : length ones_and_five < 48 * 13 = lit< tt in
+    let long : 48 * 13 ≤ length s.cut.drawn = spelled_long 13 16 (halves_of 16777215) s.cut.drawn s.spelled in
+    let before : List Bool = replicate s.cut.before false in
+    let after : List Bool = replicate s.cut.after false in
+    let whole : length ones ≡ length before + (length s.cut.drawn + length after)
+    = ap length s.cut.whole ∙ length-append before (s.cut.drawn ++ after)
+    ∙ ap (λ (i : ℕ). length before + i) (length-append s.cut.drawn after) in
+    let count : length ones < 48 * 13 = lit< tt in
     omega (arith, long, whole, count)

@@ -1,7 +1,8 @@
 -- The classes of code words and the numbers that they carry: this project's own table of the codes of IEC 60857 and
 -- IEC 60856.
-use Rattle.std.specs.Prelude.{◌≡◌, ℕ, ◌≤◌, ◌+◌, ◌-◌, ◌*◌, ◌/◌, ◌%◌, ◌^◌, ◌⊎◌, List, [], ◌∷◌, Any}
-use Rattle.std.specs.Prelude.{Bool, false, ◌==◌, ◌&&◌, ◌||◌, nat_lt}
+use Rattle.std.specs.Prelude.{◌≡◌, ℕ, ◌≤◌, ◌+◌, ◌-◌, ◌*◌, ◌/◌, ◌%◌, ◌^◌, ◌⊎◌, List, [], ◌∷◌, Any, if◌then◌else◌}
+use Rattle.std.specs.Prelude.{Bool, false, ◌==◌, ◌&&◌, ◌||◌, nat_lt, nat_le}
+use Rattle.std.specs.List.{list_all, range_with_len}
 use Rattle.vbi_words.specs.declared.system.System.{System}
 use Rattle.vbi_words.specs.declared.system.System.TheVariants.{Ntsc, Pal}
 use Rattle.vbi_words.specs.declared.code.Code.{Code}
@@ -76,6 +77,23 @@ HasCodeOf patterns word code = Any (λ pattern. HasPattern word pattern × (code
 abbrev pub IsCode : ℕ → Code → Type 0
 IsCode word code =
     HasCodeOf (patterns_of word) word code ⊎ ((Any (HasPattern word) (patterns_of word) → ⊥) × (code ≡ Other))
+
+-- ---- as a function, which `laws::one_code` shows to give the only code
+
+-- whether each of the word's six digits is from that of the pattern's least word to that of its greatest
+abbrev pub fits : ℕ → Pattern → Bool
+fits word pattern =
+    list_all (λ place. nat_le (digit_of pattern.least place) (digit_of word place)
+    && nat_le (digit_of word place) (digit_of pattern.greatest place)) (range_with_len 1 6)
+
+-- the code of the first pattern that the word matches
+abbrev pub first_code : ℕ → List Pattern → Code
+first_code word [] = Other
+first_code word (pattern ∷ patterns) = if fits word pattern then pattern.code else first_code word patterns
+
+-- the code of a word
+unfoldable pub code_of : ℕ → Code
+code_of word = first_code word (patterns_of word)
 
 -- ---- on which lines
 

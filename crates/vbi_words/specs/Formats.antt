@@ -5,8 +5,7 @@ use Rattle.vbi_words.specs.declared.code.Code.{Code}
 use Rattle.vbi_words.specs.declared.code.Code.TheVariants.{Picture, Time, ClvPicture, PictureStop, ClvMark}
 use Rattle.vbi_words.specs.declared.format.Format.{Format}
 use Rattle.vbi_words.specs.declared.format.Format.TheVariants.{Cav, Clv, Both, Neither}
-use Rattle.vbi_words.specs.Codes.{IsCode}
-use Rattle.vbi_words.specs.CodeTable.{code_of}
+use Rattle.vbi_words.specs.Codes.{IsCode, code_of}
 
 -- whether the code is one that discs of constant angular velocity alone have
 abbrev pub is_cav_code : Code → Bool

@@ -1,7 +1,7 @@
 -- The numbers of the two systems. The sizes of a line and a field are those of ld-decode's TBC files, which have four
 -- samples to a cycle of the colour subcarrier (315/22 or 17.734475 million samples a second). The limits of a half cell
 -- and the column at which a word is drawn are this project's own.
-use Rattle.std.specs.Prelude.{ℕ, List, codes, if◌then◌else◌, Option, Some, None}
+use Rattle.std.specs.Prelude.{ℕ, ◌+◌, ◌*◌, List, take, drop, codes, if◌then◌else◌, Option, Some, None}
 use Rattle.std.specs.Str.{bytes_eq}
 use Rattle.vbi_words.specs.declared.system.System.{System}
 use Rattle.vbi_words.specs.declared.system.System.TheVariants.{Ntsc, Pal}
@@ -25,6 +25,10 @@ line_bytes Pal = 2270
 abbrev pub field_bytes : System → ℕ
 field_bytes Ntsc = 478660
 field_bytes Pal = 710510
+
+-- the bytes of row r of field i of a TBC stream, both counted from 0: line after line and field after field
+abbrev pub line_at : System → List ℕ → ℕ → ℕ → List ℕ
+line_at system z i r = take (line_bytes system) (drop (i * field_bytes system + line_bytes system * r) z)
 
 -- the fewest samples of a half cell, which lasts one microsecond
 abbrev pub half_min : System → ℕ

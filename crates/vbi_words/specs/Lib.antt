@@ -3,14 +3,10 @@ pub mod Levels
 pub mod Words
 pub mod Shows
 pub mod Outcomes
-pub mod RunLimits
 pub mod Smooth
 pub mod Readings
 pub mod Drawn
-pub mod Rows
 pub mod Jitter
 pub mod WorkedLines
-pub mod Distance
 pub mod Codes
 pub mod Formats
-pub mod CodeTable

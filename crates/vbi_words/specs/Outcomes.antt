@@ -1,8 +1,10 @@
 -- The outcome of a line's levels: the word that they show, or why they show none.
-use Rattle.std.specs.Prelude.{◌≡◌, ℕ, ◌<◌, ◌+◌, ◌-◌, Bool, false, List, All, take, length, Option, Some, None}
+use Rattle.std.specs.Prelude.{◌≡◌, ℕ, ◌<◌, ◌≤◌, ◌+◌, ◌-◌, ◌*◌, ◌⊎◌, ◌↔◌, Bool, false, not, Option, Some, None}
+use Rattle.std.specs.Prelude.{List, [], ◌∷◌, ◌++◌, replicate, All, take, length}
 use Rattle.vbi_words.specs.declared.system.System.{System}
 use Rattle.vbi_words.specs.declared.outcome.Outcome.{Outcome}
 use Rattle.vbi_words.specs.declared.outcome.Outcome.TheVariants.{Word, Blank, Unfinished, Change, Hold}
+use Rattle.vbi_words.specs.Geometry.{half_max}
 use Rattle.vbi_words.specs.Levels.{level_at}
 use Rattle.vbi_words.specs.Shows.{Shows, ShowsNone, Viable}
 
@@ -34,3 +36,16 @@ IsOutcome system levels (Hold c) =
 abbrev pub word_of : Outcome → Option ℕ
 word_of (Word w) = Some w
 word_of _ = None
+
+-- ---- how long a run of equal levels may become before no list that begins so shows a word
+
+-- there are no levels, or the last isn't v
+abbrev pub EndsOtherwise : List Bool → Bool → Type 0
+EndsOtherwise levels v = (levels ≡ []) ⊎ ((front : List Bool) × (levels ≡ front ++ not v ∷ []))
+
+-- behind these levels every run of v is viable, or every one up to the greatest length of a half cell, or of two
+abbrev pub HasRunLimit : System → List Bool → Bool → Type 0
+HasRunLimit system levels v =
+    ((k : ℕ) → 0 < k → Viable system (levels ++ replicate k v))
+    ⊎ ((m : ℕ) × ((m ≡ half_max system) ⊎ (m ≡ 2 * half_max system))
+    × ((k : ℕ) → 0 < k → (Viable system (levels ++ replicate k v) ↔ k ≤ m)))

@@ -19,15 +19,9 @@ Reads system levels outcome pass = (pass ≡ 0) × IsOutcome system levels outco
 abbrev pub IsReading : System → List Bool → Reading → Type 0
 IsReading system levels reading = Reads system levels reading.outcome reading.pass
 
--- ---- as a function of two outcomes, that of the levels and that of the smoothed levels
-
--- where the levels show no word and some level is high
-abbrev pub second_reading : Outcome → Outcome → Reading
-second_reading plain (Word w) = record { outcome = Word w; pass = 2 }
-second_reading plain _ = record { outcome = plain; pass = 0 }
-
--- the reading
+-- the reading by two outcomes, that of the levels and that of the smoothed levels
 abbrev pub reading_from : Outcome → Outcome → Reading
 reading_from (Word w) smooth = record { outcome = Word w; pass = 1 }
 reading_from Blank smooth = record { outcome = Blank; pass = 0 }
-reading_from plain smooth = second_reading plain smooth
+reading_from plain (Word w) = record { outcome = Word w; pass = 2 }
+reading_from plain smooth = record { outcome = plain; pass = 0 }

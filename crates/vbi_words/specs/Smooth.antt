@@ -28,16 +28,12 @@ level_of_four true true true true earlier = true
 level_of_four false false false false earlier = false
 level_of_four _ _ _ _ earlier = earlier
 
--- the level that the four columns from d on give
-abbrev pub level_from : List Bool → ℕ → Bool → Bool
-level_from levels d earlier =
-    level_of_four (level_at levels d) (level_at levels (d + 1)) (level_at levels (d + 2)) (level_at levels (d + 3))
-    earlier
-
 -- the level of the latest four equal columns that begin before column n, low if there are none
 unfoldable pub latest : List Bool → ℕ → Bool
 latest levels zero = false
-latest levels (suc d) = level_from levels d (latest levels d)
+latest levels (suc d) =
+    level_of_four (level_at levels d) (level_at levels (d + 1)) (level_at levels (d + 2)) (level_at levels (d + 3))
+    (latest levels d)
 
 -- the smoothed levels, which `laws::one_smooth` shows to be the only ones
 unfoldable pub smooth_of : List Bool → List Bool

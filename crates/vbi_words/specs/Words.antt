@@ -1,7 +1,6 @@
 -- The 24-bit code words of a LaserDisc (IEC 60857 for NTSC, IEC 60856 for PAL), and the half cells in which they are
 -- written.
-use Rattle.std.specs.Prelude.{ℕ, suc, zero, ◌≤◌, ◌<◌, ◌^◌, Bool, not, List, [], ◌∷◌, nat_eq}
-use Rattle.std.specs.Prelude.{Option, Some, None}
+use Rattle.std.specs.Prelude.{ℕ, suc, zero, ◌≤◌, ◌<◌, ◌^◌, Bool, not, List, [], ◌∷◌, nat_eq, Option, IfSome}
 use Rattle.std.specs.List.{flat_map}
 use Rattle.std.specs.Int.{bit_at}
 
@@ -11,8 +10,7 @@ IsWord w = (2 ^ 23 ≤ w) × (w < 2 ^ 24)
 
 -- a word, or none
 abbrev pub IsWordOrNone : Option ℕ → Type 0
-IsWordOrNone None = Unit {0}
-IsWordOrNone (Some word) = IsWord word
+IsWordOrNone word = IfSome word IsWord
 
 -- the n lowest bits of a number, the most significant first
 unfoldable pub lowest_bits : ℕ → ℕ → List Bool

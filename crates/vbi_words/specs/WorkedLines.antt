@@ -11,29 +11,6 @@ low n = replicate n false
 abbrev pub high : ℕ → List Bool
 high n = replicate n true
 
--- ---- five lines of NTSC
-
--- 20 high columns are more than one half cell and fewer than two, so the change behind them, at column 34, is hopeless
-abbrev pub run_of_20 : List Bool
-run_of_20 = low 14 ++ (high 20 ++ low 876)
-
--- the low run behind the first cell is one half cell, of 18 columns at most: the 19th, at column 46, is hopeless
-abbrev pub low_cell : List Bool
-low_cell = low 14 ++ (high 14 ++ low 882)
-
--- the high run is two half cells, and so may be the low run behind it, of at most 36 columns: the 37th, at column 72,
--- is hopeless
-abbrev pub long_lows : List Bool
-long_lows = low 14 ++ (high 22 ++ low 874)
-
--- the last 10 columns are high, and a longer line could still show a word
-abbrev pub late_high : List Bool
-late_high = low 900 ++ high 10
-
--- 24 ones, each half cell of the fewest columns
-abbrev pub ones_of_11 : List Bool
-ones_of_11 = flat_map (λ (cell : Bool). low 11 ++ high 11) (replicate 24 true) ++ low 382
-
 -- ---- one run of another length, in lines of either system
 
 -- 24 ones, each half cell of n columns but the last, a high one of m
@@ -46,27 +23,9 @@ abbrev pub zeros_behind : ℕ → ℕ → List Bool
 zeros_behind n m =
     low n ++ (high m ++ (low n ++ (flat_map (λ (cell : Bool). high n ++ low n) (replicate 22 true) ++ low 14)))
 
--- ---- a few columns, for tolerance
-
 -- a row with changes of level at columns 2 and 5, which may be blurred in columns 1, 2, 4 and 5
 abbrev pub little_row : List Bool
 little_row = low 2 ++ (high 3 ++ low 2)
-
--- its first change a column early
-abbrev pub little_early : List Bool
-little_early = low 1 ++ (high 4 ++ low 2)
-
--- the two columns beside its first change turned over, so that they stand alone
-abbrev pub little_spiked : List Bool
-little_spiked = low 1 ++ (high 1 ++ (low 1 ++ (high 2 ++ low 2)))
-
--- its first change two columns late
-abbrev pub little_late : List Bool
-little_late = low 4 ++ (high 1 ++ low 2)
-
--- 24 ones, each half cell of 11 columns, and five lows
-abbrev pub ones_and_five : List Bool
-ones_and_five = flat_map (λ (cell : Bool). low 11 ++ high 11) (replicate 24 true) ++ low 5
 
 -- ---- drawn rows and fields
 

@@ -1,8 +1,7 @@
 //! The classes of code words (IEC 60857 for NTSC discs, IEC 60856 for PAL discs).
 
 ghost use Rattle.std.specs.Prelude.{◌≡◌, ◌↔◌, ◌≤◌, ◌<◌, IsTrue};
-ghost use Rattle.vbi_words.specs.CodeTable.{code_of};
-ghost use Rattle.vbi_words.specs.Codes.{digit_of, IsBetween, picture_of, chapter_of, seconds_of, last_two};
+ghost use Rattle.vbi_words.specs.Codes.{digit_of, IsBetween, picture_of, chapter_of, seconds_of, last_two, code_of};
 ghost use Rattle.vbi_words.specs.Codes.{last_three, IsCode, pictures_in_second, may_stand};
 
 use crate::system::System;

@@ -3,33 +3,28 @@
 
 ghost use Rattle.std.specs.Prelude.{◌≡◌, ℕ, suc, ◌≤◌, ◌<◌, ◌+◌, ◌-◌, List, Bool, true, false};
 ghost use Rattle.std.specs.Prelude.{[], ◌∷◌, ◌++◌, replicate, length, map, Option, Some, None};
-ghost use Rattle.std.specs.List.{All, range_with_len};
+ghost use Rattle.std.specs.List.{All, flat_map, range_with_len};
 ghost use Rattle.vbi_words.specs.declared.system.System.{System};
 ghost use Rattle.vbi_words.specs.declared.system.System.TheVariants.{Ntsc, Pal};
 ghost use Rattle.vbi_words.specs.declared.outcome.Outcome.TheVariants.{Word, Unfinished, Change, Hold};
 ghost use Rattle.vbi_words.specs.Levels.{Slicing, is_high_of, levels_of, level_at, samples_of, row_levels};
 ghost use Rattle.vbi_words.specs.Words.{IsWord, IsWordOrNone};
 ghost use Rattle.vbi_words.specs.Shows.{Shows, ShowsNone, Viable};
-ghost use Rattle.vbi_words.specs.Outcomes.{AllLow, IsOutcome};
-ghost use Rattle.vbi_words.specs.RunLimits.{EndsOtherwise, HasRunLimit};
+ghost use Rattle.vbi_words.specs.Outcomes.{AllLow, IsOutcome, EndsOtherwise, HasRunLimit};
 ghost use Rattle.vbi_words.specs.Smooth.{IsSmooth, smooth_of, Glitch};
 ghost use Rattle.vbi_words.specs.Readings.{IsReading};
 ghost use Rattle.vbi_words.specs.Drawn.{IsDrawnRow, is_drawn_high, drawn_row_of, drawn_line_of, drawn_reading};
-ghost use Rattle.vbi_words.specs.Distance.{differences, least_distance};
 ghost use Rattle.vbi_words.specs.Geometry.{line_bytes};
 ghost use Rattle.vbi_words.specs.Jitter.{ShowsAmply, IsBlurred, IsJittered, NoneAlone, ReadsWord, HasGlitches};
+ghost use Rattle.vbi_words.specs.Jitter.{differences, least_distance};
 ghost use Rattle.vbi_words.specs.declared.code.Code.{Code};
 ghost use Rattle.vbi_words.specs.declared.code.Code.TheVariants.{Picture, Chapter, Time, ClvPicture, CxOn, CxOff};
 ghost use Rattle.vbi_words.specs.declared.code.Code.TheVariants.{Users, LeadIn, LeadOut, PictureStop, ClvMark, Other};
 ghost use Rattle.vbi_words.specs.declared.format.Format.{Format};
 ghost use Rattle.vbi_words.specs.declared.format.Format.TheVariants.{Cav, Clv, Both, Neither};
-ghost use Rattle.vbi_words.specs.Codes.{IsCode, may_stand};
+ghost use Rattle.vbi_words.specs.Codes.{IsCode, may_stand, code_of};
 ghost use Rattle.vbi_words.specs.Formats.{IsFormat, format_of_lines};
-ghost use Rattle.vbi_words.specs.CodeTable.{code_of};
-ghost use Rattle.vbi_words.specs.WorkedLines.{run_of_20, low_cell, long_lows, late_high, ones_of_11};
-ghost use Rattle.vbi_words.specs.WorkedLines.{ones_ending, zeros_behind, low, high};
-ghost use Rattle.vbi_words.specs.WorkedLines.{little_row, little_early, little_spiked, little_late, ones_and_five};
-ghost use Rattle.vbi_words.specs.WorkedLines.{changing, of_three};
+ghost use Rattle.vbi_words.specs.WorkedLines.{low, high, ones_ending, zeros_behind, little_row, changing, of_three};
 
 /// A list of levels shows at most one word.
 pub fn one_word()
@@ -155,11 +150,21 @@ pub fn one_format()
 
 /// The outcomes of five lines, computed from the definitions alone.
 pub fn worked_lines()
-    ensures change { IsOutcome Ntsc run_of_20 (Change 34) }
-    ensures hold { IsOutcome Ntsc low_cell (Hold 46) }
-    ensures long { IsOutcome Ntsc long_lows (Hold 72) }
-    ensures unfinished { IsOutcome Ntsc late_high Unfinished }
-    ensures word { IsOutcome Ntsc ones_of_11 (Word 16777215) }
+    // 20 high columns are more than one half cell and fewer than two, so the change behind them is hopeless.
+    ensures change { IsOutcome Ntsc (low 14 ++ (high 20 ++ low 876)) (Change 34) }
+
+    // The low run behind the first cell is one half cell, of 18 columns at most: the 19th is hopeless.
+    ensures hold { IsOutcome Ntsc (low 14 ++ (high 14 ++ low 882)) (Hold 46) }
+
+    // The high run is two half cells, and so may be the low run behind it, of 36 columns at most: the 37th is hopeless.
+    ensures long { IsOutcome Ntsc (low 14 ++ (high 22 ++ low 874)) (Hold 72) }
+
+    // The last 10 columns are high, and a longer line could still show a word.
+    ensures unfinished { IsOutcome Ntsc (low 900 ++ high 10) Unfinished }
+
+    // 24 ones, each half cell of the fewest columns.
+    ensures word { IsOutcome Ntsc
+        (flat_map (λ (cell : Bool). low 11 ++ high 11) (replicate 24 true) ++ low 382) (Word 16777215) }
 {}
 
 /// The fewest and the most columns of a half cell and of two, by lines with one run of so many, or of one less or more:
@@ -187,17 +192,21 @@ pub fn worked_runs()
 /// whose change lies two columns late and so isn't blurred, a glitch of three columns, four that are none, and a line
 /// that shows its word without columns to spare: computed on a few columns.
 pub fn worked_tolerance()
-    ensures jittered { IsJittered little_row little_early }
-    ensures alone { IsBlurred little_row little_spiked × (NoneAlone little_spiked → ⊥) }
-    ensures late { IsBlurred little_row little_late → ⊥ }
+    ensures jittered { IsJittered little_row (low 1 ++ (high 4 ++ low 2)) }
+    ensures alone { IsBlurred little_row (low 1 ++ (high 1 ++ (low 1 ++ (high 2 ++ low 2))))
+        × (NoneAlone (low 1 ++ (high 1 ++ (low 1 ++ (high 2 ++ low 2)))) → ⊥) }
+    ensures late { IsBlurred little_row (low 4 ++ (high 1 ++ low 2)) → ⊥ }
     ensures glitch { HasGlitches 1 (low 11) (low 4 ++ (high 3 ++ low 4)) }
     ensures no_glitch { HasGlitches 1 (low 11) (low 4 ++ (high 4 ++ low 3)) → ⊥ }
-    ensures not_amply { ShowsAmply Ntsc ones_and_five 16777215 → ⊥ }
+
+    // 24 ones, each half cell of 11 columns, and five lows.
+    ensures not_amply { ShowsAmply Ntsc
+        (flat_map (λ (cell : Bool). low 11 ++ high 11) (replicate 24 true) ++ low 5) 16777215 → ⊥ }
 {}
 
 /// The codes of a dozen words of each class, written down by hand from the table of codes: the ends of each pattern,
 /// some words within it, and some that miss it by one digit. NTSC and PAL have one table.
-#[tactic(auto, unfolding(crate::specs::CodeTable::code_of))]
+#[tactic(auto, unfolding(crate::specs::Codes::code_of))]
 pub fn worked_codes()
     ensures single { map code_of (0x88FFFF ∷ 0x80EEEE ∷ 0x82CFFF ∷ 0x87FFFF ∷ [])
         ≡ LeadIn ∷ LeadOut ∷ PictureStop ∷ ClvMark ∷ [] }
@@ -273,7 +282,7 @@ pub fn worked_standing()
 {}
 
 /// The formats of fields by the words of their lines 16, 17 and 18, written down by hand; 0 stands for no word.
-#[tactic(auto, unfolding(crate::specs::CodeTable::code_of, crate::specs::Formats::format_of_lines))]
+#[tactic(auto, unfolding(crate::specs::Codes::code_of, crate::specs::Formats::format_of_lines))]
 pub fn worked_formats()
     ensures cav { map format_of_lines (
         of_three 0x82CFFF 0xF12345 0xF12345 ∷ of_three 0xF00000 0 0 ∷ of_three 0 0xF79999 0 ∷ of_three 0 0 0xF80000

@@ -140,6 +140,8 @@ def _lines_between(numbers, before, after):
 def off_at_speed(numbers: Numbers, before: Reading, after: Reading) -> Optional[int]:
     """The fields that are too many (or, negative, too few) between two readings at one other speed, or 0 where the
     speed changes between them in a picture in which both lines have the same number; None of all others."""
+    if stretch_at(numbers.speeds, before.field) is None and stretch_at(numbers.speeds, after.field) is None:
+        return None
     line, other = _lines_between(numbers, before, after)
     if line.is_normal() and other.is_normal() or not line.has(before) or not other.has(after):
         return None

@@ -13,10 +13,11 @@ reading has a best chain for each state.
 
 A reading looks back until no earlier chain is worth more than those it has found. After REACH readings it asks only the
 best chain of all before them, so a better one may be missed. Among noise each reading would look at as many, so there
-are no more than LOOKS for each of all so far, and some to begin with; when these are used up, it asks the best chain of
-all behind NEAR. `go_on` and `_situation` are there for speed: most
-readings go on from the one before, or stand to those before as others did. All that a price depends on has to be in the
-keys of `_situation` and of `columns`, or else one case gets the answer of another.
+are no more than LOOKS for each of all so far, and some to begin with. When these are used up, the chain is drawn anew
+without the readings that none near them nearly fits (`_near_another`); when they are again, a reading asks the best
+chain of all behind NEAR. `go_on` and `_situation` are there for speed: most readings go on from the one before, or
+stand to those before as others did. All that a price depends on has to be in the keys of `_situation` and of `columns`,
+or else one case gets the answer of another.
 
 What words weigh is in readings.py, what fits and what breaks cost in paces.py. A change of these, or of the choice
 here, changes docs/SIDES.md: rules 2 to 8, and what was measured."""
@@ -24,14 +25,14 @@ here, changes docs/SIDES.md: rules 2 to 8, and what was measured."""
 import operator
 from typing import List
 
-from .paces import AnyPace, price
+from .paces import AnyPace, Pace, price
 from .readings import Reading
 
 REACH = 40  # readings back: setting aside more than these costs more than two of the widest breaks
 NEAR = 2  # readings back where breaks are dense
 NONE = -REACH - 1  # a reading that none can reach
 # Readings that are looked at for each one, in the mean, and more than that at first: on a side with damage it is fewer
-LOOKS, MOST_LOOKS = 4, 4000
+LOOKS, MOST_LOOKS = 2, 4000
 NEVER = -10 ** 9  # the value of a state that no chain has
 MOST_PRICES = 1 << 14  # to remember: a side has few different ones, and noise has any
 SURE = 100  # a value that is greater than each price
@@ -40,14 +41,37 @@ _MOVING, _ON = (0, NEVER), ((1, 0), None)
 
 def chain(readings: List[Reading], pace: AnyPace) -> List[Reading]:
     """The readings that are believed, each with its variant. They ascend by field, those of one field side by side."""
-    chains = _Chains(readings, pace)
-    index = 0
-    while index < len(readings):
-        index = chains.go_on(index)
-        if index < len(readings):
-            chains.add(index)
-            index += 1
+    chains = chains_of(readings, pace)
+    if not chains.take_in(0, True):
+        near = _near_another(readings, pace) if isinstance(pace, Pace) else readings
+        if len(near) < len(readings):
+            readings, chains = near, chains_of(near, pace)
+        chains.take_in(len(chains.values), False)
     return _without_ties(readings, chains.best(), pace)
+
+
+def chains_of(readings: List[Reading], pace: AnyPace) -> "_Chains":
+    """What finds the chains of these readings."""
+    return (_VideoChains if pace.kind == "video" else _Chains)(readings, pace)
+
+
+def _near_another(readings, pace):
+    """Those of these readings that have another one within reach which has the same number, or fits with FIT fields
+    too many or too few, or little more. Between two that are further off a reading costs more than it weighs."""
+    kept = set()
+    for places in pace.places(readings):
+        last = {}
+        for index, place in enumerate(places):
+            for near in (place - 1, place, place + 1):
+                if index - last.get(near, NONE) <= REACH:
+                    kept |= {index, last[near]}
+            last[place] = index
+    last = {}
+    for index, one in enumerate(readings):
+        if index - last.get(one.number, NONE) <= REACH:
+            kept |= {index, last[one.number]}
+        last[one.number] = index
+    return [readings[index] for index in sorted(kept)]
 
 
 class _Chains:
@@ -56,14 +80,25 @@ class _Chains:
     def __init__(self, readings, pace):
         self.readings, self.pace = readings, pace
         self.states = 2 * pace.variants
-        self.join = self._join if self.states > 2 else self._join_video if pace.kind == "video" else self._join_one
-        self.places = [one.field - 2 * one.number for one in readings] if pace.kind == "video" else []
+        self.join = self._join if self.states > 2 else self._join_one
         # of each reading its best value, what each state has less, and whence: how many readings back, in which state
         self.values, self.less, self.origins = [], [], []
         self.last_of = {}  # of each number its last reading
         self.looks, self.left = 0, MOST_LOOKS  # at earlier readings: so many so far, and so many that may follow
         self.columns, self.known = {}, {}
         self.tops, self.top_at = [], []  # of all readings up to each the best value, and its reading
+
+    def take_in(self, index, is_tried):
+        """Takes in the readings from this one on. Returns whether all were: if it is tried, it ends where the looks are
+        used up."""
+        while index < len(self.readings):
+            index = self.go_on(index)
+            if is_tried and self.left < REACH:
+                return False
+            if index < len(self.readings):
+                self.add(index)
+                index += 1
+        return True
 
     def go_on(self, index):
         """Takes in the readings from this one on with which the best chain of all goes on without a break, where
@@ -101,14 +136,19 @@ class _Chains:
                     self.known.clear()
                 self.known[key] = found
         more, less, origin = found
-        value = more + self.readings[index].weight + (self.values[-1] if index else 0)
+        self._keep(index, more + (self.values[-1] if index else 0), less, origin)
+
+    def _keep(self, index, before, less, origin):
+        """Takes in the best chains that end with this reading, the best of which is worth as much before it."""
+        reading = self.readings[index]
+        value = before + reading.weight
         is_best = not index or value > self.tops[-1]
         self.values.append(value)
         self.less.append(less)
         self.origins.append(origin)
         self.tops.append(value if is_best else self.tops[-1])
         self.top_at.append(index if is_best else self.top_at[-1])
-        self.last_of[self.readings[index].number] = index
+        self.last_of[reading.number] = index
 
     def _situation(self, index):
         """All that the best chains before a reading depend on, where they end with one of the two readings before it;
@@ -158,12 +198,14 @@ class _Chains:
             if step and value - price(self.pace.least_off(apart, other.number, step)) <= enough:
                 return enough  # no state can get better
             columns = self._add_columns(apart, other.number, step)
-        for state, column in columns:
-            worths = list(map(operator.sub, self.less[before], column))
-            worth = max(worths)
-            if value + worth > best[state]:  # of equals the one with more readings
-                best[state], origin[state] = value + worth, (index - before, worths.index(worth))
-        return min(map(max, best[::2], best[1::2]))
+        is_better, less = False, self.less[before]
+        for state, least, column in columns:
+            if value - least > best[state]:
+                worths = list(map(operator.sub, less, column))
+                worth = max(worths)
+                if value + worth > best[state]:  # of equals the one with more readings
+                    best[state], origin[state], is_better = value + worth, (index - before, worths.index(worth)), True
+        return min(map(max, best[::2], best[1::2])) if is_better else enough
 
     def _join_one(self, before, index, best, origin, enough):
         """The same at a pace with one variant."""
@@ -183,37 +225,26 @@ class _Chains:
                 best[0], origin[0] = worth, (index - before, int(moving < 0))
         return max(best)
 
-    def _join_video(self, before, index, best, origin, enough):
-        """The same at the pace of video, by the fields in which the disc's first picture would stand: among noise this
-        is what takes the time."""
-        other, reading = self.readings[before], self.readings[index]
-        if other.number == reading.number or other.field == reading.field:
-            return self._join_one(before, index, best, origin, enough)
-        off = self.places[index] - self.places[before]
-        worth = self.values[before] - (1 + abs(off).bit_length() if off else 0)
-        if worth <= best[0]:
-            return enough
-        best[0], origin[0] = worth, (index - before, int(self.less[before][0] < 0))
-        return max(best)
-
     def _add_columns(self, apart, number, step):
         """What it costs to go on from this number by so many fields and numbers: of each state that can be reached the
-        price from each state."""
-        columns = {}
-        for place in range(0, self.states * self.states // 4):
-            v, w = divmod(place, self.states // 2)
-            off = self.pace.off(apart, number, step, v, w)
-            turn = self.pace.change if v != w else 0
-            if off is None:  # it stays: a break, or nothing where it stayed before
-                costs = (2 * w + 1, 2 * v, price(apart) + turn), (2 * w + 1, 2 * v + 1, turn)
-            else:
-                cost = price(off) + turn
-                costs = (2 * w, 2 * v, cost), (2 * w if step else 2 * w + 1, 2 * v + 1, cost)
-            for state, origin, cost in costs:
-                columns.setdefault(state, [-NEVER] * self.states)[origin] = cost
+        least price, and the price from each state."""
+        off, change, columns = self.pace.off, self.pace.change, []
+        for w in range(self.states // 2):
+            moving, still = [], []  # what it costs to get there, from each state
+            for v in range(self.states // 2):
+                amiss, turn = off(apart, number, step, v, w), change if v != w else 0
+                if amiss is None:  # it stays: a break, or nothing where it stayed before
+                    moving += -NEVER, -NEVER
+                    still += price(apart) + turn, turn
+                else:
+                    cost = price(amiss) + turn
+                    moving += cost, cost if step else -NEVER
+                    still += -NEVER, -NEVER if step else cost
+            columns += [(state, min(costs), costs) for state, costs in ((2 * w, moving), (2 * w + 1, still))
+                        if min(costs) < -NEVER]
         if len(self.columns) == MOST_PRICES:
             self.columns.clear()
-        return self.columns.setdefault((apart, step, number % self.pace.period), list(columns.items()))
+        return self.columns.setdefault((apart, step, number % self.pace.period), columns)
 
     def best(self):
         """The readings of the best chain of all by their places, each with its variant."""
@@ -227,6 +258,57 @@ class _Chains:
             index -= back
             found.append((index, state // 2))
         return found[::-1]
+
+
+class _VideoChains(_Chains):
+    """The same at the pace of video, by the fields in which the disc's first picture would stand: readings that fit
+    have the same one. Among noise this is what takes the time, so that a look is no call."""
+
+    def __init__(self, readings, pace):
+        super().__init__(readings, pace)
+        self.fields, self.numbers = [one.field for one in readings], [one.number for one in readings]
+        self.places = [field - 2 * number for field, number in zip(self.fields, self.numbers)]
+
+    def add(self, index):
+        field, number, place = self.fields[index], self.numbers[index], self.places[index]
+        fields, numbers, places, values, tops = self.fields, self.numbers, self.places, self.values, self.tops
+        moving, still, origins, enough = 0, NEVER, [None, None], 0
+        limit = index - (REACH if self.left >= REACH else NEAR)
+        before, joined = index - 1, 0
+        while before >= 0:
+            value = values[before]
+            if value > enough:
+                off = place - places[before]
+                worth = value - 1 - off.bit_length() if off else value
+                if numbers[before] == number:
+                    still = self._stay(before, index, still, origins)
+                    enough = max(enough, still)
+                elif worth > moving and fields[before] != field:
+                    moving, origins[0] = worth, (index - before, int(self.less[before][0] < 0))
+                    enough = max(enough, moving)
+            joined += 1
+            if before == 0 or tops[before - 1] <= enough:
+                break
+            before = before - 1 if before > limit else self.top_at[before - 1] if before == limit else -1
+        same = self.last_of.get(number, NONE)
+        if index - REACH <= same < index - joined:
+            still = self._stay(same, index, still, origins)
+            joined += 1
+        self.looks += joined
+        self.left = min(self.left + LOOKS, MOST_LOOKS) - min(joined, self.left + LOOKS)
+        top = max(moving, still)
+        self._keep(index, top, _MOVING if still == NEVER else (moving - top, still - top), tuple(origins))
+
+    def _stay(self, before, index, still, origins):
+        """What a still is worth that an earlier reading with the same number begins or goes on with, or what it was
+        worth where that is more."""
+        apart, (moving, other) = self.fields[index] - self.fields[before], self.less[before]
+        moving -= price(apart)
+        worth = self.values[before] + max(moving, other)
+        if not apart or worth <= still:
+            return still
+        origins[1] = index - before, int(moving < other)
+        return worth
 
 
 def _without_ties(readings, found, pace):

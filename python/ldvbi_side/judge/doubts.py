@@ -4,9 +4,11 @@ in the form of the answer."""
 import bisect
 from typing import Any, Collection, Dict, List, Mapping, NamedTuple, Optional, Tuple
 
-from .believed import Around, Numbers
+from ldvbi import Kind
+from ldvbi.codes import LINES, name_of
+from .believed import Numbers
 from .chain import chain
-from .paces import Unit, price
+from .paces import price
 from .readings import Answer, Codes, Lines, Reading
 
 WIDEST = price(1 << 18)  # more than the widest break of a side costs
@@ -20,18 +22,40 @@ class Doubts(NamedTuple):
     second_rows: List[Answer]
 
 
-def doubts_of(codes: Codes, field: int, lines: Lines, text: Any, why: str, around: Around = (None, None),
-              unit: Optional[Unit] = None) -> List[Answer]:
-    """The words of these lines, whose number is this text, by name. `around` are the believed readings before and
-    behind the field, `unit` is that of their numbers."""
-    found = []
-    for line in lines:
-        entry = codes.entry(field, line, why)
-        entry["number"] = text
-        for name, one in zip(("before", "after"), around):
-            entry[name] = one and unit and {"field": one.field, "number": unit.text_of(one.number)}
-        found.append(entry)
-    return found
+class Beside(NamedTuple):
+    """Why a number that is set aside is doubtful, and the believed readings around, as the answer has them."""
+    why: str
+    before: Optional[Answer] = None
+    after: Optional[Answer] = None
+
+
+class AllBeside(Dict[int, Beside]):
+    """What is beside the fields of a side: between two believed readings the same, which is kept by their place."""
+
+    def __init__(self, numbers: Numbers) -> None:
+        super().__init__()
+        self.numbers = numbers
+
+    def at(self, field: int) -> Beside:
+        """What is beside a field."""
+        fields = self.numbers.fields
+        place = bisect.bisect_left(fields, field)
+        key = 2 * place + (place < len(fields) and fields[place] == field)
+        found = self.get(key)
+        if found is None:
+            around, text_of = self.numbers.around(field), self.numbers.unit.text_of
+            found = self[key] = Beside(self.numbers.why(around), *(
+                one and {"field": one.field, "number": text_of(one.number)} for one in around))
+        return found
+
+
+def doubts_of(codes: Codes, kind: Kind, field: int, lines: Lines, text: Any, beside: Beside) -> List[Answer]:
+    """The words of these lines, which are of this kind, and whose number is this text, by name."""
+    words, passes, name = codes.fields.words[field - 1], codes.fields.passes[field - 1], name_of(kind)
+    why, before, after = beside
+    return [{"field": field, "line": line, "word": "%06X" % words[line - LINES[0]], "kind": name,
+             "pass": passes[line - LINES[0]], "why": why, "number": text, "before": before, "after": after}
+            for line in lines]
 
 
 def conflict_of(field: int, said: Mapping[Any, Lines], taken: Any) -> Answer:
@@ -63,7 +87,7 @@ def chapters_aside(codes: Codes, readings: List[Reading],
         chapter = reading.number % 100
         said.setdefault(reading.field, {})[chapter] = reading.lines
         if taken.get(reading.field) != chapter:
-            doubtful += doubts_of(codes, reading.field, reading.lines, chapter, "chapter")
+            doubtful += doubts_of(codes, Kind.chapter, reading.field, reading.lines, chapter, Beside("chapter"))
     return doubtful, [conflict_of(field, ones, taken.get(field)) for field, ones in said.items() if len(ones) > 1]
 
 
@@ -78,13 +102,14 @@ def numbers_aside(codes: Codes, numbers: Numbers, readings: List[Reading]) -> Do
     for reading in readings:
         if reading.field in aside:
             said.setdefault(reading.field, []).append(reading)
+    kind, all_beside = Kind.picture if numbers.unit.name == "picture" else Kind.time, AllBeside(numbers)
     for field, ones in said.items():
-        around = numbers.around(field)
-        why = "lines" if len(ones) > 1 else numbers.why(around)
-        right = taken.get(field)
+        beside, right = all_beside.at(field), taken.get(field)
+        if len(ones) > 1:
+            beside = Beside("lines", *beside[1:])
         for one in ones:
             if right != one.number:
-                doubtful += doubts_of(codes, field, one.lines, text_of(one.number), why, around, numbers.unit)
+                doubtful += doubts_of(codes, kind, field, one.lines, text_of(one.number), beside)
         if len(ones) > 1:
             conflicts.append(conflict_of(field, {text_of(one.number): one.lines for one in ones},
                                          None if right is None else text_of(right)))

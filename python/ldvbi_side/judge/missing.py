@@ -159,10 +159,10 @@ def lost_fields(places: Places, first: Sequence[bool]) -> List[Answer]:
             if one["fields"] == 1:
                 _widen(one, places.numbers)
     swapped, numbered = _swapped_parity(places.numbers, first), places.numbers.fields
-    for field in range(numbered[0] + 1, min(numbered[-1], len(first)) + 1) if numbered else ():
-        if first[field - 1] == first[field - 2] and field not in swapped and not _is_between_sides(places, field):
-            _add_parity(lost, field)
-    return sorted(lost, key=lambda one: one["after"])
+    fields = [field for field in range(numbered[0] + 1, min(numbered[-1], len(first)) + 1)
+              if first[field - 1] == first[field - 2]] if numbered else []
+    return _with_parity(lost, [field for field in fields if field not in swapped and
+                               not _is_between_sides(places, field)])
 
 
 def _is_between_sides(places, field):
@@ -191,15 +191,20 @@ def _swapped_parity(numbers, first):
     return found
 
 
-def _add_parity(lost, field):
-    """A field that has the parity of the one before: something is lost between them."""
-    found = next((one for one in lost if one["after"] < field <= one["before"]), None)
-    if found is None:
-        lost.append({"after": field - 1, "before": field, "fields": None, "by": "parity"})
-    elif found["by"] == "number":
-        found["by"] = "both"
-        if found["fields"] == 1:
-            found.update({"after": field - 1, "before": field})
+def _with_parity(lost, fields):
+    """What is lost by numbers, with these fields, each of which has the parity of the one before: something is lost
+    between them."""
+    found, place = [], 0
+    for field in fields:
+        while place < len(lost) and lost[place]["before"] < field:
+            place += 1
+        if place == len(lost) or lost[place]["after"] >= field:
+            found.append({"after": field - 1, "before": field, "fields": None, "by": "parity"})
+        elif lost[place]["by"] == "number":
+            lost[place]["by"] = "both"
+            if lost[place]["fields"] == 1:
+                lost[place].update({"after": field - 1, "before": field})
+    return sorted(lost + found, key=lambda one: one["after"])
 
 
 # ---- Shown again

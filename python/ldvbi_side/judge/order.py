@@ -51,11 +51,12 @@ def with_turned(numbers: Numbers, readings: List[Reading]) -> Numbers:
     assert isinstance(numbers.pace, Pace)  # of pictures
     taken, near, breaks = set(numbers.fields), [], []
     for one in readings:
-        around = [other for other in numbers.around(one.field) if other] if one.field not in taken else []
-        is_sure = one.weight >= WEIGHTS[1] or any(other.number == one.number for other in around)
-        if around and is_sure and all(abs(other.number - one.number) <= TURN and abs(other.field - one.field) <= TURNED
-                                      for other in around):
-            near.append(one)
+        if one.field not in taken:
+            place = bisect.bisect(numbers.fields, one.field)
+            around = numbers.believed[max(place - 1, 0):place + 1]
+            if around and all(map(_is_near, around, (one, one))) and (
+                    one.weight >= WEIGHTS[1] or any(other.number == one.number for other in around)):
+                near.append(one)
     is_still = False
     for one, other in zip(numbers.believed, numbers.believed[1:]) if near else ():
         off = numbers.off(one, other)
@@ -66,6 +67,10 @@ def with_turned(numbers: Numbers, readings: List[Reading]) -> Numbers:
     more = {one.field: one for one in near if
             bisect.bisect(fields, one.field + TURNED) - bisect.bisect_left(fields, one.field - TURNED) > SIGNS}
     return numbers.believing(sorted(numbers.believed + list(more.values()), key=lambda one: one.field))
+
+
+def _is_near(one, other):
+    return abs(other.number - one.number) <= TURN and abs(other.field - one.field) <= TURNED
 
 
 def with_phases(numbers: Numbers) -> Numbers:
@@ -190,9 +195,12 @@ def _lines(loose, is_both):
 
 def _groups(readings, step, phase):
     """The readings that are on a line with this step, in groups that are large enough."""
+    keys = [one.number - step * ((one.field - phase) // 2) for one in readings]
+    often = {key for key, count in Counter(keys).items() if count >= LEAST}
     last, groups = {}, []
-    for one in readings:
-        key = one.number - step * ((one.field - phase) // 2)
+    for one, key in zip(readings, keys) if often else ():
+        if key not in often:
+            continue
         ones = last.get(key)
         if ones is None or one.field - ones[-1].field > APART:
             last[key] = ones = []

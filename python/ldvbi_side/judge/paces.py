@@ -10,6 +10,7 @@ RATES = {"NTSC": 30, "PAL": 25}  # numbers of a second
 # Fields of a minute: at least, in the middle, at most. NTSC has 59.94 in a second, and its clock isn't exact.
 MINUTE_FIELDS = {"NTSC": (3590, 3596, 3600), "PAL": (3000, 3000, 3000)}
 FILM = 10  # pictures to one of 3 fields, at most
+FIT = 16  # fields: a break as wide costs more than any reading weighs, even if it is one of two in the place of a third
 
 
 class Unit(NamedTuple):
@@ -72,6 +73,15 @@ class Pace:
     def numbers_in(self, fields: int) -> int:
         """How many numbers as many fields have at least, one after the other."""
         return (2 * fields + 1) // 5 if self.kind == "film" else fields // 2
+
+    def places(self, readings: List[Reading]) -> List[List[int]]:
+        """By the fields in which the disc's first picture would stand, in units of FIT: those of two readings that fit,
+        or have less than FIT fields too many or too few, are the same, or one beside the other. Of film there are two
+        such lists, since it may have stretches of video."""
+        found = [[(one.field - 2 * one.number) // FIT for one in readings]]
+        if self.kind == "film":
+            found.append([(2 * one.field - 5 * one.number) // (2 * FIT + 1) for one in readings])
+        return found
 
 
 class MinutePace:

@@ -20,10 +20,10 @@ class Places(NamedTuple):
     """Where the numbers of a side are. `showings` are lists of a number, its first and its last field; `joins` are the
     readings between which another side begins; `due` are pairs of a number that isn't there and the field that it
     belongs to; `without_field` are missing numbers whose field is unknown although no field was lost; `open` are those
-    in whose place another number was played, and `unshown` those that the disc doesn't show. `clock` judges the numbers
-    of an NTSC disc that may have been left out by its clock. `number_of` has the number of each field that shows one or
-    in which one is due. `confirmed` are the fields whose number was due, and counts as shown since it is the nearest
-    word of their lines."""
+    in whose place another number was played, or other codes alone were seen, and `unshown` those that the disc doesn't
+    show. `clock` judges the numbers of an NTSC disc that may have been left out by its clock. `number_of` has the
+    number of each field that shows one or in which one is due. `confirmed` are the fields whose number was due, and
+    counts as shown since it is the nearest word of their lines."""
     numbers: Numbers
     showings: List[List[int]]
     breaks: List[Answer]
@@ -65,7 +65,7 @@ def places_of(numbers: Numbers, codes: Codes) -> Places:
              for before, after in zip(numbers.believed, numbers.believed[1:])]
     joins = [(step.before, step.after) for step in steps if ends and _is_join(step, ends)]
     steps = [_joined(step) if (step.before, step.after) in set(joins) else step for step in steps] if joins else steps
-    due, without_field, unshown = _due(numbers, steps, codes)
+    due, without_field, unshown, unseen = _due(numbers, steps, codes)
     turned, due = _turned(numbers, due, without_field)
     clock, showings = clock_of(_played(steps)), _showings(numbers.believed, steps)
     breaks = [_break(numbers, step.before, step.after, step.off) for step in steps if step.kind == "break"]
@@ -74,8 +74,8 @@ def places_of(numbers: Numbers, codes: Codes) -> Places:
         breaks += minute_breaks(numbers.pace, showings, ends)
     number_of = {field: number for number, field in due}
     number_of.update((reading.field, reading.number) for reading in numbers.believed)
-    return Places(numbers, showings, sorted(breaks, key=lambda one: one["after"]),
-                  joins, _stills(numbers.believed, steps), due, without_field, turned, unshown, clock, number_of)
+    return Places(numbers, showings, sorted(breaks, key=lambda one: one["after"]), joins,
+                  _stills(numbers.believed, steps), due, without_field, turned | unseen, unshown, clock, number_of)
 
 
 def _is_join(step, ends):
@@ -133,9 +133,10 @@ def _stills(believed, steps):
 
 
 def _due(numbers, steps, codes):
-    """The numbers between those that fit, each with the field in which it is due; those that no field is for; and those
-    that the disc doesn't show."""
-    found, without_field, unshown, spacing = [], set(), set(), spacing_of(numbers)
+    """The numbers between those that fit, each with the field in which it is due; those that no field is for; those
+    that the disc doesn't show; and those in whose place nothing was seen but other codes."""
+    found, spacing = [], spacing_of(numbers)
+    without_field, unshown, unseen = set(), set(), set()
     for before, after, kind, _ in steps:
         if kind == "speed":
             found += passed_between(numbers, before, after)
@@ -147,12 +148,16 @@ def _due(numbers, steps, codes):
                              codes.fields.causes[field - 1][0] == "blank"}
                     unshown |= empty
                     due = [one for one in due if one[0] not in empty]
-                found += due
+                # film that is turned by hand fits by chance more often, as its pictures have 2 fields or 3
+                if numbers.pace.kind == "film" and numbers.others.issuperset(range(before.field + 1, after.field)):
+                    unseen.update(number for number, _ in due)
+                else:
+                    found += due
             else:  # of a minute that wasn't read no field is the first one
                 without_field.update(range(before.number + 1, after.number))
     # a field that shows a code in the place of a number has none
     without_field.update(number for number, field in found if field in numbers.others)
-    return [(number, field) for number, field in found if field not in numbers.others], without_field, unshown
+    return [one for one in found if one[1] not in numbers.others], without_field, unshown, unseen
 
 
 def _turned(numbers, due, without_field):

@@ -58,10 +58,6 @@ class Codes(NamedTuple):
     stray: List[Answer]
     unknown: List[Answer]
 
-    def entry(self, field: int, line: int, why: str) -> Answer:
-        """A word that is named in the answer: where it stands, what it is, and why it is named."""
-        return _entry(self.fields, field, line, why)
-
     def strays(self, found: ByField, why: str) -> List[Answer]:
         """Each line of these fields of a kind as a stray one."""
         return _strays(self.fields, found, why)

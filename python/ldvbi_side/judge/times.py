@@ -3,14 +3,13 @@
 minutes that are read in a run say together which one it is."""
 
 import bisect
-from collections import Counter
 from typing import Any, Callable, Dict, Iterator, List, NamedTuple, Optional, Set, Tuple
 
 from ldvbi import Kind
 from .believed import Around, Line, Numbers, no_numbers, numbers_of_readings
 from .between import with_rest_between
 from .chain import chain
-from .doubts import Doubts, conflict_of, doubts_of, numbers_aside, second_rows
+from .doubts import AllBeside, Beside, Doubts, conflict_of, doubts_of, numbers_aside, second_rows
 from .order import with_loops, with_speeds, with_swaps
 from .paces import RATES, MinutePace, Unit, minute_text, pace_of
 from .readings import WEIGHTS, Answer, ByField, Codes, Lines, Reading
@@ -73,7 +72,7 @@ def _times_in(codes):
     doubtful = []
     for field, values in codes.kinds[Kind.time].items():
         if None in values:
-            doubtful += doubts_of(codes, field, values[None], None, "clock")
+            doubtful += doubts_of(codes, Kind.time, field, values[None], None, Beside("clock"))
     rate = RATES[codes.fields.system]
     parts = {}
     for field, values in codes.kinds[Kind.clv_picture].items():
@@ -81,7 +80,7 @@ def _times_in(codes):
         if picture < rate:
             parts[field] = second * rate + picture
         else:
-            doubtful += doubts_of(codes, field, (16,), None, "clock")
+            doubtful += doubts_of(codes, Kind.clv_picture, field, (16,), None, Beside("clock"))
     return _Times(codes, rate, 60 * rate, codes.minutes(), parts), doubtful
 
 
@@ -91,7 +90,8 @@ def _minutes_alone(times):
     system = codes.fields.system
     readings = [Reading(field, value, codes.weight(field, lines), lines)
                 for field, values in times.minutes.items() for value, lines in values.items()]
-    doubtful = [one for field in times.parts for one in doubts_of(codes, field, (16,), None, "minute")]
+    doubtful = [one for field in times.parts
+                for one in doubts_of(codes, Kind.clv_picture, field, (16,), None, Beside("minute"))]
     if not readings:
         return no_numbers(system), Doubts(doubtful, [], [])
     pace = MinutePace(system)
@@ -155,7 +155,7 @@ class Run:
 
     def __init__(self, field: int, picture: int, whole: int) -> None:
         self.field, self.last, self.picture, self.whole = field, field, picture, whole
-        self.votes: Dict[int, int] = Counter()
+        self.votes: Dict[int, int] = {}
 
     def count_at(self, field: int) -> int:
         """The pictures from the start of the run's first minute to a field."""
@@ -167,7 +167,8 @@ class Run:
 
     def vote(self, field: int, minute: int, weight: int) -> None:
         """Takes in a minute that a field of the run says."""
-        self.votes[minute - self.count_at(field) // self.whole] += weight
+        begin = minute - self.count_at(field) // self.whole
+        self.votes[begin] = self.votes.get(begin, 0) + weight
 
     def said_at(self, field: int) -> Set[int]:
         """The numbers that a field of the run has by most of the minutes read in it: none where none was read, and more
@@ -215,12 +216,12 @@ class Runs:
 def _times_aside(times, numbers):
     """The minutes and the seconds that aren't believed, each for itself by name, and the fields whose lines differ."""
     taken = {reading.field: reading.number for reading in numbers.believed}
-    doubtful, conflicts = [], []
+    doubtful, conflicts, beside = [], [], AllBeside(numbers)
     for field in sorted(times.parts.keys() | times.minutes.keys()):
         said, number = times.minutes.get(field, {}), taken.get(field)
         if number is not None and (not said or len(said) == 1 and number // times.whole in said):
             continue
-        doubtful += _field_aside(times, numbers, field, said, number)
+        doubtful += _field_aside(times, numbers, field, said, number, beside.at(field))
         if len(said) > 1:
             right = None if number is None else number // times.whole
             conflicts.append(conflict_of(field, {minute_text(value): lines for value, lines in said.items()},
@@ -228,20 +229,20 @@ def _times_aside(times, numbers):
     return doubtful, conflicts
 
 
-def _field_aside(times, numbers, field, said, number):
+def _field_aside(times, numbers, field, said, number, beside):
     """What a field says beside its number, or, where it has none, beside those that may be due there."""
-    around, unit = numbers.around(field), numbers.unit
     doubtful = []
     if number is None:
-        # a field between two pictures may belong to either
-        due = [near.number + (field - near.field) // 2 for near in around if near]
-        fits = {(one + near) // times.whole for one in due for near in (-1, 0, 1)}
         if field in times.parts:
             text = "%02d.%02d" % divmod(times.parts[field], times.rate)
-            doubtful += doubts_of(times.codes, field, (16,), text, numbers.why(around), around, unit)
+            doubtful += doubts_of(times.codes, Kind.clv_picture, field, (16,), text, beside)
+        # a field between two pictures may belong to either
+        due = [near.number + (field - near.field) // 2 for near in numbers.around(field) if near] if said else []
+        fits = {(one + near) // times.whole for one in due for near in (-1, 0, 1)}
     else:
         fits = {number // times.whole}
-    why = "lines" if len(said) > 1 else numbers.why(around)
+    if len(said) > 1:
+        beside = beside._replace(why="lines")
     for value in said.keys() - fits:
-        doubtful += doubts_of(times.codes, field, said[value], minute_text(value), why, around, unit)
+        doubtful += doubts_of(times.codes, Kind.time, field, said[value], minute_text(value), beside)
     return doubtful

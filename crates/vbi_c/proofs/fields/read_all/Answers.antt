@@ -1,5 +1,4 @@
-use Rattle.std.proofs.Common.{◌≡◌, ℕ, ◌+◌, ◌-◌, ◌*◌, ◌∷◌, [], ◌++◌, List, take, drop, ap, sym}
-use Rattle.std.proofs.Common.{◌∙◌, arith, zero-add}
+use Rattle.std.proofs.Common.{◌≡◌, ℕ, ◌+◌, ◌-◌, ◌*◌, ◌∷◌, [], ◌++◌, List, take, drop, ap, sym, ◌∙◌, arith, zero-add}
 use Rattle.std.proofs.lemmas.List.{take_more_set}
 use Rattle.std.proofs.lemmas.List.FromFn.{map-range_with_len_more}
 use Rattle.vbi_c.specs.declared.fields.LdvbiFieldReadings.{LdvbiFieldReadings}

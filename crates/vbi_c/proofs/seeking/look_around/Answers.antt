@@ -1,8 +1,5 @@
-use Rattle.std.proofs.Common.{◌≡◌, ℕ, ◌+◌, ◌-◌, arith, inl, inr, subst}
-use Rattle.std.specs.Prelude.{◌⊎◌, get_or}
+use Rattle.std.proofs.Common.{◌≡◌, ◌+◌, ◌-◌, arith, inl, inr}
 use Rattle.std.proofs.lemmas.Bool.Decides.{leb_tells}
-use Rattle.vbi_side.specs.Numbers.{IsAnswer}
-use Rattle.vbi_c.specs.Seeking.{shown_of, HasOther}
 use Rattle.vbi_c.proofs.Sought.{found_at}
 use Rattle.vbi_c.proofs.seeking.look_around.Goals as goal
 
@@ -14,12 +11,12 @@ returns-in-Some c =
     let to = c.args.place.low + c.min.result in
     let pace = c.judge_from-pace.result in
     let numbers = c.judge_from-pace.new.numbers in
-    let number = get_or numbers (from - first + place) (record { number = 0; state = 0 }) in
     let from_is : from ≡ c.args.place.low - 24 = c.saturating_sub-from.ensures in
     let first_is : first ≡ from - 48 = c.saturating_sub-first.ensures in
     let many = to + c.min-2.result - first in
     let found = found_at c.args.seek.now c.args.bytes.now c.args.count first many (from - first)
-    (to - first) place c.args.number pace numbers (record { number = 0; state = 0 })
+    (to - first) place (from + place) c.args.number pace numbers (record { number = 0; state = 0 })
+    (omega (arith, first_is))
     (omega (arith, from_is, first_is, c.min-2.ensures, c.min.ensures, c.requires.inside))
     (elim (leb_tells 48 from) [
       | inl (t, far) ↦ inr (omega (arith, first_is, far))
@@ -34,20 +31,17 @@ returns-in-Some c =
     c.judge_from-pace.ensures.answers
     c.in-Some.ensures
     (elim c.if-from-eq0.either [ inl later ↦ inl later | inr none ↦ inr (omega (arith, none, first_is)) ]) in
-    let is : first + (from - first + place) ≡ from + place = omega (arith, first_is) in
     record {
       few = omega (arith, from_is, first_is, c.min.ensures, c.min-2.ensures, c.requires.few);
-      inside = omega (arith, is, found.inside);
+      inside = omega (arith, found.inside);
       found = λ inside. (
         pace,
         record {
           given = c.judge_from-pace.ensures.given;
           pace_is = c.pace_for_c.ensures;
           known = found.known;
-          answer = subst (λ (f : ℕ). IsAnswer pace (shown_of c.args.seek.now c.args.bytes.now c.args.count) f number) is
-              found.answer;
-          begins = subst (λ (f : ℕ). (f ≡ 0) ⊎ ((before : ℕ) × (before + 1 ≡ f) × HasOther pace
-              (shown_of c.args.seek.now c.args.bytes.now c.args.count) c.args.number before)) is found.begins;
+          answer = found.answer;
+          begins = found.begins;
         },
       );
     }

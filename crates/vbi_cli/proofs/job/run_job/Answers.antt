@@ -1,5 +1,5 @@
 use Rattle.std.proofs.Common.{rules}
-use Rattle.vbi_cli.specs.Sources.{counts_of}
+use Rattle.vbi_cli.specs.Jobs.{counts_of}
 use Rattle.vbi_cli.proofs.Jobs.{did_under}
 use Rattle.vbi_cli.proofs.job.run_job.Goals as goal
 

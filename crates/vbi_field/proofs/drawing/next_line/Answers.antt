@@ -1,6 +1,6 @@
 use Rattle.std.proofs.Common.{ap, sym, ◌∙◌, ◌-◌, length}
 use Rattle.vbi_words.specs.Geometry.{line_bytes}
-use Rattle.vbi_field.specs.Drawing.{word_at}
+use Rattle.vbi_field.specs.Draws.{word_at}
 use Rattle.vbi_words.proofs.DrawnLines.{length-drawn_line_of}
 use Rattle.vbi_field.proofs.drawing.next_line.Goals as goal
 

@@ -1,6 +1,6 @@
 use Rattle.std.proofs.Common.{refl}
 use Rattle.std.specs.Fmt.{digits}
-use Rattle.vbi_words.specs.CodeTable.{code_of}
+use Rattle.vbi_words.specs.Codes.{code_of}
 use Rattle.vbi_words.specs.Formats.{format_of_lines}
 use Rattle.vbi_field.specs.Document.{head_of, lines_of, record_of, tail_of}
 use Rattle.vbi_field.specs.Report.{report_head_of, report_entry_of, report_tail_of, shown_of}

@@ -119,5 +119,4 @@ returns-in-Full-2-clause-run g c =
     let sizes = sizes_of c.loop-row.intake.line.system in
     let last : c.loop-row.row ≡ c.args.config.now.max_fields * height_of c.args.config.now.system =
     omega (arith, c.row_limit-row-end.ensures.value) in
-    too_many c.loop-row.invariant t last (omega (arith, got.whole)) (le_of_eq got.whole)
-    got.no_error
+    too_many c.loop-row.invariant t last (omega (arith, got.0)) (le_of_eq got.0) got.1

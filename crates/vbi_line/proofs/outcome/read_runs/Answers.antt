@@ -8,7 +8,7 @@ use Rattle.vbi_words.specs.Levels.{level_at}
 use Rattle.vbi_words.proofs.SystemMachine.{IsFit, fit_after, state_at}
 use Rattle.vbi_line.specs.Decoder.{state_of}
 use Rattle.vbi_line.proofs.Ending.{fits, whole}
-use Rattle.vbi_line.specs.Runs.{IsRun}
+use Rattle.vbi_line.specs.Packing.{IsRun}
 use Rattle.vbi_line.proofs.RunLoop.{goes_on, turned, changes, holds}
 use Rattle.vbi_line.proofs.outcome.read_runs.Goals as goal
 

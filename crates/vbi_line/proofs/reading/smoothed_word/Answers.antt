@@ -3,9 +3,8 @@ use Rattle.std.proofs.lemmas.Option.{IfSome_then}
 use Rattle.vbi_line.specs.declared.decoder.Decoder.{Decoder}
 use Rattle.vbi_line.specs.Decoder.{state_of, IsSound, run_of}
 use Rattle.vbi_line.proofs.RunLoop.{counted}
-use Rattle.vbi_line.proofs.SmoothRuns.{fits, short_on, short_dies, first_dies}
-use Rattle.vbi_line.proofs.SmoothRuns.{middle_fits, long_on, second_dies, fits_end, shows, none}
-use Rattle.vbi_line.proofs.SmoothRuns.{Halfway}
+use Rattle.vbi_line.proofs.SmoothRuns.{fits, short_on, short_dies, first_dies, middle_fits, long_on, second_dies}
+use Rattle.vbi_line.proofs.SmoothRuns.{fits_end, shows, none, Halfway}
 use Rattle.vbi_line.proofs.reading.smoothed_word.Goals as goal
 use Rattle.vbi_line.proofs.reading.smoothed_word.Goals.{then-count-lt4+in-Ok}
 use Rattle.vbi_line.proofs.reading.smoothed_word.Goals.{else-count-lt4+in-Ok-read_run+in-Ok-read_run-2}

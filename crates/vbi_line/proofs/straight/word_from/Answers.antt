@@ -5,7 +5,7 @@ use Rattle.vbi_words.specs.Geometry.{half_min, half_max}
 use Rattle.vbi_words.specs.Levels.{level_at}
 use Rattle.vbi_words.specs.Outcomes.{IsOutcome}
 use Rattle.vbi_words.specs.Words.{IsWord, lowest_bits}
-use Rattle.vbi_line.specs.Runs.{IsRun}
+use Rattle.vbi_line.specs.Packing.{IsRun}
 use Rattle.vbi_line.specs.Straight.{IsMiddle}
 use Rattle.vbi_line.proofs.Middles.{low_word, high_word}
 use Rattle.vbi_line.proofs.straight.word_from.Goals as goal

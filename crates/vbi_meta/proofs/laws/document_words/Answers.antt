@@ -1,5 +1,4 @@
-use Rattle.vbi_field.specs.Kinds.{document}
-use Rattle.vbi_field.specs.Texts.{whole_text}
+use Rattle.vbi_field.specs.Texts.{document, whole_text}
 use Rattle.vbi_meta.proofs.DocumentReads.{document_is_read}
 use Rattle.vbi_meta.proofs.DocumentReadings.{has_readings}
 use Rattle.vbi_meta.proofs.laws.document_words.Goals as goal

@@ -1,9 +1,8 @@
 use Rattle.std.proofs.Common.{◌≡◌, ℕ, ◌+◌, ◌∷◌, [], ◌++◌, List, Bool, false, take, subst, ap, sym, ◌∙◌, arith, zero-add}
 use Rattle.std.proofs.Math.ListN.{replicate}
 use Rattle.std.proofs.lemmas.List.FromFn.{map-range_with_len_more}
-use Rattle.vbi_words.specs.Geometry.{width_of}
+use Rattle.vbi_words.specs.Geometry.{width_of, line_at}
 use Rattle.vbi_words.specs.Levels.{samples_of}
-use Rattle.vbi_words.specs.Rows.{line_at}
 use Rattle.vbi_near.specs.Distances.{Samples, known, known_but, lines_of, IsPile, shades}
 use Rattle.vbi_near.proofs.Counting.{zeros-long, nothing-erased, line-samples, known_but-none, pile-empty, few-empty}
 use Rattle.vbi_near.proofs.lines.nearest_of_lines.Goals as goal

@@ -1,5 +1,5 @@
 use Rattle.std.proofs.Common.{refl}
-use Rattle.vbi_words.specs.CodeTable.{code_of}
+use Rattle.vbi_words.specs.Codes.{code_of}
 use Rattle.vbi_side.proofs.chapter_laws.worked_codes.Goals as goal
 
 pub returns : goal.returns

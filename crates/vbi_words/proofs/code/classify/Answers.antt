@@ -1,5 +1,5 @@
 use Rattle.std.proofs.Common.{ap, ◌∙◌}
-use Rattle.vbi_words.specs.CodeTable.{code_of}
+use Rattle.vbi_words.specs.Codes.{code_of}
 use Rattle.vbi_words.proofs.OneCode.{only_code_of}
 use Rattle.vbi_words.proofs.code.classify.Goals as goal
 

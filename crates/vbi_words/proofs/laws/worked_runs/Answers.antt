@@ -2,8 +2,7 @@ use Rattle.std.proofs.Common.{true, refl, lit<, lit≤}
 use Rattle.vbi_words.specs.declared.system.System.TheVariants.{Ntsc, Pal}
 use Rattle.vbi_words.specs.Words.{lowest_bits}
 use Rattle.vbi_words.specs.WorkedLines.{ones_ending, zeros_behind}
-use Rattle.vbi_words.proofs.Outcomes.{word_outcome}
-use Rattle.vbi_words.proofs.WorkedLines.{changes, holds}
+use Rattle.vbi_words.proofs.Outcomes.{word_outcome, changes, holds}
 use Rattle.vbi_words.proofs.laws.worked_runs.Goals as goal
 
 pub returns : goal.returns

@@ -3,7 +3,7 @@ use Rattle.std.proofs.lemmas.List.{length-take-le}
 use Rattle.vbi_words.specs.Geometry.{line_bytes}
 use Rattle.vbi_line.proofs.Parts.{take-with_part, part-with_part}
 use Rattle.vbi_line.proofs.StoreMemory.{length-part}
-use Rattle.vbi_line.proofs.Sizes.{line_bytes-le}
+use Rattle.vbi_words.proofs.Sizes.{line_bytes-le}
 use Rattle.vbi_line.proofs.line.LineBuf.room.Goals as goal
 
 pub returns : goal.returns

@@ -14,10 +14,9 @@ use types.Logic.{Logic, sem}
 use types.Mut.{open_ref}
 use types.SemTy.{cells}
 use types.Part.{agg}
-use types.Kit.{Item, ‵, ◌⊛◌, raw, given, some, later, ◌$◌, ◌∵◌, !, qed}
-use types.Kit.{by, done, move, keep, drop as let_go, show, rewrite}
-use types.Kit.{split, split3, join, learn, fsplit, fsplit3, fjoin, use1}
-use types.Kit.{use2, await, pick, suffices, frame, updating, group, now}
+use types.Kit.{Item, ‵, ◌⊛◌, raw, given, some, later, ◌$◌, ◌∵◌, !, qed, by, done, move, keep, drop as let_go, show}
+use types.Kit.{rewrite, split, split3, join, learn, fsplit, fsplit3, fjoin, use1, use2, await, pick, suffices, frame}
+use types.Kit.{updating, group, now}
 use types.Run.{stop, fld, addr, bin, and_then, no_more, returns, enter}
 use types.ByLocal.{alloc_all, pass_all, free_all, look_at, get, through, sets}
 use denote.Array.{Array}

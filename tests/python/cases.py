@@ -1,0 +1,40 @@
+"""What many unit tests have: a folder of their own, and why a call is refused."""
+
+import os
+import tempfile
+import unittest
+
+
+def reason(call, *words, kind=ValueError, **more):
+    """Why a call raised a ValueError, or another error."""
+    try:
+        call(*words, **more)
+    except kind as error:
+        return str(error)
+    return None
+
+
+class InFolder(unittest.TestCase):
+    """A folder of its own for each test; `self.path` is that of a TBC file in it, which isn't there yet."""
+
+    def setUp(self):
+        folder = tempfile.TemporaryDirectory()
+        self.addCleanup(folder.cleanup)
+        self.folder = os.path.realpath(folder.name)
+        self.path = self.named("side.tbc")
+
+    def named(self, name):
+        return os.path.join(self.folder, name)
+
+    def names(self):
+        return sorted(os.listdir(self.folder))
+
+    def write(self, name, data):
+        """Makes a file of these bytes, or of this text; the answer is its path."""
+        with open(self.named(name), "wb") as file:
+            file.write(data.encode() if isinstance(data, str) else data)
+        return self.named(name)
+
+    def read(self, name):
+        with open(self.named(name), "rb") as file:
+            return file.read()

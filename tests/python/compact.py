@@ -1,0 +1,193 @@
+"""Sides and answers as compact texts, for tables of tests.
+
+A side is a text of parts, from left to right. These add fields:
+
+    7  1..30  0..60/3  9..5   the two fields of each of these pictures (discs.pictures)
+    0..99!4,7  0..99!4%10     the same without some, or without those that have this rest
+    f1..30  e1..30            pictures of film, those with an odd or with an even number having 3 fields
+    b1..30                    the two fields of each picture, both with its number
+    t0..60  u0..60            times, counted from the disc's start, and with line 16 alone
+    m9  n9                    a field with this minute on line 18 beside a mark, or on lines 17 and 18
+    L O B ? C                 lead-in, lead-out, a blank field, `- ? ?`, chapter 0
+    -/#17/#7                  a row of discs.py, with / for its spaces: #17 is picture 17, c7 chapter 7, @1:09 a minute,
+                              s7.12 a picture of a second, S a stop, M the mark of CLV; * or ^ stands behind them
+
+and x9 behind one of these has each nine times. The others change the fields that are there by then, counted from 1:
+
+    13=-/#17/#7   61:73/2=?   another row in field 13, or in each second one from 61 to 73
+    15.18=@0:09   1:60.16=?   another item on this line
+    -41  -41:43               these fields are gone
+    +41=Bx10                  others before field 41
+    ~11                       fields 11 and 12 in each other's place
+
+An answer is a text of members, each with what it is (`of_member`): nothing where it is empty, or x6 where it has six;
+where `..` stands at the end or the beginning, it begins or ends so."""
+
+import re
+import sys
+
+from discs import BLANK, LEAD_IN, LEAD_OUT, STOP, chapter, film, minutes, picture, pictures, plain, second, times
+from ldvbi_side.judge.answer import analyse
+
+NAMED = {"L": LEAD_IN, "O": LEAD_OUT, "B": BLANK, "?": "- ? ?", "C": "- 800DDD 800DDD"}
+FIELDS = {
+    "": lambda numbers, rate: pictures(numbers), "f": lambda numbers, rate: film(numbers),
+    "e": lambda numbers, rate: film(numbers, 0), "t": times,
+    "b": lambda numbers, rate: ["- %s %s" % (picture(number), picture(number)) for number in numbers for _ in (1, 2)],
+    "u": lambda numbers, rate: [row.split(" ")[0] + " - -" if row[2] == "E" else BLANK for row in times(numbers, rate)],
+    "m": lambda numbers, rate: ["- 87FFFF " + minutes(*divmod(number, 60)) for number in numbers],
+    "n": lambda numbers, rate: ["- {0} {0}".format(minutes(*divmod(number, 60))) for number in numbers]}
+NUMBERS = re.compile(r"([a-z]?)(\d+)(?:\.\.(\d+)(?:/(\d+))?)?(?:!([\d,]+)(?:%(\d+))?)?")
+PLACES = r"(\d+)(?::(\d+)(?:/(\d+))?)?"
+CHANGE, GONE = re.compile(PLACES + r"(?:\.(\d\d))?=(.+)"), re.compile("-" + PLACES)
+
+
+def word_of(text):
+    """An item of a row."""
+    kind, number, end = text[0], text[1:].rstrip("*^"), text[len(text.rstrip("*^")):]
+    if kind == "#":
+        return picture(int(number)) + end
+    if kind == "c":
+        return chapter(int(number)) + end
+    if kind == "@":
+        return minutes(*map(int, number.split(":"))) + end
+    if kind == "s":
+        return second(*map(int, number.split("."))) + end
+    return {"S": STOP, "M": "87FFFF"}.get(kind, text.rstrip("*^")) + end
+
+
+def fields_of(part, rate):
+    """The rows that a part adds."""
+    part, _, count = part.partition("x")
+    count = int(count or 1)
+    if part in NAMED:
+        return [NAMED[part]] * count
+    if part.count("/") == 2:
+        return [" ".join(map(word_of, part.split("/")))] * count
+    kind, first, last, step, without, by = NUMBERS.fullmatch(part).groups()
+    first, last, by = int(first), int(last or first), int(by or sys.maxsize)
+    step = int(step or 1) if last >= first else -int(step or 1)
+    gone = set(map(int, without.split(","))) if without else ()
+    return FIELDS[kind]([number for number in range(first, last + (1 if step > 0 else -1), step)
+                         if number % by not in gone for _ in range(count)], rate)
+
+
+def places_of(first, last, step):
+    return range(int(first) - 1, int(last or first), int(step or 1))
+
+
+def rows(text, rate=25):
+    """The rows of a side."""
+    found = []
+    for part in text.split():
+        change, gone = CHANGE.fullmatch(part), GONE.fullmatch(part)
+        if gone:
+            for place in reversed(places_of(*gone.groups())):
+                del found[place]
+        elif part[0] == "+":
+            place, _, more = part[1:].partition("=")
+            found[int(place) - 1:int(place) - 1] = fields_of(more, rate)
+        elif part[0] == "~":
+            place = int(part[1:])
+            found[place - 1:place + 1] = found[place], found[place - 1]
+        elif change:
+            line, more = change.groups()[3:]
+            for place in places_of(*change.groups()[:3]):
+                items = found[place].split(" ")
+                if line:
+                    items[int(line) - 16] = word_of(more)
+                found[place] = " ".join(items) if line else fields_of(more, rate)[0]
+        else:
+            found += fields_of(part, rate)
+    return found
+
+
+def span(one, first="first", last="last"):
+    return str(one[first]) if one[first] == one[last] else "%s-%s" % (one[first], one[last])
+
+
+def place(one):
+    return "%s/%s" % (one["field"], one["line"])
+
+
+# What stands for an item of each list
+ITEMS = {
+    "missing": lambda one: "%s %s" % (span(one), one["why"]), "leftOut": span,
+    "lost": lambda one: "%s %s %s" % (span(one, "after", "before"), one["fields"], one["by"]),
+    "breaks": lambda one: "%s %s %s to %s, %s" % (one["kind"], span(one, "after", "before"), one["from"], one["to"],
+                                                 one["fields"]),
+    "unread": lambda one: "%s@%s" % (one["number"], one["field"]) + ("" if one["read"] is None
+                                                                     else "=%s" % one["read"]),
+    "stills": lambda one: "%s@%s" % (one["number"], span(one)),
+    "repeated": lambda one: "%s@%s after %s" % (span(one), span(one, "field", "lastField"), one["before"]),
+    "doubtful": lambda one: "%s %s %s" % (place(one), one["number"], one["why"]),
+    "stray": lambda one: "%s %s %s" % (place(one), one["kind"], one["why"]),
+    "conflicts": lambda one: "%s %s|%s %s" % (one["field"], one["line17"], one["line18"], one["taken"]),
+    "chapters": lambda one: "%s@%s" % (one["chapter"], span(one, "field")),
+    "stops": lambda one: "%s@%s" % (one["number"], one["field"]),
+    "leadIn": lambda one: "%s %s" % (span(one), one["count"]),
+    "swapped": lambda one: "%s@%s" % (one["number"], one["field"]),
+    "speeds": lambda one: "%s %s" % (one["numbers"], span(one)),
+    "secondRows": lambda one: "%s@%s %s %s:%s" % (span(one), span(one, "field", "lastField"), one["count"],
+                                                  one["weight"], one["against"]),
+    "badLines": lambda one: "%s %s" % (place(one), one["cause"]), "reasons": lambda one: one["why"],
+    "showings": lambda one: "%s@%s" % (one[0], span(one, 1, 2)), "completed": str, "confirmed": str}
+ITEMS.update(leadOut=ITEMS["leadIn"], chapterConflicts=ITEMS["conflicts"])
+
+
+def of_member(found, name):
+    """A member of an answer as a text; of `numbers` the count; the numbers that are shown, and that of field 15 (@15);
+    the fields of what is doubtful; why numbers are missing; and the first line of the summary."""
+    if name == "numbers":
+        return "{count} {least} to {greatest}".format(**found["numbers"])
+    if name == "count":
+        return str(found["numbers"]["count"])
+    if name == "shown":
+        return ", ".join(str(number) for number, _, _ in found["showings"])
+    if name[0] == "@":
+        return ", ".join(str(number) for number, first, last in found["showings"] if first <= int(name[1:]) <= last)
+    if name == "whys":
+        return ", ".join(sorted({one["why"] for one in found["missing"] + found["leftOut"]}))
+    if name == "aside":
+        return ", ".join(str(one["field"]) for one in found["doubtful"])
+    if name == "said":
+        return said_of(found)
+    if name == "levels":
+        return found["levels"] and "{shows} {words} {bad} {blank} {field}/{line}".format(**found["levels"]) or ""
+    return ", ".join(map(ITEMS[name], found[name])) if name in ITEMS else str(found[name])
+
+
+def said_of(found):
+    """The answer with its reasons, as the first line of the summary has them."""
+    reasons = "; ".join(one["text"] for one in found["reasons"])
+    kinds = {one["whole"] for one in found["reasons"]}
+    assert found["whole"] == ("no" if "no" in kinds else "can't tell" if kinds else "yes"), found["reasons"]
+    return found["whole"] + (": " + reasons if reasons else "")
+
+
+def cells_of(table):
+    """The rows of a table, with their cells; a row goes on where the next line begins with more than four spaces."""
+    text = re.sub(r"\n {5,}", " ", table)
+    return [[cell.strip() for cell in row.split(" | ")] for row in text.split("\n") if row.strip()]
+
+
+def check(test, table, system="PAL", **more):
+    """Each row has a name, a side, which may begin with its system, and members of its answer, behind a | each. What is
+    known or asked besides, `Fields` has."""
+    for name, side, *members in cells_of(table):
+        of_side = side.partition(" ")[0] if side.startswith(("NTSC", "PAL")) else system
+        fields = plain(rows(side.replace(of_side, "", 1), 30 if of_side == "NTSC" else 25), of_side)
+        found = analyse(fields._replace(**more))
+        with test.subTest(name):
+            for member in members:
+                asked, _, wanted = member.partition(" ")
+                if asked == "no":
+                    test.assertEqual({one: found[one] for one in wanted.split()}, dict.fromkeys(wanted.split(), []))
+                elif wanted[:1] == "x" and wanted[1:].isdigit():
+                    test.assertEqual(len(found[asked]), int(wanted[1:]), asked)
+                elif wanted[-2:] == "..":
+                    test.assertEqual(of_member(found, asked)[:len(wanted) - 2], wanted[:-2], asked)
+                elif wanted[:2] == "..":
+                    test.assertEqual(of_member(found, asked)[2 - len(wanted):], wanted[2:], asked)
+                else:
+                    test.assertEqual(of_member(found, asked), wanted, asked)

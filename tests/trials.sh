@@ -1,0 +1,107 @@
+#!/bin/sh
+# Tries what looks at everything else. Each script has to fail, by one of its checks, where a file is altered by a
+# program for sed, as its line `# fails where: FILE|SED` says; `ldvbi` is the program itself. Of the Rust program those
+# scripts are tried that are run on it alone. And the gate has to fail where a part of it does, or does less.
+# usage: sh tests/trials.sh PROGRAM
+# runs: whole rust
+# shellcheck disable=SC2317
+
+# shellcheck source=tests/helpers.sh
+. "$(dirname "$0")/helpers.sh"
+
+(cd "$tests" && grep -rl --include='*.sh' '^# runs: ' . | grep -v trials) | sort -r > scripts
+(cd "$tests" && xargs grep -Lx '# fails where: [^|]*|.*' < "$work/scripts") > err
+check 'each script says where it fails' [ ! -s err ]
+only=-L
+[ -z "${DIFFERENCES:-}" ] || only=-l
+(cd "$tests" && xargs grep "$only" '^# runs: rust$' < "$work/scripts") > tried
+mkdir tree
+(cd "$top" && tar --exclude=.git --exclude=out --exclude=./dist -cf - .) | tar -xf - -C tree
+path_of_program=${program#"$top/"}
+
+# trial NAME PATH: whether a script stops at its first failed check, in a copy of the repository that is altered
+trial() {
+    cp -al tree "$1/tree"
+    row=$(sed -n 's/^# fails where: //p' "$tests/$2")
+    file=${row%%|*}
+    [ "$file" != ldvbi ] || file=$path_of_program
+    sed -i "${row#*|}" "$1/tree/$file"
+    ! cmp -s "tree/$file" "$1/tree/$file" || echo 'nothing is altered' >> "$1/said"
+    status=0
+    # What it checks isn't what the gate ran.
+    RAN='' STOP_AT_FIRST=yes timeout -k 30 1800 sh "$1/tree/tests/$2" "$1/tree/$path_of_program" < empty >> "$1/said" \
+        2>&1 || status=$?
+    rm -rf "$1/tree"
+    [ "$status" = 1 ] && [ "$(head -n 1 "$1/said")" != 'nothing is altered' ] &&
+        [ "$(tail -n 1 "$1/said")" = "$1: stopped at the first check that failed" ]
+}
+
+# Each worker takes a script that no other has taken.
+for _ in $(seq "$(nproc)"); do
+    while read -r path; do
+        name=$(basename "$path" .sh)
+        ! mkdir "$name" 2> /dev/null || ! trial "$name" "$path" || : > "$name/as_wanted"
+    done < tried &
+done
+wait
+while read -r path; do
+    name=$(basename "$path" .sh)
+    [ -e "$name/as_wanted" ] || { echo "$name doesn't"; tail -n 2 "$name/said"; }
+done < tried > err
+check 'there are scripts to try' [ -s tried ]
+check 'each script fails where it says' [ ! -s err ]
+
+# A script is ended when its time is over, though it ignores that
+mkdir -p slow/tests slow/.ci
+cp "$tests/scripts.sh" "$tests/ran.sh" slow/tests
+: > slow/.ci/ran.txt
+printf '%s\n' '# runs: everywhere' "trap '' TERM" 'sleep 60' 'sleep 60' finish > slow/tests/slow.sh
+RAN='' SCRIPT_SECONDS=1 timeout -k 5 50 sh slow/tests/scripts.sh "$program" slow < empty > out 2> err
+check 'a script that ignores TERM is ended' [ $? = 1 ]
+
+# A gate of one crate, one test, one wrong body and one check, whose parts are stubs
+mkdir -p gate/tests gate/crates/words/must-fail gate/.ci stubs
+cp "$tests/gate.sh" "$tests/ran.sh" gate/tests
+echo 'words: std' > gate/crates.txt
+printf '%s\n' 'crate words' 'test words::one' 'wrong bodies: 1 refused' 'wrong body words/wrong' > list
+stub() {
+    { echo '#!/bin/sh'; cat; } > "$1"
+    chmod +x "$1"
+}
+stub stubs/rt << 'END'
+mkdir -p crates/ldvbi/out
+echo program > crates/ldvbi/out/ldvbi
+echo "test words::${TEST:-one} ... ${ENDED:-ok}"
+echo "${CRATES:-1} passed, ${FAILED:-0} failed"
+exit "${RT:-0}"
+END
+stub stubs/make << 'END'
+echo "${BUILT:-program}" > ldvbi
+case $* in *rust) exit "${RUST:-0}" ;; *) exit "${MAKE:-0}" ;; esac
+END
+stub stubs/python3 << 'END'
+case $1 in *trials*) exit "${TRIALS:-0}" ;; *public*) exit "${PUBLIC:-0}" ;; esac
+printf 'words/wrong: %s by a goal: f\nwrong bodies: %s refused\n' "${REFUSED:-refused}" "${BODIES:-1}"
+exit "${WRONG:-0}"
+END
+stub gate/tests/scripts.sh << 'END'
+[ -z "${NEW:-}" ] || { echo 'check one: it holds' | sort - .ci/ran.txt > .ci/ran.new; exit 3; }
+case $* in *--rust) exit "${RUST_SCRIPTS:-0}" ;; *) exit "${SCRIPTS:-0}" ;; esac
+END
+# gate [FAULT]: runs it with this in the environment, and sees whether it passed
+gate() {
+    cp list gate/.ci/ran.txt
+    status=0
+    (cd gate && PATH=$work/stubs:$PATH && export PATH && bounded env "$@" sh tests/gate.sh) < empty > out 2> err ||
+        status=$?
+    [ "$status $(tail -n 1 out)" = '0 2 passed, 0 failed' ]
+}
+fails_with() {
+    ! gate "$1" && [ "$status" = 1 ] && grep -q '^the gate: ' err
+}
+check 'the gate passes where nothing is wrong' gate
+for fault in RT=1 FAILED=1 CRATES=2 ENDED=failed TEST=two MAKE=2 BUILT=another WRONG=1 REFUSED=not BODIES=2 TRIALS=1 \
+    PUBLIC=1 SCRIPTS=1 NEW=1 RUST=2 RUST_SCRIPTS=1; do
+    check "the gate fails with $fault" fails_with "$fault"
+done
+finish
