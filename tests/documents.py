@@ -10,6 +10,7 @@ faults  the fault texts and causes of FORMATS.md are those of the source, and th
 
 usage: python3 tests/documents.py [CHECK..]     (at the top of the repository)
 """
+import fnmatch
 import glob
 import os
 import re
@@ -22,6 +23,8 @@ NET = ["https://github.com/happycube/ld-decode"]
 # Where a path that a document names may begin
 FOLDERS = ("", "crates/", "crates/*/", "crates/*/src/", "crates/*/specs/", "rust/hand/src/", "tests/*/",
            "bench/*/")
+# What is built isn't there before; git is told to leave it out.
+BUILT = [line.strip("/") for line in open(".gitignore", encoding="utf-8").read().split()]
 # A path in prose: one with a folder, a folder alone, or the name of a source file
 PATH = re.compile(r"(?<![\w./])(?!PREFIX)[\w.*-]*\w(?:/[\w.*-]+)+\w|[\w-]+/(?=[`, |]|$)|"
                   r"\b\w[\w.]*\.(?:antt|rt|rs|py|sh|c|md)\b")
@@ -98,6 +101,10 @@ def links(faults):
 
 # ---- paths
 
+def is_built(path):
+    return any(fnmatch.fnmatch(path, one) or fnmatch.fnmatch(path, one + "/*") for one in BUILT)
+
+
 def paths(faults):
     """A name alone is in the folder named before it in its line. CONTRIBUTING.md names paths without code font, too."""
     looked_at = 0
@@ -108,9 +115,9 @@ def paths(faults):
             for path in PATH.findall(text):
                 there = [place for begin in (*FOLDERS, folder + "/") for place in glob.glob(begin + path)]
                 looked_at += 1
-                if not there:
+                if not there and not is_built(path):
                     faults.append(f"{document}: {path} isn't there")
-                elif "/" in path:
+                elif there and "/" in path:
                     folder = there[0] if os.path.isdir(there[0]) else os.path.dirname(there[0])
     return looked_at
 

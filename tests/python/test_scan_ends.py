@@ -1,5 +1,6 @@
 """How scans end whose processes don't: killed, interrupted, or without a reader; and what a terminal shows of them."""
 
+import atexit
 import contextlib
 import io
 import os
@@ -198,6 +199,16 @@ def listens(task, tell):
     os._exit(task)
 
 
+def tidies(task, tell):
+    """A job that signals reach while its process ends, behind a first one or by itself."""
+    def tidy():
+        os.kill(os.getpid(), signal.SIGTERM)
+        os.kill(os.getpid(), signal.SIGHUP)
+        tell([])
+    atexit.register(tidy)
+    os.kill(os.getpid(), task)
+
+
 class Processes(unittest.TestCase):
     def test_messages_and_ends(self):
         ended = []
@@ -212,3 +223,7 @@ class Processes(unittest.TestCase):
                 SideBySide(ignores, [1, 2], 1, lambda task, process: ended.append(task)) as messages:
             self.assertEqual(next(iter(messages)), (0, 1))
         self.assertEqual((ended, children(os.getpid())), ([1], []))
+
+    def test_signals_to_one_that_ends(self):
+        with SideBySide(tidies, [0, signal.SIGHUP], 1, lambda task, process: None) as messages:
+            self.assertEqual(list(messages), [(0, []), (0, Ended(0)), (1, []), (1, Ended(1))])

@@ -88,14 +88,20 @@ def _without_interrupts():
 
 
 def _run(job, task, connection):
-    """Runs the job in its process."""
-    signal.signal(signal.SIGTERM, _leave)
-    if signal.getsignal(signal.SIGHUP) != signal.SIG_IGN:  # as it is behind nohup
-        signal.signal(signal.SIGHUP, _leave)
+    """Runs the job in its process. One that ends, by itself or by a signal, has no use for signals that ask for that:
+    one that came later would break into what has to be done before."""
+    stopping = [number for number in (signal.SIGTERM, signal.SIGHUP)
+                if signal.getsignal(number) != signal.SIG_IGN]  # as SIGHUP is behind nohup
+
+    def heed(handler):
+        for number in stopping:
+            signal.signal(number, handler)
+
+    def leave(*_):
+        heed(signal.SIG_IGN)
+        raise SystemExit(1)
+
+    heed(leave)
     with contextlib.suppress(BrokenPipeError):  # nobody listens any longer
         job(task, connection.send)
-
-
-def _leave(*_):
-    """Ends this process as an exception does, so that no unfinished file stays."""
-    raise SystemExit(1)
+    heed(signal.SIG_IGN)
