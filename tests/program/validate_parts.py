@@ -5,8 +5,9 @@ it is tried once, in the smallest document. An object has just its members. The 
 neither an object nor a list, with what may stand there: `null`, `true`, `false`, numbers, one from here to there
 (`0..79`, whose neighbours may not; `1..` has no end), and texts, in quotation marks where they have a space or look
 like a number. `!60` may not stand there. An object or a list has a row where it may be `null`, or where a list has
-`3 items`, which then have places of their own (`[0]`). A row that begins without a dot gives a name to what its words
-allow.
+`3 items`, which then have places of their own (`[0]`). A row may have several places, and a place several rows; one of
+`*.number` is of each place with this last name that has no row of its own. A row that begins otherwise gives a name to
+what its words allow.
 
 usage: python3 tests/program/validate_parts.py SCHEMA TABLE DOCUMENT..
 """
@@ -28,9 +29,12 @@ def read_table(path):
     table = {}
     with open(path, encoding="ascii") as file:
         for line in file:
-            place, *words = re.findall('!?"[^"]*"|[^" ]+', line.rstrip("\n"))
-            table[place] = [one for word in words for one in table.get(word, [word])]
-    return {place: words for place, words in table.items() if place.startswith(".")}
+            first, *words = re.findall('!?"[^"]*"|[^" ]+', line.rstrip("\n"))
+            places = [first] + [word for word in words if word.startswith((".", "*."))]
+            allowed = [one for word in words if word not in places for one in table.get(word, [word])]
+            for place in places:
+                table[place] = table.get(place, []) + allowed
+    return {place: words for place, words in table.items() if place.startswith((".", "*."))}
 
 
 def has_fixed_items(words):
@@ -74,7 +78,14 @@ class Places:
 
     def __init__(self, schema, table):
         self.validator = jsonschema.Draft202012Validator(schema)
-        self.table, self.tried, self.faults, self.count = table, set(), [], 0
+        self.table, self.unused = table, set(table)
+        self.tried, self.faults, self.count = set(), [], 0
+
+    def row_of(self, place):
+        """Returns the words of a place's row, or of the row of its last name; None without either."""
+        row = place if place in self.table else "*" + place[place.rfind("."):]
+        self.unused.discard(row)
+        return self.table.get(row)
 
     def expect(self, document, is_valid, place, what):
         """Counts a document, and keeps a fault where the schema says otherwise of it."""
@@ -109,9 +120,11 @@ class Places:
 
     def replace(self, document, path, place, value):
         """Puts other values in place of this one."""
-        if place not in self.table and not isinstance(value, (dict, list)):
-            self.faults.append(place + " has no row")
-        words = self.table.get(place, [])
+        words = self.row_of(place)
+        if words is None:
+            words = []
+            if not isinstance(value, (dict, list)):
+                self.faults.append(place + " has no row")
         if isinstance(value, list):
             is_fixed = has_fixed_items(words)
             self.change_items(document, path, place, value, int(words[0]) if is_fixed else None)
@@ -147,7 +160,7 @@ def main():
         places.expect(document, True, path, "with short lists")
         places.look_at(document, document)
     tried = {place for place, _ in places.tried}
-    places.faults += [place + " is in no document" for place in sorted(set(places.table) - tried)]
+    places.faults += [row + " is in no document" for row in sorted(places.unused)]
     for fault in places.faults:
         print(fault)
     print("%d places, %d documents" % (len(tried), places.count))
