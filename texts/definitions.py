@@ -1,9 +1,9 @@
 #!/usr/bin/env python3
 """What one has to believe: the definitions of specs/ on which the contracts of SECTIONS rest, as their source has them.
 
-Into docs/PROMISES.md go for a section of WHOLE the definitions on which its contracts rest, each behind those on which
-it rests itself; for one of SHOWN those that its contracts name; and how many there are. In place of a function of
-RELATIONS stands a relation, of which a law says that it is the same. The command prints all, file by file.
+Into docs/PROMISES.md goes for each section how many definitions its contracts rest on, and for that of PRINTED also
+these, each behind those on which it rests itself. In place of a function of RELATIONS stands a relation, of which a law
+says that it is the same. The command prints all, file by file.
 
 usage: python3 texts/definitions.py [SECTION..]
 """
@@ -34,8 +34,7 @@ SECTIONS = {mark: [tuple(one.split()) for one in text.split(";")] for mark, text
     "field": "vbi_side/src/laws.rt same_in_part; vbi_side/src/answers.rt judge_one",
     "stops": "vbi_side/src/stops.rt judge_stop; vbi_side/src/stop_laws.rt stops_in_words",
 }.items()}
-# The section that the page has whole, and that of which it has what the contracts name
-WHOLE, SHOWN = ("line",), ("belief",)
+PRINTED = "line"
 # By function, the relation that stands for it, and the law by which they are one
 RELATIONS: Dict[Key, Tuple[Key, str]] = {
     ("vbi_line", "OneReading", "outcome_of"): (("vbi_words", "Outcomes", "IsOutcome"), "one_outcome"),
@@ -202,15 +201,12 @@ def block(keys: List[Key], with_heads: bool) -> str:
 
 
 def part(mark: str) -> str:
-    """Returns what the page has of a section: some of its definitions, how many there are, and what prints them."""
-    above = {key for other in list(SECTIONS)[:list(SECTIONS).index(mark)] for key in all_of(other)}
-    wanted = all_of(mark) if mark in WHOLE else list(named_by(mark)) if mark in SHOWN else []
-    shown = [key for key in all_of(mark) if key in wanted and key not in above]
+    """Returns what the page has of a section: how many definitions there are, what prints them, perhaps themselves."""
     names = ["`%s`" % function for _, *functions in SECTIONS[mark] for function in functions]
     counted = "%s %s on %d definitions in %d lines: `python3 texts/definitions.py %s`." % (
         ", ".join(names), "rest" if names[1:] else "rests", len(all_of(mark)),
         sum(len(definition(key).lines) for key in all_of(mark)), mark)
-    return "\n%s%s\n\n" % (block(shown, False) if shown else "", textwrap.fill(
+    return "\n%s%s\n\n" % (block(all_of(mark), False) if mark == PRINTED else "", textwrap.fill(
         counted, 120, break_long_words=False, break_on_hyphens=False))
 
 
