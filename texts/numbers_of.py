@@ -1,5 +1,6 @@
 """The numbers that documents have in their sentences. Such a number stands behind a comment with its name, as in
-`<!--=width_of.ntsc-->910`, and is written as the one that stands there is: with commas, or up to ten as a word."""
+`<!--=width_of.ntsc-->910`, and is written as the one that stands there is: with commas, or up to ten as a word. A name
+may also stand for a word."""
 
 import glob
 import os
@@ -104,6 +105,8 @@ def package() -> Dict[str, Any]:
     numbers.update(("weight.%d" % one, readings.WEIGHTS[one]) for one in (1, 2, 3))
     numbers.update(("pictures." + system.lower(), rate) for system, rate in paces.RATES.items())
     (least, _, most), pal = paces.MINUTE_FIELDS["NTSC"], paces.MINUTE_FIELDS["PAL"][1]
+    # one field with a picture, and one with a mark of CLV
+    even = readings.Fields("PAL", [(0, 0xF00001, 0), (0, 0x87FFFF, 0)], [(0, 1, 0)] * 2, [])
     return {
         **numbers, "minute.pal": pal, "minute.least": least, "minute.most": most, "version": answer.VERSION,
         "summary.lines": summary.MOST_LINES, "summary.listed": summary.MOST_LISTED, "page.plots": page.MOST_PLOTS,
@@ -116,7 +119,7 @@ def package() -> Dict[str, Any]:
         "order.turned": order.TURNED, "sparse.least": sparse.LEAST, "lines.few": lines.FEW,
         "levels.fields": levels.FIELDS, "levels.few": levels.FEW, "levels.step": levels.STEP,
         "ends.longest": ends.LONGEST, "begins": len(ends.FIRST["time"]), "format.near": whole.NEAR,
-        "doubtful.share": whole.SHARE,
+        "doubtful.share": whole.SHARE, "format.even": readings.codes_of(even).format.upper(),
     }
 
 
@@ -126,7 +129,9 @@ def all_numbers() -> Dict[str, Any]:
 
 
 def as_there(value: Any, there: str) -> str:
-    """A number in the form of the one that stands there."""
+    """A number in the form of the one that stands there; a text as it is."""
+    if isinstance(value, str):
+        return value
     if there[0].isdigit():
         return "{:,}".format(value) if "," in there else str(value)
     for words in (CARDINALS, ORDINALS):

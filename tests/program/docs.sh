@@ -124,6 +124,19 @@ for said in 'codes/write.py --check' 'texts/write.py --check' tests/documents.py
     check "$said" [ "$status" = 0 ]
 done
 
+# In a copy of the documents both see what somebody has written otherwise: a column, and the line of a code.
+mkdir copy
+for part in "$top"/* "$top/.ci"; do ln -s "$part" copy; done
+rm copy/codes copy/docs copy/texts
+cp -r "$top/codes" "$top/docs" "$top/texts" copy
+sed -i 's/^| `cause` | as/| `why` | as/' copy/docs/SIDES.md
+sed -i 's/^| CLV mark | 17 |$/| CLV mark | 18 |/' copy/docs/FORMATS.md
+for pair in codes:FORMATS texts:SIDES; do
+    in_folder copy python3 ${pair%:*}/write.py --check
+    check "${pair%:*}/write.py sees another text of ${pair#*:}" \
+        [ "$status $(grep -c "^write: docs/${pair#*:}.md isn't what " out)" = '1 1' ]
+done
+
 # The real examples of causes in FORMATS.md, of which these are the lines in the order of its rows
 signal NTSC 1 << 'END' | ntsc_samples > causes.tbc
 82CFFF|82CFFF @170-171L|-
