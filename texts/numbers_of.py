@@ -17,6 +17,7 @@ JITTER = "crates/vbi_words/specs/Jitter.antt"
 RAN = ".ci/ran.txt"
 RATES = "tests/library/library_lines.c"
 READER = "docs/RECIPES.md"  # of a map, in C
+SIDES = "docs/measured/sides.txt"  # what bench/sides/measure.py printed
 
 
 def read(path: str) -> str:
@@ -86,6 +87,13 @@ def glitches(size: Dict[str, int]) -> Dict[str, int]:
     return numbers
 
 
+def of_sides() -> Dict[str, int]:
+    """What was found of the simulated sides of all kinds, and of how many."""
+    found = re.findall(r"([a-z][a-z ]*) (\d+)(?: of (\d+))?", read(SIDES).partition("\n    said: ")[0])
+    names = [("sides." + name.replace(" ", "_"), count, of) for name, count, of in found]
+    return {name + end: int(count) for name, *counts in names for end, count in zip(("", ".of"), counts) if count}
+
+
 def systems() -> str:
     """The values of the header's systems, with their sizes."""
     size = sizes()
@@ -125,7 +133,7 @@ def package() -> Dict[str, Any]:
 
 def all_numbers() -> Dict[str, Any]:
     size = sizes()
-    return {**size, **limits(), **refused(), **glitches(size), **of_tests(), **package()}
+    return {**size, **limits(), **refused(), **glitches(size), **of_tests(), **of_sides(), **package()}
 
 
 def as_there(value: Any, there: str) -> str:
