@@ -63,8 +63,8 @@ def limits() -> Dict[str, int]:
 
 
 def of_tests() -> Dict[str, int]:
-    """In kHz the rates between which all words of good lines are read; the bytes of a row that a map's reader takes; the
-    lines of each file that is written by hand for the plain Rust build."""
+    """In kHz the rates between which all words of good lines are read; the bytes of a row that a map's reader takes;
+    the lines of each file that is written by hand for the plain Rust build."""
     rates = [int(rate) for rate in re.findall(r"^    \{(\d+), 0, 0, 0, WORDS, WORDS\}", read(RATES), re.M)]
     row, = of_source(READER, r"char row\[(\d+)\]")
     lines = {"lines." + os.path.basename(path)[:-3]: read(path).count("\n") for path in paths("rust/hand/src/*.rs")}

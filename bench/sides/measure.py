@@ -1,6 +1,6 @@
 #!/usr/bin/env python3
-"""The table of docs/MEASURED.md: simulated sides, analysed, and the answers beside the truth. What `measure.py 2000 2350`
-prints is in docs/measured/sides.txt.
+"""The table of docs/MEASURED.md: simulated sides, analysed, and the answers beside the truth. What the seeds 2000 to
+2349 gave is in docs/measured/sides.txt.
 
 usage: measure.py FROM TO [--kind KIND]... [--parity] [--show N]     the seeds FROM to TO - 1
 
