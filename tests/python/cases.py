@@ -1,6 +1,8 @@
-"""What many unit tests have: a folder of their own, and why a call is refused."""
+"""What many unit tests have: a folder of their own, what a database answers, and why a call is refused."""
 
+import contextlib
 import os
+import sqlite3
 import tempfile
 import unittest
 
@@ -12,6 +14,14 @@ def reason(call, *words, kind=ValueError, **more):
     except kind as error:
         return str(error)
     return None
+
+
+def in_database(path, *statements):
+    """What a database, which may be a new one, answers to these statements: texts, or pairs of one and its values."""
+    with contextlib.closing(sqlite3.connect(path)) as database:
+        answers = [database.execute(*([one] if isinstance(one, str) else one)).fetchall() for one in statements]
+        database.commit()
+    return answers
 
 
 class InFolder(unittest.TestCase):

@@ -1,17 +1,22 @@
-"""Documents as they are and broken ones, each by one change of a sound one."""
+"""Documents as they are and broken ones, each by one change of a sound one. Those that stand as they are written are
+taken apart by a pattern: what comes of one is what its JSON says, and so is the fault of one that is changed."""
 
 import json
+import random
 import unittest
+from unittest import mock
+
+import ldvbi
 
 from cases import reason
 from ldvbi import Cause
-from ldvbi.document import is_document
-from ldvbi.readings import Levels
+from ldvbi.document import RECORD, _as_json, head_of, is_document, read_document, tail_of
+from ldvbi.readings import Cut, Levels, PackedFields
 from ldvbi_side.judge.readings import Fields
 from ldvbi_side.side import side_of_document
 
 PICTURE = 0xF00001
-FIELD = ("fields", 2)  # that has pictures
+GONE = object()
 
 
 def record(number, words, causes, passes):
@@ -32,28 +37,16 @@ def text_of(value):
     return json.dumps(value).encode()
 
 
-def changed(*path, value=None, is_gone=False):
+def changed(path, value):
     """The document with another value at a place, or without it."""
-    whole = document()
-    inside = whole
-    for step in path[:-1]:
+    *steps, last = [int(step) if step.isdigit() else step for step in path.split(".")]
+    inside = whole = document()
+    for step in steps:
         inside = inside[step]
-    if is_gone:
-        del inside[path[-1]]
-    else:
-        inside[path[-1]] = value
+    inside[last] = value
+    if value is GONE:
+        del inside[last]
     return whole
-
-
-def of_system(system, width, height, **more):
-    """The document of another system, with the greatest levels, and other members."""
-    whole = dict(document(), **more)
-    whole["videoParameters"].update(system=system, fieldWidth=width, fieldHeight=height, black16bIre=0,
-                                    white16bIre=65535)
-    return whole
-
-
-SYSTEMS = (("NTSC", 910, 263), ("PAL", 1135, 313))
 
 
 def refusal(whole):
@@ -72,26 +65,29 @@ class Sound(unittest.TestCase):
         self.assertEqual(side.levels, Levels(16384, 51200))
         self.assertEqual([line.column for line in side.readings[1]], [0, 0, 909])
         self.assertEqual([line.cause for line in side.readings[1]], [Cause.unfinished, Cause.change, Cause.hold])
-        words = side_of_document(text_of(changed(*FIELD, "vbi", "vbiData", value=[0, 0x800000, 0xFFFFFF])))
+        words = side_of_document(text_of(changed("fields.2.vbi.vbiData", [0, 0x800000, 0xFFFFFF])))
         self.assertEqual([line.word for line in words.readings[2]], [0, 0x800000, 0xFFFFFF])  # the least, the greatest
 
     def test_each_system(self):
         """Columns are those of 1 to 4 digits that a line has, and no other; a cut is less than a field; no field."""
-        for system, width, height in SYSTEMS:
+        for system, width, height in (("NTSC", 910, 263), ("PAL", 1135, 313)):
             most = 2 * width * height - 1
-            fields = [record(number + 1, [0, 0, 0], ["change %d" % number, "hold %d" % number, "blank"], [0, 0, 0])
-                      for number in range(width)]
-            cut = {"seqNo": width + 1, "bytes": most}
-            side = side_of_document(text_of(of_system(system, width, height, fields=fields, cutField=cut)))
+            whole = document()
+            whole["videoParameters"] = {"system": system, "fieldWidth": width, "fieldHeight": height,
+                                        "black16bIre": 0, "white16bIre": 65535}
+            whole["fields"] = [record(number + 1, [0, 0, 0], ["change %d" % number, "hold %d" % number, "blank"],
+                                      [0, 0, 0]) for number in range(width)]
+            whole["cutField"] = {"seqNo": width + 1, "bytes": most}
+            side = side_of_document(text_of(whole))
             for line in ("first", "second"):
                 self.assertEqual([getattr(field, line).column for field in side.readings], list(range(width)))
             self.assertEqual((side.system.name, side.cut.bytes, side.levels), (system, most, Levels(0, 65535)))
-            cut["bytes"] += 1
-            self.assertRegex(refusal(of_system(system, width, height, fields=fields, cutField=cut)),
-                             "bytes is not from 1 to %d$" % most)
-            fields[0]["vbiCause"][1] = "hold %d" % width
-            self.assertRegex(refusal(of_system(system, width, height, fields=fields)), "no cause")
-            side = side_of_document(text_of(of_system(system, width, height, fields=[], cutField=None)))
+            whole["cutField"]["bytes"] += 1
+            self.assertRegex(refusal(whole), "bytes is not from 1 to %d$" % most)
+            whole["fields"][0]["vbiCause"][1] = "hold %d" % width
+            self.assertRegex(refusal(whole), "no cause")
+            whole.update(fields=[], cutField=None)
+            side = side_of_document(text_of(whole))
             self.assertEqual([side.readings, side.cut], [[], None])
 
     def test_what_is_taken_for_a_document(self):
@@ -100,7 +96,6 @@ class Sound(unittest.TestCase):
         self.assertFalse(is_document("a.tbc", b'{"fields"'))
 
 
-GONE = object()
 LEVELS = "black16bIre and white16bIre are not two samples, black below white"
 NO_FIT = "field 3: word, cause and pass of a line don't fit: "
 # Why documents are refused that have one of these values at a place, or nothing
@@ -153,10 +148,9 @@ BROKEN = (
 class Broken(unittest.TestCase):
     def test_each_change(self):
         for text, path, *values in BROKEN:
-            path = [int(step) if step.isdigit() else step for step in path.split(".")]
             for value in values:
                 with self.subTest((path, value)):
-                    self.assertEqual(refusal(changed(*path, value=value, is_gone=value is GONE)), text)
+                    self.assertEqual(refusal(changed(path, value)), text)
 
     def test_the_cut_field_of_an_empty_side(self):
         """It is the first one, of which true isn't the number; one byte of it is enough."""
@@ -189,3 +183,75 @@ class Broken(unittest.TestCase):
         for data in (sound[:-3], b"", sound.replace(b"85360", b"NaN"), b"\xef\xbb\xbf" + sound,
                      sound.decode().encode("utf-16"), b"[" * 100000, b'{"a":"\xff"}'):
             self.assertTrue(refusal(data).startswith("not JSON: "), data[:20])
+
+
+FIELDS = [((0, 0, 0), ("blank", "unfinished", "hold 909"), (0, 0, 0)),
+          ((PICTURE, 0xFFFFFF, 0x800000), ("word", "word", "word"), (1, 2, 1)),
+          ((0, 0xF00002, 0xF00002), ("change 0", "word", "word"), (0, 1, 1))]
+NEAR = ',"vbiNear":[{"word":15728641,"distance":120,"rival":0},null,null]}'
+
+
+def written(version=2, count=3, cut=None, system=ldvbi.System.NTSC):
+    records = [RECORD % (number + 1, *(part for parts in FIELDS[number % 3] for part in parts))
+               for number in range(count)]
+    if version == 3:
+        records[1] = (records[1][:-1].replace('"word"', '"change 17"', 1) + NEAR).replace("[1,2,1]", "[3,2,1]")
+    return (head_of(version, system, 16384, 51200) + ",\n".join(records) + tail_of(cut)).encode()
+
+
+def outcome(read, data):
+    """What is read of a document, or the text of its fault."""
+    try:
+        return read(data)
+    except ValueError as error:
+        return str(error)
+
+
+class Written(unittest.TestCase):
+    def by_pattern(self, data):
+        """What is read of a document without a look at its records as JSON."""
+        with mock.patch("ldvbi.document._as_json", side_effect=AssertionError):
+            return read_document(data)
+
+    def test_as_its_json(self):
+        for system in ldvbi.System:
+            for version in (2, 3):
+                for count, cut in ((3, None), (2500, Cut(2501, 17))):
+                    data = written(version, count, cut, system)
+                    found = self.by_pattern(data)
+                    self.assertEqual(found, _as_json(data))
+                    self.assertEqual([len(found.readings), found.cut, found.system], [count, cut, system])
+
+    def test_each_part(self):
+        readings = self.by_pattern(written(3)).readings
+        self.assertEqual(readings.words(), [words for words, _, _ in FIELDS])
+        self.assertEqual(readings.causes(), [FIELDS[0][1], ("change 17", "word", "word"), FIELDS[2][1]])
+        self.assertEqual(readings.passes(), [(0, 0, 0), (3, 2, 1), (0, 1, 1)])
+        self.assertEqual([line.column for line in readings[0]], [0, 0, 909])
+        self.assertEqual(readings[-2:], list(readings)[1:])
+        self.assertEqual(PackedFields.of(list(readings)), readings)
+        with self.assertRaises(IndexError):
+            readings[3]
+
+    def test_one_character_changed(self):
+        """A character is put in the place of one, or before it. Most have a fault, some are sound in another form."""
+        rng, faults = random.Random(1), 0
+        for version in (2, 3):
+            data = written(version, 3, Cut(4, 17))
+            for _ in range(400):
+                other, place = bytearray(data), rng.randrange(len(data))
+                other[place:place + rng.randrange(2)] = rng.choice((b"0", b"7", b" ", b",", b"}", b'"', b"\n", b"\xff"))
+                found = outcome(read_document, bytes(other))
+                self.assertEqual(found, outcome(_as_json, bytes(other)), bytes(other))
+                faults += isinstance(found, str)
+        self.assertGreater(faults, 500)
+
+    def test_other_forms(self):
+        """Records that a pattern finds in a place that isn't theirs, or with another number; and none."""
+        data = written()
+        inner = b'{"version":2,"videoParameters":{},"fields":[],"x":' + data[:-1] + b"}"
+        for other in (inner, data.replace(b"\n", b"\r\n"), b" " + data, data + b" ", data.replace(b":", b": "),
+                      written(count=0), data.replace(b'"seqNo":2', b'"seqNo":02'), data.replace(b":2,", b":4,", 1),
+                      data.replace(b'"seqNo":2', b'"seqNo":4')):
+            self.assertNotEqual(other, data)
+            self.assertEqual(outcome(read_document, other), outcome(_as_json, other))

@@ -11,13 +11,10 @@ from ldvbi_side.command.progress import Progress
 from streams import NTSC, PAL, PROGRAM, line_with, pictures, write_stream
 
 
-def options(setup):
-    return [text for pair in zip(("--system", "--black", "--white"), map(str, setup)) for text in pair]
-
-
 def extracted(path, setup):
     """What the program writes, and its status."""
-    run = subprocess.run([PROGRAM, "extract", *options(setup), path], stdout=subprocess.PIPE, check=False)
+    words = "extract --system %s --black %d --white %d" % setup
+    run = subprocess.run([PROGRAM, *words.split(), path], stdout=subprocess.PIPE, check=False)
     return run.stdout, run.returncode
 
 
@@ -39,31 +36,19 @@ def causes(setup):
             [line_with(0, setup, [(last - 1, last - 1, True)]), 0, 0]]
 
 
-class Many:
-    """A stream of so many fields, none of which is ever asked for."""
+class Stub:
+    """A stream of so many fields, which has these blocks."""
     system, black, white = ldvbi.System.NTSC, 16384, 51200
 
-    def __init__(self, count, cut_bytes):
-        self._count, self.cut_bytes = count, cut_bytes
+    def __init__(self, count, cut_bytes=0, blocks=()):
+        self._count, self.cut_bytes, self._blocks = count, cut_bytes, blocks
 
     def __len__(self):
         return self._count
 
     def packed(self, begin, end):
         assert (begin, end) == (0, self._count)
-        return iter(())
-
-
-class Later:
-    """A stream of one field, whose last line has the first cause that isn't known."""
-    system, black, white, cut_bytes = ldvbi.System.NTSC, 16384, 51200, 0
-
-    def __len__(self):
-        return 1
-
-    def packed(self, begin, end):
-        assert (begin, end) == (0, 1)
-        return iter([ldvbi.PACKED_FIELD.pack(1, 0, 0, 0, 1, 0, 0, 0, len(ldvbi.Cause), 0, 0, 0)])
+        return iter(self._blocks)
 
 
 class Documents(InFolder):
@@ -73,13 +58,6 @@ class Documents(InFolder):
         self.assertEqual(status, 3 if rest else 0)
         self.assertEqual(written(self.path, setup), wanted)
         return wanted.decode("ascii")
-
-    def test_one_field_by_hand(self):
-        write_stream(self.path, NTSC, [[0x82CFFF, 0xF12345, 0xF12345]])
-        self.assertEqual(written(self.path, NTSC).decode("ascii"), '{"version":2,"videoParameters":{"system":"NTSC",'
-                         '"fieldWidth":910,"fieldHeight":263,"black16bIre":16384,"white16bIre":51200},"fields":[\n'
-                         '{"seqNo":1,"vbi":{"vbiData":[8572927,15803205,15803205]},"vbiCause":["word","word","word"],'
-                         '"vbiPass":[1,1,1]}\n],"cutField":null}\n')
 
     def test_causes_and_passes(self):
         for setup in (NTSC, PAL, ("NTSC", 0, 65535), ("PAL", 65534, 65535)):
@@ -105,12 +83,14 @@ class Documents(InFolder):
 
     def test_too_many_fields(self):
         """As the program, which takes at most 1,000,000."""
-        for many, is_taken in ((Many(1000000, 0), True), (Many(1000000, 1), False), (Many(1000001, 0), False)):
+        for many, is_taken in ((Stub(1000000), True), (Stub(1000000, 1), False), (Stub(1000001), False)):
             text = io.StringIO()
             said = reason(write_document, many, text, Progress(0, is_wanted=False).over)
             self.assertEqual((said, text.getvalue() != ""), (None, True) if is_taken else ("too many fields", False))
 
     def test_a_cause_of_a_later_library(self):
         text = "the library's cause 5 is not known here"
-        self.assertEqual(reason(write_document, Later(), io.StringIO(), Progress(0, is_wanted=False).over), text)
+        field = ldvbi.PACKED_FIELD.pack(1, 0, 0, 0, 1, 0, 0, 0, len(ldvbi.Cause), 0, 0, 0)
+        over = Progress(0, is_wanted=False).over
+        self.assertEqual(reason(write_document, Stub(1, 0, [field]), io.StringIO(), over), text)
         self.assertEqual(reason(cause_text, ldvbi.Reading(5, 0, 0, 0)), text)

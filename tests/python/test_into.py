@@ -3,6 +3,7 @@
 import io
 import json
 import random
+import re
 import unittest
 
 from cases import reason
@@ -91,64 +92,46 @@ class Fields(unittest.TestCase):
 
 
 class Documents(unittest.TestCase):
-    def drawn_fields(self, choose, count):
-        """Fields as ld-decode has them, with or without words, or with some of them."""
-        for number in range(1, count + 1):
-            field = {"audioSamples": choose.randrange(800), "diskLoc": choose.random() * 1e5, "seqNo": number,
-                     "isFirstField": number % 2 == 1, "note": choose.choice(["", "ü", '"vbi":{', "\\", "}"]),
-                     "dropOuts": {"endx": [choose.randrange(900) for _ in range(choose.randrange(5))]}}
-            vbi = choose.choice([None, {"vbiData": [0, 0, 0]}, {"note": "kept", "vbiData": [-1, 2, 3], "a": 1e-7}, {}])
-            if vbi is not None:
-                field["vbi"] = dict(vbi)
-            field["medianBurstIRE"] = choose.choice([1.0, 17.25, 1e22, None])
-            yield field
-
     def test_as_the_module_json_writes_it_anew(self):
-        """In each style that is json's own, a copy is what json makes of the parsed document with the words in it."""
+        """In each style that is json's own, a copy is what json makes of the parsed document with the words in it.
+        Fields are as ld-decode has them, with or without words, or with some of them."""
         choose = random.Random(48)
         for separators in (COMPACT, SPACED) * 10:
-            fields = list(self.drawn_fields(choose, 20))
-            document = {"fields": fields, "videoParameters": {"sampleRate": 14318181.8, "system": "NTSC"}}
-            if choose.random() < 0.5:
-                document = dict(reversed(list(document.items())))
+            fields = [{"diskLoc": choose.random() * 1e5, "seqNo": number, "isFirstField": number % 2 == 1,
+                       "note": choose.choice(["", "ü", '"vbi":{', "\\", "}"]), "dropOuts": {"endx": [7] * (number % 5)},
+                       **choose.choice(({}, {"vbi": {"vbiData": [0, 0, 0]}}, {"vbi": {}},
+                                        {"vbi": {"note": "kept", "vbiData": [-1, 2, 3], "a": 1e-7}})),
+                       "medianBurstIRE": choose.choice([1.0, 17.25, 1e22, None])} for number in range(1, 21)]
+            members = [("fields", fields), ("videoParameters", {"sampleRate": 14318181.8, "system": "NTSC"})]
+            document = dict(choose.sample(members, 2))
             is_ascii = choose.random() < 0.5
             text = json.dumps(document, separators=separators, ensure_ascii=is_ascii)
-            words = some_words(choose, len(fields))
+            words = some_words(choose, 20)
             for field, three in zip(fields, words):
-                field.setdefault("vbi", {})["vbiData"] = list(three)
+                field["vbi"] = {**field.get("vbi", {}), "vbiData": list(three)}
             wanted = json.dumps(document, separators=separators, ensure_ascii=is_ascii)
             for piece in (1, 7, 100, 1 << 18):
-                self.assertEqual(copied(text, words, piece), (len(fields), wanted))
+                self.assertEqual(copied(text, words, piece), (20, wanted))
 
     def test_all_else_is_the_same(self):
         """White space of any kind, and numbers that are written in another way: what isn't a word stays."""
         choose = random.Random(49)
+        parts = {"?": ["1.50", "-0", "1E+2", '"\\u00fc\\/"', '"ü"', "[ 1,2 ]", '{"vbi" : 3}', "null", "1" * 30],
+                 "~": ["", "", " ", "\n", "\r\n\t", "  "]}
+
+        def members(*known):
+            """An object with these members in any order, in which ? stands for a value, and ~ for white space."""
+            return "~{~%s~}~" % "~,~".join('"%s"~:~%s~' % one for one in choose.sample(known, len(known)))
         for _ in range(200):
-            def white():
-                return choose.choice(["", "", " ", "\n", "\r\n\t", "  "])
-
-            def joined(parts, begin, end):
-                return begin + white() + (white() + "," + white()).join(parts) + white() + end
-
-            def member(name, value):
-                return '"%s"%s:%s%s' % (name, white(), white(), value)
-
-            others = ["1.50", "-0", "1E+2", '"\\u00fc\\/"', '"ü"', "[ 1,2 ]", '{"vbi" : 3}', "null", "1" * 30]
-            fields = []
-            for number in range(1, 6):
-                inner = [member("a", choose.choice(others)), member("vbiData", joined(["@"] * 3, "[", "]"))]
-                parts = [member(name, choose.choice(others)) for name in ("x", "y", "vbiData")]
-                parts += [member("seqNo", number), member("vbi", joined(choose.sample(inner, 2), "{", "}"))]
-                fields.append(joined(choose.sample(parts, 5), "{", "}"))
-            text = white() + joined(choose.sample([
-                member("fields", joined(fields, "[", "]")), member("z", choose.choice(others))], 2), "{", "}") + white()
+            fields = [members(("x", "?"), ("y", "?"), ("vbiData", "?"), ("seqNo", number),
+                              ("vbi", members(("a", "?"), ("vbiData", "[~%d~,~%d~,~%d~]")))) for number in range(1, 6)]
+            text = members(("fields", "[%s]" % ",".join(fields)), ("z", "?"))
+            text = re.sub("[?~]", lambda mark: choose.choice(parts[mark[0]]), text)
             words = some_words(choose, 5)
-            numbers = iter([number for three in words for number in three])
-            wanted = "".join(str(next(numbers)) if part == "@" else part for part in text)
             piece = choose.choice([1, 10, 1 << 18])
-            old = text.replace("@", choose.choice(["0", "-1", "1.5"]))
+            old = text.replace("%d", choose.choice(["0", "-1", "1.5"]))
             with self.subTest((piece, text)):
-                self.assertEqual(copied(old, words, piece), (5, wanted))
+                self.assertEqual(copied(old, words, piece), (5, text % sum(words, ())))
 
     def test_no_field_at_all(self):
         for text in ("{}", '{"fields":[]}', ' { "fields" : [ ] } \n', '{"fields":5}'):

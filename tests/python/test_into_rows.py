@@ -5,7 +5,7 @@ import contextlib
 import os
 import sqlite3
 
-from cases import InFolder, reason
+from cases import InFolder, in_database, reason
 from ldvbi.metadata import read_metadata
 from ldvbi_side.into.rows import Rows
 
@@ -32,28 +32,21 @@ class Databases(InFolder):
         super().setUp()
         self.path, self.copy = self.named("side.tbc.db"), self.named("copy.db")
 
-    def run_in(self, path, *statements):
-        with contextlib.closing(sqlite3.connect(path)) as database:
-            answers = [database.execute(statement).fetchall() for statement in statements]
-            database.commit()
-        return answers
-
-    def make(self, count=12, form=FORM, begin=0, **more):
+    def make(self, *more, count=12, form=FORM, begin=0):
         """A database of so many fields, of which each third one has words, and what else these statements make."""
         if os.path.exists(self.path):
             os.unlink(self.path)
-        with contextlib.closing(sqlite3.connect(self.path)) as database:
-            database.executescript(form)
-            for number in range(begin, begin + count):
-                database.execute("INSERT INTO field_record VALUES (4, ?, ?, ?, 17.25)",
-                                 (number, number / 3, (number - begin) % 2))
-                database.execute("INSERT INTO drop_outs VALUES (4, ?, 100)", (number,))
-                if number % 3 == 0:
-                    database.execute("INSERT INTO vbi (capture_id, field_id, vbi0, vbi1, vbi2) VALUES (4, ?, -1, 5, 6)",
-                                     (number,))
-            for statement in more.values():
-                database.execute(statement)
-            database.commit()
+        numbers = range(begin, begin + count)
+        fields = [("INSERT INTO field_record VALUES (4, ?, ?, ?, 17.25)", (number, number / 3, (number - begin) % 2))
+                  for number in numbers]
+        shown = [("INSERT INTO vbi (capture_id, field_id, vbi0, vbi1, vbi2) VALUES (4, ?, -1, 5, 6)", (number,))
+                 for number in numbers if number % 3 == 0]
+        drop_outs = [("INSERT INTO drop_outs VALUES (4, ?, 100)", (number,)) for number in numbers]
+        in_database(self.path, *form.split(";"), *fields, *shown, *drop_outs, *more)
+
+    def both(self, *statements):
+        """What these statements answer on the database, and on its copy."""
+        return [in_database(path, *statements) for path in (self.path, self.copy)]
 
     def refused(self, text):
         found = reason(lambda: Rows(self.path).copy(self.copy, words(12)))
@@ -63,39 +56,34 @@ class Databases(InFolder):
 class Copies(Databases):
     def test_each_field_has_a_row(self):
         for begin in (0, 1, 100):
-            self.make(begin=begin, row="INSERT INTO vbi VALUES (4, 150, 1, 2, 3)")  # of no field, which stays
-            before = self.run_in(self.path, "SELECT * FROM vbi")
+            self.make("INSERT INTO vbi VALUES (4, 150, 1, 2, 3)", begin=begin)  # of no field, which stays
+            before = in_database(self.path, "SELECT * FROM vbi")
             rows = Rows(self.path)
             self.assertEqual(len(rows), 12)
             rows.copy(self.copy, words(12))
-            self.assertEqual(self.run_in(self.copy, "SELECT * FROM vbi ORDER BY field_id"), [
+            self.assertEqual(in_database(self.copy, "SELECT * FROM vbi ORDER BY field_id"), [
                 [(4, begin + place, *three) for place, three in enumerate(words(12))] + [(4, 150, 1, 2, 3)]])
-            self.assertEqual(self.run_in(self.path, "SELECT * FROM vbi"), before)
+            self.assertEqual(in_database(self.path, "SELECT * FROM vbi"), before)
             os.unlink(self.copy)
 
     def test_all_else_is_the_same(self):
-        self.make(1000, FORM.replace("vbi2 INTEGER NOT NULL,", "vbi2 INTEGER NOT NULL, note TEXT DEFAULT 'new',"),
-                  index="CREATE INDEX by_field ON vbi (field_id)", old="UPDATE vbi SET note = 'kept'",
-                  version="PRAGMA user_version = 3", view="CREATE VIEW words AS SELECT * FROM vbi")
+        self.make("CREATE INDEX by_field ON vbi (field_id)", "UPDATE vbi SET note = 'kept'", "PRAGMA user_version = 3",
+                  "CREATE VIEW words AS SELECT * FROM vbi", count=1000,
+                  form=FORM.replace("vbi2 INTEGER NOT NULL,", "vbi2 INTEGER NOT NULL, note TEXT DEFAULT 'new',"))
         Rows(self.path).copy(self.copy, words(1000))
-        lines = []
-        for path in (self.path, self.copy):
-            with contextlib.closing(sqlite3.connect(path)) as database:
-                lines.append([line for line in database.iterdump() if not line.startswith('INSERT INTO "vbi"')])
-        self.assertEqual(lines[0], lines[1])
-        for statement in ("PRAGMA user_version", "PRAGMA journal_mode", "SELECT * FROM sqlite_master"):
-            self.assertEqual(*(self.run_in(path, statement) for path in (self.path, self.copy)))
-        found = self.run_in(self.copy, "SELECT note, count(*) FROM vbi GROUP BY note", "PRAGMA integrity_check",
+        self.assertEqual(*self.both("PRAGMA user_version", "PRAGMA journal_mode", *(
+            "SELECT * FROM " + name for name in ("sqlite_master", "capture", "field_record", "drop_outs"))))
+        found = in_database(self.copy, "SELECT note, count(*) FROM vbi GROUP BY note", "PRAGMA integrity_check",
                             "PRAGMA foreign_key_check")
         self.assertEqual(found, [[("kept", 334), ("new", 666)], [("ok",)], []])
 
     def test_the_fields_are_those_of_the_table_vbi_where_no_other_has_them(self):
-        self.make(0, form="CREATE TABLE vbi (field_id INT, vbi0 INT, vbi1 INT, vbi2 INT);"
-                          "INSERT INTO vbi VALUES (7, 1, 2, 3), (6, 1, 2, 3)")
+        self.make(count=0, form="CREATE TABLE vbi (field_id INT, vbi0 INT, vbi1 INT, vbi2 INT);"
+                                "INSERT INTO vbi VALUES (7, 1, 2, 3), (6, 1, 2, 3)")
         rows = Rows(self.path)
         self.assertEqual(len(rows), 2)
         rows.copy(self.copy, words(2))
-        self.assertEqual(self.run_in(self.copy, "SELECT * FROM vbi"), [[(7, *words(2)[1]), (6, *words(2)[0])]])
+        self.assertEqual(in_database(self.copy, "SELECT * FROM vbi"), [[(7, *words(2)[1]), (6, *words(2)[0])]])
 
     def test_what_was_written_last_is_copied_too(self):
         """In a database with a log of its own, which another program still has open."""
@@ -106,9 +94,9 @@ class Copies(Databases):
             other.commit()
             Rows(self.path).copy(self.copy, words(12))
             self.assertTrue(os.path.exists(self.path + "-wal"))
-        found = self.run_in(self.copy, "SELECT field_id FROM field_record WHERE median_burst_ire = 5")
+        found = in_database(self.copy, "SELECT field_id FROM field_record WHERE median_burst_ire = 5")
         self.assertEqual(found, [[(11,)]])
-        self.assertEqual(sorted(os.listdir(self.folder)), ["copy.db", "side.tbc.db"])
+        self.assertEqual(self.names(), ["copy.db", "side.tbc.db"])
 
     def test_all_words_come_in_one_transaction(self):
         """Where the words end in a fault, the copy has none of them."""
@@ -119,12 +107,12 @@ class Copies(Databases):
         self.make()
         with self.assertRaises(KeyboardInterrupt):
             Rows(self.path).copy(self.copy, interrupted())
-        self.assertEqual(*(self.run_in(path, "SELECT * FROM vbi") for path in (self.path, self.copy)))
-        self.make(trigger="CREATE TRIGGER no BEFORE INSERT ON vbi WHEN new.field_id = 7 "
-                          "BEGIN SELECT raise(ABORT, 'no words here'); END")
+        self.assertEqual(*self.both("SELECT * FROM vbi"))
+        self.make("CREATE TRIGGER no BEFORE INSERT ON vbi WHEN new.field_id = 7 "
+                  "BEGIN SELECT raise(ABORT, 'no words here'); END")
         os.unlink(self.copy)
         self.refused("SQLite can't copy it: no words here")
-        self.assertEqual(*(self.run_in(path, "SELECT * FROM vbi") for path in (self.path, self.copy)))
+        self.assertEqual(*self.both("SELECT * FROM vbi"))
 
     def test_other_forms(self):
         gaps = "the fields' numbers, field_id, leave some out, or have one twice"
@@ -140,7 +128,7 @@ class Copies(Databases):
                 ("SQLite can't copy it: no such column: capture_id", 12,
                  FORM.replace("capture_notes TEXT", "x").replace("(capture_id INTEGER PRIMARY KEY, system",
                                                                  "(id INTEGER, system"))):
-            self.make(count, form, **{"more%d" % place: one for place, one in enumerate(more)})
+            self.make(*more, count=count, form=form)
             self.refused(text)
 
 
@@ -148,25 +136,22 @@ class FirstFields(Databases):
     def test_they_are_read(self):
         self.make()
         self.assertEqual(read_metadata(self.path)[2:], (12, [False, True] * 6))
-        self.make(null="UPDATE field_record SET is_first_field = NULL WHERE field_id = 5")
+        self.make("UPDATE field_record SET is_first_field = NULL WHERE field_id = 5")
         self.assertEqual(read_metadata(self.path)[2:], (12, None))
 
     def test_in_the_order_of_the_fields(self):
-        self.make(4, order="UPDATE field_record SET field_id = 9 - field_id")
+        self.make("UPDATE field_record SET field_id = 9 - field_id", count=4)
         self.assertEqual(read_metadata(self.path)[2:], (4, [True, False] * 2))
 
     def test_which_table_has_them(self):
         """One alone, whatever its name is; else the count is that of the table capture."""
         count = "UPDATE capture SET number_of_sequential_fields = 640"
-        other = "CREATE TABLE b AS SELECT * FROM %s"
         for name in ("field_record", "fields", '"my ""own"" fields"'):
-            form = FORM.replace("field_record", name)
-            self.make(0, form)
-            rows = "INSERT INTO %s VALUES (4, 0, 0, 0, 0), (4, 1, 0, 1, 0)" % name
-            self.run_in(self.path, rows, count)
+            self.make("INSERT INTO %s VALUES (4, 0, 0, 0, 0), (4, 1, 0, 1, 0)" % name, count, count=0,
+                      form=FORM.replace("field_record", name))
             self.assertEqual((read_metadata(self.path)[2:], len(Rows(self.path))), ((2, [False, True]), 2))
-            self.run_in(self.path, other % name)
+            in_database(self.path, "CREATE TABLE b AS SELECT * FROM " + name)
             self.assertEqual((read_metadata(self.path)[2:], len(Rows(self.path))), ((640, None), 0))
-        self.make(0, FORM.replace("is_first_field", "first"))
-        self.run_in(self.path, count, "INSERT INTO field_record VALUES (4, 0, 0, 0, 0)")
+        self.make(count, "INSERT INTO field_record VALUES (4, 0, 0, 0, 0)", count=0,
+                  form=FORM.replace("is_first_field", "first"))
         self.assertEqual(read_metadata(self.path)[2:], (640, None))

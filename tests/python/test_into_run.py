@@ -1,15 +1,14 @@
 """The option --into of the command as a process: which words it copies, where it writes, and what it leaves alone."""
 
-import contextlib
 import json
 import os
 import resource
 import signal
-import sqlite3
 import subprocess
 import sys
 import time
 
+from cases import in_database
 from command_runs import DEADLINE, NO_METADATA, SIZE, Runs
 from streams import NTSC, pictures, worn_line, write_stream
 from test_into_rows import FORM
@@ -29,21 +28,15 @@ class Copies(Runs):
         self.write(name, json.dumps({"videoParameters": PARAMETERS, "fields": fields}).encode())
 
     def database(self, count, name="side.tbc.db"):
-        with contextlib.closing(sqlite3.connect(self.path(name))) as database:
-            database.executescript(FORM)
-            database.executemany("INSERT INTO field_record VALUES (4, ?, 0.5, ?, 17.25)",
-                                 [(place, place % 2) for place in range(count)])
-            database.commit()
+        in_database(self.path(name), *FORM.split(";"), *(
+            ("INSERT INTO field_record VALUES (4, ?, 0.5, ?, 17.25)", (place, place % 2)) for place in range(count)))
 
     def words_of(self, name):
-        """The words of each field of a copy."""
+        """The words of each field of a copy, or of a document."""
         if name.endswith(".db"):
-            with contextlib.closing(sqlite3.connect(self.path(name))) as database:
-                return [list(row) for row in database.execute("SELECT vbi0, vbi1, vbi2 FROM vbi ORDER BY field_id")]
+            rows, = in_database(self.path(name), "SELECT vbi0, vbi1, vbi2 FROM vbi ORDER BY field_id")
+            return list(map(list, rows))
         return [field["vbi"]["vbiData"] for field in json.loads(self.read(name))["fields"]]
-
-    def document_words(self, text):
-        return [field["vbi"]["vbiData"] for field in json.loads(text)["fields"]]
 
 
 class Words(Copies):
@@ -53,19 +46,21 @@ class Words(Copies):
         return self.words_of(name)
 
     def test_the_words_of_the_document(self):
+        """An older copy keeps its mode."""
         self.database(12)
-        before = self.read("side.tbc.json"), self.read("side.tbc.db")
-        wanted = self.document_words(self.document)
-        self.assertEqual(self.copied("side.tbc"), wanted)
-        for words in ("side.tbc --meta side.tbc.db", "side.tbc LEVELS --meta side.tbc.db",
-                      "side.vbi.json --meta side.tbc.db"):
-            self.assertEqual(self.copied(words, "copy.db"), wanted)
-        for words in ("side.tbc LEVELS", "side.tbc --no-recover", "side.vbi.json --meta side.tbc.json"):
-            self.copied(words, "other.json")
-            self.assertEqual(self.read("other.json"), self.read("copy.json"))
-        self.assertEqual((self.read("side.tbc.json"), self.read("side.tbc.db")), before)
-        self.assertEqual(self.names(), ["copy.db", "copy.json", "other.json", "side.tbc", "side.tbc.db",
-                                        "side.tbc.json", "side.vbi.json"])
+        before = {name: self.read(name) for name in self.names()}
+        wanted = self.words_of("side.vbi.json")
+        for name, texts in (("copy.db", ("side.tbc --meta side.tbc.db", "side.tbc LEVELS --meta side.tbc.db",
+                                         "side.vbi.json --meta side.tbc.db")),
+                            ("copy.json", ("side.tbc", "side.tbc LEVELS", "side.tbc --no-recover",
+                                           "side.vbi.json --meta side.tbc.json"))):
+            self.write(name, b"old")
+            os.chmod(self.path(name), 0o640)
+            for words in texts:
+                self.assertEqual(self.copied(words, name), wanted)
+                before.setdefault(name, self.read(name))
+            self.assertEqual(os.stat(self.path(name)).st_mode & 0o777, 0o640)
+        self.assertEqual({name: self.read(name) for name in self.names()}, before)
 
     def test_all_else_stays_as_it_was(self):
         """Numbers as they are written, ends of lines and other letters."""
@@ -76,7 +71,7 @@ class Words(Copies):
             return json.dumps(document, indent=1, ensure_ascii=False).replace("\n", "\r\n").encode()
         self.write("side.tbc.json", text())
         self.copied("side.tbc LEVELS --meta side.tbc.json")
-        for field, words in zip(document["fields"], self.document_words(self.document)):
+        for field, words in zip(document["fields"], self.words_of("side.vbi.json")):
             field["vbi"]["vbiData"] = words
         self.assertEqual(self.read("copy.json"), text())
         self.assertIn(b"14318181.818181818", self.read("copy.json"))
@@ -88,7 +83,7 @@ class Words(Copies):
         self.run_command("side.tbc --document --recovered -o side.vbi.json")
         for words, word in (("side.tbc", 0), ("side.tbc --recovered", 0xF00004)):
             self.assertEqual(self.copied(words)[4], [0xF00004, word, 0xF00004])
-        self.assertEqual(self.words_of("copy.json"), self.document_words(self.read("side.vbi.json")))
+        self.assertEqual(self.words_of("copy.json"), self.words_of("side.vbi.json"))
         # a document has the words that it has
         self.copied("side.vbi.json --meta side.tbc.json", "other.json")
         self.assertEqual(self.read("other.json"), self.read("copy.json"))
@@ -133,10 +128,9 @@ class Refused(Copies):
 
     def test_no_metadata(self):
         self.metadata(12, "other")
-        for text in (b"", b"{", b"[]"):
-            self.write("side.tbc.json", text)
-            for words in ("side.tbc LEVELS --into copy", "side.vbi.json --meta side.tbc.json --into copy"):
-                self.refused("side.tbc.json is no metadata with videoParameters", words)
+        self.write("side.tbc.json", b"{")
+        for words in ("side.tbc LEVELS", "side.vbi.json --meta side.tbc.json"):
+            self.refused("side.tbc.json is no metadata with videoParameters", words + " --into copy")
         os.unlink(self.path("side.tbc.json"))
         for words, text in (("side.tbc LEVELS", "side.tbc: no side.tbc.json or side.tbc.db beside it"),
                             ("side.vbi.json", "side.vbi.json: no metadata is looked for beside a name that doesn't end "
@@ -150,15 +144,11 @@ class Refused(Copies):
 
     def test_onto_an_input(self):
         os.link(self.path("side.tbc.json"), self.path("hard"))
-        os.symlink("side.tbc.json", self.path("soft"))
-        os.symlink("rows.db", self.path("soft.db"))
         before = {name: self.read(name) for name in self.names()}
-        text = "%s would be written in the place of an input or of another output"
-        for names, words in (("side.tbc.json ./side.tbc.json hard soft side.tbc", "side.tbc --into "),
-                             ("rows.db soft.db rows.db-wal rows.db-journal", "side.tbc --meta rows.db --into ")):
-            for name in names.split():
-                self.refused(text % name, words + name)
-        self.refused(text % "copy", "side.tbc --into copy --svg copy")
+        for name, words in (("side.tbc", ""), ("hard", ""), ("copy", "--svg copy "), ("rows.db", "--meta rows.db "),
+                            ("rows.db-wal", "--meta rows.db "), ("rows.db-journal", "--meta rows.db ")):
+            self.refused(name + " would be written in the place of an input or of another output",
+                         "side.tbc %s--into %s" % (words, name))
         self.assertEqual({name: self.read(name) for name in self.names()}, before)
 
     def test_a_database_that_is_in_use(self):
@@ -169,13 +159,6 @@ class Refused(Copies):
             os.unlink(self.path("copy" + end))
         self.refused("/dev/null is no file", "side.tbc --meta rows.db --into /dev/null")
         self.assertNotIn("copy", self.names())
-
-    def test_an_older_copy_keeps_its_mode(self):
-        for meta in ("side.tbc.json", "rows.db"):
-            self.write("copy", b"old")
-            os.chmod(self.path("copy"), 0o640)
-            self.assertEqual(self.run_command("side.tbc --into copy --meta " + meta)[0], 0)
-            self.assertEqual(os.stat(self.path("copy")).st_mode & 0o777, 0o640)
 
 
 # A run in which the words end in a long wait: a part of the copy is written then.
@@ -237,6 +220,7 @@ class Sides(Copies):
             self.assertEqual(self.printed(words + " --seek 4"), b"field 5, frame 2\n")
 
     def test_compare_with_system_and_levels(self):
+        """These stand in place of the metadata's, each by itself."""
         os.unlink(self.path("side.tbc.json"))
         write_stream(self.path("other.tbc"), NTSC, pictures(16)[4:])
         wanted = self.printed("compare side.vbi.json side.vbi.json")
@@ -245,12 +229,12 @@ class Sides(Copies):
                          wanted.replace(b"side.vbi.json", b"side.tbc"))
         self.assertEqual(self.printed("compare other.tbc side.vbi.json LEVELS").split(b"\n")[0],
                          b"pictures: 12 in other.tbc, 12 in side.vbi.json, 8 in both")
-        # in place of the metadata's, each by itself
         self.metadata(12)
         self.printed("compare side.tbc side.vbi.json")
-        self.refused("side.tbc has no numbers to compare", "compare side.tbc side.vbi.json --black=60000 --white=60001")
-        self.refused(NO_METADATA.replace("side.tbc", "other.tbc"),
-                     "compare other.tbc side.tbc --system NTSC --black 16384")
-        self.refused("side.vbi.json: a document has its system and levels; they are options of a TBC file",
-                     "compare side.vbi.json side.vbi.json --white 51200")
+        for text, words in (
+                ("side.tbc has no numbers to compare", "side.tbc side.vbi.json --black=60000 --white=60001"),
+                (NO_METADATA.replace("side.tbc", "other.tbc"), "other.tbc side.tbc --system NTSC --black 16384"),
+                ("side.vbi.json: a document has its system and levels; they are options of a TBC file",
+                 "side.vbi.json side.vbi.json --white 51200")):
+            self.refused(text, "compare " + words)
         self.assertEqual(self.run_command("compare --system SECAM side.tbc side.tbc")[0], 2)

@@ -6,7 +6,7 @@ import os
 import sqlite3
 import threading
 
-from cases import InFolder, reason
+from cases import InFolder, in_database, reason
 from ldvbi import metadata
 from ldvbi.metadata import beside, read_metadata
 
@@ -64,24 +64,21 @@ class Json(Metadata):
         for text, known in REFUSED:
             with self.subTest(known):
                 self.refused(text, self.parameters(**known))
-        for data in (b"", b"{}", b"[]", b'{"videoParameters":3}', b"\xff", b"[" * 100000, b"SQLite format 2"):
+        for data in (b"", b"{", b"{}", b"[]", b'{"videoParameters":3}', b"\xff", b"[" * 100000, b"SQLite format 2"):
             self.refused(NO_METADATA, self.write("other", data))
         with self.assertRaises(FileNotFoundError):
             settings_of(self.named("absent"))
 
     def test_levels_with_decimals(self):
         """A half goes upwards, also from an even number. Whether a level fits into a sample isn't asked here."""
-        path = self.parameters(system="PAL", black16bIre=16383.5, white16bIre=54016.25)
-        self.assertEqual(settings_of(path), ("PAL", 16384, 54016, (
-            "black16bIre is 16383.5, rounded to 16384", "white16bIre is 54016.25, rounded to 54016")))
-        for white in (54016, 1e99):
-            path = self.parameters(system="PAL", black16bIre=16384.0, white16bIre=white)
-            self.assertEqual(settings_of(path), ("PAL", 16384, int(white), ()))
-        for value, rounded in ((16384.5, 16385), (16384.49, 16384), (16383.51, 16384), (-0.5, 0), (-0.51, -1),
-                               (65535.5, 65536)):
-            path = self.parameters(system="NTSC", black16bIre=value, white16bIre=1)
-            note = "black16bIre is %s, rounded to %d" % (value, rounded)
-            self.assertEqual(settings_of(path), ("NTSC", rounded, 1, (note,)))
+        for black, white, *rounded in (
+                (16383.5, 54016.25, 16384, 54016), (16384.0, 54016, 16384, 54016), (16384.0, 1e99, 16384, int(1e99)),
+                (16384.5, 1, 16385, 1), (16384.49, 1, 16384, 1), (16383.51, 1, 16384, 1), (-0.5, 1, 0, 1),
+                (-0.51, 1, -1, 1), (65535.5, 1, 65536, 1)):
+            path = self.parameters(system="PAL", black16bIre=black, white16bIre=white)
+            notes = ("%s16bIre is %s, rounded to %d" % (name, value, level) for name, value, level in
+                     zip(("black", "white"), (black, white), rounded) if value != level)
+            self.assertEqual(settings_of(path), ("PAL", *rounded, tuple(notes)))
 
     def test_given_instead(self):
         """Each of three, also of a file that has all of them, and whose sizes are those of its system."""
@@ -137,14 +134,10 @@ class Json(Metadata):
 
 class Database(Metadata):
     def make(self, *statements, name="side.tbc.db"):
-        path = self.named(name)
         with contextlib.suppress(FileNotFoundError):
-            os.unlink(path)
-        with contextlib.closing(sqlite3.connect(path)) as database:
-            for statement in statements:
-                database.execute(*statement) if isinstance(statement, tuple) else database.execute(statement)
-            database.commit()
-        return path
+            os.unlink(self.named(name))
+        in_database(self.named(name), *statements)
+        return self.named(name)
 
     def test_taken_and_refused(self):
         path = self.make(CAPTURE, (INSERT, ("PAL", 16384, 54016)))

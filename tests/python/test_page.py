@@ -1,12 +1,11 @@
 """The page of a side, and the index of many: parsed, and compared with the answer."""
 
-import json
 import os
 import re
 import subprocess
 import sys
 import unittest
-from html.parser import HTMLParser
+import xml.etree.ElementTree as xml
 from unittest import mock
 
 from cases import InFolder, reason
@@ -14,76 +13,31 @@ from compact import rows
 from discs import side
 from ldvbi_side.command.summary import summary
 from ldvbi_side.draw.index import index_of
-from ldvbi_side.draw.page import LISTS, MOST_PLOTS, page_of
+from ldvbi_side.draw.page import LISTS, page_of
 from ldvbi_side.draw.plotting import plotter
 from scanned import DEADLINE
 from streams import NTSC, PROGRAM, TOP, worn_line, write_stream
 
-VOID = ("meta", "br")
+SPACE = "{http://www.w3.org/2000/svg}"
 
 
-class Page(HTMLParser):
-    """The parts of a page: its tags, well nested; of each list the heads and the rows; the texts of all elements."""
+class Page:
+    """The parts of a page, which is XML but for its <meta>: its tags with their attributes, the texts of all elements,
+    and of each list the heads and the rows."""
 
     def __init__(self, text):
-        super().__init__()
-        self.open, self.tags, self.heads, self.rows, self.texts = [], [], {}, {}, {}
-        self.list = None
-        self.feed(text)
-        self.close()
-        assert not self.open, self.open
-
-    def handle_starttag(self, tag, attrs):
-        known = dict(attrs)
-        self.tags.append((tag, known))
-        if tag == "details":
-            self.list = known.get("id")
-            self.rows.setdefault(self.list, [])
-        if tag == "tr" and self.list:
-            self.rows[self.list].append([])
-        if tag == "td" and self.list:
-            self.rows[self.list][-1].append("")
-        if tag not in VOID:
-            self.open.append(tag)
-            self.texts.setdefault(tag, []).append("")
-
-    def handle_startendtag(self, tag, attrs):
-        self.tags.append((tag, dict(attrs)))
-
-    def handle_endtag(self, tag):
-        assert self.open.pop() == tag, tag
-        if tag == "details":
-            self.list = None
-
-    def handle_data(self, data):
-        if self.open:
-            self.texts[self.open[-1]][-1] += data
-            if self.open[-1] == "td" and self.list:
-                self.rows[self.list][-1][-1] += data
-            if self.open[-1] == "th" and self.list:
-                self.heads.setdefault(self.list, []).append(data)
+        tree = xml.fromstring(re.sub("(<meta [^>]*)>", r"\1/>", text))
+        self.tags = [(part.tag.replace(SPACE, ""), part.attrib) for part in tree.iter()]
+        self.heads, self.rows, self.texts = {}, {}, {}
+        for (tag, _), part in zip(self.tags, tree.iter()):
+            self.texts.setdefault(tag, []).append(part.text or "")
+        for one in tree.iter("details"):
+            self.heads[one.get("id")] = [head.text for head in one.iter("th")]
+            self.rows[one.get("id")] = [[cell.text or "" for cell in row.iter("td")] for row in one.iter("tr")][1:]
 
 
 def page(one, plot=None, title="side.tbc", command="dd"):
     return page_of(one, title, summary(one.answer, lambda *line: command), plot)
-
-
-def schema():
-    with open(os.path.join(TOP, "share", "schema", "ldvbi-side.schema.json"), encoding="utf-8") as file:
-        return json.load(file)
-
-
-def heads_of_schema(whole):
-    """The heads that each list of the answer has: the members of its items, as the schema names them."""
-    for name, one in whole["properties"].items():
-        items = one.get("items", {})
-        items = whole["$defs"][items["$ref"].rpartition("/")[2]] if "$ref" in items else items
-        if "properties" in items:
-            yield name, set(items["properties"])
-        elif "prefixItems" in items:
-            yield name, ["number", "first", "last"]
-        elif one.get("type") == "array":
-            yield name, ["field"]
 
 
 def cell(value):
@@ -102,30 +56,22 @@ def damaged():
     return side(rows("Lx2 1..40 21..40 L 7=83D0A1/?/88FFFB 9=8DC0A1/#79999/#4 11=8AE000/S/#5 -41:44"))
 
 
-def some():
-    return damaged(), side(rows("t0..2 t4..5 t0..2 t4..5 t0..2 t4..5 t0..2 t4..5", 30), "NTSC"), side(rows("m9x9"))
-
-
 class Pages(unittest.TestCase):
     def test_each_list_is_there_in_full(self):
-        """Each cell stands under its head; the first row is that of the columns' names."""
-        wanted = dict(heads_of_schema(schema()))
-        del wanted["reasons"]
+        """Each cell stands under its head: the name of a member, or what the items of such a list are."""
         seen = set()
-        for one in (*some(), side([]), side(rows("Bx3"))):
+        for one in (damaged(), side(rows("t0..2 t4..5 t0..2 t4..5 t0..2 t4..5 t0..2 t4..5", 30), "NTSC"),
+                    side(rows("m9x9")), side([]), side(rows("Bx3"))):
             read = Page(page(one))
             self.assertEqual({name for name, value in one.answer.items() if isinstance(value, list)},
                              set(LISTS) | {"reasons"})
             for name in LISTS:
-                self.assertEqual(max(len(read.rows.get(name, [])) - 1, 0), len(one.answer[name]), name)
-            for name, heads in read.heads.items():
-                seen.add(name)
-                self.assertEqual(type(wanted[name])(heads), wanted[name], name)
-                self.assertEqual(len(heads), len(wanted[name]), name)
-                for row, item in zip(read.rows[name][1:], one.answer[name]):
-                    values = [item[head] for head in heads] if isinstance(item, dict) else \
-                        item if isinstance(item, list) else [item]
-                    self.assertEqual(row, list(map(cell, values)), name)
+                items = [item if isinstance(item, dict) else
+                         dict(zip(("number", "first", "last"), item)) if name == "showings" else {"field": item}
+                         for item in one.answer[name]]
+                self.assertEqual(read.heads.get(name, []), list(items[0]) if items else [], name)
+                self.assertEqual(read.rows.get(name, []), [list(map(cell, item.values())) for item in items], name)
+            seen |= read.heads.keys()
         self.assertLessEqual({"missing", "lost", "unread", "breaks", "doubtful", "conflicts", "chapters", "showings",
                               "badLines", "users", "programmeStatus", "unknown"}, seen)
 
@@ -136,8 +82,8 @@ class Pages(unittest.TestCase):
         self.assertEqual(list(map(": ".join, zip(read.texts["dt"], read.texts["dd"]))),
                          list(summary(one.answer, lambda *line: "dd"))[1:])
         self.assertIn("system", read.texts["dt"][0])
-        self.assertEqual([row[3:5] for row in read.rows["missing"][1:]], [["unread", "5"], ["lost", "39"]])
-        self.assertIn("2 in field 5", read.rows["doubtful"][1])
+        self.assertEqual([row[3:5] for row in read.rows["missing"]], [["unread", "5"], ["lost", "39"]])
+        self.assertIn("2 in field 5", read.rows["doubtful"][0])
         self.assertEqual(read.texts["li"], [reason["text"] for reason in one.answer["reasons"]])
         self.assertLessEqual({"numbers lost, undecided or unread: 2", "unread, and their fields: 1"},
                              set(read.texts["summary"]))
@@ -158,7 +104,7 @@ class Pages(unittest.TestCase):
         one = side(rows("1..2"))
         for value, text in ((True, "yes"), (False, "no")):
             one.answer["later"] = [{"first": 77777, "near": None, "is": value, "places": [1, 2]}]
-            self.assertEqual(Page(page(one)).rows["later"][1], ["77777", "", text, "1, 2"])
+            self.assertEqual(Page(page(one)).rows["later"][0], ["77777", "", text, "1, 2"])
 
     def test_it_needs_nothing_else(self):
         text = page(damaged(), lambda one: "<svg></svg>")
@@ -175,27 +121,20 @@ class Pages(unittest.TestCase):
         read = Page(page(one, title=name, command="dd if='%s'" % name))
         self.assertEqual([read.texts["h1"], read.texts["title"][:2]], [[name], [name, name]])
         self.assertIn("dd if='%s'" % name, " ".join(read.texts["dd"]))
-        self.assertEqual(read.rows["<b>&later</b>"][1], ["<b>&one</b>"])
+        self.assertEqual(read.rows["<b>&later</b>"][0], ["<b>&one</b>"])
         self.assertEqual(read.heads["<b>&later</b>"], ["<b>&first"])
         self.assertNotIn("b", [tag for tag, _ in read.tags])
 
     def test_bad_lines_are_drawn_up_to_a_count(self):
-        drawn = []
-
-        def plot(bad):
-            drawn.append((bad["field"], bad["line"]))
-            return "<svg></svg>"
-        for text, head in (("?/?/?x67 ?", "Bad lines, the first 200 of 203, drawn"), ("?/-/-", "Bad lines, drawn"),
-                           ("?/?/?x66 ?", "Bad lines, drawn"), ("?/?/?x67", "Bad lines, the first 200 of 201, drawn"),
-                           ("1", None)):
-            drawn.clear()
-            text = page(side(rows(text)), plot)
-            self.assertEqual(re.findall("<h2>(.*)</h2>", text), [head] if head else [])
-            self.assertLessEqual(len(drawn), 200)
-        self.assertEqual(MOST_PLOTS, 200)
-        page(side(rows("?/?/?x67 ?")), plot)
-        self.assertEqual([drawn[0], drawn[-1], len(drawn)], [(1, 16), (67, 17), 200])
-        self.assertNotIn("<h2>", page(side(rows("?/?/?x67"))))
+        for text, count, last, head in (
+                ("1", 0, [], None), ("?/-/-", 1, [(1, 16)], "drawn"), ("?/?/?x66 ?", 200, [(67, 18)], "drawn"),
+                ("?/?/?x67", 200, [(67, 17)], "the first 200 of 201, drawn"),
+                ("?/?/?x67 ?", 200, [(67, 17)], "the first 200 of 203, drawn")):
+            one, drawn = side(rows(text)), []
+            found = page(one, lambda bad, drawn=drawn: drawn.append((bad["field"], bad["line"])) or "<svg></svg>")
+            self.assertEqual(re.findall("<h2>Bad lines, (.*)</h2>", found), [head] if head else [])
+            self.assertEqual((len(drawn), drawn[:1], drawn[-1:]), (count, [(1, 16)] if count else [], last))
+            self.assertNotIn("<h2>", page(one))
         with mock.patch("ldvbi_side.draw.plot._PLACES", ()):  # nothing is drawn without the script
             self.assertIsNone(plotter(side(rows("?/-/-")), "side.tbc"))
 

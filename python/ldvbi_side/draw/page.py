@@ -97,7 +97,7 @@ def _fold(name, ones):
     head = "".join("<th>%s</th>" % escaped(column) for column in columns)
     rows = "\n".join("<tr>%s</tr>" % "".join("<td>%s</td>" % _cell(cell) for cell in _cells(one)) for one in ones)
     return ('<details id="%s"><summary>%s</summary><div class="wide"><table><thead><tr>%s</tr></thead>\n<tbody>%s'
-            "</tbody></table></div></details>" % (name, escaped(title), head, rows))
+            "</tbody></table></div></details>" % (escaped(name), escaped(title), head, rows))
 
 
 def _cells(one):
