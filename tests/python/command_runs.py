@@ -1,17 +1,17 @@
-"""The command as a process, in a folder of its own for each test, with a drawn side and its document."""
+"""The command as a process, in a folder of its own for each test; of Runs with a drawn side and its document."""
 
 import contextlib
 import functools
 import json
 import os
+import pty
 import shlex
 import sqlite3
 import subprocess
 import sys
-import tempfile
-import unittest
 
 import ldvbi
+from cases import InFolder
 from streams import NTSC, PROGRAM, pictures, write_stream
 
 COMMAND = [sys.executable, "-m", "ldvbi_side"]
@@ -19,44 +19,23 @@ LEVELS = ["--system", "NTSC", "--black", "16384", "--white", "51200"]
 SIZE = ldvbi.field_bytes("NTSC")
 DEADLINE = 300  # seconds: for what hangs, not for what is slow
 NO_METADATA = "side.tbc: no side.tbc.json or side.tbc.db beside it; give --meta, or --system, --black and --white"
+IN_PLACE = "%s would be written in the place of an input or of another output"
+# The environment in which what is printed is held back for a while, as nearly everywhere
+BUFFERED = {name: value for name, value in os.environ.items() if name != "PYTHONUNBUFFERED"}
 
 
-def shown_on(terminal):
-    """What is written to a terminal, until its other end is closed; it is closed then."""
-    shown = b""
-    with contextlib.suppress(OSError):
-        for part in iter(functools.partial(os.read, terminal, 65536), b""):
-            shown += part
-    os.close(terminal)
-    return shown.decode()
-
-
-class Runs(unittest.TestCase):
-    """side.tbc has pictures 0 to 11, side.vbi.json is its document by the program."""
-
+class Commands(InFolder):
     def setUp(self):
-        folder = tempfile.TemporaryDirectory()
-        self.addCleanup(folder.cleanup)
-        self.folder = folder.name
-        write_stream(self.path("side.tbc"), NTSC, pictures(12))
-        self.document = self.extracted("side.tbc")
-        self.write("side.vbi.json", self.document)
+        super().setUp()
+        self.path = self.named
+        self.maxDiff = None
 
-    def path(self, name):
-        return os.path.join(self.folder, name)
+    def text(self, name):
+        return self.read(name).decode()
 
-    def read(self, name):
-        with open(self.path(name), "rb") as file:
-            return file.read()
-
-    def write(self, name, data):
-        with open(self.path(name), "wb") as file:
-            file.write(data)
-
-    def extracted(self, name, options=tuple(LEVELS)):
-        run = subprocess.run([PROGRAM, "extract", *options, self.path(name)], stdout=subprocess.PIPE, check=False)
-        self.assertIn(run.returncode, (0, 3))
-        return run.stdout
+    def files(self):
+        """What is in each file."""
+        return {name: self.read(name) for name in self.names()}
 
     @staticmethod
     def words(*given):
@@ -64,11 +43,16 @@ class Runs(unittest.TestCase):
         words = shlex.split(given[0]) if len(given) == 1 and " " in given[0] else given
         return [part for word in words for part in (LEVELS if word == "LEVELS" else [word])]
 
-    def run_command(self, *words, **more):
+    def run_command(self, *words, command=tuple(COMMAND), **more):
         """The status of a run in the folder, and what it writes to standard output and standard error."""
-        run = subprocess.run(COMMAND + self.words(*words), cwd=self.folder, stdin=subprocess.DEVNULL,
-                             stdout=subprocess.PIPE, stderr=subprocess.PIPE, timeout=DEADLINE, check=False, **more)
-        return run.returncode, run.stdout, run.stderr.decode()
+        pipes = {"stdin": subprocess.DEVNULL, "stdout": subprocess.PIPE, "stderr": subprocess.PIPE, **more}
+        run = subprocess.run([*command, *self.words(*words)], cwd=self.folder, timeout=DEADLINE, check=False, **pipes)
+        return run.returncode, run.stdout, (run.stderr or b"").decode()
+
+    def run_words(self, *words, **more):
+        """The same with texts, of names that are none, too."""
+        status, text, said = self.run_command(*words, **more)
+        return status, text.decode("utf-8", "surrogateescape"), said
 
     def printed(self, *words, said=""):
         """What a run prints that has the status 0."""
@@ -76,21 +60,60 @@ class Runs(unittest.TestCase):
         self.assertEqual((status, errors), (0, said))
         return text
 
-    def refused(self, text, *words, status=2):
-        self.assertEqual(self.run_command(*words), (status, b"", "ldvbi-side: %s\n" % text))
+    def refused(self, text, *words):
+        self.assertEqual(self.run_command(*words), (2, b"", "ldvbi-side: %s\n" % text))
+
+    def started(self, *words, command=tuple(COMMAND), **more):
+        """A run that goes on."""
+        process = subprocess.Popen([*command, *self.words(*words)], cwd=self.folder, stdin=subprocess.DEVNULL,
+                                   **{"stdout": subprocess.PIPE, "stderr": subprocess.PIPE, "env": BUFFERED, **more})
+        for stream in filter(None, (process.stdout, process.stderr)):
+            self.addCleanup(stream.close)
+        return process
+
+    def ended(self, process, status, text=b""):
+        """Checks how a run ends, what it printed by then, and that it says nothing."""
+        self.assertEqual((*process.communicate(timeout=DEADLINE), process.returncode), (text, b"", status))
+
+    def on_terminal(self, status, *words, is_output_on_it=False):
+        """What a run writes to the terminal, and what to standard output where that is none."""
+        ours, theirs = pty.openpty()
+        process = self.started(*words, stderr=theirs, stdout=theirs if is_output_on_it else subprocess.PIPE)
+        os.close(theirs)
+        text = process.stdout.read() if process.stdout else b""
+        shown = b""
+        with contextlib.suppress(OSError):  # once nobody writes to it any more
+            for part in iter(functools.partial(os.read, ours, 65536), b""):
+                shown += part
+        os.close(ours)
+        self.assertEqual(process.wait(DEADLINE), status)
+        return shown.decode(), text
 
     def metadata(self, name, *, count=None, **more):
-        """Metadata of this side, with so many fields, the second ones of which begin a frame."""
+        """Metadata of an NTSC side, with so many fields, the second ones of which begin a frame."""
         known = {"videoParameters": {"system": "NTSC", "black16bIre": 16384, "white16bIre": 51200, **more}}
         if count is not None:
             known["fields"] = [{"isFirstField": place % 2 == 1} for place in range(count)]
-        self.write(name, json.dumps(known).encode())
+        self.write(name, json.dumps(known))
 
     def database(self, name):
-        with contextlib.closing(sqlite3.connect(self.path(name))) as database:
+        """The same in SQLite, without fields."""
+        with contextlib.closing(sqlite3.connect(self.named(name))) as database:
             database.execute("CREATE TABLE capture (system TEXT, black_16b_ire INTEGER, white_16b_ire INTEGER)")
             database.execute("INSERT INTO capture VALUES ('NTSC', 16384, 51200)")
             database.commit()
 
-    def names(self):
-        return sorted(os.listdir(self.folder))
+
+class Runs(Commands):
+    """side.tbc has pictures 0 to 11, side.vbi.json is its document by the program."""
+
+    def setUp(self):
+        super().setUp()
+        write_stream(self.named("side.tbc"), NTSC, pictures(12))
+        self.document = self.extracted("side.tbc")
+        self.write("side.vbi.json", self.document)
+
+    def extracted(self, name, options=tuple(LEVELS)):
+        status, document, _ = self.run_command("extract", *options, self.named(name), command=[PROGRAM])
+        self.assertIn(status, (0, 3))
+        return document

@@ -26,7 +26,7 @@ where `..` stands at the end or the beginning, it begins or ends so."""
 import re
 import sys
 
-from discs import BLANK, LEAD_IN, LEAD_OUT, STOP, chapter, film, minutes, picture, pictures, plain, second, times
+from discs import BLANK, LEAD_IN, LEAD_OUT, STOP, chapter, film, item, minutes, picture, pictures, plain, second, times
 from ldvbi_side.judge.answer import analyse
 
 NAMED = {"L": LEAD_IN, "O": LEAD_OUT, "B": BLANK, "?": "- ? ?", "C": "- 800DDD 800DDD"}
@@ -100,6 +100,11 @@ def rows(text, rate=25):
         else:
             found += fields_of(part, rate)
     return found
+
+
+def words_of(text, rate=25):
+    """The words of the lines of each field of a side, which `streams` draws."""
+    return [[item(part)[0] for part in row.split()] for row in rows(text, rate)]
 
 
 def span(one, first="first", last="last"):

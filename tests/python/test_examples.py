@@ -6,8 +6,7 @@ import subprocess
 import sys
 
 from cases import InFolder
-from compact import rows
-from discs import item, picture
+from compact import words_of
 from streams import NTSC, PAL, TOP, worn_line, write_stream
 
 ALONE = "seek.py: no number of this side is supported by those around it, so this is what the lines say\n"
@@ -43,12 +42,13 @@ class Seek(InFolder):
 
     def test_rows(self):
         for setup, text, rest, wanted in ROWS:
-            write_stream(self.path, setup, [[item(part)[0] for part in row.split()] for row in rows(text)], rest)
+            write_stream(self.path, setup, words_of(text), rest)
             self.check(setup, wanted)
 
     def test_a_worn_side(self):
         """No line shows a word, and each has one that is nearest."""
-        words = [int(picture(number), 16) for number in range(1, 41)]
-        worn = [[0, worn_line(word, NTSC, 9, 11), worn_line(word, NTSC, 13, 11)] for word in words]
-        write_stream(self.path, NTSC, [field for lines in worn for field in (lines, [0, 0x800DDD, 0x800DDD])])
+        fields = words_of("1..40")
+        for field in fields[::2]:
+            field[1:] = [worn_line(field[1], NTSC, cell, 11) for cell in (9, 13)]
+        write_stream(self.path, NTSC, fields)
         self.check(NTSC, ((1, "field 1", ""), (30, "field 59", ""), (41, "not found", "")))

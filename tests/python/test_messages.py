@@ -17,7 +17,7 @@ HALF = "--system NTSC --black 16384"
 PACKED = {"gzip": gzip.compress(b"video"), "zstd": b"\x28\xb5\x2f\xfd\x04\x58\x29\x00",
           "FLAC": b"fLaC\x00\x00\x00\x22\x10\x00\x10\x00"}
 NOT_JSON = "not JSON: line 1 is wrong from column 1 on"
-NO_PARAMETERS = "no metadata with videoParameters"
+ABSENT = "absent/out: No such file or directory"
 
 
 class Messages(Runs):
@@ -33,9 +33,9 @@ class Messages(Runs):
                 self.refused(name + text, words)
 
     def test_sides(self):
-        os.mkdir(self.path("my sides"))
-        write_stream(self.path("my sides/one.tbc"), NTSC, [])
-        write_stream(self.path("side"), NTSC, [])
+        os.mkdir(self.named("my sides"))
+        for name in ("my sides/one.tbc", "side"):
+            self.write(name, b"")
         self.each(
             ("absent.tbc: No such file or directory", "absent.tbc"),
             ("absent.vbi.json: No such file or directory", "absent.vbi.json --json"),
@@ -50,13 +50,11 @@ class Messages(Runs):
 
     def test_compressed_files(self):
         for form, data in PACKED.items():
-            text = "%%s: it is compressed (%s): unpack it first" % form
-            for name in ("packed.tbc", "packed.tbc.gz", "packed.vbi.json", "packed.tbc.json"):
-                self.write(name, data)
-            self.each((text % "packed.tbc", "packed.tbc LEVELS"), (text % "packed.tbc.gz", "packed.tbc.gz"),
-                      (text % "packed.vbi.json", "packed.vbi.json"),
-                      (text % "packed.vbi.json", "compare side.vbi.json packed.vbi.json"),
-                      (text % "packed.tbc.json", "side.tbc --meta packed.tbc.json"))
+            for name, words in (("packed.tbc", "packed.tbc LEVELS"), ("packed.tbc.gz", "packed.tbc.gz"),
+                                ("packed.vbi.json", "packed.vbi.json"),
+                                ("packed.vbi.json", "compare side.vbi.json packed.vbi.json"),
+                                ("packed.tbc.json", "side.tbc --meta packed.tbc.json")):
+                self.each_file(name, words, (": it is compressed (%s): unpack it first" % form, data))
 
     def test_documents(self):
         self.each_file(
@@ -75,40 +73,38 @@ class Messages(Runs):
     def test_metadata(self):
         words = "side.tbc --meta meta.json"
         self.refused("meta.json: No such file or directory", words)
-        head = b'{"videoParameters":{'
-        self.each_file(
-            "meta.json", words, *((" is " + NO_PARAMETERS, data) for data in (b"", b"[]", b"\xff", b"{}")),
-            (": unknown system", head + b'"system":"SECAM","black16bIre":1,"white16bIre":2}}'),
-            (": fieldWidth is not 910", head + b'"system":"NTSC","fieldWidth":1135,"black16bIre":1,"white16bIre":2}}'),
-            (": black level is no number", head + b'"system":"NTSC","black16bIre":null,"white16bIre":2}}'),
-            (": no system given", head + b'"black16bIre":1,"white16bIre":2}}'),
-            (": no black level given", head + b'"system":"NTSC"}}'))
+        none = " is no metadata with videoParameters"
+        self.each_file("meta.json", words, (none, b""), (none, b"[]"), (none, b"\xff"), (none, b"{}"), *(
+            (text, '{"videoParameters":{%s}}' % parameters) for text, parameters in (
+                (": unknown system", '"system":"SECAM","black16bIre":1,"white16bIre":2'),
+                (": fieldWidth is not 910", '"system":"NTSC","fieldWidth":1135,"black16bIre":1,"white16bIre":2'),
+                (": black level is no number", '"system":"NTSC","black16bIre":null,"white16bIre":2'),
+                (": no system given", '"black16bIre":1,"white16bIre":2'),
+                (": no black level given", '"system":"NTSC"'))))
         self.each_file("meta.db", "side.tbc --meta meta.db",
                        (": SQLite can't read it: file is not a database", b"SQLite format 3\0" + bytes(1000)))
-        os.unlink(self.path("meta.db"))
-        with contextlib.closing(sqlite3.connect(self.path("meta.db"))) as database:
+        with contextlib.closing(sqlite3.connect(self.named("video.db"))) as database:
             database.execute("CREATE TABLE video (system TEXT)")
-        self.refused("meta.db: no table capture; there are: video", "side.tbc --meta meta.db")
+        self.refused("video.db: no table capture; there are: video", "side.tbc --meta video.db")
 
     def test_outputs(self):
         self.metadata("side.tbc.json")
         self.printed("side.vbi.json --html page.html")
-        os.mkdir(self.path("folder"))
-        absent = "absent/out: No such file or directory"
+        os.mkdir(self.named("folder"))
         for option in ("-o", "--svg", "--html", "--map"):
-            self.each((absent, "side.vbi.json %s absent/out" % option),
+            self.each((ABSENT, "side.vbi.json %s absent/out" % option),
                       ("folder: Is a directory", "side.vbi.json %s folder" % option))
-        self.each((absent, "join side.tbc side.vbi.json --html absent/out"),
-                  ("side.tbc has 12 whole fields, and side.tbc.json has 0", "side.tbc --into out"),
-                  (absent, "index absent/out page.html"))
+        self.each((ABSENT, "join side.tbc side.vbi.json --html absent/out"), (ABSENT, "index absent/out page.html"),
+                  ("side.tbc has 12 whole fields, and side.tbc.json has 0", "side.tbc --into out"))
 
     def test_pages_and_captures(self):
-        no_page = " is no page that --html wrote"
-        self.each_file("page.html", "index index.html page.html", (no_page, b""), (no_page, b"<title>\xff\xfe</title>"),
-            (no_page, b'<meta name="ldvbi-side" content="[]">'), (no_page, b'<meta name="ldvbi-side" content="{">'),
-            (no_page, b'<meta name="ldvbi-side">'),
+        none = " is no page that --html wrote"
+        self.each_file(
+            "page.html", "index index.html page.html", (none, b""), (none, b"<title>\xff\xfe</title>"),
+            (none, b'<meta name="ldvbi-side" content="[]">'), (none, b'<meta name="ldvbi-side" content="{">'),
+            (none, b'<meta name="ldvbi-side">'),
             (" is a page of another version: write it again", b'<meta name="ldvbi-side" content="{}">'))
-        write_stream(self.path("dark.tbc"), NTSC, [[0, 0, 0]])
+        write_stream(self.named("dark.tbc"), NTSC, [[0, 0, 0]])
         self.metadata("dark.tbc.json")
         self.each(("absent.html: No such file or directory", "index index.html absent.html"),
                   ("dark.tbc has no numbers to compare", "compare side.vbi.json dark.tbc"),

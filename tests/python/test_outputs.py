@@ -6,28 +6,24 @@ import threading
 from unittest import mock
 
 from cases import InFolder, reason
+from command_runs import IN_PLACE
 from ldvbi_side.command.outputs import refuse_inputs, whole_file, whole_path
 
 
-class Outputs(InFolder):
+class WholeFiles(InFolder):
     def setUp(self):
         super().setUp()
         self.path = self.named("side.vbi.json")
 
-    def text(self, path=None):
-        with open(path or self.path, encoding="utf-8") as file:
-            return file.read()
+    def text(self):
+        """What is in the file, or None where there is none."""
+        return self.read(self.path).decode() if os.path.exists(self.path) else None
 
     def written(self, text="new"):
         """Writes a text to the file in one step."""
         with whole_file(self.path) as file:
             file.write(text)
 
-    def mode(self):
-        return stat.S_IMODE(os.stat(self.path).st_mode)
-
-
-class WholeFiles(Outputs):
     def test_a_fault_is_of_the_file_that_was_asked_for(self):
         full = OSError(28, "No space left on device")
         with self.assertRaises(OSError) as caught, whole_file(self.path):
@@ -38,58 +34,42 @@ class WholeFiles(Outputs):
                 whole_path(self.path, ()):
             self.fail("there is no folder to write to")
         self.assertEqual(caught.exception.filename, self.path)
-        self.assertEqual(os.listdir(self.folder), [])
+        self.assertEqual(self.names(), [])
 
     def test_it_appears_at_the_end(self):
-        with whole_file(self.path) as file:
-            file.write("new ü\n")
-            file.flush()
-            self.assertFalse(os.path.exists(self.path))
-        self.assertEqual(self.text(), "new ü\n")
-        self.assertEqual(self.names(), ["side.vbi.json"])
-        mask = os.umask(0)
-        os.umask(mask)
-        self.assertEqual(self.mode(), 0o666 & ~mask)
-
-    def test_an_older_one_is_replaced(self):
-        os.chmod(self.write("side.vbi.json", "old"), 0o640)
-        with whole_file(self.path) as file:
-            file.write("new")
-            file.flush()
-            self.assertEqual(self.text(), "old")
-        self.assertEqual(self.text(), "new")
-        self.assertEqual(self.mode(), 0o640)
-
-    def test_the_text_is_on_the_disk_before_its_name(self):
-        """Where a file is replaced, and where there was none: what is synced has all of the text, and no name yet."""
+        """Where there was none, and where one is replaced, whose mode it has. It is on the disk before it has its name:
+        what is synced has all of the text, and the file none of it yet."""
         done = []
 
         def sync(descriptor):
             with open("/proc/self/fd/%d" % descriptor, encoding="utf-8") as file:
-                done.append(("sync", file.read()))
+                done.append(("sync", file.read(), self.text()))
 
         def replace(part, target, real=os.replace):
             done.append(("replace", target))
             real(part, target)
 
-        for older in (None, "old"):
+        mask = os.umask(0)
+        os.umask(mask)
+        for older, mode in ((None, 0o666 & ~mask), ("old", 0o640)):
             if older:
-                self.write("side.vbi.json", older)
+                os.chmod(self.write("side.vbi.json", older), mode)
             done.clear()
             with mock.patch("os.fsync", sync), mock.patch("os.replace", replace):
-                self.written()
-            self.assertEqual(done, [("sync", "new"), ("replace", os.path.realpath(self.path))])
+                self.written("new ü\n")
+            self.assertEqual(done, [("sync", "new ü\n", older), ("replace", self.path)])
+            self.assertEqual((self.text(), self.names()), ("new ü\n", ["side.vbi.json"]))
+            self.assertEqual(stat.S_IMODE(os.stat(self.path).st_mode), mode)
 
     def test_nothing_is_left_of_a_part(self):
         for error in (ValueError, KeyboardInterrupt):
-            for older in ([], ["side.vbi.json"]):
-                for name in older:
-                    self.write(name, "old")
+            for older in (None, "old"):
+                if older:
+                    self.write("side.vbi.json", older)
                 with self.assertRaises(error), whole_file(self.path) as file:
                     file.write("new")
                     raise error
-                self.assertEqual(os.listdir(self.folder), older)
-            self.assertEqual(self.text(), "old")
+                self.assertEqual((self.text(), len(self.names())), (older, int(older is not None)))
             os.unlink(self.path)
 
     def test_links_and_what_is_no_file(self):
@@ -115,45 +95,30 @@ class WholeFiles(Outputs):
                             (self.folder, IsADirectoryError)):
             with self.assertRaises(error), whole_file(path):
                 self.fail("there is a file")
-        self.assertEqual(self.text(part), "old")
+        self.assertEqual(self.read(part), b"old")
 
 
-class Inputs(Outputs):
-    def refused(self, name, outputs, inputs):
-        text = name and "%s would be written in the place of an input or of another output" % name
-        self.assertEqual(reason(refuse_inputs, outputs, inputs), text)
-
-    def test_files_of_their_own(self):
-        side, meta, svg = (self.write("side" + end, "old") for end in (".tbc", ".tbc.json", ".svg"))
-        for outputs, inputs in (([self.path, None], [side, meta]), ([None, svg, self.path], [side, None]),
-                                ([svg], [side, "absent"]), (["/dev/null", "/dev/null"], ["/dev/null"]),
-                                ([1], [0, side]), ([99], [99])):  # of which 99 is no open file
-            self.refused(None, outputs, inputs)
-
-    def test_an_input(self):
-        side, meta = self.write("side.tbc", "old"), self.write("side.tbc.json", "old")
-        os.link(side, self.named("hard"))
-        os.symlink("side.tbc.json", self.named("soft"))
-        for output in (side, meta, self.named("hard"), self.named("soft"), os.path.relpath(side)):
-            with self.subTest(output):
-                self.refused(output, [None, output], [side, meta])
-
-    def test_two_outputs_in_one(self):
-        older = self.write("older", "old")
-        os.symlink("older", self.named("soft"))
-        self.refused(older, [self.named("soft"), older], [])
-        self.refused(self.path, [self.path, self.path], [])
-        self.refused(self.named("./new"), [self.named("new"), self.named("./new")], [])
-
-    def test_standard_output(self):
-        side = self.write("side.tbc", "old")
+class Inputs(InFolder):
+    def test_which_are_refused(self):
+        side, meta, new = self.write("side.tbc", "old"), self.write("side.tbc.json", "old"), self.named("new")
+        hard, soft, again = self.named("hard"), self.named("soft"), self.named("./new")
+        os.link(side, hard)
+        os.symlink("side.tbc.json", soft)
+        rows = [(None, [new, None], [side, meta]), (None, [None, meta, new], [side, None]),
+                (None, [meta], [side, "absent"]), (None, ["/dev/null", "/dev/null"], ["/dev/null"]),
+                (None, [1], [0, side]), (None, [99], [99]),  # 99 is no open file
+                (meta, [soft, meta], []), (new, [new, new], []), (again, [new, again], [])]
+        rows += [(output, [None, output], [side, meta]) for output in (side, meta, hard, soft, os.path.relpath(side))]
         with open(side, "ab") as file:
-            self.refused(side, [file.fileno(), side], [])
-            self.refused(str(file.fileno()), [file.fileno()], [side])
+            number = file.fileno()
+            for name, outputs, inputs in [*rows, (side, [number, side], []), (number, [number], [side])]:
+                with self.subTest((outputs, inputs)):
+                    self.assertEqual(reason(refuse_inputs, outputs, inputs), name and IN_PLACE % name)
             kept = os.dup(1)
             try:
-                os.dup2(file.fileno(), 1)
-                self.refused("standard output", [1], [side])
+                os.dup2(number, 1)
+                found = reason(refuse_inputs, [1], [side])
             finally:
                 os.dup2(kept, 1)
                 os.close(kept)
+            self.assertEqual(found, IN_PLACE % "standard output")

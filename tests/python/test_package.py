@@ -3,9 +3,10 @@ and that each public function has types, and mypy finds nothing that they rule o
 
 import ast
 import contextlib
-import importlib
+import importlib.util
 import io
 import os
+import pathlib
 import re
 import subprocess
 import unittest
@@ -13,58 +14,48 @@ import unittest
 import ldvbi
 from streams import TOP
 
+PYTHON = pathlib.Path(TOP, "python")
+# The modules of python/, by their names
+MODULES = {".".join(path.relative_to(PYTHON).with_suffix("").parts): ast.parse(path.read_text("utf-8"))
+           for path in sorted(PYTHON.rglob("*.py"))}
+ROOMS = ["ldvbi_side." + name for name in ("judge", "join", "draw", "into", "command")]
+
 
 def text_of(name):
-    with open(os.path.join(TOP, name), encoding="utf-8") as file:
-        return file.read()
+    return pathlib.Path(TOP, name).read_text("utf-8")
 
 
-def modules():
-    """The files of python/, each by its path from there."""
-    python = os.path.join(TOP, "python")
-    return sorted(os.path.relpath(os.path.join(folder, name), python)
-                  for folder, _, names in os.walk(python) for name in names if name.endswith(".py"))
+def package_of(name):
+    return name.rpartition(".")[0]
 
 
-def imported_by(path):
-    """The modules of the two packages that a file imports, wherever in it."""
-    package = os.path.dirname(path).split(os.sep)
-    for node in ast.walk(ast.parse(text_of(os.path.join("python", path)))):
+def imported_by(name):
+    """The modules of the two packages that a module imports, wherever in it."""
+    found = set()
+    for node in ast.walk(MODULES[name]):
         if isinstance(node, ast.Import):
-            names = [one.name for one in node.names]
+            found |= {one.name for one in node.names}
         elif isinstance(node, ast.ImportFrom):
-            before = package[:len(package) - node.level + 1] if node.level else []
-            module = ".".join(before + ([node.module] if node.module else []))
+            module = importlib.util.resolve_name("." * node.level + (node.module or ""), package_of(name))
             # what is imported from a package may be a module of it
             names = ["%s.%s" % (module, one.name) for one in node.names]
-            names = [name if os.path.exists(os.path.join(TOP, "python", *name.split(".")) + ".py") else module
-                     for name in names]
-        else:
-            continue
-        yield from sorted({name for name in names if name.split(".")[0] in ("ldvbi", "ldvbi_side")})
+            found |= {name if name in MODULES else module for name in names}
+    return sorted(name for name in found if name.split(".")[0] in ("ldvbi", "ldvbi_side"))
 
 
 def room_of(name):
-    """The package of a module, which is given by its name or its path."""
-    parts = name.replace(os.sep, "/").replace(".py", "").replace("/", ".").split(".")
-    is_room = parts[1:2] in (["judge"], ["join"], ["draw"], ["into"], ["command"])
-    return ".".join(parts[:2]) if is_room else parts[0]
+    """The package of a module, where that is a room, else the one at the top."""
+    room = ".".join(name.split(".")[:2])
+    return room if room in ROOMS else name.split(".")[0]
 
 
 class Package(unittest.TestCase):
-    def setUp(self):
-        self.project = dict(re.findall(r'^([a-z-]+) = (.*)$', text_of("pyproject.toml"), re.MULTILINE))
-
-    def test_name_and_pythons(self):
-        self.assertEqual((self.project["name"], self.project["requires-python"]), ('"ldvbi"', '">=3.9"'))
-
-    def test_version(self):
-        makefile = re.search(r"^VERSION := (.*)$", text_of("Makefile"), re.MULTILINE)
-        self.assertEqual(ldvbi.__version__, makefile.group(1))
-        self.assertEqual(self.project["version"], '{ attr = "ldvbi.__version__" }')
-
-    def test_command(self):
-        module, name = self.project["ldvbi-side"].strip('"').split(":")
+    def test_project(self):
+        project = dict(re.findall(r'^([a-z-]+) = (.*)$', text_of("pyproject.toml"), re.MULTILINE))
+        self.assertEqual([project[name] for name in ("name", "requires-python", "version")],
+                         ['"ldvbi"', '">=3.9"', '{ attr = "ldvbi.__version__" }'])
+        self.assertEqual(ldvbi.__version__, re.search(r"^VERSION := (.*)$", text_of("Makefile"), re.MULTILINE).group(1))
+        module, name = project["ldvbi-side"].strip('"').split(":")
         with contextlib.redirect_stderr(io.StringIO()), self.assertRaises(SystemExit) as ended:
             getattr(importlib.import_module(module), name)(["--black"])
         self.assertEqual(ended.exception.code, 2)
@@ -72,52 +63,41 @@ class Package(unittest.TestCase):
     def test_files(self):
         """Each file of python/ belongs to one of the packages that are named, each of which has some."""
         named = re.search(r"^packages = \[(.*?)\]$", text_of("pyproject.toml"), re.MULTILINE | re.DOTALL).group(1)
-        packages = re.findall(r'"(.*?)"', named)
-        folders = {os.path.dirname(path).replace(os.sep, ".") for path in modules()}
-        self.assertEqual(folders, set(packages))
+        self.assertEqual(set(map(package_of, MODULES)), set(re.findall(r'"(.*?)"', named)))
 
     def test_no_package_imports_one_above_it(self):
         """`ldvbi` knows nothing of `ldvbi_side`; there each room stands on those before it."""
-        order = ["ldvbi", "ldvbi_side.judge", "ldvbi_side", "ldvbi_side.join", "ldvbi_side.draw", "ldvbi_side.into",
-                 "ldvbi_side.command"]
-        found = [(name, imported) for name in modules() for imported in imported_by(name)
+        order = ["ldvbi", ROOMS[0], "ldvbi_side", *ROOMS[1:]]
+        found = [(name, imported) for name in MODULES for imported in imported_by(name)
                  if order.index(room_of(imported)) > order.index(room_of(name))]
         # the command's entry, which hands over to the room above
-        self.assertEqual(found, [("ldvbi_side/__main__.py", "ldvbi_side.command.main")])
+        self.assertEqual(found, [("ldvbi_side.__main__", "ldvbi_side.command.main")])
 
     def test_each_room_is_read_in_the_order_of_its_imports(self):
         """What the head of a room names, in this order, are its modules, and none imports one that is named later."""
-        for room in ("judge", "join", "draw", "into", "command"):
-            package = "ldvbi_side." + room
-            head = importlib.import_module(package).__doc__
-            order = re.search(r"\n\n([a-z]+(?:,\s[a-z]+)+)\n\n", head).group(1).replace("\n", " ").split(", ")
-            files = [name for name in modules() if os.path.dirname(name) == package.replace(".", os.sep)]
-            places = {"%s.%s" % (package, name): place for place, name in enumerate(order)}
+        for room in ROOMS:
+            head = ast.get_docstring(MODULES[room + ".__init__"])
+            names = re.search(r"\n\n([a-z]+(?:,\s[a-z]+)+)\n\n", head + "\n\n").group(1)
+            order = ["%s.%s" % (room, name) for name in re.split(r",\s", names)]
             with self.subTest(room):
-                self.assertEqual(sorted(order + ["__init__"]), [os.path.basename(name)[:-3] for name in sorted(
-                    files, key=os.path.basename)])
-                self.assertEqual([(name, imported) for name in order
-                                  for imported in imported_by(os.path.join("ldvbi_side", room, name + ".py"))
-                                  if places.get(imported, -1) >= places["%s.%s" % (package, name)]], [])
+                self.assertEqual(sorted([*order, room + ".__init__"]),
+                                 sorted(name for name in MODULES if package_of(name) == room))
+                self.assertEqual([(name, imported) for place, name in enumerate(order)
+                                  for imported in imported_by(name) if imported in order[place:]], [])
 
 
 def public_functions(tree):
     """The functions of a module, and the methods of its classes, whose names don't begin with `_`, and those that
     Python calls by names such as `__init__`."""
-    for node in tree.body:
-        ones = [node]
-        if isinstance(node, ast.ClassDef) and not node.name.startswith("_"):
-            ones = node.body
-        yield from (one for one in ones if isinstance(one, (ast.FunctionDef, ast.AsyncFunctionDef))
-                    and (not one.name.startswith("_") or one.name.startswith("__")))
+    classes = [node.body for node in tree.body if isinstance(node, ast.ClassDef) and not node.name.startswith("_")]
+    return [one for body in (tree.body, *classes) for one in body
+            if isinstance(one, (ast.FunctionDef, ast.AsyncFunctionDef)) and not re.match("_(?!_)", one.name)]
 
 
 def untyped_in(function):
     """The names of a function's arguments that have no type, and `return` where that has none."""
-    asked = function.args
-    names = asked.posonlyargs + asked.args + asked.kwonlyargs + [one for one in (asked.vararg, asked.kwarg) if one]
-    return [one.arg for one in names if one.annotation is None and one.arg not in ("self", "cls")] + [
-        "return"] * (function.returns is None)
+    return [one.arg for one in ast.iter_child_nodes(function.args) if isinstance(one, ast.arg) and not one.annotation
+            and one.arg not in ("self", "cls")] + ["return"] * (function.returns is None)
 
 
 class Types(unittest.TestCase):
@@ -129,15 +109,14 @@ class Types(unittest.TestCase):
                          [("a", ["c"]), ("__init__", ["h", "return"])])
 
     def test_each_public_function_has_types(self):
-        found = [(path, one.name, untyped_in(one)) for path in modules()
-                 for one in public_functions(ast.parse(text_of(os.path.join("python", path))))]
+        found = [(name, one.name, untyped_in(one)) for name, tree in MODULES.items() for one in public_functions(tree)]
         self.assertEqual([one for one in found if one[-1]], [])
         self.assertGreater(len(found), 200)
 
     def test_mypy_finds_nothing(self):
         # Of the tests' own environment it gets the PATH alone: the rest may have each line counted that Python runs.
         words = ["mypy", "--python-version", "3.9", "--cache-dir", os.devnull, "--disallow-incomplete-defs"]
-        ran = subprocess.run(words + ["-p", "ldvbi", "-p", "ldvbi_side"], cwd=os.path.join(TOP, "python"),
+        ran = subprocess.run(words + ["-p", "ldvbi", "-p", "ldvbi_side"], cwd=PYTHON,
                              env={"PATH": os.environ["PATH"]}, stdin=subprocess.DEVNULL, capture_output=True, text=True)
-        self.assertRegex(ran.stdout, r"^Success: no issues found in %d source files\n$" % len(modules()))
+        self.assertRegex(ran.stdout, r"^Success: no issues found in %d source files\n$" % len(MODULES))
         self.assertEqual((ran.stderr, ran.returncode), ("", 0))

@@ -9,13 +9,13 @@ import xml.etree.ElementTree as xml
 from unittest import mock
 
 from cases import InFolder, reason
+from command_runs import DEADLINE
 from compact import rows
 from discs import side
 from ldvbi_side.command.summary import summary
 from ldvbi_side.draw.index import index_of
 from ldvbi_side.draw.page import LISTS, page_of
 from ldvbi_side.draw.plotting import plotter
-from scanned import DEADLINE
 from streams import NTSC, PROGRAM, TOP, worn_line, write_stream
 
 SPACE = "{http://www.w3.org/2000/svg}"

@@ -5,9 +5,9 @@ import os
 from unittest import mock
 
 import ldvbi
-from command_runs import LEVELS, SIZE, Runs
+from command_runs import SIZE, Runs
+from compact import words_of
 from ldvbi_side.side import side_of_tbc
-from scanned import fields_of
 from streams import NTSC, PAL, pictures, write_stream
 
 NO_LIBRARY = "ldvbi-side: no library to read samples with (/absent: cannot open shared object file: No such file or " \
@@ -23,8 +23,7 @@ class WithoutLibrary(Runs):
                 # a number in each field is no whole side
                 self.assertEqual((found[0], found[2]), (int(words == "--summary"), ""))
                 self.assertEqual(self.run_command("side.vbi.json " + words), found)
-        status, text, said = self.run_command("--help", env=absent)
-        self.assertEqual((status, text[:18], said), (0, b"usage: ldvbi-side ", ""))
+        self.assertEqual(self.run_command("--help", env=absent), (0, self.printed("--help"), ""))
         for words in ("", " --csv", " --document"):
             self.assertEqual(self.run_command("side.tbc LEVELS" + words, env=absent), (2, b"", NO_LIBRARY))
 
@@ -32,11 +31,14 @@ class WithoutLibrary(Runs):
 class Documents(Runs):
     def test_the_same_as_the_program(self):
         self.assertEqual(self.printed("side.tbc LEVELS --document"), self.document)
-        write_stream(self.path("pal.tbc"), PAL, pictures(70), 12)
+        write_stream(self.named("pal.tbc"), PAL, pictures(70), 12)
         options = "--system PAL --black 16384 --white 54016"
         said = "ldvbi-side: pal.tbc: the last field is cut: field 71 has 12 of 710510 bytes\n"
         self.assertEqual(self.run_command("pal.tbc --document " + options),
                          (3, self.extracted("pal.tbc", options.split()), said))
+        self.write("side.tbc", b"")
+        self.assertEqual(self.printed("side.tbc LEVELS --csv").count(b"\n"), 1)
+        self.assertEqual(self.printed("side.tbc LEVELS --document"), self.extracted("side.tbc"))
 
     def test_metadata_that_is_named(self):
         self.metadata("side.tbc.json", black16bIre=16383.5)
@@ -67,7 +69,7 @@ class Metadata(Runs):
                             ("LEVELS --seek 4", b"field 5, frame 3\n")):
             self.assertEqual(self.printed("side.tbc " + words), text)
         self.assertEqual(self.run_command("side.tbc --meta other.json --seek 4")[:2], (1, b"not found\n"))
-        os.rename(self.path("side.tbc.json"), self.path("side.tbc.db"))
+        os.rename(self.named("side.tbc.json"), self.named("side.tbc.db"))
         self.assertEqual(self.printed("side.tbc --document"), self.document)
 
     def test_counts_are_compared(self):
@@ -87,13 +89,13 @@ class Metadata(Runs):
                          "another file's metadata?")
 
     def test_strict(self):
-        write_stream(self.path("side.tbc"), NTSC, fields_of(range(1, 5)))
+        write_stream(self.named("side.tbc"), NTSC, words_of("1..4"))
         for words, status, wanted in (("", 0, b"whole: yes"), ("--strict", 1, b"whole: no: no lead-in; no lead-out")):
             found = self.run_command("side.tbc LEVELS --summary " + words)
             self.assertEqual((found[0], found[1].split(b"\n")[0]), (status, wanted))
 
     def test_comparison(self):
-        write_stream(self.path("other.tbc"), NTSC, pictures(16)[4:])
+        write_stream(self.named("other.tbc"), NTSC, pictures(16)[4:])
         self.metadata("other.tbc.json")
         self.assertEqual(json.loads(self.printed("compare --json other.tbc side.vbi.json")), {
             "version": 1, "unit": "picture", "counts": [12, 12], "a": [{"first": 12, "last": 15, "count": 4}],
@@ -104,36 +106,25 @@ class Metadata(Runs):
 
 
 class CutSides(Runs):
-    def cut(self, size):
-        """Cuts the TBC file, and returns what is said of it then, but for its name."""
-        os.truncate(self.path("side.tbc"), size)
-        self.write("side.vbi.json", self.extracted("side.tbc"))
-        cut = (size // SIZE + 1, size % SIZE, SIZE)
-        return "ldvbi-side: %%s: the last field is cut: field %d has %d of %d bytes\n" % cut
-
     def test_cut_and_too_short(self):
-        for size, whole in ((4 * SIZE + 85360, 4), (SIZE - 1, 0), (1, 0)):
-            said = self.cut(size)
-            for source in (["side.tbc", *LEVELS], ["side.vbi.json"]):
+        for size, cut in ((4 * SIZE + 85360, (5, 85360)), (SIZE - 1, (1, SIZE - 1)), (1, (1, 1))):
+            os.truncate(self.named("side.tbc"), size)
+            self.write("side.vbi.json", self.extracted("side.tbc"))
+            for source, words in (("side.tbc", " LEVELS"), ("side.vbi.json", "")):
                 with self.subTest((size, source)):
-                    status, text, errors = self.run_command(*source, "--csv")
-                    self.assertEqual((status, errors), (3, said % source[0]))
-                    self.assertEqual(text.count(b",cav,"), whole)
-            self.assertEqual(self.run_command("side.tbc LEVELS --document"),
-                             (3, self.read("side.vbi.json"), said % "side.tbc"))
-
-    def test_no_field_at_all(self):
-        self.write("side.tbc", b"")
-        self.assertEqual(self.printed("side.tbc LEVELS --csv").count(b"\n"), 1)
-        self.assertEqual(self.printed("side.tbc LEVELS --document"), self.extracted("side.tbc"))
+                    said = "ldvbi-side: %s: the last field is cut: field %d has %d of 478660 bytes\n" % (source, *cut)
+                    status, text, errors = self.run_command(source + words + " --csv")
+                    self.assertEqual((status, errors, text.count(b",cav,")), (3, said, cut[0] - 1))
+                    if words:
+                        self.assertEqual(self.run_command("side.tbc LEVELS --document"),
+                                         (3, self.read("side.vbi.json"), said))
 
 
 class Judged(Runs):
     """The library's judge beside the package, of TBC files, where the library has one; not of documents."""
 
     def test_a_misread_number(self):
-        """Pictures 1 to 30, of which 10 reads 79999."""
-        write_stream(self.path("side.tbc"), NTSC, fields_of([*range(1, 10), 79999, *range(11, 31)]))
+        write_stream(self.named("side.tbc"), NTSC, words_of("1..30 19=-/#79999/#79999"))  # picture 10
         wanted = {"both": 29, "judgeAlone": 0, "packageAlone": 0, "differ": 0, "first": None}
         for more in ("", " --no-recover"):
             self.assertEqual(json.loads(self.printed("side.tbc LEVELS --json" + more))["judged"], wanted)
@@ -144,8 +135,8 @@ class Judged(Runs):
         self.assertNotIn(b"judged by the library", self.printed("side.vbi.json --summary"))
 
     def test_a_library_without_a_judge(self):
-        write_stream(self.path("side.tbc"), NTSC, fields_of(range(1, 31)))
-        setup = self.path("side.tbc"), ldvbi.System.NTSC, 16384, 51200
+        write_stream(self.named("side.tbc"), NTSC, words_of("1..30"))
+        setup = self.named("side.tbc"), ldvbi.System.NTSC, 16384, 51200
         self.assertEqual(side_of_tbc(*setup, recover=False).answer["judged"]["both"], 30)
         with mock.patch("ldvbi_side.side.judge", side_effect=OSError("too old")):
             answer = side_of_tbc(*setup, recover=False).answer

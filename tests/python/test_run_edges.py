@@ -8,32 +8,27 @@ import os
 import shutil
 import signal
 import sqlite3
-import subprocess
 import sys
 import time
 import xml.etree.ElementTree as xml
 
-from command_runs import COMMAND, DEADLINE, LEVELS, Runs
-from streams import NTSC, PROGRAM, pictures, worn_line, write_stream
+from command_runs import BUFFERED, LEVELS, Runs
+from streams import NTSC, PROGRAM, TOP, pictures, worn_line, write_stream
 
-SCRIPT = os.path.join(os.path.dirname(os.path.abspath(__file__)), "..", "..", "python", "ldvbi-side")
 SIGNALS = ((signal.SIGTERM, 143), (signal.SIGHUP, 129), (signal.SIGINT, 130))
-PARAMETERS = {"system": "NTSC", "black16bIre": 16384, "white16bIre": 51200}
+WORN = worn_line(0xF00001, NTSC, 20, 9)
+WAITING = "with open('pipe') as file:\n    file.read()\n"
 
 
 class Closed(Runs):
     """Standard streams that are closed when the command starts."""
 
     def closed(self, numbers, words):
-        """The status of a run for which these streams are closed, and what it writes to the others of the two."""
+        """A run for which these streams are closed."""
         def close():
             for number in numbers:
                 os.close(number)
-        with open(os.devnull, "rb") as nothing:
-            run = subprocess.run(COMMAND + self.words(*words.split()), cwd=self.folder, stdin=nothing,
-                                 stdout=subprocess.PIPE, stderr=subprocess.PIPE, timeout=DEADLINE, check=False,
-                                 preexec_fn=close)
-        return run.returncode, run.stdout, run.stderr.decode()
+        return self.run_command(words, preexec_fn=close)
 
     def test_output(self):
         self.metadata("side.tbc.json")
@@ -54,55 +49,35 @@ class Closed(Runs):
         status, text, _ = self.closed([2], "side.tbc --json --svg side.svg")
         self.assertEqual((status, json.loads(text)["fields"]), (0, 12))
         self.assertTrue(self.read("side.svg").startswith(b"<svg"))
-        self.assertEqual(self.closed([2], "absent"), (2, b"", ""))
-        self.assertEqual(self.closed([2], "--black"), (2, b"", ""))
+        for words in ("absent", "--black"):
+            self.assertEqual(self.closed([2], words), (2, b"", ""))
         status, text, _ = self.closed([0, 2], "scan --csv absent side.tbc")
-        self.assertEqual((status, text.split(b"\n")[1]), (2, b"absent,fault,,,,,,,No such file or directory"))
-        self.assertEqual(text.count(b"\n"), 3)
+        self.assertEqual((status, text.split(b"\n")[1], text.count(b"\n")),
+                         (2, b"absent,fault,,,,,,,No such file or directory", 3))
 
     def test_input(self):
         self.assertEqual(self.closed([0], "-"), (2, b"", "ldvbi-side: standard input: Bad file descriptor\n"))
         self.assertEqual(self.closed([0], "side.vbi.json --seek 3"), (0, b"field 4, frame 2\n", ""))
 
     def test_a_full_device(self):
-        said = b"ldvbi-side: standard output: No space left on device\n"
-        for words, name, wanted in (("side.vbi.json", "stdout", said), ("--help", "stdout", said),
-                                    ("scan --csv side.vbi.json", "stdout", said),
-                                    ("side.tbc LEVELS --document", "stdout", said),
-                                    ("absent", "stderr", b""), ("--black", "stderr", b"")):
+        said = "ldvbi-side: standard output: No space left on device\n"
+        for words, stream in (("side.vbi.json", "stdout"), ("--help", "stdout"), ("scan --csv side.vbi.json", "stdout"),
+                              ("side.tbc LEVELS --document", "stdout"), ("absent", "stderr"), ("--black", "stderr")):
             with self.subTest(words), open("/dev/full", "wb") as full:
-                streams = {"stdout": subprocess.PIPE, "stderr": subprocess.PIPE, name: full}
-                run = subprocess.run(COMMAND + self.words(*words.split()), cwd=self.folder, timeout=DEADLINE,
-                                     check=False, env=buffered(), **streams)
-                self.assertEqual((run.returncode, (run.stdout or b"") + (run.stderr or b"")), (2, wanted))
-
-
-def buffered():
-    """The environment in which what is printed is held back for a while, as nearly everywhere."""
-    return {name: value for name, value in os.environ.items() if name != "PYTHONUNBUFFERED"}
+                status, text, errors = self.run_command(words, env=BUFFERED, **{stream: full})
+                self.assertEqual((status, text or b"", errors), (2, b"", said if stream == "stdout" else ""))
 
 
 class Signals(Runs):
-    def started(self, *words, **more):
-        process = subprocess.Popen([*COMMAND, *words], cwd=self.folder, stdin=subprocess.DEVNULL,
-                                   stdout=subprocess.PIPE, stderr=subprocess.PIPE, env=buffered(), **more)
-        self.addCleanup(process.stdout.close)
-        self.addCleanup(process.stderr.close)
-        return process
-
-    def ended(self, process, status):
-        text, said = process.communicate(timeout=DEADLINE)
-        self.assertEqual((process.returncode, text, said), (status, b"", b""))
-
     def test_while_it_waits(self):
-        os.mkfifo(self.path("meta.json"))
+        os.mkfifo(self.named("meta.json"))
         before = self.names()
         csv, interrupt = ["--csv", "-o", "out"], SIGNALS[2]
         for (number, status), words in (*((one, csv) for one in SIGNALS), (interrupt, ["--document", *csv[1:]]),
                                         (interrupt, [])):
             with self.subTest((number, words)):
                 process = self.started("side.tbc", "--meta", "meta.json", *words)
-                with open(self.path("meta.json"), "wb"):  # opened as soon as the command opens it
+                with open(self.named("meta.json"), "wb"):  # opened as soon as the command opens it
                     self.assertEqual(len(self.names()), len(before) + bool(words))
                     process.send_signal(number)
                     process.send_signal(number)
@@ -110,13 +85,12 @@ class Signals(Runs):
                 self.assertEqual(self.names(), before)
 
     def test_while_a_page_is_written(self):
-        worn = worn_line(0xF00001, NTSC, 20, 9)
-        write_stream(self.path("worn.tbc"), NTSC, [[worn, worn, worn]] * 80)
+        write_stream(self.named("worn.tbc"), NTSC, [[WORN] * 3] * 80)
         before = self.names()
         for number, status in SIGNALS:
             with self.subTest(number):
                 process = self.started("worn.tbc", *LEVELS, "--html", "page.html")
-                while not any(name.endswith(".part") for name in os.listdir(self.folder)):
+                while not any(name.endswith(".part") for name in self.names()):
                     self.assertIsNone(process.poll())
                     time.sleep(0.005)
                 process.send_signal(number)
@@ -124,52 +98,50 @@ class Signals(Runs):
                 self.assertEqual(self.names(), before)
 
     def test_while_it_is_loaded(self):
-        """One of Python's modules, which the command wants, isn't loaded before there is a text in the pipe."""
-        self.write("argparse.py", b"with open('pipe') as file:\n    file.read()\n")
-        os.mkfifo(self.path("pipe"))
+        """One of Python's modules, which the command wants, isn't loaded before there is a text in the pipe; then the
+        package itself isn't."""
+        os.mkfifo(self.named("pipe"))
+        self.write("argparse.py", WAITING)
         for number, status in SIGNALS:
-            with self.subTest(number):
-                process = self.started("side.vbi.json")
-                with open(self.path("pipe"), "wb"):
-                    process.send_signal(number)
-                    self.ended(process, status)
+            self.stopped_while_it_loads(number, status)
+        os.unlink(self.named("argparse.py"))
+        shutil.copy(os.path.join(TOP, "python", "ldvbi-side"), self.folder)
+        os.mkdir(self.named("ldvbi_side"))
+        self.write("ldvbi_side/__init__.py", WAITING)
+        self.stopped_while_it_loads(signal.SIGINT, 130, command=[sys.executable, "ldvbi-side"])
 
-    def test_before_the_package_is_loaded(self):
-        shutil.copy(SCRIPT, self.folder)
-        os.mkdir(self.path("ldvbi_side"))
-        self.write("ldvbi_side/__init__.py", b"with open('pipe') as file:\n    file.read()\n")
-        os.mkfifo(self.path("pipe"))
-        process = subprocess.Popen([sys.executable, "ldvbi-side"], cwd=self.folder, stderr=subprocess.PIPE)
-        with open(self.path("pipe"), "wb"):
-            process.send_signal(signal.SIGINT)
-            self.assertEqual((process.communicate(timeout=DEADLINE), process.returncode), ((None, b""), 130))
+    def stopped_while_it_loads(self, number, status, **more):
+        with self.subTest((number, more)):
+            process = self.started("side.vbi.json", **more)
+            with open(self.named("pipe"), "wb"):
+                process.send_signal(number)
+                self.ended(process, status)
 
     def test_what_is_ignored_stays_so(self):
         """As nohup has it."""
-        os.mkfifo(self.path("meta.json"))
-        process = self.started("side.tbc", "--meta", "meta.json", "--seek", "3",
+        os.mkfifo(self.named("pipe"))
+        self.metadata("meta.json")
+        process = self.started("side.tbc", "--meta", "pipe", "--seek", "3",
                                preexec_fn=functools.partial(signal.signal, signal.SIGHUP, signal.SIG_IGN))
-        with open(self.path("meta.json"), "wb") as file:
+        with open(self.named("pipe"), "wb") as file:
             process.send_signal(signal.SIGHUP)
             time.sleep(0.2)
-            file.write(json.dumps({"videoParameters": PARAMETERS}).encode())
-        self.assertEqual(process.communicate(timeout=DEADLINE), (b"field 4, frame 2\n", b""))
-        self.assertEqual(process.returncode, 0)
+            file.write(self.read("meta.json"))
+        self.ended(process, 0, b"field 4, frame 2\n")
 
 
 class Names(Runs):
     NAME = os.fsdecode(b"s\xff\x1b[31m\xef\xbf\xbe<&>.tbc")
 
     def test_of_sides(self):
-        worn = worn_line(0xF00001, NTSC, 20, 9)
-        write_stream(self.path(self.NAME), NTSC, [*pictures(12), [0, worn, worn]])
+        write_stream(self.named(self.NAME), NTSC, [*pictures(12), [0, WORN, WORN]])
         self.metadata(self.NAME + ".json", black16bIre=16383.5)
         status, text, said = self.run_command(self.NAME, "--html", "page.html", "--svg", "side.svg", "--summary")
         self.assertEqual((status, said), (
             1, "ldvbi-side: s\\udcff\\x1b[31m\\ufffe<&>.tbc: black16bIre is 16383.5, rounded to 16384\n"))
-        self.assertTrue(text.decode().replace("\n", "").isprintable())
-        page = self.read("page.html").decode()
-        self.assertTrue(page.replace("\n", "").isprintable())
+        page = self.text("page.html")
+        for one in (text.decode(), page):
+            self.assertTrue(one.replace("\n", "").isprintable())
         self.assertIn("<title>s\ufffd\ufffd[31m\ufffd&lt;&amp;&gt;.tbc</title>", page)
         self.assertIn("s\ufffd\ufffd[31m\ufffd&lt;&amp;&gt;.tbc, field 13, line 17", page)
         title = next(xml.fromstring(self.read("side.svg")).iter("{http://www.w3.org/2000/svg}text"))
@@ -192,9 +164,8 @@ class Names(Runs):
 
     def test_that_begin_as_options_do(self):
         self.write("-x", self.document)
-        for status, *words in ((1, "--", "-x"), (0, "compare", "--", "-x", "-x"), (0, "join", "--", "-x", "-x"),
-                               (1, "scan", "--", "-x")):
-            self.assertEqual(self.run_command(*words)[::2], (status, ""), words)
+        for status, words in ((1, "-- -x"), (0, "compare -- -x -x"), (0, "join -- -x -x"), (1, "scan -- -x")):
+            self.assertEqual(self.run_command(words)[::2], (status, ""), words)
 
     def test_outputs_without_a_name(self):
         for words in ("side.vbi.json --html", "side.vbi.json --svg", "side.vbi.json -o", "side.vbi.json --map",
@@ -209,44 +180,44 @@ class Names(Runs):
         name = "\u00fc" * 125  # of 250 bytes
         for option in ("-o", "--html", "--map", "--svg"):
             self.assertEqual(self.run_command("side.vbi.json", "--seek", "3", option, name)[0], 0)
-            self.assertIn(name, os.listdir(self.folder))
-            os.unlink(self.path(name))
-        self.write("x" * 246 + ".tbc", self.read("side.tbc"))
-        self.metadata("x" * 246 + ".tbc.json")
-        status, text, said = self.run_command("scan", "--json", "--html", "pages", "x" * 246 + ".tbc")
+            os.unlink(self.named(name))
+        long = "x" * 246 + ".tbc"
+        self.write(long, self.read("side.tbc"))
+        self.metadata(long + ".json")
+        status, text, said = self.run_command("scan", "--json", "--html", "pages", long)
         self.assertEqual((status, json.loads(text)["sides"][0]["fault"], said), (1, None, ""))
 
 
 class Others(Runs):
     """Files of others."""
 
+    def said_briefly(self, words, begin, end=""):
+        """A run says this, on one line that can be shown, and that isn't too long."""
+        status, text, said = self.run_command(words)
+        self.assertEqual((status, text), (2, b""))
+        self.assertTrue(said.startswith("ldvbi-side: " + begin) and said.endswith(end + "\n"), said)
+        self.assertTrue(said[:-1].isprintable())
+        self.assertLess(len(said), 650)
+
     def test_a_database(self):
-        with contextlib.closing(sqlite3.connect(self.path("side.tbc.db"))) as database, database:
+        with contextlib.closing(sqlite3.connect(self.named("side.tbc.db"))) as database, database:
             database.execute("BEGIN")  # else the disk is waited for 300 times
             for number in range(300):
                 database.execute('CREATE TABLE "\x1b[31m\n%03d" (system TEXT)' % number)
-        status, text, said = self.run_command("side.tbc")
-        self.assertEqual((status, text), (2, b""))
-        self.assertTrue(said.startswith(
-            "ldvbi-side: side.tbc.db: no table capture; there are: \\x1b[31m\\n000, \\x1b[31m\\n001, "), said)
-        self.assertTrue(said[:-1].isprintable())
-        self.assertLess(len(said), 650)
-        table = self.run_command("scan", "--csv", "side.tbc")[1].decode()
+        self.said_briefly("side.tbc",
+                          "side.tbc.db: no table capture; there are: \\x1b[31m\\n000, \\x1b[31m\\n001, ")
+        table = self.run_words("scan --csv side.tbc")[1]
         self.assertTrue(table.replace("\n", "").isprintable())
         self.assertLess(len(table), 750)
 
     def test_a_document(self):
         self.write("wrong.vbi.json", self.document.replace(b'"word"', b'"\\u001b[31m%s"' % (b"x" * 5000), 1))
-        status, text, said = self.run_command("wrong.vbi.json")
-        self.assertEqual((status, text), (2, b""))
-        self.assertTrue(said.startswith("ldvbi-side: wrong.vbi.json: field 1: \"\\u001b[31mxxx"), said)
-        self.assertTrue(said.endswith("xxx\" is no cause\n"), said)
-        self.assertLess(len(said), 650)
+        self.said_briefly("wrong.vbi.json", "wrong.vbi.json: field 1: \"\\u001b[31mxxx", "xxx\" is no cause")
 
     def test_an_option_beside_metadata(self):
         self.metadata("side.tbc.json")
         for option in (["--system", "PAL"], ["--black", "20000"], ["--white", "40000"]):
-            wanted = self.extracted("side.tbc", ["--meta", self.path("side.tbc.json"), *option])
+            wanted = self.extracted("side.tbc", ["--meta", self.named("side.tbc.json"), *option])
             self.assertEqual(self.run_command("side.tbc", *option, "--document")[1], wanted, option)
 
     def test_what_has_no_end(self):
@@ -254,24 +225,21 @@ class Others(Runs):
             with self.subTest(words):
                 self.assertEqual(self.run_command(words)[0], 2)
         with open("/dev/zero", "rb") as zeros:
-            run = subprocess.run([*COMMAND, "-"], stdin=zeros, stdout=subprocess.PIPE, stderr=subprocess.PIPE,
-                                 timeout=DEADLINE, check=False)
-        self.assertEqual((run.returncode, run.stdout, run.stderr.decode()), (
-            2, b"", "ldvbi-side: standard input: not JSON: line 1 is wrong from column 1 on\n"))
+            self.assertEqual(self.run_command("-", stdin=zeros), (
+                2, b"", "ldvbi-side: standard input: not JSON: line 1 is wrong from column 1 on\n"))
 
     def test_metadata_that_the_program_refuses(self):
         """It isn't JSON: names in the place of numbers, numbers that are too large, and what is nested too deep."""
-        begin = json.dumps({"videoParameters": PARAMETERS})[:-1]
+        self.metadata("side.tbc.json")
+        begin = self.text("side.tbc.json")[:-1]
         deep = "[" * 126 + "]" * 126
         for value, is_taken in (("1e308", True), (deep, True), ("NaN", False), ("-Infinity", False), ("1e999", False),
                                 ("[%s]" % deep, False), ('{"a":%s}' % deep, False)):
             with self.subTest(value[:20]):
-                self.write("meta.json", ('%s, "a": %s}' % (begin, value)).encode())
-                run = subprocess.run([PROGRAM, "extract", "--meta", "meta.json", "side.tbc"], cwd=self.folder,
-                                     stdout=subprocess.PIPE, stderr=subprocess.PIPE, check=False)
-                self.assertEqual(run.returncode == 0, is_taken, run.stderr)
+                self.write("meta.json", '%s, "a": %s}' % (begin, value))
+                status, _, said = self.run_command("extract --meta meta.json side.tbc", command=[PROGRAM])
+                self.assertEqual(status == 0, is_taken, said)
                 if is_taken:
-                    self.assertEqual(self.run_command("side.tbc", "--meta", "meta.json", "--document"),
-                                     (0, self.document, ""))
+                    self.assertEqual(self.printed("side.tbc --meta meta.json --document"), self.document)
                 else:
-                    self.refused("meta.json is no metadata with videoParameters", "side.tbc", "--meta", "meta.json")
+                    self.refused("meta.json is no metadata with videoParameters", "side.tbc --meta meta.json")

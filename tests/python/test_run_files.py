@@ -2,11 +2,8 @@
 
 import os
 import shutil
-import subprocess
 
-from command_runs import COMMAND, LEVELS, Runs
-
-IN_PLACE = "%s would be written in the place of an input or of another output"
+from command_runs import IN_PLACE, Runs
 
 
 class Files(Runs):
@@ -18,7 +15,7 @@ class Files(Runs):
                 self.assertEqual(printed[0], status)
                 self.assertEqual(self.run_command("side.tbc LEVELS %s %s out" % (words, option)), (status, b"", ""))
                 self.assertEqual(self.read("out"), printed[1])
-                os.unlink(self.path("out"))
+                os.unlink(self.named("out"))
 
     def test_a_map(self):
         self.assertEqual(self.printed("side.vbi.json --map side.map"), b"")
@@ -34,14 +31,13 @@ class Files(Runs):
         columns[begin:begin + 10] = columns[:10]  # five black columns in line 17 of field 3
         self.write("side.tbc", bytes(columns))
         self.assertEqual(self.printed("side.tbc LEVELS --html side.html"), b"")
-        text = self.read("side.html").decode()
-        self.assertIn("<summary>field 3, line 17: change ", text)
-        self.assertIn("side.tbc, field 3, line 17</text>", text)
+        for text in ("<summary>field 3, line 17: change ", "side.tbc, field 3, line 17</text>"):
+            self.assertIn(text, self.text("side.html"))
         self.write("side.vbi.json", self.extracted("side.tbc"))
         self.assertEqual(self.printed("side.vbi.json --html two.html"), b"")
-        self.assertNotIn("Bad lines,", self.read("two.html").decode())
+        self.assertNotIn("Bad lines,", self.text("two.html"))
         self.assertEqual(self.printed("index index.html side.html two.html"), b"")
-        self.assertIn('<a href="two.html">side.vbi.json</a>', self.read("index.html").decode())
+        self.assertIn('<a href="two.html">side.vbi.json</a>', self.text("index.html"))
         self.refused(IN_PLACE % "side.html", "index side.html side.html")
 
     def test_nothing_is_left_of_what_fails(self):
@@ -54,10 +50,10 @@ class Files(Runs):
         self.assertEqual(self.read("out"), b"old")
 
     def test_no_output_in_the_place_of_an_input(self):
-        shutil.copy(self.path("side.vbi.json"), self.path("meta.json"))
-        os.symlink("side.tbc", self.path("soft.tbc"))
+        shutil.copy(self.named("side.vbi.json"), self.named("meta.json"))
+        os.symlink("side.tbc", self.named("soft.tbc"))
         self.metadata("side.tbc.json")
-        before = {name: self.read(name) for name in self.names()}
+        before = self.files()
         for name, words in (("side.tbc", "side.tbc LEVELS --document -o side.tbc"),
                             ("soft.tbc", "side.tbc LEVELS --svg soft.tbc"), ("side.tbc", "soft.tbc LEVELS -o side.tbc"),
                             ("meta.json", "side.tbc LEVELS --meta meta.json -o meta.json"),
@@ -66,11 +62,10 @@ class Files(Runs):
                             ("new", "side.vbi.json --svg new -o new"), ("new", "side.vbi.json --svg new --map new")):
             with self.subTest(words):
                 self.refused(IN_PLACE % name, words)
-        for name, words in (("side.vbi.json", ["side.vbi.json"]), ("side.tbc", ["side.tbc", *LEVELS, "--document"]),
-                            *(("side.vbi.json", [command, "side.vbi.json", "side.vbi.json"])
+        for name, words in (("side.vbi.json", "side.vbi.json"), ("side.tbc", "side.tbc LEVELS --document"),
+                            *(("side.vbi.json", command + " side.vbi.json side.vbi.json")
                               for command in ("compare", "join", "scan"))):
-            with self.subTest(words), open(self.path(name), "ab") as file:
-                run = subprocess.run(COMMAND + words, cwd=self.folder, stdout=file, stderr=subprocess.PIPE, check=False)
-                self.assertEqual((run.returncode, run.stderr.decode()),
-                                 (2, "ldvbi-side: %s\n" % IN_PLACE % "standard output"))
-        self.assertEqual({name: self.read(name) for name in self.names()}, before)
+            with self.subTest(words), open(self.named(name), "ab") as file:
+                self.assertEqual(self.run_command(words, stdout=file),
+                                 (2, None, "ldvbi-side: %s\n" % IN_PLACE % "standard output"))
+        self.assertEqual(self.files(), before)

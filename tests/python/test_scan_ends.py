@@ -4,19 +4,17 @@ import atexit
 import contextlib
 import io
 import os
-import pty
 import signal
-import subprocess
 import time
 import unittest
 from unittest import mock
 
-from command_runs import shown_on
+from command_runs import DEADLINE
 from ldvbi_side.command import processes
-from ldvbi_side.command.folders import Found
+from ldvbi_side.command.folders import Found, sides_in
 from ldvbi_side.command.processes import Ended, SideBySide
 from ldvbi_side.command.scan import scan
-from scanned import COMMAND, DEADLINE, LEAD_IN, WHOLE, Scans
+from scanned import Scans
 from streams import NTSC, line_with
 
 
@@ -47,27 +45,24 @@ def until(found):
 
 
 class Ends(Scans):
-    def started(self, *words, **more):
-        process = subprocess.Popen([*COMMAND, *words], cwd=self.folder, stdin=subprocess.DEVNULL,
-                                   stdout=subprocess.PIPE, stderr=subprocess.PIPE, **more)
-        self.addCleanup(process.stdout.close)
-        self.addCleanup(process.stderr.close)
-        return process
+    def add_waiting(self, *names):
+        """Sides that are never read, as their metadata is a pipe to which nobody writes."""
+        for name in names:
+            self.add(name)
+            os.unlink(self.named(name + ".json"))
+            os.mkfifo(self.named(name + ".json"))
 
-    def add_waiting(self, name):
-        """A side that is never read, as its metadata is a pipe to which nobody writes."""
-        self.add(name, WHOLE)
-        os.unlink(self.path(name + ".json"))
-        os.mkfifo(self.path(name + ".json"))
+    def scanning(self, words, count, **more):
+        """A scan that has printed so many lines, which are the answer, too."""
+        process = self.started("scan", *words.split(), **more)
+        return process, [process.stdout.readline().decode() for _ in range(count)]
 
-    def ended(self, process, wanted):
-        """Checks how a run ends, and that no process is left over. The answer is what it printed."""
+    def ended(self, process, status, text=b""):
+        """As any run, and no process is left over."""
         of_it = children(process.pid)
-        text, said = process.communicate(timeout=DEADLINE)
-        self.assertEqual((process.returncode, said.decode()), (wanted, ""))
+        super().ended(process, status, text)
         for one in of_it:
             self.assertNotIn(b"spawn_main", command_of(one))
-        return text.decode()
 
 
 def fails(path, page):
@@ -82,106 +77,90 @@ def leaves(path, page):
 
 class Failing(Scans):
     def test_faults_that_nobody_thought_of(self):
-        for name in ("1.tbc", "2.tbc"):
-            self.add(name, WHOLE)
-        for read, text in ((fails, "KeyError: 'a fault of the program'"), (leaves, "its process ended with status 3")):
-            self.check(self.folder, read, ["%s/%d.tbc,fault,,,,,,,%s" % (self.folder, number, text)
-                                           for number in (1, 2)])
-        with mock.patch("ldvbi_side.command.scan.sides_in", return_value=[Found("d", "Permission denied")]):
-            self.check("d", fails, ["d,fault,,,,,,,Permission denied"])
-
-    def check(self, folder, read, rows):
-        """What a scan that reads sides by this function prints of a folder behind the head of its table."""
-        printed = io.StringIO()
-        with contextlib.redirect_stdout(printed):
-            self.assertEqual(scan(["--csv", folder], read), 2)
-        self.assertEqual(printed.getvalue().split("\n")[1:], rows + [""])
+        """What a scan that reads sides by one of these functions prints of a folder."""
+        self.add("1.tbc")
+        for sides, read, row in (
+                (sides_in, fails, self.named("1.tbc") + ",fault,,,,,,,KeyError: 'a fault of the program'"),
+                (sides_in, leaves, self.named("1.tbc") + ",fault,,,,,,,its process ended with status 3"),
+                (lambda _: [Found("d", "Permission denied")], fails, "d,fault,,,,,,,Permission denied")):
+            with mock.patch("ldvbi_side.command.scan.sides_in", sides), \
+                    contextlib.redirect_stdout(io.StringIO()) as printed:
+                self.assertEqual(scan(["--csv", self.folder], read), 2)
+            self.assertEqual(printed.getvalue().split("\n")[1:], [row, ""])
 
 
 class Killed(Ends):
     def test_one_side_fails_and_the_others_are_read(self):
         for name in ("1.tbc", "3.tbc"):
-            self.add(name, WHOLE)
+            self.add(name)
         self.add_waiting("2.tbc")
-        process = self.started("--csv", "-j", "1", "--html", "pages", ".")
-        self.assertEqual(process.stdout.readline(), b"side,whole,lost,unread,format,from,to,fields,why\n")
-        self.assertEqual(process.stdout.readline(), b"./1.tbc,yes,0,0,cav,1,30,60,\n")
+        process, lines = self.scanning("--csv -j 1 --html pages .", 2)
+        self.assertEqual(lines, ["side,whole,lost,unread,format,from,to,fields,why\n",
+                                 "./1.tbc,yes,0,0,cav,1,30,60,\n"])
         os.kill(until(lambda: children(process.pid))[0], signal.SIGKILL)
-        self.assertEqual(self.ended(process, 2), "./2.tbc,fault,,,,,,,its process was ended by SIGKILL\n"
-                         "./3.tbc,yes,0,0,cav,1,30,60,\n")
-        self.assertEqual(len(os.listdir(self.path("pages"))), 3)
+        self.ended(process, 2, b"./2.tbc,fault,,,,,,,its process was ended by SIGKILL\n"
+                               b"./3.tbc,yes,0,0,cav,1,30,60,\n")
+        self.assertEqual(len(os.listdir(self.named("pages"))), 3)
 
 
 class Interrupted(Ends):
     def test_while_sides_are_read(self):
         """By Ctrl-C at a terminal, which all processes get, and by a signal to the first one alone."""
-        self.add("1.tbc", WHOLE)
-        for name in ("2.tbc", "3.tbc", "4.tbc"):
-            self.add_waiting(name)
+        self.add("1.tbc")
+        self.add_waiting("2.tbc", "3.tbc", "4.tbc")
         for stop in (os.killpg, os.kill):
             with self.subTest(stop):
-                process = self.started("--csv", "-j", "2", "--html", "pages", ".", start_new_session=True)
-                process.stdout.readline()
-                process.stdout.readline()
+                process, _ = self.scanning("--csv -j 2 --html pages .", 2, start_new_session=True)
                 until(lambda: len(children(process.pid)) == 2)
                 stop(process.pid, signal.SIGINT)
-                self.assertEqual(self.ended(process, 130), "")
-                self.assertRegex(" ".join(os.listdir(self.path("pages"))), "^1.tbc-[0-9a-f]{8}.html$")
+                self.ended(process, 130)
+                self.assertRegex(" ".join(os.listdir(self.named("pages"))), "^1.tbc-[0-9a-f]{8}.html$")
 
     def test_at_any_time(self):
         """Also while its processes begin."""
         self.add_waiting("1.tbc")
         for pause in (0, 0.1, 0.2, 0.3):
-            process = self.started(".", start_new_session=True)
-            process.stdout.readline()
+            process, _ = self.scanning(".", 1, start_new_session=True)
             time.sleep(pause)
             os.killpg(process.pid, signal.SIGINT)
-            self.assertEqual(self.ended(process, 130), "")
+            self.ended(process, 130)
 
     def test_while_a_page_is_written(self):
-        for signals, status in ((lambda one: os.killpg(one.pid, signal.SIGINT), 130),
-                                (lambda one: os.killpg(one.pid, signal.SIGHUP), 129),
-                                (lambda one: os.kill(one.pid, signal.SIGTERM), 143),
-                                (lambda one: os.kill(children(one.pid)[0], signal.SIGKILL), 2)):
-            with self.subTest(status):
-                process = self.writing_a_page()
-                signals(process)
-                self.assertEqual(len(self.ended(process, status).split("\n")), 3 if status == 2 else 2)
-                self.assertEqual(os.listdir(self.path("pages")), ["index.html"] if status == 2 else [])
-
-    def writing_a_page(self):
-        """A run that has begun to write a page, with drawings of many lines."""
+        """A page with drawings of many lines."""
         worn = line_with(0xF00001, NTSC, [(430, 441, False)])
         self.add("1.tbc", [[worn, worn, worn]] * 80)
-        process = self.started("--html", "pages", "1.tbc", start_new_session=True)
-        until(lambda: os.path.exists(self.path("pages")) and os.listdir(self.path("pages")))
-        names = os.listdir(self.path("pages"))
-        self.assertTrue(names[0].endswith(".part"), names)
-        return process
+        for to_whom, number, status, text in (
+                (os.killpg, signal.SIGINT, 130, ""), (os.killpg, signal.SIGHUP, 129, ""),
+                (os.kill, signal.SIGTERM, 143, ""),
+                (None, signal.SIGKILL, 2, "1.tbc,fault,,,,,,,its process was ended by SIGKILL\n")):
+            with self.subTest(status):
+                process, _ = self.scanning("--csv --html pages 1.tbc", 1, start_new_session=True)
+                until(lambda: os.path.exists(self.named("pages")) and os.listdir(self.named("pages")))
+                names = os.listdir(self.named("pages"))
+                self.assertTrue(names[0].endswith(".part"), names)
+                if to_whom:
+                    to_whom(process.pid, number)
+                else:
+                    os.kill(children(process.pid)[0], number)
+                self.ended(process, status, text.encode())
+                self.assertEqual(os.listdir(self.named("pages")), ["index.html"] if text else [])
 
     def test_no_reader(self):
-        self.add("1.tbc", WHOLE)
+        self.add("1.tbc")
         self.add_waiting("2.tbc")
-        process = self.started("--csv", "-j", "2", ".")
-        process.stdout.readline()
+        process, _ = self.scanning("--csv -j 2 .", 1)
         process.stdout.close()
-        self.assertEqual(process.wait(DEADLINE), 2)
-        self.assertEqual(process.stderr.read(), b"")
+        self.assertEqual((process.wait(DEADLINE), process.stderr.read()), (2, b""))
 
 
 class Terminals(Scans):
     def test_one_line_for_all(self):
-        self.add("1.tbc", [LEAD_IN] * 200)
-        self.add("2.tbc", [LEAD_IN] * 200)
-        ours, theirs = pty.openpty()
-        process = subprocess.Popen([*COMMAND, "--csv", "."], cwd=self.folder, stdin=subprocess.DEVNULL,
-                                   stdout=subprocess.PIPE, stderr=theirs)
-        os.close(theirs)
-        lines = shown_on(ours).split("\r")
-        text, _ = process.communicate(timeout=DEADLINE)
-        self.assertEqual((process.returncode, text.count(b"\n")), (4, 3))
-        self.assertEqual(lines[1], "0 of 2 sides, 0 %\x1b[K")
-        self.assertEqual(lines[-1], "\x1b[K")
+        for name in ("1.tbc", "2.tbc"):
+            self.add(name, "Lx200")
+        shown, text = self.on_terminal(4, "scan --csv .")
+        self.assertEqual(text.count(b"\n"), 3)
+        lines = shown.split("\r")
+        self.assertEqual((lines[1], lines[-1]), ("0 of 2 sides, 0 %\x1b[K", "\x1b[K"))
         for line in lines[1:]:
             self.assertRegex(line, r"^([012] of 2 sides, [0-9]+ %(, [0-9]+:[0-9]{2} left)?)?\x1b\[K$")
 

@@ -7,8 +7,7 @@ import unittest
 
 import ldvbi
 from cases import reason
-from compact import rows
-from discs import item
+from compact import words_of
 from ldvbi import Number, Pace, State
 from simulate import simulated
 from streams import NTSC, PAL
@@ -33,7 +32,7 @@ class Memory:
 
 
 def memory_of(text, setup=PAL, rest=0):
-    return Memory([[item(part)[0] for part in row.split()] for row in rows(text)], setup, rest).side
+    return Memory(words_of(text), setup, rest).side
 
 
 VIDEO, FILM = (State.believed, Pace.video, True), (State.believed, Pace.film, True)

@@ -3,36 +3,28 @@ the parsers of the command, of whose texts the manual page and the completions a
 
 import os
 import re
-import shutil
 import unittest
 
 import ldvbi
 from ldvbi_side.command.parsers import parser_of_side, parsers
 from ldvbi_side.command.statuses import statuses_of
-from scanned import BLANK, WHOLE, Scans, fields_of
+from scanned import Scans
 from streams import TOP
 
 SIDES = ("whole.tbc", "lost.tbc", "dark.tbc", "cut.tbc")
 # Of each option its words behind the name of a side, and its statuses for these sides. Picture 12 is lost in lost.tbc,
 # nothing is in dark.tbc, and behind all pictures of cut.tbc a part of one more field.
 OPTIONS = {
-    "no option": ([], (0, 1, 4, 1)),
-    "--summary": (["--summary"], (0, 1, 4, 1)),
-    "--seek": (["--seek", "12"], (0, 1, 1, 0)),
-    "--csv": (["--csv"], (0, 0, 0, 3)),
-    "--json": (["--json"], (0, 0, 0, 3)),
-    "--bad-lines": (["--bad-lines"], (0, 0, 0, 3)),
-    "--document": (["--document"], (0, 0, 0, 3)),
-    "--svg": (["--svg", "side.svg"], (0, 0, 0, 3)),
-    "--html": (["--html", "side.html"], (0, 0, 0, 3)),
-    "--map": (["--map", "side.map"], (0, 0, 0, 3)),
-    "--into": (["--into", "copy.json"], (0, 0, 0, 3)),
+    "no option": ("", (0, 1, 4, 1)), "--summary": ("--summary", (0, 1, 4, 1)), "--seek": ("--seek 12", (0, 1, 1, 0)),
+    "--csv": ("--csv", (0, 0, 0, 3)), "--json": ("--json", (0, 0, 0, 3)), "--bad-lines": ("--bad-lines", (0, 0, 0, 3)),
+    "--document": ("--document", (0, 0, 0, 3)), "--svg": ("--svg side.svg", (0, 0, 0, 3)),
+    "--html": ("--html side.html", (0, 0, 0, 3)), "--map": ("--map side.map", (0, 0, 0, 3)),
+    "--into": ("--into copy.json", (0, 0, 0, 3)),
 }
 # The same of commands, in front of the name of a side; a side without numbers can't be compared.
 COMMANDS = {
-    "scan": (["scan"], (0, 1, 4, 1)),
-    "join": (["join", "whole.tbc"], (0, 0, 2, 3)),
-    "compare": (["compare", "whole.tbc"], (0, 0, 2, 3)),
+    "scan": ("scan ", (0, 1, 4, 1)), "join": ("join whole.tbc ", (0, 0, 2, 3)),
+    "compare": ("compare whole.tbc ", (0, 0, 2, 3)),
 }
 PRINTED = ("index", "--help", "--version")
 # What goes with options, and has no status of its own
@@ -42,59 +34,48 @@ WITH_OTHERS = {"--meta", "--system", "--black", "--white", "--no-recover", "--re
 class Statuses(Scans):
     def setUp(self):
         super().setUp()
-        self.add("whole.tbc", WHOLE)
-        self.add("lost.tbc", fields_of([*range(1, 12), *range(14, 31)]))
-        self.add("dark.tbc", [BLANK] * 60)
-        self.add("cut.tbc", WHOLE, 12345)
-        for name in SIDES:  # --into copies as many fields as there are
-            fields = [{} for _ in range(os.stat(self.path(name)).st_size // ldvbi.field_bytes("NTSC"))]
-            self.add_metadata(name + ".json", fields)
+        for name, fields, rest in zip(SIDES, ("1..30", "1..11 14..30", "Bx60", "1..30"), (0, 0, 0, 12345)):
+            self.add(name, fields, rest)
+            # --into copies as many fields as there are
+            self.metadata(name + ".json", count=os.stat(self.named(name)).st_size // ldvbi.field_bytes("NTSC"))
 
-    def add_metadata(self, name, fields=(), **more):
-        self.write(name, ('{"videoParameters":{"system":"NTSC","black16bIre":16384,"white16bIre":51200},"fields":%s}'
-                          % str(list(fields)).replace("'", '"')).encode())
+    def check(self, status, words):
+        """A run has this status, and only what isn't done is said."""
+        with self.subTest(words):
+            found, _, said = self.run_words(*words.split())
+            self.assertEqual((found, said.count("\n")), (status, int(status in (2, 3))), said)
 
-    def check(self, name, statuses, *lines):
-        """Runs of a line of words for each side have these statuses, and only what isn't done is said."""
-        for words, status in zip(lines, statuses):
-            with self.subTest((name, words)):
-                found, _, said = self.run_words(*words)
-                self.assertEqual(found, status, said)
-                self.assertEqual(said.count("\n"), int(status in (2, 3)), said)
-
-    def test_each_option(self):
-        for name, (words, statuses) in OPTIONS.items():
-            self.check(name, statuses, *([side, *words] for side in SIDES))
-            self.check(name, [2], ["absent.tbc", *words])
-
-    def test_each_command(self):
-        for name, (words, statuses) in COMMANDS.items():
-            self.check(name, statuses, *([*words, side] for side in SIDES))
-        for words in (["join", "whole.tbc", "absent"], ["compare", "whole.tbc", "absent"], ["index", "out", "absent"]):
-            self.check(words[0], [2], words)
+    def test_each_option_and_command(self):
+        for words, statuses in OPTIONS.values():
+            for side, status in zip((*SIDES, "absent.tbc"), (*statuses, 2)):
+                self.check(status, "%s %s" % (side, words))
+        for words, statuses in COMMANDS.values():
+            for side, status in zip(SIDES, statuses):
+                self.check(status, words + side)
+        for words in ("join whole.tbc absent", "compare whole.tbc absent", "index out absent"):
+            self.check(2, words)
 
     def test_of_many_sides_the_weightiest(self):
-        for sides, status in (("whole.tbc dark.tbc", 4), ("dark.tbc lost.tbc", 1), ("lost.tbc dark.tbc", 1)):
-            self.assertEqual(self.run_words("scan", *sides.split())[0], status, sides)
-        self.assertEqual(self.run_words("scan", "absent", "lost.tbc", "dark.tbc")[0], 2)
-        # a capture that is cut, whichever it is
-        self.assertEqual(self.run_words("join", "cut.tbc", "whole.tbc", "lost.tbc")[0], 3)
-        self.assertEqual(self.run_words("compare", "cut.tbc", "whole.tbc")[0], 3)
+        for words, status in (("scan whole.tbc dark.tbc", 4), ("scan dark.tbc lost.tbc", 1),
+                              ("scan lost.tbc dark.tbc", 1), ("scan absent lost.tbc dark.tbc", 2),
+                              # a capture that is cut, whichever it is
+                              ("join cut.tbc whole.tbc lost.tbc", 3), ("compare cut.tbc whole.tbc", 3)):
+            self.assertEqual(self.run_words(words)[0], status, words)
 
     def test_what_is_only_printed(self):
         self.assertEqual(self.run_words("--version"), (0, "ldvbi-side %s\n" % ldvbi.__version__, ""))
         status, text, said = self.run_words("--help")
         self.assertEqual((status, text[:18], said), (0, "usage: ldvbi-side ", ""))
-        self.run_words("whole.tbc", "--html", "page.html")
-        self.assertEqual(self.run_words("index", "index.html", "page.html"), (0, "", ""))
+        self.run_words("whole.tbc --html page.html")
+        self.assertEqual(self.run_words("index index.html page.html"), (0, "", ""))
 
     def test_a_side_without_an_option_is_its_summary(self):
         for name in SIDES:
             self.assertEqual(self.run_words(name), self.run_words(name, "--summary"))
         self.assertEqual(self.run_words("whole.tbc")[1].split("\n")[0], "whole: yes")
         # what is written takes the place of what is printed
-        shutil.copy(self.path("lost.tbc.json"), self.path("meta.json"))
-        self.assertEqual(self.run_words("lost.tbc", "--meta", "meta.json", "--svg", "side.svg")[:2], (0, ""))
+        os.rename(self.named("lost.tbc.json"), self.named("meta.json"))
+        self.assertEqual(self.run_words("lost.tbc --meta meta.json --svg side.svg")[:2], (0, ""))
 
     def test_the_table(self):
         """It has each option and command once, and its cells are filled where some run ends so."""
