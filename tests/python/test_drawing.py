@@ -109,18 +109,16 @@ class Parts(unittest.TestCase):
         numbers = {"count": 2, "least": "1:09:00.00", "greatest": "1:09:01.05"}
         for system, rate in (("PAL", 25), ("NTSC", 30)):
             scale = Scale({"unit": "time", "system": system, "numbers": numbers}, 0, 100)
-            self.assertEqual(scale.least, 69 * 60 * rate)
-            self.assertEqual(scale.greatest - scale.least, rate + 5)
-            self.assertEqual(scale.text_of(scale.least), "1:09:00")
-            self.assertEqual(scale.text_of(scale.greatest), "1:09:01.05")
+            self.assertEqual((scale.least, scale.greatest), (69 * 60 * rate, (69 * 60 + 1) * rate + 5))
+            self.assertEqual(list(map(scale.text_of, (scale.least, scale.greatest))), ["1:09:00", "1:09:01.05"])
             self.assertEqual(scale.place_of(entry("doubtful", kind="time", number="1:09")), (scale.y(scale.least), 0))
             self.assertIsNone(scale.place_of(entry("doubtful", kind="clv picture", number="07.12")))
         minutes = {"count": 2, "least": "0:59", "greatest": "1:01"}
         scale = Scale({"unit": "minute", "system": "PAL", "numbers": minutes}, 0, 90)
-        self.assertEqual([scale.y(count) for count in (61, 60, 59)], [15, 45, 75])
-        self.assertEqual(scale.place_of(entry("doubtful", kind="time", number="1:02")), (0, 1))
-        self.assertEqual(scale.place_of(entry("doubtful", kind="time", number="0:58")), (90, -1))
-        self.assertEqual([scale.text_of(count) for count in scale.ticks()], ["0:59", "1:00", "1:01"])
+        self.assertEqual(list(map(scale.y, (61, 60, 59))), [15, 45, 75])
+        self.assertEqual([scale.place_of(entry("doubtful", kind="time", number=one)) for one in ("1:02", "0:58")],
+                         [(0, 1), (90, -1)])
+        self.assertEqual(list(map(scale.text_of, scale.ticks())), ["0:59", "1:00", "1:01"])
 
 
 def drawn(text, **more):
@@ -134,14 +132,13 @@ def of_class(found, name):
 
 
 NOTHING = "no picture number and no time"
-# A side, the class of some parts of its drawing, and their words. Doubtful numbers beyond the scale stand on both
-# lines, which is one mark on the curve and two in the lane's count.
+HOUR = "t89950..90039!90000,90001,90002,90003,90004"
+FAR = "1..1500 1001:1003/2.16=S 2001.16=S"
+# A side, the class of some parts of its drawing, and their words
 DRAWN = (
-    ("t89950..90039!90000,90001,90002,90003,90004", "system",
-     ["PAL, CLV, 170 fields, 85 times, 0:59:58.00 to 1:00:01.14"]),
-    ("t89950..90039!90000,90001,90002,90003,90004", "number-label", ["0:59:58", "0:59:59", "1:00:00", "1:00:01"]),
-    ("t89950..90039!90000,90001,90002,90003,90004", "run", [
-        "0:59:58.00 to 0:59:59.24 in fields 1 to 99", "1:00:00.05 to 1:00:01.14 in fields 101 to 169"]),
+    (HOUR, "system", ["PAL, CLV, 170 fields, 85 times, 0:59:58.00 to 1:00:01.14"]),
+    (HOUR, "number-label", ["0:59:58", "0:59:59", "1:00:00", "1:00:01"]),
+    (HOUR, "run", ["0:59:58.00 to 0:59:59.24 in fields 1 to 99", "1:00:00.05 to 1:00:01.14 in fields 101 to 169"]),
     ("", "empty", [NOTHING]),
     ("Bx40", "empty", [NOTHING, "lines 17 and 18 have 0 words, 0 are bad, 80 blank: are black and white right?"]),
     ("10..19 79999 21..29", "number-label", ["10", "15", "20", "25"]),
@@ -149,9 +146,14 @@ DRAWN = (
     ("1..11 Bx10 12..23", "run", ["1 to 11 in fields 1 to 21", "12 to 23 in fields 33 to 55"]),
     ("1..11 Bx10 12..23", "jumps", ["10 fields too many, from 11 in field 21 to 12 in field 33"]),
     # stops that fall together are one mark
-    ("1..1500 1001:1003/2.16=S 2001.16=S", "stop", ["picture stop of 501 in field 1001, line 16",
-                                                    "picture stop of 1001 in field 2001, line 16"]),
+    (FAR, "stop", ["picture stop of 501 in field 1001, line 16", "picture stop of 1001 in field 2001, line 16"]),
     ("1..600!0%8", "upright", []), ("1..30 21=?", "upright", []))
+# A side, and one of its lanes, with how much is in it; some stand there only where there is something in them (None).
+# Doubtful numbers beyond the scale stand on both lines, which is one mark on the curve and two in the lane's count.
+COUNTS = (("t0..57/3", "other speeds", 1), ("t0..57/3", "swapped fields", None), ("1..9 ?x4 14..30", "undecided", 4),
+          ("1", "lost", 0), ("1", "undecided", None), ("1..600!0%8", "lost", 74), (FAR, "stops", 3),
+          ("10..19 79999 21..29", "doubtful", 2), ("10..19 1 21..29", "doubtful", 2), ("-/#3/#5", "doubtful", 2),
+          ("8AE001/@0:01/@0:02", "doubtful", 3), ("-/@0:01/@0:02", "doubtful", 2))
 
 
 class Drawings(unittest.TestCase):
@@ -161,6 +163,12 @@ class Drawings(unittest.TestCase):
         for text, name, wanted in DRAWN:
             with self.subTest((text, name)):
                 self.assertEqual(of_class(drawn(text), name), wanted)
+        for text, lane, count in COUNTS:
+            counts = dict(one.split(": ") for one in of_class(drawn(text), "count"))
+            self.assertEqual(counts.get(lane), count if count is None else str(count), (text, lane))
+        for number in (79999, 1):
+            words, = of_class(drawn("10..19 %d 21..29" % number), "doubt")
+            self.assertEqual(words.partition(" in ")[0], "doubtful: picture %d" % number)
 
     def test_a_cav_side(self):
         found = drawn("Lx8 1..19 25 2 28..49 Ox8 9=S/S/#1 61=?/!/~", system="NTSC")
@@ -176,27 +184,11 @@ class Drawings(unittest.TestCase):
             "9 in field 1", "PAL, CAV, 1 field, field 2 is cut: 5 bytes of it, 1 picture, 9 to 9"])
 
     def test_sides_of_whose_numbers_none_is_believed(self):
-        for row, doubts in (("-/#3/#5", 2), ("8AE001/@0:01/@0:02", 3), ("-/@0:01/@0:02", 2)):
+        for text in ("-/#3/#5", "8AE001/@0:01/@0:02", "-/@0:01/@0:02"):
             for system in ("NTSC", "PAL"):
-                with self.subTest((row, system)):
-                    found = drawn(row, system=system)
-                    self.assertEqual(of_class(found, "empty"), ["no picture number and no time is believed"])
-                    self.assertIn("doubtful: %d" % doubts, of_class(found, "count"))
-                    self.assertEqual([name for name, _ in found if name in ("run", "doubt", "number-label")], [])
-
-    def test_counts(self):
-        """Lanes that few sides have are there where there is something in them."""
-        for text, wanted, absent in (
-                ("t0..57/3", "other speeds: 1", "swapped fields: 0"), ("1..9 ?x4 14..30", "undecided: 4", None),
-                ("1", "lost: 0", "undecided: 0"), ("1..600!0%8", "lost: 74", None),
-                ("1..1500 1001:1003/2.16=S 2001.16=S", "stops: 3", None)):
-            counts = of_class(drawn(text), "count")
-            self.assertEqual((wanted in counts, absent in counts), (True, False), text)
-        for number in (79999, 1):
-            found = drawn("10..19 %d 21..29" % number)
-            self.assertEqual([words.partition(" in ")[0] for words in of_class(found, "doubt")],
-                             ["doubtful: picture %d" % number])
-            self.assertIn("doubtful: 2", of_class(found, "count"))
+                found = drawn(text, system=system)
+                self.assertEqual(of_class(found, "empty"), ["no picture number and no time is believed"])
+                self.assertEqual([name for name, _ in found if name in ("run", "doubt", "number-label")], [], text)
 
     def test_more_than_can_cross_the_curve(self):
         """Chapters and marks. A strip of 16 pixels has room for one digit, but not for `chapter 5` nor for two."""

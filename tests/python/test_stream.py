@@ -32,43 +32,31 @@ class Streams(InFolder):
 
 
 class Sequences(Streams):
-    def test_fields(self):
-        for setup in (NTSC, PAL):
-            with self.subTest(setup), self.drawn(COUNT, setup, 1000) as side:
-                self.assertEqual((len(side), side.cut_bytes), (COUNT, 1000))
+    def test_as_a_list(self):
+        """Streams of many fields, of one and of none, whole and cut, have what a list of their fields would have."""
+        parts = (slice(None), slice(1, 3), slice(-2, None), slice(60, 70), slice(3, 1), slice(200, 300), slice(0, 1),
+                 slice(None, None, 2), slice(None, None, -1), slice(70, 60, -3))
+        for count, setup, rest in ((COUNT, NTSC, 1000), (COUNT, PAL, 0), (1, NTSC, 0), (1, PAL, 1000), (0, NTSC, 0),
+                                   (0, NTSC, 1), (0, PAL, 100), (0, NTSC, ldvbi.field_bytes("NTSC") - 1)):
+            numbers = list(range(count))
+            with self.subTest((count, setup, rest)), self.drawn(count, setup, rest) as side:
+                self.assertEqual((len(side), side.cut_bytes), (count, rest))
                 self.assertEqual((side.system.name, side.black, side.white), setup)
-                self.assertEqual([number_of(field) for field in side], list(range(COUNT)))
+                self.assertEqual(list(map(number_of, side)), numbers)
                 self.assertEqual(list(side), list(ldvbi.fields(self.path, *setup)))
-                for index in (0, 1, ldvbi.BLOCK - 1, ldvbi.BLOCK, COUNT - 1, -1, -2, -COUNT):
-                    self.assertEqual(number_of(side[index]), index % COUNT)
-                    self.assertIsInstance(side[index], ldvbi.FieldReadings)
-
-    def test_one_field_and_none(self):
-        for setup in (NTSC, PAL):
-            for rest in (0, 1000):
-                with self.subTest((setup, rest)), self.drawn(1, setup, rest) as side:
-                    self.assertEqual((len(side), side.cut_bytes), (1, rest))
-                    for fields in (side, side[:], side[::-1], side[0:1], [side[0]], [side[-1]]):
-                        self.assertEqual([number_of(field) for field in fields], [0])
-        for rest in (0, 1, 100, ldvbi.field_bytes("NTSC") - 1):
-            side = self.drawn(0, NTSC, rest)
-            self.assertEqual((len(side), list(side), side[:], side.cut_bytes), (0, [], [], rest))
-            self.assertIsNotNone(reason(lambda: side[0], kind=IndexError), rest)
-
-    def test_slices(self):
-        numbers = list(range(COUNT))
-        with self.drawn(COUNT) as side:
-            for part in (slice(None), slice(1, 3), slice(-2, None), slice(60, 70), slice(3, 1), slice(200, 300),
-                         slice(None, None, 2), slice(None, None, -1), slice(70, 60, -3)):
-                with self.subTest(part):
+                for part in parts:
                     self.assertIsInstance(side[part], list)
-                    self.assertEqual([number_of(field) for field in side[part]], numbers[part])
+                    self.assertEqual(list(map(number_of, side[part])), numbers[part], part)
+                for index in (0, 1, 63, 64, COUNT - 1, COUNT, -1, -2, -COUNT, -COUNT - 1, 10 ** 30):
+                    if -count <= index < count:
+                        self.assertEqual(number_of(side[index]), numbers[index])
+                        self.assertIsInstance(side[index], ldvbi.FieldReadings)
+                    else:
+                        self.assertEqual(reason(side.__getitem__, index, kind=IndexError),
+                                         "field %d of a stream of %d fields" % (index, count))
 
     def test_no_such_field(self):
         side = self.drawn()
-        for index in (5, -6, 10 ** 30):
-            self.assertEqual(reason(side.__getitem__, index, kind=IndexError),
-                             "field %d of a stream of 5 fields" % index)
         for index in (5, -1):
             self.assertIsNotNone(reason(side.rows_as, side.system, index, kind=IndexError))
         for index in ("1", 1.0, None):
@@ -187,6 +175,8 @@ class Advised(mmap.mmap):
 
 
 class Ahead(Streams):
+    """A field has 478660 bytes, of which line 16 begins behind 15 lines of 1820; of PAL 710510, and 2270."""
+
     def setUp(self):
         super().setUp()
         Advised.notes = []
@@ -194,51 +184,43 @@ class Ahead(Streams):
         patches.enter_context(mock.patch.object(ldvbi.stream.mmap, "mmap", Advised))
         self.addCleanup(patches.close)
 
-    def fetched(self):
-        """The bytes that were to be fetched, as pairs of begin and end, in their order."""
-        self.assertTrue(all(note[1] % mmap.PAGESIZE == 0 for note in Advised.notes[1:]))
-        return [(begin, begin + length) for advice, begin, length in Advised.notes[1:] if advice == mmap.MADV_WILLNEED]
+    def advised(self, advice):
+        """The bytes of which the system was advised so, as pairs of begin and end, in their order."""
+        return [(note[1], note[1] + note[2]) for note in Advised.notes if note[0] == advice]
 
-    def test_pages_of_the_next_fields(self):
+    def pages(self, *areas):
+        """These bytes, each from the page with the first one on."""
+        return [(begin - begin % mmap.PAGESIZE, end) for begin, end in areas]
+
+    def test_pages_of_a_loop(self):
+        """They are fetched of the block that is read now, and of the one behind it. Each block that was read is given
+        back up to its last byte."""
         for setup, line, size in ((NTSC, 1820, 478660), (PAL, 2270, 710510)):
             with self.subTest(setup):
                 Advised.notes = []
-                readings = iter(self.drawn(COUNT, setup))
+                side = self.drawn(COUNT, setup)
+                readings = iter(side)
                 self.assertEqual(Advised.notes, [(mmap.MADV_RANDOM,)])
-                # the first block, which is read now, and the one behind it
                 for more, count in ((1, 2 * 64), (64, COUNT), (COUNT - 65, COUNT)):
                     self.assertEqual(len(list(itertools.islice(readings, more))), more)
-                    self.assertEqual(len(self.fetched()), count)
+                    self.assertEqual(len(self.advised(mmap.MADV_WILLNEED)), count)
                 firsts = [field * size + 15 * line for field in range(COUNT)]
-                self.assertEqual(self.fetched(), [(first - first % mmap.PAGESIZE, first + 3 * line)
-                                                  for first in firsts])
-
-    def test_pages_that_were_read_are_given_back(self):
-        for setup, size in ((NTSC, 478660), (PAL, 710510)):
-            with self.subTest(setup):
-                Advised.notes = []
-                side = self.drawn(COUNT, setup)
-                self.assertEqual(len(list(side)), COUNT)
-                given = [note[1:] for note in Advised.notes if note[0] == mmap.MADV_DONTNEED]
-                # each block from the page with its first byte on, up to its last byte
-                begins = [first * size - first * size % mmap.PAGESIZE for first in range(0, COUNT, 64)]
-                ends = [min(first + 64, COUNT) * size for first in range(0, COUNT, 64)]
-                self.assertEqual([(begin, begin + length) for begin, length in given], list(zip(begins, ends)))
-                Advised.notes = []
+                self.assertEqual(self.advised(mmap.MADV_WILLNEED),
+                                 self.pages(*((first, first + 3 * line) for first in firsts)))
+                blocks = self.pages(*((first * size, min(first + 64, COUNT) * size) for first in range(0, COUNT, 64)))
+                self.assertEqual(self.advised(mmap.MADV_DONTNEED), blocks)
                 side.rows(100)
-                self.assertEqual(Advised.notes, [(mmap.MADV_DONTNEED, 100 * size - 100 * size % mmap.PAGESIZE,
-                                                  size + 100 * size % mmap.PAGESIZE)])
+                self.assertEqual(self.advised(mmap.MADV_DONTNEED), blocks + self.pages((100 * size, 101 * size)))
 
     def test_a_system_without_such_advice(self):
         with mock.patch.object(ldvbi.stream, "_GIVE_BACK", None):
             self.assertEqual(len(list(self.drawn(COUNT))), COUNT)
-        self.assertEqual([note for note in Advised.notes if note[0] == mmap.MADV_DONTNEED], [])
+        self.assertEqual(self.advised(mmap.MADV_DONTNEED), [])
 
     def test_pages_of_one_field(self):
         side = self.drawn(COUNT)
         side[100]
         first = 100 * 478660 + 15 * 1820
-        self.assertEqual(self.fetched(), [(first - first % mmap.PAGESIZE, first + 3 * 1820)])
-        Advised.notes = Advised.notes[:1]
+        self.assertEqual(self.advised(mmap.MADV_WILLNEED), self.pages((first, first + 3 * 1820)))
         side[10:12]
-        self.assertEqual(len(self.fetched()), 2)
+        self.assertEqual(len(self.advised(mmap.MADV_WILLNEED)), 3)
