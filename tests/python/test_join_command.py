@@ -31,15 +31,14 @@ class Joins(Runs):
 
     def test_json(self):
         found = json.loads(self.joined("--json"))
-        self.assertEqual(list(found), ["version", "system", "format", "unit", "captures", "numbers", "missing",
-                                       "leftOut", "lacks", "disagreements", "taken", "ranges"])
-        self.assertEqual([found[name] for name in ("version", "system", "format", "unit")],
-                         [1, "NTSC", "cav", "picture"])
-        self.assertEqual(found["captures"][1], {
-            "name": "other.tbc", "fields": 10, "numbers": {"count": 10, "least": 4, "greatest": 15}})
-        self.assertEqual(found["taken"][12], [12, "other.tbc", 7, 4, "read"])
-        self.assertEqual(found["ranges"][12], {
-            "first": 12, "last": 12, "count": 1, "source": "other.tbc", "field": 7, "lastField": 7})
+        self.assertEqual(" ".join(found), "version system format unit captures numbers missing leftOut lacks "
+                         "disagreements taken ranges")
+        self.assertEqual([found["version"], found["system"], found["format"], found["unit"], found["captures"][1],
+                          found["taken"][12], found["ranges"][12]], [
+            1, "NTSC", "cav", "picture",
+            {"name": "other.tbc", "fields": 10, "numbers": {"count": 10, "least": 4, "greatest": 15}},
+            [12, "other.tbc", 7, 4, "read"],
+            {"first": 12, "last": 12, "count": 1, "source": "other.tbc", "field": 7, "lastField": 7}])
 
     def test_a_page(self):
         self.assertEqual(self.joined("--html page.html"), b"")

@@ -11,8 +11,6 @@ from ldvbi_side.side import side_of_document
 from simulate import captures
 from truth import Truth, number_of
 
-SETS = range(100)
-
 
 class Set:
     """The captures of a seed, two to four of them, and what they have together. A capture's name is its place."""
@@ -23,6 +21,9 @@ class Set:
         self.joined = join([capture_of(side_of_document(json.dumps(one.document).encode()), str(place))
                             for place, one in enumerate(self.ones)])
         self.truths = [Truth(one) for one in self.ones]
+        self.taken = {self.number(row[0]) for row in self.joined["taken"]}
+        # of each capture the numbers that its fields have, read or not
+        self.numbers = {str(place): set(one.numbers) for place, one in enumerate(self.ones)}
 
     def number(self, text):
         return number_of(text, self.truths[0].rate, self.joined["unit"])
@@ -31,15 +32,11 @@ class Set:
         return {number for one in stretches
                 for number in range(self.number(one["first"]), self.number(one["last"]) + 1)}
 
-    def numbers_of_fields(self, one):
-        """The numbers that a capture's fields have, read or not."""
-        return set(self.ones[one].numbers)
-
 
 class Sets(unittest.TestCase):
     @classmethod
     def setUpClass(cls):
-        cls.sets = [Set(seed) for seed in SETS]
+        cls.sets = [Set(seed) for seed in range(100)]
 
     def test_the_sets_have_what_is_looked_at(self):
         counts = Counter()
@@ -48,62 +45,54 @@ class Sets(unittest.TestCase):
             counts["taken"] += len(one.joined["taken"])
             counts["due"] += sum(row[4] == "neighbours" for row in one.joined["taken"])
             counts["lost"] += sum(stretch["count"] for stretch in one.joined["missing"])
-            counts["lacking"] += sum(stretch["count"] for stretch in one.joined["lacks"])
-            counts["alone"] += sum(stretch["count"] for stretch in one.joined["lacks"]
-                                   if len(stretch["in"]) == 1 and len(one.ones) > 2)
+            for stretch in one.joined["lacks"]:
+                counts["lacking"] += stretch["count"]
+                counts["alone"] += stretch["count"] if len(stretch["in"]) == 1 and len(one.ones) > 2 else 0
         self.assertEqual((counts["cav"], counts["clv"]), (173, 126))
         for name, least in (("taken", 25000), ("due", 80), ("lost", 90), ("lacking", 2000), ("alone", 200)):
             self.assertGreater(counts[name], least, name)
 
     def test_what_is_taken_is_there(self):
-        """Each number is taken from a field that has it on the disc, and from the frame of that."""
+        """Each number is taken from a field that has it on the disc, and from the frame of that. None that can be read
+        in a capture is missing."""
         for one in self.sets:
             for number, source, field, frame, _ in one.joined["taken"]:
                 self.assertEqual(one.ones[int(source)].numbers[field - 1], one.number(number), (one.text, field))
                 self.assertEqual(frame, (field + 1) // 2)
-
-    def test_what_a_capture_shows_is_taken(self):
-        """No number that can be read in a capture is missing."""
-        for one in self.sets:
-            taken = {one.number(row[0]) for row in one.joined["taken"]}
             for truth in one.truths:
-                self.assertLessEqual(truth.read.keys(), taken, one.text)
+                self.assertLessEqual(truth.read.keys(), one.taken, one.text)
 
     def test_what_is_lost_is_in_no_capture(self):
         for one in self.sets:
             lost = one.numbers_in(stretch for stretch in one.joined["missing"] if stretch["why"] == "lost")
             self.assertLessEqual(lost, set(one.ones[0].on_disc), one.text)
-            for place in range(len(one.ones)):
-                self.assertEqual(lost & one.numbers_of_fields(place), set(), one.text)
-            left_out = one.numbers_in(one.joined["leftOut"])
-            self.assertEqual(left_out & set(one.ones[0].on_disc), set(), one.text)
+            for numbers in one.numbers.values():
+                self.assertEqual(lost & numbers, set(), one.text)
+            self.assertEqual(one.numbers_in(one.joined["leftOut"]) & set(one.ones[0].on_disc), set(), one.text)
 
     def test_what_one_lacks_another_has(self):
         for one in self.sets:
-            taken = {one.number(row[0]) for row in one.joined["taken"]}
             for stretch in one.joined["lacks"]:
-                numbers = one.numbers_in([stretch]) & taken
+                numbers = one.numbers_in([stretch]) & one.taken
                 self.assertEqual(len(numbers), stretch["count"], one.text)
                 for name in stretch["in"]:
-                    self.assertLessEqual(numbers, one.numbers_of_fields(int(name)), one.text)
+                    self.assertLessEqual(numbers, one.numbers[name], one.text)
 
     def test_stretches_are_as_the_disc_has_them(self):
         """The fields of a stretch follow each other on the disc, up to that of its last number, and the stretches have
         each number once. (What comes behind the last number of a capture before a loss may be another one's field.)"""
         for one in self.sets:
-            rows = [row[0] for row in one.joined["taken"]]
             field_of = {row[0]: row[2] for row in one.joined["taken"]}
-            counted = 0
+            rows = list(field_of)
             for stretch in one.joined["ranges"]:
-                self.assertEqual([stretch["first"], stretch["last"]],
-                                 [rows[counted], rows[counted + stretch["count"] - 1]], one.text)
-                counted += stretch["count"]
+                numbers, rows = rows[:stretch["count"]], rows[stretch["count"]:]
+                self.assertEqual([stretch["first"], stretch["last"]], [numbers[0], numbers[-1]], one.text)
                 if one.ones[0].kind != "clv-minutes":
                     last = field_of[stretch["last"]]
                     self.assertIn(stretch["lastField"] - last, (0, 1, 2))
                     order = one.ones[int(stretch["source"])].order[stretch["field"] - 1:last]
                     self.assertEqual(order, list(range(order[0], order[-1] + 1)), (one.text, stretch))
-            self.assertEqual(counted, len(rows))
+            self.assertEqual(rows, [])
 
     def test_captures_of_one_disc_do_not_disagree(self):
         for one in self.sets:
