@@ -28,11 +28,11 @@ class Buffer(ctypes.Structure):
                 ("internal", ctypes.c_void_p)]
 
 
-def table_of(memory, shape, strides):
-    """A memoryview of samples in two dimensions, as numpy makes them, with these steps from one to the next."""
+def by_columns(memory):
+    """A memoryview of two rows of samples in Fortran's order, as numpy makes them."""
     sizes = ctypes.c_ssize_t * 2
     buffer = Buffer(address=ctypes.addressof(memory), length=ctypes.sizeof(memory), item=2, dimensions=2, format=b"H",
-                    shape=sizes(*shape), strides=sizes(*strides))
+                    shape=sizes(2, 455), strides=sizes(2, 4))
     make = ctypes.pythonapi.PyMemoryView_FromBuffer
     make.argtypes, make.restype = [ctypes.POINTER(Buffer)], ctypes.py_object
     return make(ctypes.byref(buffer))
@@ -45,59 +45,44 @@ class Kinds(unittest.TestCase):
         self.line = line_with(0xF12345, NTSC)
 
     def test_taken(self):
-        samples = array.array("H", self.line)
-        number = (ctypes.c_uint16 * 910).from_buffer_copy(self.line)
-        rows = (ctypes.c_uint16 * 455 * 2).from_buffer_copy(self.line)
+        view, samples = memoryview(self.line), array.array("H", self.line)
         with tempfile.TemporaryFile() as file:
             file.write(self.line)
             file.flush()
             mapped = mmap.mmap(file.fileno(), 0, access=mmap.ACCESS_READ)
         stream = io.BytesIO(self.line)
-        taken = {
-            "bytes": self.line, "bytearray": bytearray(self.line), "a mapped file": mapped,
-            "a memoryview": memoryview(self.line), "a part of one": memoryview(b"x" + self.line + b"y")[1:-1],
-            "BytesIO": stream.getbuffer(), "an array": samples, "a view of an array": memoryview(samples),
-            "bytes of an array": memoryview(samples).cast("B"), "bytes as samples": memoryview(self.line).cast("H"),
-            "bytes as characters": memoryview(self.line).cast("c"), "numbers of C": number, "two rows of them": rows,
-            "characters of C": ctypes.create_string_buffer(self.line, 1820),
-            "numbers of 8 bits, cast": memoryview(array.array("B", self.line)).cast("B").cast("H"),
-        }
-        for name, source in taken.items():
-            with self.subTest(name):
+        taken = (
+            self.line, bytearray(self.line), mapped, view, memoryview(b"x" + self.line + b"y")[1:-1],
+            stream.getbuffer(), samples, memoryview(samples), memoryview(samples).cast("B"), view.cast("H"),
+            view.cast("c"), view.cast("H", (2, 455)), (ctypes.c_uint16 * 910).from_buffer_copy(self.line),
+            (ctypes.c_uint16 * 455 * 2).from_buffer_copy(self.line), ctypes.create_string_buffer(self.line, 1820),
+            memoryview(array.array("B", self.line)).cast("B").cast("H"))
+        for place, source in enumerate(taken):
+            with self.subTest((place, type(source))):
                 self.assertEqual(ldvbi.read_line(source, *NTSC), WORD)
 
     def test_refused(self):
-        big = (ctypes.c_uint16.__ctype_be__ * 910).from_buffer_copy(self.line)
-        refused = {
-            "B": array.array("B", self.line), "<B": (ctypes.c_uint8 * 1820).from_buffer_copy(self.line), ">H": big,
-            "f": array.array("f", self.line), "i": array.array("i", self.line), "h": array.array("h", self.line),
-            "I": memoryview(self.line).cast("I"), "b": memoryview(self.line).cast("b"),
-        }
-        for kind, source in refused.items():
-            of_these = memoryview(source)
-            for one in (source, of_these):
-                self.assertEqual(reason(ldvbi.read_line, one, *NTSC), "samples are of the format %s, not H (16 bits "
-                                 "without sign, the low byte first)" % kind)
-        doubles = memoryview(array.array("d", bytes(1820 + 4))).cast("B")[:1820]
-        self.assertRegex(reason(ldvbi.read_line, doubles, *NTSC), "^samples are of the format d, not H")
+        view, calls = memoryview(self.line), (ldvbi.read_line, ldvbi.read_rows, ldvbi.read_field, ldvbi.fields,
+                                              ldvbi.Stream)
+        kinds = {kind: array.array(kind, self.line) for kind in "Bfih"}
+        kinds.update({kind: view.cast(kind) for kind in "Ib"})
+        kinds["<B"] = (ctypes.c_uint8 * 1820).from_buffer_copy(self.line)
+        kinds[">H"] = (ctypes.c_uint16.__ctype_be__ * 910).from_buffer_copy(self.line)
+        kinds["d"] = memoryview(array.array("d", bytes(1820 + 4))).cast("B")[:1820]
         floats = array.array("f", bytes(478660))
-        for call in (ldvbi.read_line, ldvbi.read_rows, ldvbi.read_field, ldvbi.fields, ldvbi.Stream):
-            self.assertRegex(reason(call, floats, *NTSC), "^samples are of the format f, ", call)
-        for source, text in ((None, "samples are not bytes, but of the type NoneType"),
-                             (5, "samples are not bytes, but of the type int"),
-                             ([1, 2], "samples are not bytes, but of the type list"),
-                             (memoryview(self.line + self.line)[::2], "samples are not bytes in one piece")):
-            self.assertEqual(reason(ldvbi.fields, source, *NTSC), text)
-
-    def test_tables(self):
-        """Row by row a table is read as it lies there. In Fortran's order, column by column, its samples lie otherwise
-        than they are counted: it is refused, though it has no gaps."""
-        memory = (ctypes.c_uint16 * 910).from_buffer_copy(self.line)
-        self.assertEqual(ldvbi.read_line(table_of(memory, (2, 455), (910, 2)), *NTSC), WORD)
-        by_columns = table_of(memory, (2, 455), (2, 4))
-        self.assertTrue(by_columns.f_contiguous)
-        for call in (ldvbi.read_line, ldvbi.Stream):
-            self.assertEqual(reason(call, by_columns, *NTSC), "samples are not bytes in one piece")
+        # In Fortran's order, column by column, samples lie otherwise than they are counted, though there are no gaps.
+        columns = by_columns((ctypes.c_uint16 * 910).from_buffer_copy(self.line))
+        self.assertTrue(columns.f_contiguous)
+        form, pieces = "of the format %s, not H (16 bits without sign, the low byte first)", "bytes in one piece"
+        rows = [(form % kind, source, [ldvbi.read_line]) for kind, one in kinds.items()
+                for source in (one, memoryview(one))]
+        rows += [(form % "f", floats, calls), ("not " + pieces, columns, calls[::4]),
+                 ("not " + pieces, memoryview(self.line + self.line)[::2], calls[3:])]
+        rows += [("not bytes, but of the type " + name, source, calls[3:])
+                 for name, source in (("NoneType", None), ("int", 5), ("list", [1, 2]))]
+        for text, source, asked in rows:
+            for call in asked:
+                self.assertEqual(reason(call, source, *NTSC), "samples are " + text, (call, type(source)))
 
     def test_a_buffer_is_held(self):
         line = bytearray(self.line)
@@ -136,101 +121,84 @@ def run(code, **variables):
                           universal_newlines=True, check=False).stdout
 
 
-MAKE = "`make lib` or `make rust` builds"
-READ = """
-import ldvbi
-try:
-    print(ldvbi.read_line(bytes(1820), "NTSC", 16384, 51200).cause.name)
-except OSError as error:
-    print(error)
-"""
+MAKE, NAMES = "`make lib` or `make rust` builds", "LDVBI_LIBRARY names its file\n"
+NONE = "no library to read samples with (%s: cannot open shared object file: No such file or directory): " + MAKE + \
+       " it, " + NAMES
+TRY = "import ldvbi\ntry:\n    print(%s)\nexcept (OSError, ValueError) as error:\n    print(error)\n"
+READ = TRY % 'ldvbi.read_line(bytes(1820), "NTSC", 16384, 51200).cause.name'
 # Where a library is found without a variable, the first of them before the next
 PLACES = ("share/ldvbi/python/ldvbi", "share/ldvbi/python", "share/ldvbi", "share/ldvbi/rust", "lib")
+# What a library has: its interface, and calls that write a cause and return a status
+ABI = "#include <stddef.h>\nunsigned ldvbi_abi(void) { return %d; }\n"
+CALL = "unsigned ldvbi_%s(unsigned system, unsigned black, unsigned white, const void *samples, size_t length, " \
+       "unsigned char *out) { if (length) out[0] = %d; return %d; }\n"
+JUDGE = "unsigned ldvbi_judge(unsigned system, unsigned counted, unsigned pace, const void *readings, size_t count, " \
+        "void *seen, size_t seen_count, unsigned *numbers, size_t number_count) " \
+        "{ if (count) { numbers[0] = 5; numbers[1] = %du; } return count ? %d : 0; }\n"
 
 
 class Library(InFolder):
-    def setUp(self):
-        super().setUp()
-        self.file = os.environ["LDVBI_LIBRARY"]
-
-    def installed(self, *places):
-        """A copy of the module in share/ldvbi/python of a folder, with the library in these places."""
-        python = os.path.join(self.folder, "share", "ldvbi", "python")
+    def installed(self, place=None):
+        """A copy of the module in share/ldvbi/python of a folder, with the library in this place."""
+        python = self.named("share/ldvbi/python")
         shutil.copytree(os.path.join(TOP, "python"), python)
-        for place in places:
-            os.makedirs(os.path.join(self.folder, place), exist_ok=True)
-            shutil.copy(self.file, os.path.join(self.folder, place, "libldvbi.so.1"))
+        if place:
+            os.makedirs(self.named(place), exist_ok=True)
+            shutil.copy(os.environ["LDVBI_LIBRARY"], self.named(place + "/libldvbi.so.1"))
         return {"PYTHONPATH": python, "LDVBI_LIBRARY": None}
-
-    def test_words_and_sizes_need_none(self):
-        code = 'import ldvbi; print(ldvbi.classify(0xF12345).first, ldvbi.format_of(0, 0x87FFFF, 0).name, ' \
-               'ldvbi.field_bytes("PAL"))'
-        self.assertEqual(run(code, LDVBI_LIBRARY="/absent"), "12345 clv 710510\n")
-
-    def test_none(self):
-        wanted = "no library to read samples with (%s: cannot open shared object file: No such file or directory): " \
-                 "%s it, LDVBI_LIBRARY names its file\n"
-        self.assertEqual(run(READ, LDVBI_LIBRARY="/absent"), wanted % ("/absent", MAKE))
-        self.assertEqual(run(READ, **self.installed()), wanted % ("libldvbi.so.1", MAKE))
-
-    def test_another_library(self):
-        """Another interface, and none at all."""
-        file = self.other(2, 0, 0)
-        self.assertEqual(run(READ, LDVBI_LIBRARY=file), "%s has the interface 2, not 1: %s the one that fits, "
-                         "LDVBI_LIBRARY names its file\n" % (file, MAKE))
-        said = run(READ, LDVBI_LIBRARY="libc.so.6")
-        self.assertRegex(said, r"^no library to read samples with \(.*undefined symbol: ldvbi_abi\): %s it, " % MAKE)
-        self.assertEqual(said.count("\n"), 1)
 
     def other(self, interface, status, cause, more=""):
         """The file of a library with this interface, whose calls return this status and write this cause; `more` is the
         source of another call."""
-        source, file = os.path.join(self.folder, "other.c"), os.path.join(self.folder, "other.so")
-        with open(source, "w", encoding="ascii") as text:
-            text.write("#include <stddef.h>\n#define CALL(name) unsigned name(unsigned system, unsigned black, "
-                       "unsigned white, const void *samples, size_t length, unsigned char *out)\n")
-            text.write("unsigned ldvbi_abi(void) { return %d; }\n" % interface)
-            for name in ("read_line", "read_rows", "read_field", "read_fields", "draw_line"):
-                text.write("CALL(ldvbi_%s) { if (length) out[0] = %d; return %d; }\n" % (name, cause, status))
-            text.write(more)
-        subprocess.run([os.environ.get("CC", "cc"), "-shared", "-fPIC", "-o", file, source], check=True)
-        return file
+        source = self.write("other.c", ABI % interface + "".join(
+            CALL % (name, cause, status)
+            for name in ("read_line", "read_rows", "read_field", "read_fields", "draw_line")) + more)
+        subprocess.run([os.environ.get("CC", "cc"), "-shared", "-fPIC", "-o", self.named("other.so"), source],
+                       check=True)
+        return self.named("other.so")
+
+    def test_none_and_another(self):
+        """Words and sizes need none. Another interface isn't taken, and none at all."""
+        file = self.other(2, 0, 0)
+        words = '(ldvbi.classify(0xF12345).first, ldvbi.format_of(0, 0x87FFFF, 0).name, ldvbi.field_bytes("PAL"))'
+        for code, variables, wanted in (
+                (TRY % words, {"LDVBI_LIBRARY": "/absent"}, "(12345, 'clv', 710510)\n"),
+                (READ, {"LDVBI_LIBRARY": "/absent"}, NONE % "/absent"),
+                (READ, self.installed(), NONE % "libldvbi.so.1"),
+                (READ, {"LDVBI_LIBRARY": file},
+                 "%s has the interface 2, not 1: %s the one that fits, %s" % (file, MAKE, NAMES))):
+            self.assertEqual(run(code, **variables), wanted)
+        self.assertRegex(run(READ, LDVBI_LIBRARY="libc.so.6"), r"^no library to read samples with \(.*undefined symbol"
+                         r": ldvbi_abi\): %s it, %s\Z" % (MAKE, NAMES))
 
     def test_numbers_that_a_later_library_adds(self):
-        """Causes stay numbers, in lines and in fields; statuses are refusals."""
-        code = 'import ldvbi; print(repr(ldvbi.read_line(bytes(1820), "NTSC", 1, 2).cause), ' \
-               '[cause for (cause, *_), *_ in ldvbi.fields(bytearray(478660), "NTSC", 1, 2)])'
-        self.assertEqual(run(code, LDVBI_LIBRARY=self.other(1, 0, 5)), "5 [5]\n")
-        self.assertEqual(run(code, LDVBI_LIBRARY=self.other(1, 0, 255)), "255 [255]\n")
-        self.assertEqual(run(code, LDVBI_LIBRARY=self.other(1, 0, 4)), "<Cause.hold: 4> [<Cause.hold: 4>]\n")
-        said = run(code, LDVBI_LIBRARY=self.other(1, 9, 0)).split("\n")
-        self.assertEqual(said[-2], "ValueError: the library's status is 9")
+        """Causes stay numbers, in lines and in fields, and so do states; statuses are refusals."""
+        cause = TRY % '[ldvbi.read_line(bytes(1820), "NTSC", 1, 2).cause] + ' \
+            '[cause for (cause, *_), *_ in ldvbi.fields(bytearray(478660), "NTSC", 1, 2)]'
+        state = TRY % 'tuple(ldvbi.judge(bytes(24), "NTSC")[0])'
+        for code, library, said in (
+                (cause, (1, 0, 5), "[5, 5]"), (cause, (1, 0, 255), "[255, 255]"),
+                (cause, (1, 0, 4), "[<Cause.hold: 4>, <Cause.hold: 4>]"),
+                (cause, (1, 9, 0), "the library's status is 9"), (state, (1, 0, 0, JUDGE % (4, 0)), "(5, 4)"),
+                (state, (1, 0, 0, JUDGE % (2 ** 31 - 1, 0)), "(5, 2147483647)"),
+                (state, (1, 0, 0, JUDGE % (3, 0)), "(5, <State.due: 3>)"),
+                (state, (1, 0, 0, JUDGE % (0, 0)), "(None, <State.nothing: 0>)"),
+                (state, (1, 0, 0, JUDGE % (0, 9)), "the library's status is 9")):
+            self.assertEqual(run(code, LDVBI_LIBRARY=self.other(*library)), said + "\n")
 
     def test_an_older_library(self):
         """It reads samples, and says at a call that it lacks that it is too old for it."""
         file = self.other(1, 0, 1)
-        for call, purpose, name in (("ldvbi.judge([], 'NTSC')", "judge numbers", "ldvbi_judge"),
-                                    ("ldvbi.find_pace([], 'NTSC')", "find paces", "ldvbi_find_pace"),
-                                    ("ldvbi.judge_field([], 0, 'NTSC')", "judge one field", "ldvbi_judge_field"),
-                                    ("ldvbi.judge_chapters([])", "judge chapters", "ldvbi_judge_chapters"),
-                                    ("ldvbi.judge_stops([])", "judge stops", "ldvbi_judge_stops"),
-                                    ("ldvbi.nearest(b'', 'NTSC', 1, 2)", "find nearest words", "ldvbi_nearest"),
-                                    ("ldvbi.Stream(b'', 'NTSC', 1, 2, True)", "recover words", "ldvbi_recover_fields")):
-            code = READ + "\ntry:\n    %s\nexcept OSError as error:\n    print(error)" % call
-            self.assertEqual(run(code, LDVBI_LIBRARY=file), "blank\n%s is too old to %s, it has no %s: %s a later one, "
-                             "LDVBI_LIBRARY names its file\n" % (file, purpose, name, MAKE))
-
-    def test_states_that_a_later_library_adds(self):
-        """They stay numbers, as causes do; a status is a refusal."""
-        call = "unsigned ldvbi_judge(unsigned system, unsigned counted, unsigned pace, const void *readings, " \
-               "size_t count, void *seen, size_t seen_count, unsigned *numbers, size_t number_count) " \
-               "{ if (count) { numbers[0] = 5; numbers[1] = %d; } return count ? %d : 0; }\n"
-        code = 'import ldvbi; print(tuple(ldvbi.judge(bytes(24), "NTSC")[0]))'
-        for state, said in ((4, "(5, 4)"), (2 ** 31 - 1, "(5, 2147483647)"), (3, "(5, <State.due: 3>)"),
-                            (0, "(None, <State.nothing: 0>)")):
-            self.assertEqual(run(code, LDVBI_LIBRARY=self.other(1, 0, 0, call % (state, 0))), said + "\n")
-        said = run(code, LDVBI_LIBRARY=self.other(1, 0, 0, call % (0, 9))).split("\n")
-        self.assertEqual(said[-2], "ValueError: the library's status is 9")
+        for call, purpose, name in (("judge([], 'NTSC')", "judge numbers", "judge"),
+                                    ("find_pace([], 'NTSC')", "find paces", "find_pace"),
+                                    ("judge_field([], 0, 'NTSC')", "judge one field", "judge_field"),
+                                    ("judge_chapters([])", "judge chapters", "judge_chapters"),
+                                    ("judge_stops([])", "judge stops", "judge_stops"),
+                                    ("nearest(b'', 'NTSC', 1, 2)", "find nearest words", "nearest"),
+                                    ("Stream(b'', 'NTSC', 1, 2, True)", "recover words", "recover_fields")):
+            self.assertEqual(run(READ + TRY % ("ldvbi." + call), LDVBI_LIBRARY=file),
+                             "blank\n%s is too old to %s, it has no ldvbi_%s: %s a later one, %s" % (
+                                 file, purpose, name, MAKE, NAMES))
 
     def test_places(self):
         """Each place before those behind it, which have no library that can be loaded; the variable before all, but an
@@ -246,4 +214,4 @@ class Library(InFolder):
                         self.write(other + "/libldvbi.so.1", "no library")
                     self.assertEqual(run(READ, **variables), "blank\n")
         self.assertEqual(run(READ, **dict(variables, LDVBI_LIBRARY="")), "blank\n")
-        self.assertIn("(/absent: ", run(READ, **dict(variables, LDVBI_LIBRARY="/absent")))
+        self.assertEqual(run(READ, **dict(variables, LDVBI_LIBRARY="/absent")), NONE % "/absent")

@@ -21,21 +21,15 @@ NAME = os.fsdecode(b"\x1b[31m\n\xff\x7f\xc2\x9f") + "\ufffe\uffff\U0001ffff ü\u
 
 
 class Texts(unittest.TestCase):
-    def test_in_messages(self):
-        self.assertEqual(
-            legible(NAME), r"\x1b[31m\n\udcff\x7f\x9f\ufffe\uffff\U0001ffff" + " ü\u0416\u65e5\U0001f4bf<&>")
-        self.assertEqual(legible("a" * 600), "a" * 600)
-        text = legible("a" * 400 + "b" * 400)
-        self.assertEqual(text, "a" * 397 + "..." + "b" * 200)
-
-    def test_on_a_terminal(self):
-        self.assertEqual(printable(NAME), "?[31m" + "?" * 7 + " ü\u0416\u65e5\U0001f4bf<&>")
-
-    def test_on_pages(self):
-        sign = "\ufffd"
-        self.assertEqual(shown(NAME), sign + "[31m" + sign * 7 + " ü\u0416\u65e5\U0001f4bf<&>")
-        # marks without a width belong to writing
-        self.assertEqual(shown("a\u200db\ue000\ufffd\n"), "a\u200db\ue000\ufffd" + sign)
+    def test_rows(self):
+        letters, sign = " ü\u0416\u65e5\U0001f4bf<&>", "\ufffd"
+        for call, text, wanted in (
+                (legible, NAME, r"\x1b[31m\n\udcff\x7f\x9f\ufffe\uffff\U0001ffff" + letters),
+                (legible, "a" * 600, "a" * 600), (legible, "a" * 400 + "b" * 400, "a" * 397 + "..." + "b" * 200),
+                (printable, NAME, "?[31m" + "?" * 7 + letters), (shown, NAME, sign + "[31m" + sign * 7 + letters),
+                # marks without a width belong to writing
+                (shown, "a\u200db\ue000\ufffd\n", "a\u200db\ue000\ufffd" + sign)):
+            self.assertEqual(call(text), wanted)
 
 
 class Documents(unittest.TestCase):
@@ -43,18 +37,14 @@ class Documents(unittest.TestCase):
         with io.BufferedReader(io.BytesIO(data)) as file:
             return bytes_of_document(file, file.peek(64))
 
-    def test_all_of_a_document(self):
+    def test_how_much_is_read(self):
         for data in (b"", b" \n", b'\n{"version":2', b"[]" + b" " * 100000):
             self.assertEqual(self.read(data), data)
-
-    def test_no_more_is_read_of_what_begins_as_none(self):
+        # of what begins as none
         self.assertLess(len(self.read(bytes(100000000))), 1000000)
-
-    def test_one_without_an_end(self):
         with mock.patch.object(outside, "MOST_BYTES", 1000):
             self.assertEqual(len(self.read(b"{" + bytes(999))), 1000)
-            with self.assertRaisesRegex(ValueError, "^it is longer than any document$"):
-                self.read(b"{" + bytes(1000))
+            self.assertEqual(reason(self.read, b"{" + bytes(1000)), "it is longer than any document")
 
 
 class LongNames(InFolder):
@@ -79,9 +69,9 @@ class LongNames(InFolder):
         for name in ("short", "a" * 250):
             with self.assertRaises(KeyboardInterrupt), mock.patch("os.unlink"), whole_file(self.named(name)):
                 raise KeyboardInterrupt
-            self.assertEqual(len(os.listdir(self.folder)), 1)
+            self.assertEqual(len(self.names()), 1)
             drop_part(self.named(name), os.getpid())
-            self.assertEqual(os.listdir(self.folder), [])
+            self.assertEqual(self.names(), [])
 
     def test_pages(self):
         long = "a" * 251 + ".tbc"
@@ -93,53 +83,50 @@ class LongNames(InFolder):
             self.assertRegex(name, r"-[0-9a-f]{8}\.html$")
 
 
+# What a page of others says, by member
+WRONG = {
+    "whole": ("perhaps", None, ["yes"]), "fields": (None, True, 1.5), "reasons": (None, ["lost"], [{"text": 1}], 5),
+    "numbers": (None, [], {"count": 1, "least": 1}, {"count": "1", "least": 1, "greatest": 1}), "lost": (None,),
+    "format": (1,), "counts": ([], {"lost": 1})}
+META = '<meta name="%s" content="%%s">' % MARK
+
+
 class Pages(InFolder):
     def setUp(self):
         super().setUp()
         self.said = said_of(discs.answer(discs.pictures(range(1, 9))))
 
-    def page(self, text, name="page.html"):
-        return self.write(name, text)
-
     def page_saying(self, said):
         content = json.dumps(said).replace("&", "&amp;").replace('"', "&quot;")
-        return self.page('<title>side</title><meta name="%s" content="%s"><body>' % (MARK, content))
+        return self.write("page.html", "<title>side</title>%s<body>" % META % content)
 
     def refused(self, page):
         self.assertEqual(reason(index_of, self.named("index.html"), [page]), page + " is no page that --html wrote")
 
     def test_what_pages_of_others_say(self):
+        """However long their head is, of which a part is read at once."""
         self.assertEqual(head_of(self.page_saying(self.said)), ("side", self.said))
-        for name, value in (
-                ("whole", "perhaps"), ("whole", None), ("whole", ["yes"]), ("fields", None), ("fields", True),
-                ("fields", 1.5), ("numbers", None), ("numbers", []), ("numbers", {"count": 1, "least": 1}),
-                ("numbers", {"count": "1", "least": 1, "greatest": 1}), ("reasons", None), ("reasons", ["lost"]),
-                ("reasons", [{"text": 1}]), ("reasons", 5), ("lost", None), ("format", 1), ("counts", []),
-                ("counts", {"lost": 1})):
+        for name, value in ((name, value) for name, values in WRONG.items() for value in values):
             with self.subTest((name, value)):
                 self.refused(self.page_saying(dict(self.said, **{name: value})))
         for name in self.said.keys() - {"version", "system", "unit", "counts"}:
             self.refused(self.page_saying({one: value for one, value in self.said.items() if one != name}))
-
-    def test_what_is_no_page(self):
-        deep = '<meta name="%s" content="%s">' % (MARK, "[" * 100000)
-        for text in ("", "<", "<![", "<![if x", "<![[foo]]><body>", "<!doctype [<!", "<" * 100000, "\0" * 100000, deep,
-                     '<meta name="%s" content="{&quot;version&quot;:NaN}">' % MARK,
-                     '<meta name="%s" content="%s">' % (MARK, "1" * 5000)):
-            with self.subTest(text[:30]):
-                self.refused(self.page(text))
-        self.refused("/dev/zero")
-
-    def test_a_head_that_is_longer_than_what_is_read_at_once(self):
         self.said["reasons"] = [{"why": "x", "whole": "no", "text": "a reason" * 20000}]
         self.assertGreater(len(json.dumps(self.said)), 2 * PART)
         self.assertEqual(head_of(self.page_saying(self.said)), ("side", self.said))
 
+    def test_what_is_no_page(self):
+        for text in ("", "<", "<![", "<![if x", "<![[foo]]><body>", "<!doctype [<!", "<" * 100000, "\0" * 100000,
+                     META % ("[" * 100000), META % "{&quot;version&quot;:NaN}", META % ("1" * 5000)):
+            with self.subTest(text[:30]):
+                self.refused(self.write("page.html", text))
+        self.refused("/dev/zero")
+
     def test_names(self):
         """A page is text in UTF-8 without control characters, whatever its side and its own file are called."""
         side = discs.side(discs.pictures(range(1, 9)))
-        page = self.page(page_of(side, NAME, ["whole: yes", "name: " + NAME]), os.fsdecode(b"\xff <\x1b>.html"))
-        text = self.read(os.path.basename(page)).decode()
+        page = self.write(os.fsdecode(b"\xff <\x1b>.html"), page_of(side, NAME, ["whole: yes", "name: " + NAME]))
+        text = self.read(page).decode()
         wanted = shown(NAME).replace("&", "&amp;").replace("<", "&lt;").replace(">", "&gt;")
         for part in ("<title>%s</title>", "<h1>%s</h1>", "<dd>%s</dd>"):
             self.assertIn(part % wanted, text)

@@ -1,6 +1,7 @@
 """JSON texts that are read in pieces: each value with its place, whatever the pieces are, and what is refused."""
 
 import io
+import itertools
 import json
 import random
 import sys
@@ -12,7 +13,6 @@ from cases import reason
 from ldvbi import scanner
 from ldvbi.scanner import NotJson, Scanner
 
-END = "a comma or an end"
 LEAVES = [0, -1, 12, 1.5, -2e-7, 1e300, True, False, None, "", "a b", "ü\u0101\U0001d11e", '"\\/\n', "[1,2]}", [], {}]
 
 
@@ -27,15 +27,28 @@ def drawn(choose, depth=3):
     return choose.choice(LEAVES)
 
 
-def scanned(text, piece):
-    """The value of a text, an object or a list, each of whose parts is a value of the scanner; of each its name or
-    nothing, its own text, and what stands at its place in the whole one."""
-    one = Scanner(io.StringIO(text, newline=""), piece)
-    found = []
-    names = one.members() if one.comes("{") else one.items()
-    for name in names:
-        value = one.value()
-        found.append((name, value, one.text, text[one.begin:one.begin + len(one.text)]))
+class Made:
+    """A text that is made of these parts while it is read."""
+
+    def __init__(self, *parts, of=()):
+        self.parts, self.rest, self.reads = itertools.chain(parts, of), "", 0
+
+    def read(self, count):
+        self.reads += 1
+        while len(self.rest) < count:
+            part = next(self.parts, None)
+            if part is None:
+                break
+            self.rest += part
+        text, self.rest = self.rest[:count], self.rest[count:]
+        return text
+
+
+def scanned(file, piece):
+    """The values of a text, or of a file, which is an object or a list: of each its name or nothing, the value, its own
+    text, and where that begins."""
+    one = Scanner(io.StringIO(file, newline="") if isinstance(file, str) else file, piece)
+    found = [(name, one.value(), one.text, one.begin) for name in (one.members() if one.comes("{") else one.items())]
     one.end()
     return found
 
@@ -54,8 +67,8 @@ class Values(unittest.TestCase):
                     found = scanned(text, piece)
                     self.assertEqual([(name, value) for name, value, _, _ in found],
                                      list(whole.items()) if count % 2 else [(None, value) for value in whole])
-                    for _, value, own, there in found:
-                        self.assertEqual((own, json.loads(own)), (there, value))
+                    for _, value, own, begin in found:
+                        self.assertEqual((own, json.loads(own)), (text[begin:begin + len(own)], value))
 
     def test_lists_inside(self):
         text = ' {"a" : [1 , [2]], "b\\u0041":[ ],"c":{"d":5 }} '
@@ -69,21 +82,7 @@ class Values(unittest.TestCase):
 
     def test_no_more_is_held_than_a_value_and_a_piece(self):
         fields = ("%s%s" % ("," if place else '{"fields":[', json.dumps({"a": [place] * 100})) for place in range(3000))
-        rest = []
-
-        class Stream:
-            """A text of about two million characters that is made while it is read."""
-            def read(self, count):
-                while sum(map(len, rest)) < count:
-                    part = next(fields, None)
-                    if part is None:
-                        break
-                    rest.append(part)
-                text = "".join(rest)
-                rest[:] = [text[count:]]
-                return text[:count]
-
-        one = Scanner(Stream(), 4096)
+        one = Scanner(Made(of=fields), 4096)  # about two million characters
         tracemalloc.start()
         self.addCleanup(tracemalloc.stop)
         count = 0
@@ -107,90 +106,56 @@ NO_JSON = {
     "[": [("", "x", "5", "\ufeff[]", 0)], "]": [("[1}", 2)], "}": [('{"a":1]', 6)],
     "a name": [("{", "{5:1}", "{'a':1}", 1), ('{"a":1,}', '{"a":1,5', 7)],
     "a colon": [('{"a"}', 4), ('{"a" 1}', 5)],
-    END: [("[1", "[01]", "[1.]", "[1e+]", 2), ('{"a":1', 6), ('{"a":1 2}', 7)],
+    "a comma or an end": [("[1", "[01]", "[1.]", "[1e+]", 2), ('{"a":1', 6), ('{"a":1 2}', 7)],
     "a value": [("[tru]", "[nul", "[-]", '["a]', 1), ('["\\x"]', 2), ("[1,]", '["a\n"]', "[1,", 3), ("[[1,]]", 4),
                 ('{"a":}', 5)],
     "the end": [("[1]]", "[] []", 3)]}
 
 
 class Refused(unittest.TestCase):
-    def refused(self, text, wanted, pieces=(1, 2, 3, 7, 1 << 18)):
+    def refused(self, text, wanted, *pieces):
         for piece in pieces:
             self.assertEqual(reason(scanned, text, piece, kind=NotJson), wanted, (text[:40], piece))
 
     def test_what_is_no_json(self):
         for wanted, rows in NO_JSON.items():
-            for row in rows:
-                text, place = row[:-1], row[-1]
-                for one in text:
-                    self.refused(one, "not JSON at character %d, where %s has to stand" % (place, wanted))
+            for *texts, place in rows:
+                for text in texts:
+                    self.refused(text, "not JSON at character %d, where %s has to stand" % (place, wanted),
+                                 1, 2, 3, 7, 1 << 18)
 
     def test_a_fault_far_from_the_end_is_seen_at_once(self):
         """What comes behind it isn't read: it could be any length."""
-        class Stream(io.StringIO):
-            reads = 0
-
-            def read(self, *count):
-                self.reads += 1
-                return super().read(*count)
-
-        text = Stream("[[1 2" + "," * 100)
-        with self.assertRaises(NotJson):
-            one = Scanner(text, 50)
-            for _ in one.items():
-                one.value()
-        self.assertEqual(text.reads, 1)
+        file = Made("[[1 2" + "," * 100)
+        self.assertIsNotNone(reason(scanned, file, 50, kind=NotJson))
+        self.assertEqual(file.reads, 1)
 
     def test_nested_and_long(self):
-        deep = "nested too deep, or with too large a number, at character 1"
-        self.refused("[" + "[" * 100000, deep, [1 << 18])
-        self.refused('[{"a":' * 50000, deep, [1 << 18])
-        if hasattr(sys, "set_int_max_str_digits"):
-            self.refused("[" + "1" * 5000 + "]", deep, [1 << 18])
+        """As deep as the program has it: 127 lists and objects in each other, also those that are gone through one by
+        one; and numbers without an end."""
+        deep = "nested too deep, or with too large a number, at character %d"
+        for inner in ("[" * 100000, '{"a":' * 50000, "NaN", "Infinity", "-Infinity", "1e999", "-1e999", '{"a":[NaN]}',
+                      *["1" * 5000] * hasattr(sys, "set_int_max_str_digits")):
+            self.refused("[%s]" % inner, deep % 1, 1 << 18)
+        for before, begin, end in (("", "[", "]"), ("1, ", '{"a":[', "]}")):
+            depth = 126 // len(end)
+            inner = begin * depth + end * depth
+            self.assertEqual(scanned("[%s%s]" % (before, inner), 50)[-1][2], inner)
+            self.refused("[%s[%s]]" % (before, inner), deep % (1 + len(before)), 50)
+        self.assertEqual(len(scanned("[%s]" % ",".join(["[[]]"] * 200), 50)), 200)  # many, and none deep
+        self.assertEqual([value for _, value, *_ in scanned("[1e308,-1e-999]", 50)], [1e308, 0])
         with mock.patch.object(scanner, "LONGEST", 20):
             self.assertEqual(len(scanned('["%s"]' % ("a" * 18), 1)), 1)
-            self.refused('["%s"]' % ("a" * 100), "too long: what begins at character 1", [1, 5])
-
-    def test_as_deep_as_the_program_has_it(self):
-        """127 lists and objects in each other, also those that are gone through one by one."""
-        deep = "nested too deep, or with too large a number, at character %d"
-        for depth, is_taken in ((126, True), (127, False)):
-            for text, place in (("[%s]" % ("[" * depth + "]" * depth), 1),
-                                ("[1, %s]" % ('{"a":[' * (depth // 2) + "[" * (depth % 2) + "]" * (depth % 2)
-                                              + "]}" * (depth // 2)), 4)):
-                if is_taken:
-                    self.assertEqual(len(scanned(text, 50)), 2 if place == 4 else 1)
-                else:
-                    self.refused(text, deep % place, [50])
-        self.assertEqual(len(scanned("[%s]" % ",".join(["[[]]"] * 200), 50)), 200)  # many, and none deep
-
-    def test_numbers_without_an_end(self):
-        for text in ("NaN", "Infinity", "-Infinity", "1e999", "-1e999", '{"a":[NaN]}'):
-            self.refused("[%s]" % text, "nested too deep, or with too large a number, at character 1", [1 << 18])
-        self.assertEqual([value for _, value, *_ in scanned("[1e308,-1e-999]", 50)], [1e308, 0])
+            self.refused('["%s"]' % ("a" * 100), "too long: what begins at character 1", 1, 5)
 
     def test_a_text_without_an_end(self):
-        class Endless:
-            def __init__(self, begin, part):
-                self.next, self.part = begin, part
-
-            def read(self, count):
-                text, self.next = self.next or self.part, ""
-                return text
-
         with mock.patch.object(scanner, "MOST", 10000):
             for begin, part in (("[", " " * 300), ("[1", ",1" * 300), ("{", '"a":1,' * 50),
                                 ('{"a":[]', ' ,"b":{}' * 50)):
-                with self.assertRaises(NotJson) as caught:
-                    one = Scanner(Endless(begin, part), 700)
-                    for _ in one.members() if begin.startswith("{") else one.items():
-                        one.value()
-                self.assertEqual(str(caught.exception), "too long", (begin, part[:8]))
+                file = Made(begin, of=itertools.repeat(part))
+                self.assertEqual(reason(scanned, file, 700, kind=NotJson), "too long", (begin, part[:8]))
 
     def test_other_bytes(self):
         for data in (b'["\xff"]', b'["\xc3"]', b'["\xed\xa0\x80"]', "[]".encode("utf-16")):
-            with self.assertRaises(NotJson) as caught:
-                one = Scanner(io.TextIOWrapper(io.BytesIO(data), encoding="utf-8", newline=""))
-                for _ in one.items():
-                    one.value()
-            self.assertEqual(str(caught.exception), "not UTF-8")
+            file = io.TextIOWrapper(io.BytesIO(data), encoding="utf-8", newline="")
+            self.assertEqual(reason(scanned, file, scanner.PIECE, kind=NotJson), "not UTF-8")
