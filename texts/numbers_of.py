@@ -15,7 +15,7 @@ ORDINALS = "no first second third fourth fifth sixth seventh eighth ninth tenth"
 SMOOTH = "crates/vbi_words/specs/Smooth.antt"
 JITTER = "crates/vbi_words/specs/Jitter.antt"
 RAN = ".ci/ran.txt"
-RATES = "tests/library/library_lines.c"
+RATES = "tests/library/lines.py"
 READER = "docs/RECIPES.md"  # of a map, in C
 SIDES = "docs/measured/sides.txt"  # what bench/sides/measure.py printed
 
@@ -65,10 +65,10 @@ def limits() -> Dict[str, int]:
 def of_tests() -> Dict[str, int]:
     """In kHz the rates between which all words of good lines are read; the bytes of a row that a map's reader takes;
     the lines of each file that is written by hand for the plain Rust build."""
-    rates = [int(rate) for rate in re.findall(r"^    \{(\d+), 0, 0, 0, WORDS, WORDS\}", read(RATES), re.M)]
+    least, most = of_source(RATES, r"^WHOLE, JITTERED = \((\d+), [\d, ]+, (\d+)\), ")
     row, = of_source(READER, r"char row\[(\d+)\]")
     lines = {"lines." + os.path.basename(path)[:-3]: read(path).count("\n") for path in paths("rust/hand/src/*.rs")}
-    return {"rate.least": min(rates), "rate.most": max(rates), "map.row": row - 1, **lines}
+    return {"rate.least": least, "rate.most": most, "map.row": row - 1, **lines}
 
 
 def glitches(size: Dict[str, int]) -> Dict[str, int]:

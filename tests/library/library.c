@@ -1,8 +1,12 @@
 /* Calls the library for C as its header has it: 20,000 words a system drawn and read, the layout of the structs, texts,
-   codes, and threads. Every buffer ends where no page follows, so that a byte read or written past it ends the
-   program. */
+   codes, threads, and a file that is cut meanwhile. Every buffer ends where no page follows, so that a byte read or
+   written past it ends the program. */
 #include "library.h"
 #include <pthread.h>
+#include <setjmp.h>
+#include <signal.h>
+#include <sys/wait.h>
+#include <unistd.h>
 
 enum { WORDS = 20000, THREADS = 4 };
 
@@ -12,58 +16,56 @@ enum { WIDE = sizeof wide / sizeof *wide };
 
 /* ---- Words and causes */
 
+static LdvbiReading read_line(const Television *tv, const uint8_t *line)
+{
+    static LdvbiReading *reading;
+
+    reading = reading == NULL ? (LdvbiReading *)(void *)guarded(sizeof *reading) : reading;
+    CHECK(ldvbi_read_line(tv->system, tv->black, tv->white, line, 2 * tv->samples, reading) == LDVBI_DONE);
+    return *reading;
+}
+
 static void test_words(const Television *tv)
 {
     size_t size = 2 * tv->samples;
     uint8_t *drawn = guarded(size), *wanted = guarded(size);
-    LdvbiReading *reading = (LdvbiReading *)(void *)guarded(sizeof *reading);
     uint32_t state = 12345;
 
     for (int i = 0; i < WORDS; i++) {
-        uint32_t word = i == 0 ? 0x800000 : i == 1 ? 0xFFFFFF : 0x800000 | (random_number(&state) & 0x7FFFFF);
+        uint32_t some = 0x800000 | (random_number(&state) & 0x7FFFFF);
+        uint32_t word = i == 0 ? 0 : i == 1 ? 0x800000 : i == 2 ? 0xFFFFFF : some;
 
         draw(tv, word, wanted);
         CHECK(ldvbi_draw_line(tv->system, tv->black, tv->white, word, drawn, size) == LDVBI_DONE);
         CHECK(memcmp(drawn, wanted, size) == 0);
-        CHECK(ldvbi_read_line(tv->system, tv->black, tv->white, wanted, size, reading) == LDVBI_DONE);
-        CHECK(is_reading(*reading, LDVBI_WORD, 1, 0, word));
+        CHECK(is_reading(read_line(tv, wanted), word == 0 ? LDVBI_BLANK : LDVBI_WORD, word != 0, 0, word));
     }
-    draw(tv, 0, wanted);
-    CHECK(ldvbi_draw_line(tv->system, tv->black, tv->white, 0, drawn, size) == LDVBI_DONE);
-    CHECK(memcmp(drawn, wanted, size) == 0);
-    CHECK(ldvbi_read_line(tv->system, tv->black, tv->white, wanted, size, reading) == LDVBI_DONE);
-    CHECK(is_reading(*reading, LDVBI_BLANK, 0, 0, 0));
 }
 
-/* A line of NTSC whose samples are white from one column to before another. */
-static LdvbiReading read_run(size_t from, size_t to)
-{
-    uint8_t *line = guarded(1820);
-    LdvbiReading reading;
-
-    for (size_t column = 0; column < 910; column++)
-        put_sample(line, column, from <= column && column < to ? 51200 : 16384);
-    CHECK(ldvbi_read_line(LDVBI_NTSC, 16384, 51200, line, 1820, &reading) == LDVBI_DONE);
-    return reading;
-}
-
+/* Lines of NTSC whose samples are white from one column to before another. */
 static void test_causes(void)
 {
+    static const struct {
+        size_t from, to;
+        int cause;
+        unsigned column;
+    } rows[] = {{900, 910, LDVBI_UNFINISHED, 0}, {14, 34, LDVBI_CHANGE, 34}, {164, 910, LDVBI_HOLD, 200}};
+    const Television *ntsc = &televisions[0];
     uint8_t *line = guarded(1820);
-    LdvbiReading reading;
 
-    CHECK(is_reading(read_run(900, 910), LDVBI_UNFINISHED, 0, 0, 0));
-    CHECK(is_reading(read_run(14, 34), LDVBI_CHANGE, 0, 34, 0));
-    CHECK(is_reading(read_run(164, 910), LDVBI_HOLD, 0, 200, 0));
+    for (size_t i = 0; i < sizeof rows / sizeof *rows; i++) {
+        for (size_t column = 0; column < 910; column++)
+            put_sample(line, column, rows[i].from <= column && column < rows[i].to ? ntsc->white : ntsc->black);
+        CHECK(is_reading(read_line(ntsc, line), rows[i].cause, 0, rows[i].column, 0));
+    }
     /* Two columns of the first high half cell of 82CFFF are black: the smoothed levels show it still. */
-    draw(&televisions[0], 0x82CFFF, line);
-    put_sample(line, 170, 16384);
-    put_sample(line, 171, 16384);
-    CHECK(ldvbi_read_line(LDVBI_NTSC, 16384, 51200, line, 1820, &reading) == LDVBI_DONE);
-    CHECK(is_reading(reading, LDVBI_WORD, 2, 0, 0x82CFFF));
+    draw(ntsc, 0x82CFFF, line);
+    put_sample(line, 170, ntsc->black);
+    put_sample(line, 171, ntsc->black);
+    CHECK(is_reading(read_line(ntsc, line), LDVBI_WORD, 2, 0, 0x82CFFF));
 }
 
-/* ---- Versions and sizes */
+/* ---- Versions, sizes, numbers */
 
 static void test_version(void)
 {
@@ -88,73 +90,57 @@ static void test_sizes(void)
     }
 }
 
-/* ---- Layout: the bytes that the library wrote, where the header has the members */
+/* The numbers that no text names, by their names in the header. */
+static void test_numbers(void)
+{
+    CHECK(LDVBI_NTSC == 1 && LDVBI_PAL == 2 && LDVBI_PICTURES == 1 && LDVBI_TIMES == 2);
+    CHECK(LDVBI_VIDEO == 1 && LDVBI_FILM == 2 && LDVBI_FIND_PACE == 3);
+    CHECK(LDVBI_REACH == 24 && LDVBI_PART == 97 && LDVBI_LOOKED == 400);
+}
+
+/* ---- Layout: structs whose members hold the bytes 1, 2, 3 and so on, where the library has them */
+
+static void has_bytes(const void *value, size_t size, size_t wanted)
+{
+    CHECK(size == wanted);
+    for (size_t i = 0; i < size; i++)
+        CHECK(((const uint8_t *)value)[i] == i + 1);
+}
 
 static void test_layout(void)
 {
-    static const uint8_t hold[] = {LDVBI_HOLD, 0, 200, 0, 0, 0, 0, 0};
-    static const uint8_t word[] = {LDVBI_WORD, 1, 0, 0, 0x45, 0x23, 0xF1, 0};
-    static const uint8_t time[] = {LDVBI_TIME, 0, 0, 0, 9, 0, 0, 0, 59, 0, 0, 0};
-    LdvbiReading reading = read_run(164, 910);
-    LdvbiCode code;
-    uint8_t *line = guarded(1820);
+    enum { FIRST = 0x04030201, SECOND = 0x08070605, THIRD = 0x0C0B0A09, FOURTH = 0x100F0E0D, FIFTH = 0x14131211 };
+    LdvbiReading reading = {.cause = 1, .pass = 2, .column = 0x0403, .word = SECOND};
+    LdvbiCode code = {.kind = FIRST, .first = SECOND, .second = THIRD};
+    LdvbiSighting line_17 = {.number = FIRST, .weight = SECOND}, line_18 = {.number = THIRD, .weight = FOURTH};
+    LdvbiSightings seen = {.line_17 = line_17, .line_18 = line_18, .instead = FIFTH};
+    LdvbiNumber number = {.number = FIRST, .state = SECOND};
 
-    CHECK(sizeof(LdvbiReading) == 8 && sizeof(LdvbiFieldReadings) == 24 && sizeof(LdvbiCode) == 12);
-    CHECK(offsetof(LdvbiReading, cause) == 0 && offsetof(LdvbiReading, pass) == 1);
-    CHECK(offsetof(LdvbiReading, column) == 2 && offsetof(LdvbiReading, word) == 4);
-    CHECK(offsetof(LdvbiFieldReadings, lines) == 0 && offsetof(LdvbiFieldReadings, lines[2]) == 16);
-    CHECK(offsetof(LdvbiCode, first) == 4 && offsetof(LdvbiCode, second) == 8);
-    CHECK(sizeof(LdvbiSighting) == 8 && offsetof(LdvbiSighting, number) == 0 && offsetof(LdvbiSighting, weight) == 4);
-    CHECK(sizeof(LdvbiSightings) == 20 && offsetof(LdvbiSightings, line_17) == 0);
-    CHECK(offsetof(LdvbiSightings, line_18) == 8 && offsetof(LdvbiSightings, instead) == 16);
-    CHECK(sizeof(LdvbiNumber) == 8 && offsetof(LdvbiNumber, number) == 0 && offsetof(LdvbiNumber, state) == 4);
-    CHECK(LDVBI_BAD_COUNTED == 5 && LDVBI_BAD_PACE == 6 && LDVBI_REACH == 24);
-    CHECK(LDVBI_PICTURES == 1 && LDVBI_TIMES == 2);
-    CHECK(LDVBI_VIDEO == 1 && LDVBI_FILM == 2 && LDVBI_FIND_PACE == 3);
-    CHECK(LDVBI_NOTHING == 0 && LDVBI_BELIEVED == 1 && LDVBI_DOUBTFUL == 2 && LDVBI_DUE == 3);
-    CHECK(memcmp(&reading, hold, sizeof hold) == 0);
-    draw(&televisions[0], 0xF12345, line);
-    CHECK(ldvbi_read_line(LDVBI_NTSC, 16384, 51200, line, 1820, &reading) == LDVBI_DONE);
-    CHECK(memcmp(&reading, word, sizeof word) == 0);
-    CHECK(ldvbi_classify(0xF9DD59, &code) == LDVBI_DONE && memcmp(&code, time, sizeof time) == 0);
+    has_bytes(&reading, sizeof reading, 8);
+    has_bytes(&code, sizeof code, 12);
+    has_bytes(&seen, sizeof seen, 20);
+    has_bytes(&number, sizeof number, 8);
+    CHECK(sizeof(LdvbiFieldReadings) == 24 && offsetof(LdvbiFieldReadings, lines[2]) == 16);
 }
 
-/* ---- Codes and formats */
+/* ---- Codes and formats: tests/python/test_classes.py compares what each word says */
 
 static void test_codes(void)
 {
-    static const struct {
-        uint32_t word;
-        LdvbiCode code;
-    } rows[] = {
-        {0x88FFFF, {LDVBI_LEAD_IN, 0, 0}},         {0x80EEEE, {LDVBI_LEAD_OUT, 0, 0}},
-        {0x82CFFF, {LDVBI_PICTURE_STOP, 0, 0}},    {0x87FFFF, {LDVBI_CLV_MARK, 0, 0}},
-        {0xF00000, {LDVBI_PICTURE, 0, 0}},         {0xF79999, {LDVBI_PICTURE, 79999, 0}},
-        {0xF92345, {LDVBI_PICTURE, 12345, 0}},     {0xFF9999, {LDVBI_PICTURE, 79999, 0}},
-        {0x800DDD, {LDVBI_CHAPTER, 0, 0}},         {0x8F9DDD, {LDVBI_CHAPTER, 79, 0}},
-        {0xF9DD59, {LDVBI_TIME, 9, 59}},           {0xF0DD99, {LDVBI_TIME, 0, 99}},
-        {0x8AE712, {LDVBI_CLV_PICTURE, 7, 12}},    {0x8FE999, {LDVBI_CLV_PICTURE, 59, 99}},
-        {0x8DC0A1, {LDVBI_CX_ON, 0xA1, 0}},        {0x8DCFFF, {LDVBI_CX_ON, 0xFFF, 0}},
-        {0x80D000, {LDVBI_USERS, 0, 0}},           {0x87DDDD, {LDVBI_USERS, 7, 0xDDD}},
-        {0xF12A45, {LDVBI_OTHER, 0, 0}},           {0x88DFFF, {LDVBI_OTHER, 0, 0}},
-    };
     static const uint32_t none[] = {0, 1, 256, 257, 65535, 65536, 0x7FFFFF, 0x1000000, 0x80000000, 0xFFFFFFFF};
     LdvbiCode code = {9, 9, 9};
 
     for (size_t i = 0; i < sizeof none / sizeof *none; i++)
         CHECK(ldvbi_classify(none[i], &code) == LDVBI_BAD_WORD);
     CHECK(code.kind == 9 && code.first == 9 && code.second == 9);
-    for (size_t i = 0; i < sizeof rows / sizeof *rows; i++) {
-        CHECK(ldvbi_classify(rows[i].word, &code) == LDVBI_DONE);
-        CHECK(memcmp(&code, &rows[i].code, sizeof code) == 0);
-    }
+    CHECK(ldvbi_classify(0xF9DD59, &code) == LDVBI_DONE);
+    CHECK(code.kind == LDVBI_TIME && code.first == 9 && code.second == 59);
 }
 
 static void test_formats(void)
 {
     static const struct {
-        uint32_t words[3];
-        uint32_t status, format;
+        uint32_t words[3], status, format;
     } rows[] = {
         {{0, 0, 0}, LDVBI_DONE, LDVBI_NEITHER},
         {{0x88FFFF, 0x88FFFF, 0x88FFFF}, LDVBI_DONE, LDVBI_NEITHER},
@@ -177,35 +163,41 @@ static void test_formats(void)
     }
 }
 
-/* ---- Texts, and that of any other number */
+/* ---- Texts by their numbers' names, and that of any other number */
 
-static void are_texts(const char *(*text_of)(uint32_t), const char *const *texts, uint32_t count)
+static const char *const statuses[] = {
+    [LDVBI_DONE] = "done",
+    [LDVBI_BAD_SYSTEM] = "system is neither NTSC nor PAL",
+    [LDVBI_BAD_LEVELS] = "black is not below white, or one of them is above 65535",
+    [LDVBI_BAD_LENGTH] = "length does not fit the system",
+    [LDVBI_BAD_WORD] = "number is no code word",
+    [LDVBI_BAD_COUNTED] = "neither pictures nor times are counted",
+    [LDVBI_BAD_PACE] = "pace is neither that of video nor of film, nor to be found",
+};
+static const char *const causes[] = {
+    [LDVBI_WORD] = "word", [LDVBI_BLANK] = "blank", [LDVBI_UNFINISHED] = "unfinished", [LDVBI_CHANGE] = "change",
+    [LDVBI_HOLD] = "hold",
+};
+static const char *const kinds[] = {
+    [LDVBI_OTHER] = "other", [LDVBI_PICTURE] = "picture", [LDVBI_CHAPTER] = "chapter", [LDVBI_TIME] = "time",
+    [LDVBI_CLV_PICTURE] = "clv picture", [LDVBI_CX_ON] = "cx on", [LDVBI_CX_OFF] = "cx off", [LDVBI_USERS] = "users",
+    [LDVBI_LEAD_IN] = "lead-in", [LDVBI_LEAD_OUT] = "lead-out", [LDVBI_PICTURE_STOP] = "picture stop",
+    [LDVBI_CLV_MARK] = "clv",
+};
+static const char *const formats[] = {
+    [LDVBI_NEITHER] = "neither", [LDVBI_CAV] = "cav", [LDVBI_CLV] = "clv", [LDVBI_BOTH] = "both",
+};
+static const char *const states[] = {
+    [LDVBI_NOTHING] = "nothing", [LDVBI_BELIEVED] = "believed", [LDVBI_DOUBTFUL] = "doubtful", [LDVBI_DUE] = "due",
+};
+
+static void are_texts(const char *(*text_of)(uint32_t), const char *const *texts, size_t size)
 {
     for (uint32_t number = 0; number < 256 + WIDE; number++) {
         uint32_t any = number < 256 ? number : wide[number - 256];
 
-        CHECK(strcmp(text_of(any), any < count ? texts[any] : "unknown") == 0);
+        CHECK(strcmp(text_of(any), any < size / sizeof *texts ? texts[any] : "unknown") == 0);
     }
-}
-
-static void test_texts(void)
-{
-    static const char *const statuses[] = {"done", "system is neither NTSC nor PAL",
-                                           "black is not below white, or one of them is above 65535",
-                                           "length does not fit the system", "number is no code word",
-                                           "neither pictures nor times are counted",
-                                           "pace is neither that of video nor of film, nor to be found"};
-    static const char *const causes[] = {"word", "blank", "unfinished", "change", "hold"};
-    static const char *const kinds[] = {"other", "picture", "chapter", "time", "clv picture", "cx on", "cx off",
-                                        "users", "lead-in", "lead-out", "picture stop", "clv"};
-    static const char *const formats[] = {"neither", "cav", "clv", "both"};
-    static const char *const states[] = {"nothing", "believed", "doubtful", "due"};
-
-    are_texts(ldvbi_status_text, statuses, LDVBI_BAD_PACE + 1);
-    are_texts(ldvbi_cause_text, causes, LDVBI_HOLD + 1);
-    are_texts(ldvbi_kind_text, kinds, LDVBI_CLV_MARK + 1);
-    are_texts(ldvbi_format_text, formats, LDVBI_BOTH + 1);
-    are_texts(ldvbi_state_text, states, LDVBI_DUE + 1);
 }
 
 /* ---- Threads over the same line */
@@ -235,18 +227,63 @@ static void test_threads(void)
         CHECK(pthread_join(threads[i], NULL) == 0 && missed[i] == 0);
 }
 
+/* ---- A file that is cut off while it is mapped */
+
+static sigjmp_buf before;
+
+static void leave(int number)
+{
+    siglongjmp(before, number);
+}
+
+/* Reading it ends the process by SIGBUS; or a signal handler leaves the call, and the next one reads as ever. */
+static void test_cut_file(void)
+{
+    size_t field = ldvbi_field_bytes(LDVBI_NTSC);
+    FILE *file = tmpfile();
+    LdvbiFieldReadings readings;
+    volatile int has_returned = 0;
+    int ended = 0;
+
+    CHECK(file != NULL && ftruncate(fileno(file), (off_t)field) == 0);
+    uint8_t *mapped = mmap(NULL, field, PROT_READ, MAP_SHARED, fileno(file), 0);
+    CHECK(mapped != MAP_FAILED);
+    CHECK(ldvbi_read_field(LDVBI_NTSC, 1, 2, mapped, field, &readings) == LDVBI_DONE);
+    CHECK(ftruncate(fileno(file), 0) == 0);
+    pid_t child = fork();
+    if (child == 0) {
+        signal(SIGBUS, SIG_DFL);
+        _exit(ldvbi_read_field(LDVBI_NTSC, 1, 2, mapped, field, &readings) == LDVBI_DONE);
+    }
+    CHECK(waitpid(child, &ended, 0) == child && WIFSIGNALED(ended) && WTERMSIG(ended) == SIGBUS);
+    CHECK(signal(SIGBUS, leave) != SIG_ERR);
+    if (sigsetjmp(before, 1) == 0)
+        has_returned = ldvbi_read_field(LDVBI_NTSC, 1, 2, mapped, field, &readings) + 1;
+    CHECK(has_returned == 0);
+    CHECK(signal(SIGBUS, SIG_DFL) == leave);
+    draw(&televisions[0], 0xF12345, shared);
+    CHECK(is_reading(read_line(&televisions[0], shared), LDVBI_WORD, 1, 0, 0xF12345));
+    fclose(file);
+}
+
 int main(void)
 {
     test_version();
     test_sizes();
+    test_numbers();
     test_layout();
-    test_texts();
+    are_texts(ldvbi_status_text, statuses, sizeof statuses);
+    are_texts(ldvbi_cause_text, causes, sizeof causes);
+    are_texts(ldvbi_kind_text, kinds, sizeof kinds);
+    are_texts(ldvbi_format_text, formats, sizeof formats);
+    are_texts(ldvbi_state_text, states, sizeof states);
     test_causes();
     test_codes();
     test_formats();
     for (size_t i = 0; i < 2; i++)
         test_words(&televisions[i]);
     test_threads();
+    test_cut_file();
     printf("%d wrong\n", wrong);
     return wrong != 0;
 }

@@ -45,14 +45,6 @@ static uint8_t *guarded(size_t size)
     return begin + pages - size;
 }
 
-static inline int holds(const uint8_t *bytes, size_t size, uint8_t value)
-{
-    for (size_t i = 0; i < size; i++)
-        if (bytes[i] != value)
-            return 0;
-    return 1;
-}
-
 /* ---- Drawn lines */
 
 static inline uint32_t random_number(uint32_t *state)

@@ -1,6 +1,6 @@
 #!/bin/sh
-# Calls the library from C and Python: tests over its border under the sanitizers of the C compiler, and the
-# document that Python's readings make beside the one of `extract`. Before that, what the library needs and gives.
+# Calls the library from C and Python: tests over its border, in memory behind which no page follows, and the document
+# that Python's readings make beside the one of `extract`. Before that, what the library needs and gives.
 # Needs libldvbi.a and libldvbi.so.1 beside the program, or at the top of the repository (`make lib`).
 # usage: sh tests/library/library.sh PROGRAM
 # runs: library rust
@@ -44,19 +44,19 @@ check 'the version of the header is that of make' \
 check 'the interface of the header is that of make' \
     [ "$(sed -n 's/^#define LDVBI_ABI //p' "$top/include/ldvbi.h")" = "$(sed -n 's/^ABI := //p' "$top/Makefile")" ]
 
-# Calls over the border. Worn lines are read without the sanitizers, which would take their time over the noise; and
-# pages that can't be touched are no matter for the one that looks at addresses.
+# Calls over the border, from Python, and from C with the sanitizers. Worn lines are read without these, which would
+# take their time over the noise.
+PYTHONPATH=$PYTHONPATH:$tests/python
+for part in lines fields refusals judged; do
+    check "the tests of $part" prints 0 '0 wrong' python3 "$here/$part.py"
+done
 tests_in_c() {
     check "the tests of $1 are built" does $cc -std=c99 $strict -Wno-unused-function $2 -I"$top/include" -o "$1" \
         "$here/$1.c" "$built/libldvbi.a" -lpthread -lm
     check "the tests of $1${2:+ with $2}" prints 0 '0 wrong' "./$1"
 }
-for part in library library_refusals library_lines library_near library_recovered library_shown library_numbers \
-    library_chapters; do
-    tests_in_c $part -fsanitize=address,undefined
-done
+tests_in_c library -fsanitize=address,undefined
 tests_in_c library -fsanitize=thread
-tests_in_c library_fields -fsanitize=undefined
 tests_in_c library_worn ''
 
 # The document of Python's readings: drawn discs, a cut one, and a field with each cause and pass

@@ -1,0 +1,231 @@
+"""Judges the sides of judged.txt by the library, in arrays that end where no page follows and hold other bytes each
+time, and compares what it answers with what stands there.
+
+usage: judged.py"""
+
+import os
+import re
+import struct
+
+from border import Guarded, call, expect, finish
+from discs import chapter, minutes, picture, second
+from ldvbi import Counted, Pace, State, System
+
+NOTHING, BELIEVED, DOUBTFUL, DUE = State
+RATES = {"NTSC": 30, "PAL": 25}
+REACH, PART, MOST = 24, 97, 2000
+BEFORE = (0xAA, 0x00, 0xFF, 0x01)  # what the bytes of arrays are before a call
+LINE, SEEN, NUMBER, STATE = (struct.Struct("<" + members) for members in ("BBHI", "5I", "2I", "I"))
+BLANK = LINE.pack(1, 0, 0, 0)
+READINGS, ROOM, FOUND, PACE = (Guarded(size) for size in (24 * MOST, SEEN.size * MOST, NUMBER.size * MOST, STATE.size))
+LETTERS = {"c": "801DDD", "i": "88FFFF", "o": "80EEEE", "s": "82CFFF", "m": "87FFFF", "t": "F0DD09", "p": "F12345"}
+FIELDS = re.compile(r"(\w*)(?:\.\.(\d+))?([=~^]*)(?:/(\w+)([~^]?))?(?:\*(\d+))?")
+ANSWERS = re.compile(r"(\(?)(\d+)(?:\.\.(\d+))?\)?(\??)(?:\*(\d+))?")
+
+judge = call("judge", "NNNPSPSPS")
+judge_field = call("judge_field", "NNNPSSP")
+judge_chapters = call("judge_chapters", "PSPSPS")
+judge_stops = call("judge_stops", "PSPS")
+find_pace = call("find_pace", "NNPSPSP")
+first_of = call("first_of", "PSN", "S")
+
+
+# ---- Sides and answers from text
+
+def tables():
+    """Of each table of judged.txt its kind, its settings, and its rows with their two columns."""
+    found = []
+    with open(os.path.join(os.path.dirname(__file__), "judged.txt")) as file:
+        text = file.read().replace("\n    ", " ")
+    for line in text.split("\n"):
+        if line.startswith("= "):
+            kind, *settings = line[2:].split()
+            found.append((kind, settings, []))
+        elif line and line[0] != "#":
+            found[-1][2].extend([column.strip() for column in row.split("|")] for row in expanded(line))
+    return found
+
+
+def expanded(text):
+    """What a text with {a,b} stands for."""
+    before, _, more = text.partition("{")
+    choices, brace, behind = more.partition("}")
+    return [before + choice + behind for choice in choices.split(",")] if brace else [text]
+
+
+def word_of(item, counted, rate):
+    if item in LETTERS:
+        return LETTERS[item]
+    if counted == "times":
+        return minutes(*divmod(int(item) // rate // 60, 60))
+    return (picture if counted == "pictures" else chapter)(int(item))
+
+
+def field_of(items, marks, counted, rate):
+    """The readings of a field with these items on lines 17 and 18, where there are any. A time is on line 16, too."""
+    lines = [BLANK] * 3
+    for line, item in enumerate(items, 1):
+        if item:
+            of_pass = 2 if "~" in marks[line - 1] else 3 if "^" in marks[line - 1] else 1
+            lines[line] = LINE.pack(0, of_pass, 0, int(word_of(item, counted, rate), 16))
+            if counted == "times" and item.isdigit():
+                seconds, number = divmod(int(item), rate)
+                lines[0] = LINE.pack(0, 1, 0, int(second(seconds % 60, number), 16))
+    if "=" in marks[0]:
+        lines[2] = lines[1]
+    return b"".join(lines)
+
+
+def side_of(text, counted, rate):
+    """The readings of each field."""
+    fields = []
+    for part in text.split():
+        if part[0] == ".":
+            fields += [3 * BLANK] * int(part[1:] or 1)
+            continue
+        first, last, marks, other, marked, count = FIELDS.fullmatch(part).groups("")
+        for item in map(str, range(int(first), int(last) + 1)) if last else [first]:
+            fields += [field_of((item, other), (marks, marked), counted, rate)] * int(count or 1) + [3 * BLANK]
+        fields.pop()
+    return fields
+
+
+def answers_of(text):
+    """The number and the state of each field."""
+    answers = []
+    for part in text.split():
+        if part[0] == ".":
+            answers += [(0, NOTHING)] * int(part[1:] or 1)
+            continue
+        due, first, last, doubtful, count = ANSWERS.fullmatch(part).groups("")
+        state = DUE if due else DOUBTFUL if doubtful else BELIEVED
+        for number in range(int(first), int(last or first) + 1):
+            answers += [(number, state)] * int(count or 1) + [(0, NOTHING)]
+        answers.pop()
+    return answers
+
+
+# ---- The judging
+
+def answered(judging, asked, fields, before, answer=NUMBER, has_room=True):
+    """What is answered of each field, and what was seen. What is read stays as it is."""
+    count, read = len(fields), b"".join(fields)
+    room = (ROOM.put(bytes([before]) * SEEN.size * count), count) if has_room else ()
+    found = FOUND.put(bytes([before]) * answer.size * count)
+    expect(judging(*asked, READINGS.put(read), count, *room, found, count) == 0, asked, "refused")
+    expect(READINGS.get(len(read)) == read, asked, "has changed what it read")
+    return list(answer.iter_unpack(FOUND.get(answer.size * count))), ROOM.get(SEEN.size * count)
+
+
+def answered_alone(asked, part, field):
+    """What is answered of one field of these."""
+    expect(judge_field(*asked, READINGS.put(b"".join(part)), len(part), field, FOUND.put(bytes(NUMBER.size))) == 0,
+           asked, "refused a field")
+    return NUMBER.unpack(FOUND.get(NUMBER.size))
+
+
+def pace_of(asked, fields):
+    count, read = len(fields), b"".join(fields)
+    room, pace = ROOM.put(bytes(SEEN.size * count)), PACE.put(bytes(STATE.size))
+    expect(find_pace(*asked, READINGS.put(read), count, room, count, pace) == 0, asked, "refused")
+    expect(READINGS.get(len(read)) == read, asked, "has changed what it read")
+    return STATE.unpack(PACE.get(STATE.size))[0]
+
+
+def compare(where, answers, wanted):
+    expect(len(answers) == len(wanted), *where, "has", len(answers), "fields, and", len(wanted), "answers")
+    for field, (one, other) in enumerate(zip(answers, wanted)):
+        expect(one == other, *where, "field", field, one)
+
+
+def test_numbers(setting, text, wanted, is_found=False):
+    """A side as a whole, and each field by the part around it that its answer depends on."""
+    system, counted, pace = setting.split(":")
+    asked, pace = (System[system], Counted[counted]), Pace[pace]
+    fields, wanted = side_of(text, counted, RATES[system]), answers_of(wanted)
+    for judged_at in (pace, Pace.find) if is_found else (pace, ):
+        for before in BEFORE:
+            compare((setting, text), answered(judge, (*asked, judged_at), fields, before)[0], wanted)
+    begins = [max(field - 2 * REACH, 0) for field in range(len(fields))]
+    compare((setting, text, "alone"), [answered_alone((*asked, pace), fields[begin:begin + PART], field - begin)
+                                       for field, begin in enumerate(begins)], wanted)
+    expect(not is_found or pace_of(asked, fields) == pace, setting, text, "has another pace")
+
+
+def test_found(setting, text, wanted):
+    test_numbers(setting, text, wanted, True)
+
+
+def test_chapters(counted, text, wanted):
+    for before in BEFORE:
+        compare((counted, text), answered(judge_chapters, (), side_of(text, counted, 0), before)[0], answers_of(wanted))
+
+
+def lines_of(text, cause=0, column=0):
+    """The readings of words, of which - is none, behind which their passes may stand."""
+    words = [word.partition("/") for word in text.replace("-", "0/0").split()]
+    return b"".join(LINE.pack(cause, int(of_pass or 1), column, int(word, 16)) for word, _, of_pass in words)
+
+
+def test_shown(setting, text, wanted):
+    """The field alone, so that what it shows is in doubt: its number on line 17, else that on line 18. The causes and
+    the columns of its readings say nothing."""
+    system, counted = setting.split(":")
+    first, other, *instead = wanted.replace("-", "0*0").split()
+    lines = [tuple(map(int, line.split("*"))) for line in (first, other)]
+    number = next(((number, DOUBTFUL) for number, weight in lines if weight), (0, NOTHING))
+    judging, asked = judge_chapters, ()
+    if counted != "chapters":
+        judging, asked = judge, (System[system], Counted[counted], Pace.video)
+    for place, cause in enumerate((0, 1, 2, 3, 4, 5, 255)):
+        answers, seen = answered(judging, asked, [lines_of(text, cause, 1000 * place)], 0xAA)
+        compare((setting, text), answers, [number])
+        expect(seen == SEEN.pack(*lines[0], *lines[1], len(instead)), setting, text, "shows", SEEN.unpack(seen))
+
+
+def test_stops(rows):
+    """Each field alone, and all of them as a side."""
+    for part in [[row] for row in rows] + [rows]:
+        for before in BEFORE:
+            answers = answered(judge_stops, (), [lines_of(text) for text, _ in part], before, STATE, False)[0]
+            compare(("stops", part), answers, [(State[state], ) for _, state in part])
+
+
+# ---- What one field needs on either side, and the first of some numbers
+
+def test_part(text, numbers):
+    """Without the last field of what it depends on field 10 is answered otherwise."""
+    fields = side_of(text, "pictures", 30)
+    compare((text, "cut"), [answered_alone((1, 1, 1), fields[:count], 10) for count in (58, 59)], numbers)
+
+
+def test_first_of():
+    """Of the first so many answers, which end where no page follows; of none nothing is read."""
+    some = [(0, NOTHING), (7, NOTHING), (7, DOUBTFUL), (5, BELIEVED), (7, 4), (7, 257), (7, DUE), (7, BELIEVED),
+            (5, DUE), (2 ** 32 - 1, BELIEVED)]
+    zeros = [(0, NOTHING), (0, DOUBTFUL), (0, BELIEVED), (0, DUE)]
+    for numbers, number, first in (
+            (some, 7, 6), (some[:6], 7, 6), (some[:7], 7, 6), (some[:0], 7, 0), (some, 5, 3), (some[:3], 5, 3),
+            (some, 0, 10), (some, 6, 10), (some, 263, 10), (some, 65543, 10), (some, 2 ** 32 - 1, 9), (some, 8, 10),
+            (some[:9], 2 ** 32 - 1, 9), (zeros, 0, 2), (zeros[:2], 0, 2), (zeros[3:], 0, 0), ([], 0, 0)):
+        at_end = FOUND.put(b"".join(NUMBER.pack(*one) for one in numbers))
+        found = [first_of(at_end, len(numbers), number), first_of(FOUND.end, 0, number), first_of(None, 0, number)]
+        expect(found == [first, 0, 0], "first of", number, "in", numbers, "is", found)
+
+
+def main():
+    tests = {"numbers": test_numbers, "found": test_found, "chapters": test_chapters, "shown": test_shown}
+    for kind, settings, rows in tables():
+        if kind == "stops":
+            test_stops(rows)
+        for setting in settings:
+            for row in rows:
+                tests[kind](setting, *row)
+    # What a capture that goes on may change, as judged.txt has it
+    test_part("100..104 .23 116 . 117= .23 129=", [(0, NOTHING), (105, DUE)])
+    test_first_of()
+    finish()
+
+
+if __name__ == "__main__":
+    main()

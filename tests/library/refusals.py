@@ -1,0 +1,165 @@
+"""What each call of the library refuses, in which order, having written nothing: systems, levels, lengths and other
+numbers, among them those that a parameter of 8 or of 16 bits would cut off. Samples of a call that is refused can't be
+touched.
+
+usage: refusals.py"""
+
+from border import Guarded, call, expect, finish
+
+DONE, BAD_SYSTEM, BAD_LEVELS, BAD_LENGTH, BAD_WORD, BAD_COUNTED, BAD_PACE = range(7)
+NTSC, PAL, PICTURES, TIMES, FILM, FIND_PACE, PART = 1, 2, 1, 2, 2, 3, 97
+LINE_BYTES, LINES = {NTSC: 1820, PAL: 2270}, {NTSC: 263, PAL: 313}
+MOST, MOST_BYTES = 2 ** 32 - 1, 2 ** 64 - 1
+CUT_OFF = (256, 257, 258, 259, 65536, 65537, 65538, 65539, 0x80000001, MOST)
+BAD_PAIRS = ((2, 2), (65535, 0), (65535, 65535), (65536, 65537), (65536, 51200), (0, 65536), (16384, 65536 + 51200),
+             (256, 1 << 31), (1 << 31, MOST), (0, MOST), (MOST, MOST))
+PAIRS = ((0, 1), (0, 65535), (65534, 65535), (0, 256), (256, 257))
+SIGHTINGS, READINGS, NEAR = 20, 24, 32  # bytes
+ROOM = 2270 * 313 + 8
+OPEN, CLOSED, ANSWER, SEEN, NUMBERS = map(Guarded, (ROOM, ROOM, NEAR, 4 * SIGHTINGS, 4 * 8))
+
+
+def at(memory, size):
+    """The address of the last bytes, or null of none."""
+    return memory.end - min(size, ROOM) if size else None
+
+
+# ---- Calls that take a system, levels and samples
+
+_draw_line = call("draw_line", "NNNNPS")
+# How many lines a call takes (None: a field), and what stands behind its answer: a count of fields, or a word to draw,
+# which is none here, as that is refused last of all
+CALLS = {"read_line": (1, ()), "read_rows": (3, ()), "read_field": (None, ()), "read_fields": (None, (1, )),
+         "nearest": (1, ()), "recover_rows": (3, ()), "recover_fields": (None, (1, )), "draw_line": (1, (1, ))}
+
+
+def has_status(name, asked, length, status, more=()):
+    """The call has this status, and has written nothing but where that is DONE."""
+    samples = at(OPEN if status == DONE else CLOSED, length)
+    answer = ANSWER.put(b"\x55" * NEAR)
+    if name == "draw_line":
+        found = _draw_line(*asked, *more, samples, length)
+    else:
+        found = call(name, "NNNPSP" + "S" * len(more))(*asked, samples, length, answer, *more)
+    expect(found == status and (status == DONE or ANSWER.get(NEAR) == b"\x55" * NEAR), name, asked, length, more, found)
+
+
+def test_call(name, lines, more):
+    """The status is that of what is tested first: the system, the levels, the length."""
+    for system in (*range(256), *CUT_OFF):
+        if system not in LINES:
+            has_status(name, (system, 2, 2), 7, BAD_SYSTEM, more)
+    for system, line in LINE_BYTES.items():
+        size = line * (lines or LINES[system])
+        for levels in BAD_PAIRS:
+            has_status(name, (system, *levels), 7, BAD_LEVELS, more)
+        for length in (0, 7, size - 1, size + 1, size - line // 2, 2 * 1820 + 2 * 2270):
+            has_status(name, (system, 1, 2), length, BAD_LENGTH, more)
+        for levels in PAIRS:
+            has_status(name, (system, *levels), size, BAD_WORD if name == "draw_line" else DONE, more)
+
+
+def test_lengths(system):
+    """Lengths that are other ones than so many lines, or so many fields; numbers that are no words."""
+    asked, line = (system, 1, 2), LINE_BYTES[system]
+    field = line * LINES[system]
+    for name in ("read_fields", "recover_fields"):
+        for length, count in ((field, 0), (field, 2), (field, MOST_BYTES), (0, 1), (0, MOST_BYTES // field + 1),
+                              (field - 1, 0)):
+            has_status(name, asked, length, BAD_LENGTH, (count, ))
+        expect(call(name, "NNNPSPS")(*asked, None, 0, None, 0) == DONE, name, "of no field")
+    for length in (28 * line + 1, 29 * line, MOST_BYTES):
+        has_status("nearest", asked, length, BAD_LENGTH)
+    for name in ("read_rows", "recover_rows"):
+        has_status(name, asked, line, BAD_LENGTH)
+    for word in (256, 65536, 0x7FFFFF, 0x1000000, 0x1800000, 0x80800000, MOST):
+        has_status("draw_line", asked, line, BAD_WORD, (word, ))
+
+
+# ---- Calls that judge
+
+judge = call("judge", "NNNPSPSPS")
+judge_field = call("judge_field", "NNNPSSP")
+judge_chapters = call("judge_chapters", "PSPSPS")
+judge_stops = call("judge_stops", "PSPS")
+find_pace = call("find_pace", "NNPSPSP")
+seek = call("seek", "NNNNNPSNP")
+
+# The system, what is counted and the pace, and the lengths of the three arrays. The status is that of what is tested
+# first: the system, the lengths, what is counted, the pace.
+JUDGED = {
+    BAD_SYSTEM: "000 300, 334 333, 334 000",
+    BAD_LENGTH: "100 323, 234 343, 122 332, 222 334, 111 344, 211 322, 111 324, 211 300, 111 303, 111 330, 134 010, "
+                "234 001, 111 011",
+    BAD_COUNTED: "100 333, 233 333, 234 000",
+    BAD_PACE: "110 333, 224 333, 224 000",
+    DONE: "111 000, 222 000, 123 000"}
+
+
+def test_judged(asked, lengths, status):
+    count, seen_count, number_count = lengths
+    before = SEEN.put(b"\xAA" * 4 * SIGHTINGS), NUMBERS.put(b"\xAA" * 32), ANSWER.put(b"\x55" * NEAR)
+    read, seen = (at(OPEN, READINGS * count), count), (at(SEEN, SIGHTINGS * seen_count), seen_count)
+    numbers = at(NUMBERS, 8 * number_count), number_count
+    found = {judge(*asked, *read, *seen, *numbers)}
+    if count == number_count and status not in (DONE, BAD_PACE):
+        found.add(find_pace(*asked[:2], *read, *seen, before[2]))
+    if status == BAD_LENGTH:
+        found.add(judge_chapters(*read, *seen, *numbers))
+    if count != seen_count:
+        expect(judge_stops(*read, *seen) == BAD_LENGTH, "judge_stops", lengths)
+    is_kept = SEEN.get(80) == b"\xAA" * 80 and NUMBERS.get(32) == b"\xAA" * 32 and ANSWER.get(NEAR) == b"\x55" * NEAR
+    expect(found == {status} and is_kept, asked, lengths, found)
+
+
+def test_numbers(bad):
+    """A number that is wrong for a system, for what is counted and for a pace; calls that take one field or none."""
+    for asked, status in (((bad, 1, 1), BAD_SYSTEM), ((1, bad, 1), BAD_COUNTED), ((1, 1, bad), BAD_PACE)):
+        test_judged(asked, (3, 3, 3), status)
+    answer = ANSWER.put(b"\x55" * NEAR)
+    for asked, count, field, status in (
+            ((bad, bad, bad), 0, 0, BAD_SYSTEM), ((PAL, bad, bad), 0, 0, BAD_LENGTH),
+            ((PAL, bad, bad), 5, 5, BAD_LENGTH), ((PAL, bad, bad), 5, MOST_BYTES, BAD_LENGTH),
+            ((PAL, bad, bad), PART + 1, 5, BAD_LENGTH), ((PAL, bad, bad), PART, PART - 1, BAD_COUNTED),
+            ((PAL, TIMES, bad), 5, 4, BAD_PACE)):
+        found = judge_field(*asked, OPEN.end - READINGS * count, count, field, answer)
+        expect(found == status, "judge_field", asked, count, field, found)
+    for asked, status in (((bad, 5, 5, bad, bad), BAD_SYSTEM), ((PAL, 5, 5, bad, bad), BAD_LEVELS),
+                          ((PAL, 5, 65536, bad, bad), BAD_LEVELS), ((PAL, 5, 6, bad, bad), BAD_COUNTED),
+                          ((PAL, 5, 6, TIMES, bad), BAD_PACE)):
+        found = seek(*asked, None, 0, 7, answer)
+        expect(found == status, "seek", asked, found)
+    expect(ANSWER.get(NEAR) == b"\x55" * NEAR, bad, "is refused, and something is written")
+
+
+def test_nothing():
+    """What is answered of a side without fields, and of readings without a word."""
+    seen, video = SEEN.put(b"\xAA" * 3 * SIGHTINGS), b"\1\0\0\0"
+    expect(judge_chapters(None, 0, None, 0, None, 0) == DONE == judge_stops(None, 0, None, 0), "of none")
+    for asking, words, wanted in (
+            (find_pace, (PAL, TIMES, None, 0, None, 0), video),
+            (find_pace, (NTSC, PICTURES, at(OPEN, 2 * READINGS), 2, seen, 2), video),
+            (judge_field, (PAL, TIMES, FILM, at(OPEN, PART * READINGS), PART, PART - 1), bytes(8)),
+            (seek, (PAL, 5, 6, TIMES, FIND_PACE, None, 0, 7), bytes(24))):
+        answer = ANSWER.put(b"\x55" * len(wanted))
+        expect(asking(*words, answer) == DONE and ANSWER.get(len(wanted)) == wanted, asking.__name__, words)
+    expect(SEEN.get(3 * SIGHTINGS) == bytes(2 * SIGHTINGS) + b"\xAA" * SIGHTINGS, "what was seen in two fields")
+
+
+def main():
+    CLOSED.close()
+    for name, (lines, more) in CALLS.items():
+        test_call(name, lines, more)
+    for system in LINES:
+        test_lengths(system)
+    for status, rows in JUDGED.items():
+        for asked, lengths in map(str.split, rows.split(", ")):
+            test_judged(tuple(map(int, asked)), map(int, lengths), status)
+    for bad in (0, 4, *CUT_OFF):
+        test_numbers(bad)
+    test_nothing()
+    finish()
+
+
+if __name__ == "__main__":
+    main()
