@@ -35,6 +35,7 @@ HEAD = re.compile(r"(\s*)(?:pub(?:\([^)]*\))?\s+)?(?:const\s+)?(?:unsafe\s+)?(?:
 REFUSED = r"^fn {}: (not proved|no proof: (?!it calls|it passes|it rests|it uses|the borrow checker)).*"
 # An error in a written proof which says no more than that a name went with the right body
 LOST = re.compile(r"has no field|is not in scope|has no `|was not admitted")
+CHECK = ["check", "--jobs", "1"]
 # Memory of one check, in kB
 CHECK_MEMORY = 2_500_000
 
@@ -55,6 +56,13 @@ def write(path, text):
     with open(f"{path}.part", "w", encoding="utf-8") as file:
         file.write(text)
     os.replace(f"{path}.part", path)
+
+
+def ran(folder, *words):
+    """Runs the toolchain there, and returns its status and what it says."""
+    run = subprocess.run(["rt", *words], cwd=folder, stdin=subprocess.DEVNULL, stdout=subprocess.PIPE,
+                         stderr=subprocess.STDOUT, errors="replace", check=False)
+    return run.returncode, run.stdout
 
 
 def owner_of(lines, number):
@@ -148,57 +156,34 @@ class Edit:
             self.fault = "it changes nothing"
         self.refuses = self.refuses or list(dict.fromkeys(touched)) or ["*"]
 
-    def applied_to(self, texts, folder):
-        """Returns the texts with this edit as well, or None where another edit has taken its place."""
-        texts = dict(texts)
-        for file, old, new in self.pairs:
-            text = texts.get(file) or read(f"{folder}/{file}")
-            if text.count(old) != 1:
-                return None
-            texts[file] = text.replace(old, new)
-        return texts
+
+def texts_with(edits, folder):
+    """Returns the files that these edits change, with their texts then, or None where one has taken another's place."""
+    texts = {}
+    for file, old, new in [pair for edit in edits for pair in edit.pairs]:
+        text = texts.get(file) or read(f"{folder}/{file}")
+        if text.count(old) != 1:
+            return None
+        texts[file] = text.replace(old, new)
+    return texts
 
 
-class Round:
-    """Edits that share a check: no two change one function, and each applies beside the others."""
-
-    def __init__(self, edits=()):
-        self.edits = []
-        self.texts = {}
-        self.edits += edits
-
-    def takes(self, edit, folder):
-        """Adds an edit where it fits, and returns whether it did."""
-        taken = {name for other in self.edits for name in other.refuses}
-        beside = self.edits and (edit.alone or self.edits[0].alone or taken & {*edit.refuses})
-        texts = None if beside else edit.applied_to(self.texts, folder)
-        if texts is None:
-            return False
-        self.edits.append(edit)
-        self.texts = texts
-        return True
-
-    def only(self):
-        """Returns the flags that have a check look alone at the functions that it has to refuse; none where an edit
-        names no function."""
-        names = [name for edit in self.edits for name in edit.refuses]
-        return [] if "*" in names else [f"--only={name}" for name in names]
-
-
-def round_of(edits, folder):
-    made = Round()
-    made.edits = list(edits)
-    for edit in edits:
-        made.texts = edit.applied_to(made.texts, folder)
-    return made
+def fits(edit, others, folder):
+    """Whether an edit can share the round of others: no two change one function, and each applies beside the others."""
+    taken = {name for other in others for name in other.refuses}
+    is_apart = edit.alone or others[0].alone or taken & {*edit.refuses}
+    return not is_apart and texts_with([*others, edit], folder) is not None
 
 
 def rounds_of(edits, folder):
-    """Shares the edits among rounds, those of the most often edited function first."""
+    """Shares the edits among rounds, lists of some, those of the most often edited function first."""
     made = []
     for edit in sorted(edits, key=lambda it: -sum(it.refuses == other.refuses for other in edits)):
-        if not any(it.takes(edit, folder) for it in made):
-            made.append(round_of([edit], folder))
+        room = next((others for others in made if fits(edit, others, folder)), None)
+        if room is None:
+            made.append([edit])
+        else:
+            room.append(edit)
     return made
 
 
@@ -244,17 +229,17 @@ class Crate:
         write(f"{copy}/crates.txt", "\n".join(rows) + "\n")
         return copy
 
-    def check(self, texts, only=()):
-        """Returns what the check says of the crate with these texts in place of its own; of some functions alone where
-        they are named, and not of their callers."""
+    def check(self, edits):
+        """Returns what the check says of the crate with these edits. It looks at the functions alone that it has to
+        refuse, and not at their callers, unless an edit names none."""
         copy = self.copy()
-        folder = f"{copy}/crates/{self.name}"
-        for file, text in texts.items():
-            write(f"{folder}/{file}", text)
-        ran = subprocess.run(["rt", "check", "--jobs", "1", *only], cwd=folder, stdin=subprocess.DEVNULL,
-                             stdout=subprocess.PIPE, stderr=subprocess.STDOUT, errors="replace", check=False)
+        for file, text in texts_with(edits, self.folder).items():
+            write(f"{copy}/crates/{self.name}/{file}", text)
+        names = [name for edit in edits for name in edit.refuses]
+        only = [] if "*" in names else [f"--only={name}" for name in names]
+        said = ran(f"{copy}/crates/{self.name}", *CHECK, *only)[1]
         shutil.rmtree(copy)
-        return ran.stdout
+        return said
 
     def verdict(self, said):
         """Returns 'proved' or 'not-proved', or None where the check came to no verdict on this crate. Those on crates
@@ -269,11 +254,9 @@ class Crate:
     def fault(self):
         """Proves the crate as it stands, and builds it where it is a library, which keeps what the rounds begin from.
         Returns the end of what the toolchain says where it isn't proved, else None."""
-        program = os.path.exists(f"{self.folder}/src/main.rt")
-        command = ["rt", "check", "--jobs", "1"] if program else ["rt", "lib"]
-        ran = subprocess.run(command, cwd=self.folder, stdin=subprocess.DEVNULL, stdout=subprocess.PIPE,
-                             stderr=subprocess.STDOUT, errors="replace", check=False)
-        return ran.stdout[-300:] if ran.returncode else None
+        is_program = os.path.exists(f"{self.folder}/src/main.rt")
+        status, said = ran(self.folder, *(CHECK if is_program else ["lib"]))
+        return said[-300:] if status else None
 
     def judged(self, edit, said):
         """Returns by what the check refused the edit's own function, 'goal', 'proof' or 'name' (or None, where it
@@ -294,19 +277,18 @@ class Crate:
                 return "proof" if errors else "goal", (errors or [refused[0]])[0][:160]
         return None, f"the check doesn't refuse {' or '.join(edit.refuses)}"
 
-    def tried(self, one):
+    def tried(self, edits):
         """Checks a round, and returns each of its edits with the verdict on it."""
-        said = self.check(one.texts, one.only())
-        if len(one.edits) > 1 and self.verdict(said) is None:
+        said = self.check(edits)
+        if len(edits) > 1 and self.verdict(said) is None:
             # One of them doesn't compile, so half of them is tried at a time
-            half = len(one.edits) // 2
-            parts = (one.edits[:half], one.edits[half:])
-            return [it for part in parts for it in self.tried(round_of(part, self.folder))]
+            half = len(edits) // 2
+            return self.tried(edits[:half]) + self.tried(edits[half:])
         found = []
-        for edit in one.edits:
+        for edit in edits:
             by, why = self.judged(edit, said)
-            if by in (None, "bad") and len(one.edits) > 1:
-                by, why = self.tried(round_of([edit], self.folder))[0][1:]
+            if by in (None, "bad") and len(edits) > 1:
+                by, why = self.tried([edit])[0][1:]
             found.append((edit, by, why))
         return found
 
@@ -316,25 +298,23 @@ def planned(crates, word):
     tasks, faulty = [], 0
     for crate in crates:
         edits = crate.edits(word)
-        for edit in edits:
-            if edit.fault:
-                print(f"{crate.name}/{edit.name}: BAD EDIT: {edit.fault}")
-                faulty += 1
-        for name in crate.rows_without_edit():
-            print(f"{crate.name}/{name}: BAD EDIT: a row of {REFUSES} names it, and it isn't there")
-            faulty += 1
+        faults = [(edit.name, edit.fault) for edit in edits if edit.fault]
+        faults += [(name, f"a row of {REFUSES} names it, and it isn't there") for name in crate.rows_without_edit()]
+        for name, fault in faults:
+            print(f"{crate.name}/{name}: BAD EDIT: {fault}")
+        faulty += len(faults)
         made = rounds_of([edit for edit in edits if not edit.fault], crate.folder)
         tasks += [(crate, it) for it in made]
-        sizes = " ".join(str(len(it.edits)) for it in made)
+        sizes = " ".join(str(len(it)) for it in made)
         print(f"{crate.name}: {len(edits)} wrong bodies in {len(made)} rounds: {sizes}", flush=True)
-    return sorted(tasks, key=lambda it: -len(it[1].edits)), faulty
+    return sorted(tasks, key=lambda it: -len(it[1])), faulty
 
 
-def run(tasks, lanes):
+def tried(tasks, lanes):
     """Tries all rounds, prints each verdict, and returns how many edits were refused by what."""
     counts = collections.Counter()
     with concurrent.futures.ThreadPoolExecutor(lanes) as pool:
-        rounds = {pool.submit(crate.tried, one): crate for crate, one in tasks}
+        rounds = {pool.submit(crate.tried, edits): crate for crate, edits in tasks}
         for done in concurrent.futures.as_completed(rounds):
             for edit, by, why in done.result():
                 word = {None: "NOT REFUSED", "bad": "BAD EDIT"}.get(by, f"refused by a {by}")
@@ -362,7 +342,7 @@ def main():
             if said:
                 print(f"{crate.name}: not proved as it stands: {said}")
                 return 1
-        counts = run(tasks, given.lanes)
+        counts = tried(tasks, given.lanes)
     refused = counts["goal"] + counts["proof"] + counts["name"]
     not_refused = faulty + counts["bad"] + counts[None]
     print(f"wrong bodies: {refused} refused ({counts['goal']} by a goal, {counts['proof']} by a written proof, "

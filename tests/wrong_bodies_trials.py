@@ -16,7 +16,7 @@ import sys
 import tempfile
 
 sys.dont_write_bytecode = True
-import wrong_bodies  # noqa: E402
+from wrong_bodies import FOLDER, REFUSED, REFUSES, read, write  # noqa: E402
 
 CRATE = "vbi_words"
 # Name, file, old text, new text, and what the script has to say of it
@@ -48,34 +48,22 @@ LINES = [
 
 
 def copy_of_crate(top, room):
-    """Makes a repository of this one crate alone, without edits, its kept work linked."""
+    """Makes a repository of this one crate alone, without edits, its kept work linked. Returns the crate's folder."""
     copy = tempfile.mkdtemp(dir=room)
     shutil.copy(f"{top}/HANDLES", copy)
+    write(f"{copy}/crates.txt", f"{CRATE}:\n")
     folder = f"{copy}/crates/{CRATE}"
-    shutil.copytree(f"{top}/crates/{CRATE}", folder, copy_function=os.link,
-                    ignore=shutil.ignore_patterns("must-fail"))
-    os.mkdir(f"{folder}/must-fail")
-    with open(f"{copy}/crates.txt", "w", encoding="utf-8") as file:
-        file.write(f"{CRATE}:\n")
-    return copy
+    shutil.copytree(f"{top}/crates/{CRATE}", folder, copy_function=os.link, ignore=shutil.ignore_patterns(FOLDER))
+    os.mkdir(f"{folder}/{FOLDER}")
+    return folder
 
 
-def changed(path, old, new):
-    with open(path, encoding="utf-8") as file:
-        text = file.read()
-    assert text.count(old) == 1, (path, old)
-    # Not through the link
-    os.remove(path)
-    with open(path, "w", encoding="utf-8") as file:
-        file.write(text.replace(old, new))
-
-
-def verdicts(top, copy):
-    """Returns the script's status, what it says of each edit, and its other lines."""
-    ran = subprocess.run([sys.executable, f"{top}/tests/wrong_bodies.py"], cwd=copy, stdin=subprocess.DEVNULL,
-                         stdout=subprocess.PIPE, stderr=subprocess.STDOUT, universal_newlines=True, check=False)
-    said = dict(re.findall(rf"^{CRATE}/(\w+): ([a-zA-Z ]+): ", ran.stdout, re.M))
-    return ran.returncode, said, ran.stdout
+def verdicts(top, folder):
+    """Returns the script's status, what it says of each edit, and all that it says."""
+    ran = subprocess.run([sys.executable, f"{top}/tests/wrong_bodies.py"], cwd=f"{folder}/../..",
+                         stdin=subprocess.DEVNULL, stdout=subprocess.PIPE, stderr=subprocess.STDOUT,
+                         universal_newlines=True, check=False)
+    return ran.returncode, dict(re.findall(rf"^{CRATE}/(\w+): ([a-zA-Z ]+): ", ran.stdout, re.M)), ran.stdout
 
 
 def main():
@@ -86,24 +74,24 @@ def main():
         if found != wanted:
             failures.append(f"{name}: {found}, not {wanted}")
 
-    check("what refuses", [bool(re.search(wrong_bodies.REFUSED.format("vbi_line::f"), line)) for line, _ in LINES],
+    check("what refuses", [bool(re.search(REFUSED.format("vbi_line::f"), line)) for line, _ in LINES],
           [refuses for _, refuses in LINES])
     with tempfile.TemporaryDirectory(prefix="wrong-bodies-trials-", dir=top) as room:
-        copy = copy_of_crate(top, room)
+        folder = copy_of_crate(top, room)
         for name, file, old, new, _ in EDITS:
-            with open(f"{copy}/crates/{CRATE}/must-fail/{name}.edit", "w", encoding="utf-8") as edit:
-                edit.write(f"file: {file}\nold: {old}\nnew: {new}\n")
-        with open(f"{copy}/crates/{CRATE}/{wrong_bodies.REFUSES}", "w", encoding="utf-8") as rows:
-            rows.writelines(f"| `{name}` | `{function}` |\n" for name, function in ROWS)
-        status, said, text = verdicts(top, copy)
+            write(f"{folder}/{FOLDER}/{name}.edit", f"file: {file}\nold: {old}\nnew: {new}\n")
+        write(f"{folder}/{REFUSES}", "".join(f"| `{name}` | `{function}` |\n" for name, function in ROWS))
+        status, said, text = verdicts(top, folder)
         check("the edits", said, {**{name: verdict for name, _, _, _, verdict in EDITS}, **WITHOUT_EDIT})
         check("the edits, status", status, 1)
         check("the edits, last line", text.split("\n")[-2],
               "wrong bodies: 1 refused (1 by a goal, 0 by a written proof, 0 by a name alone), 7 not")
-        copy = copy_of_crate(top, room)
+        folder = copy_of_crate(top, room)
         _, file, old, new, _ = EDITS[0]
-        changed(f"{copy}/crates/{CRATE}/{file}", old, new)
-        status, said, text = verdicts(top, copy)
+        text = read(f"{folder}/{file}")
+        assert text.count(old) == 1, old
+        write(f"{folder}/{file}", text.replace(old, new))
+        status, said, text = verdicts(top, folder)
         check("a crate that isn't proved, status", status, 1)
         check("a crate that isn't proved", f"{CRATE}: not proved as it stands" in text, True)
     for failure in failures:

@@ -6,12 +6,11 @@ import json
 import os
 import pty
 import shlex
-import sqlite3
 import subprocess
 import sys
 
 import ldvbi
-from cases import InFolder
+from cases import InFolder, in_database
 from streams import NTSC, PROGRAM, pictures, write_stream
 
 COMMAND = [sys.executable, "-m", "ldvbi_side"]
@@ -98,10 +97,8 @@ class Commands(InFolder):
 
     def database(self, name):
         """The same in SQLite, without fields."""
-        with contextlib.closing(sqlite3.connect(self.named(name))) as database:
-            database.execute("CREATE TABLE capture (system TEXT, black_16b_ire INTEGER, white_16b_ire INTEGER)")
-            database.execute("INSERT INTO capture VALUES ('NTSC', 16384, 51200)")
-            database.commit()
+        form = "CREATE TABLE capture (system TEXT, black_16b_ire INTEGER, white_16b_ire INTEGER)"
+        in_database(self.named(name), form, "INSERT INTO capture VALUES ('NTSC', 16384, 51200)")
 
 
 class Runs(Commands):

@@ -4,12 +4,11 @@ import json
 import os
 import resource
 import signal
-import subprocess
 import sys
 import time
 
 from cases import in_database
-from command_runs import DEADLINE, NO_METADATA, SIZE, Runs
+from command_runs import COMMAND, DEADLINE, IN_PLACE, NO_METADATA, SIZE, Runs
 from streams import NTSC, pictures, worn_line, write_stream
 from test_into_rows import FORM
 
@@ -25,7 +24,7 @@ class Copies(Runs):
     def metadata(self, count, name="side.tbc.json", **more):
         fields = [{"seqNo": place, "diskLoc": place / 3, "isFirstField": place % 2 == 0, **more}
                   for place in range(1, count + 1)]
-        self.write(name, json.dumps({"videoParameters": PARAMETERS, "fields": fields}).encode())
+        self.write(name, json.dumps({"videoParameters": PARAMETERS, "fields": fields}))
 
     def database(self, count, name="side.tbc.db"):
         in_database(self.path(name), *FORM.split(";"), *(
@@ -48,7 +47,7 @@ class Words(Copies):
     def test_the_words_of_the_document(self):
         """An older copy keeps its mode."""
         self.database(12)
-        before = {name: self.read(name) for name in self.names()}
+        before = self.files()
         wanted = self.words_of("side.vbi.json")
         for name, texts in (("copy.db", ("side.tbc --meta side.tbc.db", "side.tbc LEVELS --meta side.tbc.db",
                                          "side.vbi.json --meta side.tbc.db")),
@@ -60,7 +59,7 @@ class Words(Copies):
                 self.assertEqual(self.copied(words, name), wanted)
                 before.setdefault(name, self.read(name))
             self.assertEqual(os.stat(self.path(name)).st_mode & 0o777, 0o640)
-        self.assertEqual({name: self.read(name) for name in self.names()}, before)
+        self.assertEqual(self.files(), before)
 
     def test_all_else_stays_as_it_was(self):
         """Numbers as they are written, ends of lines and other letters."""
@@ -136,20 +135,18 @@ class Refused(Copies):
                             ("side.vbi.json", "side.vbi.json: no metadata is looked for beside a name that doesn't end "
                              "with .tbc")):
             self.refused(text + "; give the metadata to copy by --meta", words + " --into copy")
-        run = subprocess.run(["sh", "-c", 'cat other | "$0" -m ldvbi_side side.vbi.json --meta /dev/stdin --into copy',
-                              sys.executable], cwd=self.folder, stdout=subprocess.PIPE, stderr=subprocess.PIPE,
-                             timeout=DEADLINE, check=False)
-        self.assertEqual(run.stderr, b"ldvbi-side: /dev/stdin is no file that can be copied\n")
+        through_pipe = ["sh", "-c", 'cat other | "$@"', "sh", *COMMAND]
+        self.assertEqual(self.run_command("side.vbi.json --meta /dev/stdin --into copy", command=through_pipe)[2],
+                         "ldvbi-side: /dev/stdin is no file that can be copied\n")
         self.assertNotIn("copy", self.names())
 
     def test_onto_an_input(self):
         os.link(self.path("side.tbc.json"), self.path("hard"))
-        before = {name: self.read(name) for name in self.names()}
+        before = self.files()
         for name, words in (("side.tbc", ""), ("hard", ""), ("copy", "--svg copy "), ("rows.db", "--meta rows.db "),
                             ("rows.db-wal", "--meta rows.db "), ("rows.db-journal", "--meta rows.db ")):
-            self.refused(name + " would be written in the place of an input or of another output",
-                         "side.tbc %s--into %s" % (words, name))
-        self.assertEqual({name: self.read(name) for name in self.names()}, before)
+            self.refused(IN_PLACE % name, "side.tbc %s--into %s" % (words, name))
+        self.assertEqual(self.files(), before)
 
     def test_a_database_that_is_in_use(self):
         for end in ("-journal", "-wal", "-shm"):
@@ -179,15 +176,14 @@ class Interrupted(Copies):
         self.database(12)
         for meta in ("side.tbc.json", "side.tbc.db"):
             before = self.names()
-            process = subprocess.Popen([sys.executable, "-c", WAITING, "side.tbc", "--meta", meta, "--into", "copy"],
-                                       cwd=self.folder, stdout=subprocess.PIPE, stderr=subprocess.PIPE)
+            process = self.started("side.tbc", "--meta", meta, "--into", "copy",
+                                   command=[sys.executable, "-c", WAITING])
             end = time.monotonic() + DEADLINE
             while self.names() == before and time.monotonic() < end:
                 time.sleep(0.001)
             self.assertEqual([name for name in self.names() if name not in before], ["copy.%d.part" % process.pid])
             process.send_signal(signal.SIGINT)
-            text, said = process.communicate(timeout=DEADLINE)
-            self.assertEqual((process.returncode, text, said), (130, b"", b""))
+            self.ended(process, 130)
             self.assertEqual(self.names(), before)
 
 

@@ -2,7 +2,7 @@
 
 import json
 
-from command_runs import NO_METADATA, Runs
+from command_runs import IN_PLACE, NO_METADATA, Runs
 from streams import NTSC, pictures, write_stream
 
 
@@ -48,8 +48,7 @@ class Joins(Runs):
         self.assertEqual(self.read("page.html"), page)
 
     def test_refused(self):
-        self.refused("other.tbc would be written in the place of an input or of another output",
-                     "join side.vbi.json other.tbc --html other.tbc")
+        self.refused(IN_PLACE % "other.tbc", "join side.vbi.json other.tbc --html other.tbc")
         self.refused(NO_METADATA, "join side.vbi.json side.tbc")
         for words in ("join side.vbi.json", "join side.vbi.json other.tbc --csv --ranges"):
             self.assertEqual(self.run_command(words)[:2], (2, b""))
