@@ -17,7 +17,9 @@
 
 with_python
 
-# The examples; a player has at most 60 lines
+# The examples, of which some answer alike; a player has at most 60 lines
+seek='seek seek.py'
+player='player player_cpp player.py'
 for name in seek.c stops.c player.c pixels.c; do
     check "$name is built" does $cc -std=c99 $strict -o ${name%.c} "$top/examples/$name" $linked
 done
@@ -27,37 +29,39 @@ done
 for name in player.c player.cpp player.py; do
     check "$name has at most 60 lines" [ "$(wc -l < "$top/examples/$name")" -le 60 ]
 done
-# called_alone NAME: what runs an example
-called_alone() {
-    case $1 in *.py) echo "python3 $top/examples/$1" ;; *) echo "./$1" ;; esac
-}
-# called NAME SIDE WORD..: makes `command` of what runs this example on this side
-called() {
-    example=$1
-    on_file=$2.tbc
-    shift 2
-    case $example in
-        stops*) command="sh -c './$example $* < $on_file'" ;;
-        *) command="$(called_alone $example) $on_file $*" ;;
-    esac
-}
-# examples_of KIND: those that answer alike
-examples_of() {
-    case $1 in
-        seek) echo seek seek.py ;;
-        player) echo player player_cpp player.py ;;
-        *) echo $1 ;;
-    esac
-}
 # said_by EXAMPLE: the name by which an example speaks
 said_by() {
     case $1 in *.py) echo $1 ;; *) echo ${1%_cpp} ;; esac
 }
+# usage_of EXAMPLE: what it says where the words are too few or too many
+usage_of() {
+    on="$(said_by $1) FILE NTSC|PAL BLACK WHITE"
+    case $1 in
+        stops*) echo 'usage: stops NTSC|PAL BLACK WHITE < FILE' ;;
+        seek*) echo "usage: $on NUMBER|H:MM:SS.PP|chapter N" ;;
+        player*) echo "usage: $on search N|play .." ;;
+    esac
+}
+# called NAME [SIDE WORD..]: makes `command` of what runs this example, on this side
+called() {
+    example=$1
+    command=./$1
+    case $1 in *.py) command="python3 $top/examples/$1" ;; esac
+    [ $# -gt 1 ] || return 0
+    on_file=$2.tbc
+    shift 2
+    case $example in
+        stops*) command="sh -c 'exec $command $* < $on_file'" ;;
+        *) command="$command $on_file $*" ;;
+    esac
+}
 # answers_so STATUS OUT SAID: whether the command ends with this status, and writes these lines, which ; parts. It says
-# nothing, or this line behind its name, or one of its own where that is *.
+# nothing, or this line behind its name, or one of its own where that is *, or its usage.
 answers_so() {
+    line=$3
+    [ "$line" != usage ] || line=$(usage_of $example)
     printf '%s' "${2:+$2;}" | tr ';' '\n' > wanted_out
-    said_line "${3:+$(said_by $example): $3}"
+    said_line "${line:+$(said_by $example): $line}"
     status=0
     eval "bounded $command" < empty > out 2> err || status=$?
     [ "$status" = "$1" ] && cmp -s out wanted_out || return
@@ -66,50 +70,23 @@ answers_so() {
 
 # Discs by the standards' lines: stops and marks where the number is on line 18 alone, and lines 17 and 18 that differ,
 # on a side whose numbers can be judged, and on some that have too few for that
-draws() {
-    run_inheriting draw ${2:-$ntsc} -
-    cp out "$1.tbc"
-}
 discs
 : > empty.tbc
-draws stops << 'WORDS'
-- F00001 F00001
-- 800DDD 800DDD
-- F00002 F00007
-- 800DDD 800DDD
-82CFFF 82CFFF F00003
-- 801DDD 801DDD
-- F00004 -
-82CFFF 801DDD 801DDD
-82CFFF F00005 F00005
-- 802DDD 802DDD
-- - 82CFFF
-80EEEE 80EEEE 80EEEE
-WORDS
-draws marks "$pal" << 'WORDS'
-8AE000 87FFFF F0DD00
-- 800DDD 800DDD
-8AE001 F0DD00 F0DD00
-8AE002 F0DD00 F0DD01
-8AE003 87FFFF F1DD09
-WORDS
-printf '%s\n' '- F00001 F00001' '- 800DDD 800DDD' '- F00002 F00007' | draws few
-printf '%s\n' '82CFFF F00002 F00007' '82CFFF F00003 F00003' | draws differ
-printf '%s\n' '- F00001 F00001' '82CFFF - -' '82CFFF F00002 F00002' '82CFFF F00002 F00002' '82CFFF F00003 F00003' \
-    '82CFFF - -' '- F00004 -' '- F00004 -' | draws both
+while IFS='|' read -r name options rows; do
+    echo "$rows" | tr ';' '\n' | bounded "$program" draw $options - > $name.tbc
+done << END
+few|$ntsc|- F00001 F00001;- 800DDD 800DDD;- F00002 F00007
+differ|$ntsc|82CFFF F00002 F00007;82CFFF F00003 F00003
+both|$ntsc|- F00001 F00001;82CFFF - -;82CFFF F00002 F00002;82CFFF F00002 F00002;82CFFF F00003 F00003;82CFFF - -\
+;- F00004 -;- F00004 -
+stops|$ntsc|- F00001 F00001;- 800DDD 800DDD;- F00002 F00007;- 800DDD 800DDD;82CFFF 82CFFF F00003;- 801DDD 801DDD\
+;- F00004 -;82CFFF 801DDD 801DDD;82CFFF F00005 F00005;- 802DDD 802DDD;- - 82CFFF;80EEEE 80EEEE 80EEEE
+marks|$pal|8AE000 87FFFF F0DD00;- 800DDD 800DDD;8AE001 F0DD00 F0DD00;8AE002 F0DD00 F0DD01;8AE003 87FFFF F1DD09
+END
 # Both fields of pictures 3 and 5 have the stop, and line 16 of picture 2 has one in pass 2, since a run in it is black
-signal NTSC 1 << 'WORDS' | ntsc_samples > once.tbc
--|F00001|F00001
--|800DDD|800DDD
-82CFFF @170-171L|F00002|F00002
--|800DDD|800DDD
-82CFFF|82CFFF|F00003
-82CFFF|82CFFF|800DDD
--|F00004|F00004
--|800DDD|800DDD
-82CFFF|82CFFF|F00005
-82CFFF|82CFFF|800DDD
--|F00006|F00006
+tr ' ' '\n' << 'WORDS' | sed 's/@/82CFFF @170-171L/' | signal NTSC 1 | ntsc_samples > once.tbc
+-|F00001|F00001 -|800DDD|800DDD @|F00002|F00002 -|800DDD|800DDD 82CFFF|82CFFF|F00003 82CFFF|82CFFF|800DDD
+-|F00004|F00004 -|800DDD|800DDD 82CFFF|82CFFF|F00005 82CFFF|82CFFF|800DDD -|F00006|F00006
 WORDS
 # A worn side, where no line shows its word: whoever finds one has recovered it. A stop on line 16 alone isn't enough.
 awk 'BEGIN { for (picture = 1; picture <= 24; picture++) {
@@ -130,72 +107,107 @@ bounded sh "$top/examples/side.sh" "$program"
 for part in 4_32760 4_478659 5_1 8_32760 8_478659 0_1; do
     head -c $((478660 * ${part%_*} + ${part#*_})) stops.tbc > stops_$part.tbc
 done
+
+# What examples are asked: their status, what they write, the side, the words, which ; parts, and what is said. In place
+# of @ stand the side's system and levels.
 cut='the last field is cut: field'
 few='of this side is supported by those around it, so this is what the lines say'
-
-# Examples, the status, what is written, what is said, and the words
-while IFS='|' read -r kind ended text said side words; do
+is_a_picture='neither a picture from 0 to 79999, a time as 0:59:29.07, nor a chapter from 0 to 79'
+awk -F '|' -v OFS='|' '{ count = split($5, words, ";"); for (i = 1; i <= count; i++) { $5 = words[i]; print } }' \
+    > rows << END
+$seek|0|field 5|stops|@ 3|
+$seek|0|field 7|stops|@ 4|
+$seek|1|not found|stops|@ chapter 3|
+$seek|1|not found|few|@ 2;@ 7|
+$seek|3|field 1|few|@ 1|no number $few
+$seek|3|field 1|marks|@ 0:00:00.00|no number $few
+$seek|1|not found|marks|@ 0:00:00.02|
+$seek|3|field 5|marks|@ 1:09:00.03|no number $few
+$seek|3|field 7|clv|@ 0:1:0.0|no number $few
+$seek|3|field 8|clv|@ chapter 1|no chapter $few
+$seek|1|not found|clv|@ 9:59:59.99|
+$seek|1|not found|cav|@ 79999|
+$seek|1|not found|empty|@ 3|
+$seek|0|field 23|worn|@ 12|
+$seek|0|field 2|worn|@ chapter 0|
+$seek|1|not found|stops_4_478659|@ 3|$cut 5 has 478659 of 478660 bytes
+$seek|0|field 5|stops_8_32760|@ 3|$cut 9 has 32760 of 478660 bytes
+$seek|2||cav|@;@ chapter 3 4;@ 3 4;@ 3 chapter|usage
+$seek|2||cav|SECAM 16384 51200 3;pal 1 2 3|system is neither NTSC nor PAL
+$seek|2||cav|1 16384 51200 3;NTSC 51200 16384 3;NTSC 16384 16384 3;NTSC 81920 90000 3;NTSC 16384 81920 3|*
+$seek|2||cav|NTSC 16384 4294967297 3;NTSC -1 51200 3;NTSC 16384 +51200 3;NTSC 16384x 51200 3|*
+$seek|2||cav|NTSC 16384 99999999999999999999 3|*
+$seek|2||cav|@ xyz;@ 3x;@ -3;@ 80000;@ 4294967299|$is_a_picture
+$seek|2||cav|@ 0:00:60.00;@ 0:100:00.00;@ 0:00:00.100;@ 10:00:00.00;@ 0:00:00;@ 0:00:00.00.00|$is_a_picture
+$seek|2||cav|@ chapter 80;@ chapter -1;@ chapter 3x;@ chapter 256;@ chapter 4294967299|$is_a_picture
+$seek|2||cav|@ chapter 0:00:00.00|$is_a_picture
+$seek|2||nowhere|@ 3|*
+$seek|2||empty|NTSC 51200 16384 3|*
+$seek|2||folder|@ 3|*
+$seek|2||null|@ 3|*
+stops_cpp|0|field 7 picture 3;field 8;2 stops|cav|@|
+stops_cpp|0|0 stops|clv|@|
+stops_cpp|0|0 stops|empty|@|
+stops_cpp|0|field 5 picture 3;field 8;field 9 picture 5;3 stops|stops|@|
+stops_cpp|0|field 1;field 2 picture 3;2 stops|differ|@|
+stops_cpp|0|field 5 picture 3;field 6;field 9 picture 5;field 10;4 stops|once|@|
+stops_cpp|0|field 3 picture 2;field 21 picture 11;field 39 picture 20;3 stops|worn|@|
+stops_cpp|0|field 13 picture 6;field 21 picture 9;2 stops|film|@|
+stops_cpp|0|0 stops|stops_4_32760|@|$cut 5 has 32760 of 478660 bytes
+stops_cpp|0|0 stops|stops_4_478659|@|$cut 5 has 478659 of 478660 bytes
+stops_cpp|0|field 5 picture 3;1 stops|stops_5_1|@|$cut 6 has 1 of 478660 bytes
+stops_cpp|0|field 5 picture 3;field 8;2 stops|stops_8_32760|@|$cut 9 has 32760 of 478660 bytes
+stops_cpp|0|field 5 picture 3;field 8;2 stops|stops_8_478659|@|$cut 9 has 478659 of 478660 bytes
+stops_cpp|0|0 stops|stops_0_1|@|$cut 1 has 1 of 478660 bytes
+stops|0|field 7;field 8;2 stops|cav|@|
+stops|0|field 5;field 8;field 9;3 stops|stops|@|
+stops|0|field 5;1 stops|stops_5_1|@|$cut 6 has 1 of 478660 bytes
+stops|0|field 3;field 21;field 39;3 stops|worn|@|
+stops|0|0 stops|empty|@|
+stops|2||folder|@|Is a directory
+stops_cpp|2||folder|@|standard input: Is a directory
+stops stops_cpp|2||cav|@ cav.tbc|usage
+stops stops_cpp|2||cav|NTSC 51200 16384;SECAM 16384 51200;pal 16384 51200;NTSC 16384 81920;NTSC -1 51200|*
+stops stops_cpp|2||cav|NTSC 16384 xyz;NTSC 16384 4294967297;NTSC 16384 99999999999999999999|*
+$player|1|search: field 65 picture 30;play: field 97 picture 46;search: not found|side|@ search 30 play search 79999|
+$player|0|search: field 49 picture 22;search: field 21 picture 7;play: field 33 picture 17|side\
+|@ search 22 search 7 play|
+$player|0|search: field 1 picture 1;play: field 5 picture 3;play: field 8|stops|@ search 1 play play|
+$player|1|search: field 7 picture 4;play: field 8;play: field 9 picture 5;play: not found|stops\
+|@ search 4 play play play|
+$player|1|play: field 5 picture 3;play: field 9 picture 5;play: not found|once|@ play play play|
+$player|1|play: field 2;play: field 3 picture 2;play: field 5 picture 3;play: not found|both|@ play play play play|
+$player|0|play: field 13 picture 6;play: field 21 picture 9|film|@ play play|
+$player|0|play: field 23 picture 112;play: field 35 picture 118|misread|@ play play|
+$player|0|search: field 23 picture 12;play: field 39 picture 20|worn|@ search 12 play|
+$player|1|search: not found|clv|@ search 3|
+$player|1|play: not found|stops_4_478659|@ play|
+$player|2||cav|@|usage
+$player|2||cav|NTSC 51200 16384 search 3;SECAM 16384 51200 search 3;pal 16384 51200 search 3|*
+$player|2||cav|NTSC 16384 81920 search 3;NTSC 16384 xyz search 3;NTSC 16384 4294967297 search 3|*
+$player|2||cav|NTSC 16384 99999999999999999999 search 3;@ search 3x;@ search;@ stop|*
+$player|2||nowhere|@ play|*
+$player|2||empty|@ play|*
+$player|2||folder|@ play|*
+END
+while IFS='|' read -r examples ended text side words said; do
     on=$on_cav
     case $side in clv | marks) on=$on_clv ;; esac
-    for name in $(examples_of $kind); do
-        called $name $side $on $words
+    for name in $examples; do
+        called $name $side $(echo "$words" | sed "s/@/$on/")
         check "$name $side $words" answers_so $ended "$text" "$said"
     done
-done << END
-seek|0|field 5||stops|3
-seek|0|field 7||stops|4
-seek|1|not found||stops|chapter 3
-seek|1|not found||few|2
-seek|1|not found||few|7
-seek|3|field 1|no number $few|few|1
-seek|3|field 1|no number $few|marks|0:00:00.00
-seek|1|not found||marks|0:00:00.02
-seek|3|field 5|no number $few|marks|1:09:00.03
-seek|3|field 7|no number $few|clv|0:1:0.0
-seek|3|field 8|no chapter $few|clv|chapter 1
-seek|1|not found||clv|9:59:59.99
-seek|1|not found||cav|79999
-seek|1|not found||empty|3
-seek|0|field 23||worn|12
-seek|0|field 2||worn|chapter 0
-seek|1|not found|$cut 5 has 478659 of 478660 bytes|stops_4_478659|3
-seek|0|field 5|$cut 9 has 32760 of 478660 bytes|stops_8_32760|3
-stops_cpp|0|field 7 picture 3;field 8;2 stops||cav|
-stops_cpp|0|0 stops||clv|
-stops_cpp|0|0 stops||empty|
-stops_cpp|0|field 5 picture 3;field 8;field 9 picture 5;3 stops||stops|
-stops_cpp|0|field 1;field 2 picture 3;2 stops||differ|
-stops_cpp|0|field 5 picture 3;field 6;field 9 picture 5;field 10;4 stops||once|
-stops_cpp|0|field 3 picture 2;field 21 picture 11;field 39 picture 20;3 stops||worn|
-stops_cpp|0|field 13 picture 6;field 21 picture 9;2 stops||film|
-stops_cpp|0|0 stops|$cut 5 has 32760 of 478660 bytes|stops_4_32760|
-stops_cpp|0|0 stops|$cut 5 has 478659 of 478660 bytes|stops_4_478659|
-stops_cpp|0|field 5 picture 3;1 stops|$cut 6 has 1 of 478660 bytes|stops_5_1|
-stops_cpp|0|field 5 picture 3;field 8;2 stops|$cut 9 has 32760 of 478660 bytes|stops_8_32760|
-stops_cpp|0|field 5 picture 3;field 8;2 stops|$cut 9 has 478659 of 478660 bytes|stops_8_478659|
-stops_cpp|0|0 stops|$cut 1 has 1 of 478660 bytes|stops_0_1|
-stops|0|field 7;field 8;2 stops||cav|
-stops|0|field 5;field 8;field 9;3 stops||stops|
-stops|0|field 5;1 stops|$cut 6 has 1 of 478660 bytes|stops_5_1|
-stops|0|field 3;field 21;field 39;3 stops||worn|
-stops|0|0 stops||empty|
-player|1|search: field 65 picture 30;play: field 97 picture 46;search: not found||side|search 30 play search 79999
-player|0|search: field 49 picture 22;search: field 21 picture 7;play: field 33 picture 17||side|search 22 search 7 play
-player|0|search: field 1 picture 1;play: field 5 picture 3;play: field 8||stops|search 1 play play
-player|1|search: field 7 picture 4;play: field 8;play: field 9 picture 5;play: not found||stops|search 4 play play play
-player|1|play: field 5 picture 3;play: field 9 picture 5;play: not found||once|play play play
-player|1|play: field 2;play: field 3 picture 2;play: field 5 picture 3;play: not found||both|play play play play
-player|0|play: field 13 picture 6;play: field 21 picture 9||film|play play
-player|0|play: field 23 picture 112;play: field 35 picture 118||misread|play play
-player|0|search: field 23 picture 12;play: field 39 picture 20||worn|search 12 play
-player|1|search: not found||clv|search 3
-player|1|play: not found||stops_4_478659|play
-END
+done < rows
+for name in $seek $player; do
+    called $name
+    check "$name: without words" answers_so 2 '' usage
+done
 
 # Sides as long as one block of fields or two, or a field shorter or longer: the last picture is found. The pages are
 # asked for a block of 64 fields ahead, those with lines 16 to 18 of each field once; the last block is as long as what
 # is left.
-awk 'BEGIN { for (field = 1; field <= 129; field++) printf "- F%05d -\n", (field + 1) / 2 }' | draws long
+awk 'BEGIN { for (field = 1; field <= 129; field++) printf "- F%05d -\n", (field + 1) / 2 }' |
+    bounded "$program" draw $ntsc - > long.tbc
 for fields in 63 64 65 127 128; do
     head -c $((478660 * fields)) long.tbc > part.tbc
     for name in seek seek.py; do
@@ -226,98 +238,6 @@ check 'seek: a file that cannot be mapped' refuses 'seek: great.tbc: Cannot allo
 check 'seek: no memory' refuses 'seek: Cannot allocate memory' sh -c "ulimit -d 4000 && exec ./seek great.tbc $on_cav 3"
 rm great.tbc
 
-# What is refused: the words behind the side, and what is said, where that isn't any line
-is_a_picture='neither a picture from 0 to 79999, a time as 0:59:29.07, nor a chapter from 0 to 79'
-while IFS='|' read -r kind side words said; do
-    for name in $(examples_of $kind); do
-        called $name "$side" $words
-        check "$name $side $words, refused" answers_so 2 '' "${said:-*}"
-    done
-done << END
-seek|cav|NTSC 51200 16384 3|
-seek|cav|SECAM 16384 51200 3|system is neither NTSC nor PAL
-seek|cav|pal 1 2 3|system is neither NTSC nor PAL
-seek|cav|1 16384 51200 3|
-seek|cav|NTSC 16384 16384 3|
-seek|cav|NTSC 81920 90000 3|
-seek|cav|NTSC 16384 81920 3|
-seek|cav|NTSC 16384 4294967297 3|
-seek|cav|NTSC -1 51200 3|
-seek|cav|NTSC 16384 +51200 3|
-seek|cav|NTSC 16384x 51200 3|
-seek|cav|NTSC 16384 99999999999999999999 3|
-seek|cav|$on_cav xyz|$is_a_picture
-seek|cav|$on_cav 3x|$is_a_picture
-seek|cav|$on_cav -3|$is_a_picture
-seek|cav|$on_cav 80000|$is_a_picture
-seek|cav|$on_cav 4294967299|$is_a_picture
-seek|cav|$on_cav 0:00:60.00|$is_a_picture
-seek|cav|$on_cav 0:100:00.00|$is_a_picture
-seek|cav|$on_cav 0:00:00.100|$is_a_picture
-seek|cav|$on_cav 10:00:00.00|$is_a_picture
-seek|cav|$on_cav 0:00:00|$is_a_picture
-seek|cav|$on_cav 0:00:00.00.00|$is_a_picture
-seek|cav|$on_cav chapter 80|$is_a_picture
-seek|cav|$on_cav chapter -1|$is_a_picture
-seek|cav|$on_cav chapter 3x|$is_a_picture
-seek|cav|$on_cav chapter 256|$is_a_picture
-seek|cav|$on_cav chapter 4294967299|$is_a_picture
-seek|cav|$on_cav chapter 0:00:00.00|$is_a_picture
-seek|nowhere|$on_cav 3|
-seek|empty|NTSC 51200 16384 3|
-seek|folder|$on_cav 3|
-seek|null|$on_cav 3|
-player|folder|$on_cav play|
-stops|folder|$on_cav|Is a directory
-stops_cpp|folder|$on_cav|standard input: Is a directory
-player|cav|NTSC 51200 16384 search 3|
-player|cav|SECAM 16384 51200 search 3|
-player|cav|pal 16384 51200 search 3|
-player|cav|NTSC 16384 81920 search 3|
-player|cav|NTSC 16384 xyz search 3|
-player|cav|NTSC 16384 4294967297 search 3|
-player|cav|NTSC 16384 99999999999999999999 search 3|
-player|cav|$on_cav search 3x|
-player|cav|$on_cav search|
-player|cav|$on_cav stop|
-player|nowhere|$on_cav play|
-player|empty|$on_cav play|
-stops|cav|NTSC 51200 16384|
-stops|cav|SECAM 16384 51200|
-stops|cav|NTSC 16384 81920|
-stops|cav|NTSC 16384 4294967297|
-stops|cav|NTSC -1 51200|
-stops_cpp|cav|NTSC 51200 16384|
-stops_cpp|cav|pal 16384 51200|
-stops_cpp|cav|NTSC 16384 81920|
-stops_cpp|cav|NTSC 16384 xyz|
-stops_cpp|cav|NTSC -1 51200|
-stops_cpp|cav|NTSC 16384 4294967297|
-stops_cpp|cav|NTSC 16384 99999999999999999999|
-END
-for name in seek seek.py player player_cpp player.py; do
-    spoken=$(said_by $name)
-    usage="usage: $spoken FILE NTSC|PAL BLACK WHITE search N|play .."
-    case $name in seek*) usage="usage: $spoken FILE NTSC|PAL BLACK WHITE NUMBER|H:MM:SS.PP|chapter N" ;; esac
-    example=$name
-    command=$(called_alone $name)
-    check "$name: without words" answers_so 2 '' "$usage"
-    called $name cav $on_cav
-    check "$name: without what is sought" answers_so 2 '' "$usage"
-done
-for name in seek seek.py; do
-    spoken=$(said_by $name)
-    for words in 'chapter 3 4' '3 4' '3 chapter'; do
-        called $name cav $on_cav $words
-        check "$name: the words $words" answers_so 2 '' \
-            "usage: $spoken FILE NTSC|PAL BLACK WHITE NUMBER|H:MM:SS.PP|chapter N"
-    done
-done
-for name in stops stops_cpp; do
-    called $name cav $on_cav cav.tbc
-    check "$name: a word too many" answers_so 2 '' 'usage: stops NTSC|PAL BLACK WHITE < FILE'
-done
-
 # ends_unread: whether the command ends and says nothing where nobody reads what it prints
 ends_unread() {
     rm -f pipe
@@ -335,7 +255,7 @@ for name in seek seek.py player player_cpp player.py stops stops_cpp pixels; do
     case $name in
         seek*) called $name cav $on_cav 3 ;;
         player*) called $name cav $on_cav search 3 play ;;
-        stops*) command="sh -c 'exec ./$name $on_cav < cav.tbc'" ;;
+        stops*) called $name cav $on_cav ;;
         pixels) command="sh -c 'exec ./pixels NTSC 16 235 < lines.y8'" ;;
     esac
     check "$name: its output isn't read" ends_unread
