@@ -20,13 +20,17 @@ and x9 behind one of these has each nine times. The others change the fields tha
     +41=Bx10                  others before field 41
     ~11                       fields 11 and 12 in each other's place
 
+Its system may stand before it, and behind a / whether its parity is known: by turns with NTSC/0; with PAL/40 field 40
+is a first field or a second one as field 39 is; with PAL/1 a side begins with a second field.
+
 An answer is a text of members, each with what it is (`of_member`): nothing where it is empty, or x6 where it has six;
 where `..` stands at the end or the beginning, it begins or ends so."""
 
 import re
 import sys
 
-from discs import BLANK, LEAD_IN, LEAD_OUT, STOP, chapter, film, item, minutes, picture, pictures, plain, second, times
+from discs import (BLANK, LEAD_IN, LEAD_OUT, STOP, answer, chapter, film, item, minutes, picture, pictures, plain,
+                   second, times)
 from ldvbi_side.judge.answer import analyse
 
 NAMED = {"L": LEAD_IN, "O": LEAD_OUT, "B": BLANK, "?": "- ? ?", "C": "- 800DDD 800DDD"}
@@ -42,18 +46,15 @@ PLACES = r"(\d+)(?::(\d+)(?:/(\d+))?)?"
 CHANGE, GONE = re.compile(PLACES + r"(?:\.(\d\d))?=(.+)"), re.compile("-" + PLACES)
 
 
+WORDS = {"#": lambda text: picture(int(text)), "c": lambda text: chapter(int(text)),
+         "@": lambda text: minutes(*map(int, text.split(":"))), "s": lambda text: second(*map(int, text.split(".")))}
+
+
 def word_of(text):
     """An item of a row."""
-    kind, number, end = text[0], text[1:].rstrip("*^"), text[len(text.rstrip("*^")):]
-    if kind == "#":
-        return picture(int(number)) + end
-    if kind == "c":
-        return chapter(int(number)) + end
-    if kind == "@":
-        return minutes(*map(int, number.split(":"))) + end
-    if kind == "s":
-        return second(*map(int, number.split("."))) + end
-    return {"S": STOP, "M": "87FFFF"}.get(kind, text.rstrip("*^")) + end
+    word = text.rstrip("*^")
+    found = WORDS[word[0]](word[1:]) if word[0] in WORDS else {"S": STOP, "M": "87FFFF"}.get(word, word)
+    return found + text[len(word):]
 
 
 def fields_of(part, rate):
@@ -87,7 +88,7 @@ def rows(text, rate=25):
         elif part[0] == "+":
             place, _, more = part[1:].partition("=")
             found[int(place) - 1:int(place) - 1] = fields_of(more, rate)
-        elif part[0] == "~":
+        elif part[0] == "~" and "/" not in part:
             place = int(part[1:])
             found[place - 1:place + 1] = found[place], found[place - 1]
         elif change:
@@ -105,6 +106,20 @@ def rows(text, rate=25):
 def words_of(text, rate=25):
     """The words of the lines of each field of a side, which `streams` draws."""
     return [[item(part)[0] for part in row.split()] for row in rows(text, rate)]
+
+
+def made(text, make=answer, **more):
+    """What `make` of discs.py makes of the side with this text."""
+    head, _, parts = text.partition(" ")
+    system, slash, alike = head.partition("/")
+    if system not in ("NTSC", "PAL"):
+        system, slash, parts = "PAL", "", text
+    found = rows(parts, 30 if system == "NTSC" else 25)
+    firsts, is_first = [], False
+    for field in range(1, len(found) + 1):
+        is_first = is_first == (str(field) in alike.split(","))
+        firsts.append(is_first)
+    return make(found, system, firsts if slash else None, **more)
 
 
 def span(one, first="first", last="last"):
@@ -140,25 +155,23 @@ ITEMS = {
 ITEMS.update(leadOut=ITEMS["leadIn"], chapterConflicts=ITEMS["conflicts"])
 
 
+# Of `numbers` the count and the ends; the fields of what is doubtful; why numbers are missing; the summary's first line
+MEMBERS = {
+    "numbers": lambda found: "{count} {least} to {greatest}".format(**found["numbers"]),
+    "count": lambda found: str(found["numbers"]["count"]),
+    "shown": lambda found: ", ".join(str(number) for number, _, _ in found["showings"]),
+    "whys": lambda found: ", ".join(sorted({one["why"] for one in found["missing"] + found["leftOut"]})),
+    "aside": lambda found: ", ".join(str(one["field"]) for one in found["doubtful"]),
+    "levels": lambda found: found["levels"] and "{shows} {words} {bad} {blank} {field}/{line}".format(
+        **found["levels"]) or "", "said": lambda found: said_of(found)}
+
+
 def of_member(found, name):
-    """A member of an answer as a text; of `numbers` the count; the numbers that are shown, and that of field 15 (@15);
-    the fields of what is doubtful; why numbers are missing; and the first line of the summary."""
-    if name == "numbers":
-        return "{count} {least} to {greatest}".format(**found["numbers"])
-    if name == "count":
-        return str(found["numbers"]["count"])
-    if name == "shown":
-        return ", ".join(str(number) for number, _, _ in found["showings"])
+    """A member of an answer as a text; with @15 the number of field 15."""
     if name[0] == "@":
         return ", ".join(str(number) for number, first, last in found["showings"] if first <= int(name[1:]) <= last)
-    if name == "whys":
-        return ", ".join(sorted({one["why"] for one in found["missing"] + found["leftOut"]}))
-    if name == "aside":
-        return ", ".join(str(one["field"]) for one in found["doubtful"])
-    if name == "said":
-        return said_of(found)
-    if name == "levels":
-        return found["levels"] and "{shows} {words} {bad} {blank} {field}/{line}".format(**found["levels"]) or ""
+    if name in MEMBERS:
+        return MEMBERS[name](found)
     return ", ".join(map(ITEMS[name], found[name])) if name in ITEMS else str(found[name])
 
 
@@ -176,23 +189,22 @@ def cells_of(table):
     return [[cell.strip() for cell in row.split(" | ")] for row in text.split("\n") if row.strip()]
 
 
-def check(test, table, system="PAL", **more):
-    """Each row has a name, a side, which may begin with its system, and members of its answer, behind a | each. What is
-    known or asked besides, `Fields` has."""
+def check(test, table, **more):
+    """Each row has a name, a side, and members of its answer, behind a | each. What is known or asked besides, `Fields`
+    has."""
     for name, side, *members in cells_of(table):
-        of_side = side.partition(" ")[0] if side.startswith(("NTSC", "PAL")) else system
-        fields = plain(rows(side.replace(of_side, "", 1), 30 if of_side == "NTSC" else 25), of_side)
-        found = analyse(fields._replace(**more))
+        found = analyse(made(side, plain)._replace(**more))
         with test.subTest(name):
             for member in members:
                 asked, _, wanted = member.partition(" ")
                 if asked == "no":
                     test.assertEqual({one: found[one] for one in wanted.split()}, dict.fromkeys(wanted.split(), []))
-                elif wanted[:1] == "x" and wanted[1:].isdigit():
-                    test.assertEqual(len(found[asked]), int(wanted[1:]), asked)
-                elif wanted[-2:] == "..":
-                    test.assertEqual(of_member(found, asked)[:len(wanted) - 2], wanted[:-2], asked)
-                elif wanted[:2] == "..":
-                    test.assertEqual(of_member(found, asked)[2 - len(wanted):], wanted[2:], asked)
+                elif re.fullmatch(r"x\d+", wanted):
+                    test.assertEqual("x%d" % len(found[asked]), wanted, asked)
                 else:
-                    test.assertEqual(of_member(found, asked), wanted, asked)
+                    said = of_member(found, asked)
+                    if wanted.endswith(".."):
+                        said = said[:len(wanted) - 2] + ".."
+                    elif wanted.startswith(".."):
+                        said = ".." + said[len(said) - len(wanted) + 2:]
+                    test.assertEqual(said, wanted, asked)

@@ -72,14 +72,6 @@ def times(numbers, rate=25):
     return rows
 
 
-def damaged(rows, places, change):
-    """These rows with others at these places."""
-    rows = list(rows)
-    for place in places:
-        rows[place] = change(rows[place])
-    return rows
-
-
 @functools.lru_cache(maxsize=None)  # many lines of a long side show the same
 def item(text):
     """The word, the pass and the cause of a line."""

@@ -2,10 +2,8 @@
 
 import unittest
 
-from compact import check, of_member, rows
-from discs import answer, picture
-from ldvbi_side.judge.answer import analyse
-from ldvbi_side.judge.readings import Fields
+from compact import check, made, of_member, rows
+from discs import answer
 
 
 class Cav(unittest.TestCase):
@@ -34,7 +32,7 @@ class Cav(unittest.TestCase):
         for every, pace in ((10, "film"), (11, "video"), (15, "video")):
             # the last picture's fields don't count: none comes behind it
             side = " ".join("%d%s" % (number, " C" * (number % every == 0)) for number in range(1, 6 * every + 2))
-            self.assertEqual(answer(rows(side), "NTSC")["pace"], pace, every)
+            self.assertEqual(made("NTSC " + side)["pace"], pace, every)
 
     def test_damage(self):
         """Picture n stands in field 2n - 1. Where both lines say another number, none is due there."""
@@ -53,26 +51,20 @@ class Cav(unittest.TestCase):
     line 17 without words | 1..100 1:200.17=? | count 100 | no missing | levels
     line 18 without words | 1..100 1:200.18=? | count 100 | no missing | levels
     """)
-        before, after = ({"field": 797, "number": 399}, {"field": 801, "number": 401})
-        one = answer(rows("1..600 799=79999"))["doubtful"][0]
-        self.assertEqual((one["before"], one["after"]), (before, after))
+        one = made("1..600 799=79999")["doubtful"][0]
+        self.assertEqual((one["before"], one["after"]), ({"field": 797, "number": 399}, {"field": 801, "number": 401}))
 
     def test_a_line_on_which_a_digit_is_always_wrong(self):
-        side = ["- %s %s" % (picture(number), picture(number + 1000)) if place == 0 else "- - -"
-                for number in range(1, 101) for place in range(2)]
-        found, = answer(side)["secondRows"]
+        side = " ".join("-/#%d/#%d B" % (number, number + 1000) for number in range(1, 101))
+        found, = made(side)["secondRows"]
         self.assertEqual((found["count"], found["weight"], found["against"]), (100, 200, 200))
         # with line 18 read on half of the side alone, line 17 has the greater weight
-        found = answer(side[:100] + [row[:row.rindex(" ")] + " -" for row in side[100:]])
-        self.assertEqual(of_member(found, "numbers"), "100 1 to 100")
-        self.assertEqual(of_member(found, "secondRows"), "1001-1050@1-99 50 100:100")
+        check(self, "half | %s 101:200.18=- | numbers 100 1 to 100 | secondRows 1001-1050@1-99 50 100:100" % side)
 
     def test_random_wrong_numbers_are_no_second_row(self):
-        side = rows("1..3000")
-        for place, number in enumerate(range(10, 3000, 20)):
-            side[2 * number - 2] = rows("%d" % (number + (2, 200, -7, 5000, 40, 8)[place % 6]))[0]
-        found = answer(side)
-        self.assertEqual((found["secondRows"], found["numbers"]["count"]), ([], 2850))
+        wrong = ["%d=%d" % (2 * number - 1, number + (2, 200, -7, 5000, 40, 8)[place % 6])
+                 for place, number in enumerate(range(10, 3000, 20))]
+        check(self, "random | 1..3000 %s | no secondRows | count 2850" % " ".join(wrong))
 
     def test_breaks(self):
         check(self, """
@@ -105,56 +97,36 @@ class Cav(unittest.TestCase):
     """)
 
 
-class Parity(unittest.TestCase):
-    TURNS = [True, False] * 32
-
-    def lost(self, side, first, wanted, system="PAL"):
-        found = answer(rows(side, 30 if system == "NTSC" else 25), system, first)
-        self.assertEqual(of_member(found, "lost"), wanted)
-        return found
-
-    def test_frames_begin_with_the_first_field_that_begins_one(self):
-        self.assertEqual(self.lost("1..30", self.TURNS[:60], "")["frameBegin"], 1)
-        found = self.lost("1..30 -1 S/-/-", self.TURNS[1:61], "")
-        self.assertEqual(found["frameBegin"], 2)
-        self.assertEqual(found["stops"], [{"field": 60, "frame": 30, "number": None, "lines": [16]}])
-
-    def test_two_fields_of_one_parity(self):
-        """What was lost by numbers and parity is known by both; of more than one it isn't known where."""
-        turns = self.TURNS[:60]
-        self.lost("1..30 -40", turns[:39] + turns[40:], "39-40 1 both")
-        self.lost("1..30 -41:43", turns[:40] + turns[43:], "39-42 3 both")
-        self.lost("1..30 -41:43", turns[:40] + [False, False] + turns[44:59], "39-42 3 both")  # and in these once more
-        self.lost("1..30 -41:43", None, "39-42 3 number")
-        # a clock may have left out a number
-        self.lost("t0..1 t3..4", [True, False, True, False] + [False, True] * 2, "3-5 2 undecided", "NTSC")
-        self.lost("1 Bx4 4", [True, False, True, True] + [False, True] * 2, "3-4 None parity")  # no number is near
-
-    def test_at_the_ends(self):
-        """Of the first and the last two fields; of fields that weren't read, as the side has fewer than metadata; and
-        before the first number or behind the last, where what is lost makes no side less whole."""
-        for place in (1, 59):
-            first = self.TURNS[:place] + [self.TURNS[place - 1]] + [not one for one in self.TURNS[place - 1:58]]
-            self.lost("b1..30", first, "%d-%d None parity" % (place, place + 1))
-        for more in ([True, True], [False, True]):
-            self.lost("1..30", self.TURNS[:60] + more, "")
-        for side in ("Lx4 1..30", "Lx64", "Bx64"):
-            self.lost(side, [True, True] + [False, True] * 31, "")
-        self.lost("1..30 Ox4", self.TURNS[:62] + [False, True], "")
-
-
-class OtherCodes(unittest.TestCase):
     def test_between_other_codes_alone_a_number_of_film_is_undecided(self):
-        """Picture 10 is due in a field that shows a chapter. It is unread if a line beside is no chapter."""
-        for is_seen, why in ((False, "undecided"), (True, "unread")):
-            words = [(0, 0x805DDD, 0x805DDD)] * 76
-            for number in range(1, 31):
-                if number != 10:
-                    words[5 * number // 2 - 2] = (0, 0xF00000 + int(str(number), 16), 0)
-            causes = [tuple("word" if word else "blank" for word in of_field) for of_field in words]
-            if is_seen:
-                words[24], causes[24] = (0, 0, 0), ("blank", "hold 9", "hold 9")
-            passes = [tuple(int(word > 0) for word in of_field) for of_field in words]
-            found = analyse(Fields("NTSC", words, passes, causes))
-            self.assertEqual(found["pace"], "film")
-            self.assertEqual([(one["first"], one["why"]) for one in found["missing"]], [(10, why)])
+        """Picture 10 is due in field 24, which shows a chapter. It is unread if a line beside is no chapter."""
+        film = " ".join("%d=-/#%d/-" % (5 * number // 2 - 1, number) for number in range(1, 31) if number != 10)
+        check(self, """
+    chapters alone | NTSC -/c5/c5x76 {0} | pace film | missing 10 undecided
+    something seen | NTSC -/c5/c5x76 {0} 25=-/!/! | pace film | missing 10 unread
+    """.format(film))
+
+    def test_parity(self):
+        """Frames begin with the first field that begins one. What was lost by numbers and parity is known by both; of
+        more than one field it isn't known where. At the ends, and before the first number or behind the last, what is
+        lost makes no side less whole; a clock may have left out a number."""
+        check(self, """
+    by turns | PAL/0 1..30 | no lost | frameBegin 1
+    from a second field on | PAL/1 1..30 -1 S/-/- | no lost | frameBegin 2
+    a field | PAL/40 1..30 -40 | lost 39-40 1 both
+    three fields | PAL/41 1..30 -41:43 | lost 39-42 3 both
+    and in these once more | PAL/41,42 1..30 -41:43 | lost 39-42 3 both
+    without parity | 1..30 -41:43 | lost 39-42 3 number
+    a clock may have left out a number | NTSC/5 t0..1 t3..4 | lost 3-5 2 undecided
+    no number is near | PAL/4 1 Bx4 4 | lost 3-4 None parity
+    at the beginning | PAL/2 b1..30 | lost 1-2 None parity
+    at the end | PAL/60 b1..30 | lost 59-60 None parity
+    before the first number | PAL/2 Lx4 1..30 | no lost
+    without numbers | PAL/2 Lx64 | no lost
+    without codes | PAL/2 Bx64 | no lost
+    behind the last number | PAL/63 1..30 Ox4 | no lost
+    """)
+        self.assertEqual(made("PAL/1 1..30 -1 S/-/-")["stops"],
+                         [{"field": 60, "frame": 30, "number": None, "lines": [16]}])
+        # the metadata has two fields more than were read
+        for more in ([True, True], [False, True]):
+            self.assertEqual(answer(rows("1..30"), first=[True, False] * 30 + more)["lost"], [])

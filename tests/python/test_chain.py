@@ -5,6 +5,7 @@ import random
 import unittest
 import unittest.mock
 
+from compact import cells_of
 from ldvbi_side.judge import chain as chains
 from ldvbi_side.judge.believed import no_numbers
 from ldvbi_side.judge.chain import chain
@@ -48,24 +49,15 @@ class Paces(unittest.TestCase):
 
     def test_least_off(self):
         """No fields are less off than the least, whatever the variants are: of minutes and chapters it is exact."""
+        rows = [(number, step, fields) for number in (6, 7) for step in (-3, -1, 1, 2, 5) for fields in range(1, 16)]
         for pace in PACES.values():
-            variants = range(pace.variants)
-            for number, step, fields in ((7, 1, 1), (7, 1, 6001), (8, 3, 5), (8, -2, 9), (3, 2, 17), (3, 90, 4)):
-                with self.subTest((pace.kind, number, step, fields)):
-                    least = pace.least_off(fields, number, step)
-                    offs = [pace.off(fields, number, step, one, other) for one in variants for other in variants]
-                    self.assertLessEqual(price(least), min(map(price, offs)))
-                    if len(variants) == 1:
-                        self.assertEqual(abs(least or 0), abs(offs[0] or 0))
-
-    def test_no_variant_is_nearer_than_the_least_off(self):
-        for kind in ("video", "both", "film"):
-            pace = PACES[kind]
-            ways = [(number, step, v, w) for number in (6, 7) for step in (-3, -1, 1, 2, 5)
-                    for v in range(pace.variants) for w in range(pace.variants)]
-            for fields in range(1, 16):
-                self.assertEqual([way for way in ways if abs(pace.off(fields, *way)) < pace.least_off(
-                    fields, way[0], way[1])], [])
+            ways = [(one, other) for one in range(pace.variants) for other in range(pace.variants)]
+            for number, step, fields in rows + [(7, 1, 6001), (8, 3, 5), (8, -2, 9), (3, 2, 17), (3, 90, 4)]:
+                least = pace.least_off(fields, number, step)
+                offs = [abs(pace.off(fields, number, step, *way) or 0) for way in ways]
+                self.assertLessEqual(abs(least or 0), min(offs), (pace.kind, number, step, fields))
+                if len(ways) == 1:
+                    self.assertEqual(abs(least or 0), offs[0], (pace.kind, number, step, fields))
 
 
 def readings(*numbers, weight=4, first=1):
@@ -102,45 +94,41 @@ def damaged_alike(dice, pace):
 class Chains(unittest.TestCase):
     def test_which_are_believed(self):
         """Of two of a field the one that fits, of two that fit equally well none; pass 1 counts for more than 2."""
-        self.assertEqual(chain([], Pace("video")), [])
+        on, still, wild = list(range(1, 20)), [1, 2, 3, *[4] * 50, 5, 6, 7], list(range(40000, 40020))
+        two = [Reading(1, 5, 2, (17,)), Reading(1, 6, 2, (18,))]
         for ones, wanted in (
-                (readings(5, 6, 7), [(1, 5), (3, 6), (5, 7)]),
-                (readings(5, 6, 70000, 8, 9), [(1, 5), (3, 6), (7, 8), (9, 9)]),
-                (sorted(readings(5, 6, 7) + [Reading(3, 80, 2, (18,))]), [(1, 5), (3, 6), (5, 7)]),
-                ([Reading(1, 5, 2, (17,)), Reading(1, 6, 2, (18,))], []),
-                ([Reading(1, 5, 2, (17,)), Reading(1, 6, 1, (18,))], [(1, 5)])):
-            self.assertEqual(believed(ones), wanted)
+                ([], []), (readings(5, 6, 70000, 8, 9), [5, 6, 8, 9]), (two, []),
+                (sorted(readings(5, 6, 7) + [Reading(3, 80, 2, (18,))]), [5, 6, 7]),
+                ([two[0], Reading(1, 6, 1, (18,))], [5]),
+                # a jump that many follow, and a wild number at the end; a still is one break however long
+                (readings(*on, *wild), on + wild), (readings(*on, 40000), on), (readings(*still), still),
+                # it fits the still before it, and the number behind it is then as good as one that stays, but for later
+                (readings(*[30] * 10, 31, *[30] * 10), [30] * 20)):
+            self.assertEqual([number for _, number in believed(ones)], wanted)
+        self.assertEqual(believed(readings(5, 70000, 7)), [(1, 5), (5, 7)])
         ones = [Reading(1, 5, 4, (17, 18)), Reading(3, 7, 2, (17,)), Reading(3, 5, 2, (18,)),
                 Reading(5, 7, 4, (17, 18))]
         self.assertNotIn(3, dict(believed(ones)))
-        # a jump that many follow, and a wild number at the end; a still is one break however long
-        self.assertEqual(len(believed(readings(*range(1, 20), *range(40000, 40020)))), 39)
-        self.assertEqual(believed(readings(*range(1, 20), 40000))[-1], (37, 19))
-        self.assertEqual(len(believed(readings(1, 2, 3, *[4] * 50, 5, 6, 7))), 56)
 
-    def test_a_long_row_of_wrong_numbers_that_do_not_fit(self):
-        for count in (30, 39, 40, 41):  # as far as the search goes back, and beyond
-            numbers = list(range(1, 121))
-            for place in range(30, 30 + count):
-                numbers[place] = (place * 7919) % 79999
-            ones = believed(readings(*numbers))
-            self.assertEqual([number for _, number in ones], list(range(1, 31)) + list(range(31 + count, 121)), count)
+    def test_a_long_row_of_wrong_numbers(self):
+        """As far as the search goes back, and beyond. Those that fit one another weigh 14, and the jumps there and back
+        cost 8 each: the best of all chains goes astray before the end."""
+        for count in (30, 39, 40, 41):
+            right = list(range(1, 31)), list(range(31 + count, 121))
+            ones = readings(*right[0], *[(place * 7919) % 79999 for place in range(30, 30 + count)], *right[1])
+            self.assertEqual([number for _, number in believed(ones)], right[0] + right[1], count)
+        wrong = [Reading(41 + 2 * place, 61 + place, 1, (18,)) for place in range(14)]
+        ones = readings(*range(1, 21)) + wrong + readings(*range(35, 61), first=69)
+        self.assertEqual([number for _, number in believed(ones)], list(range(1, 21)) + list(range(35, 61)))
 
     def test_the_search_goes_back_over_40_numbers_set_aside(self):
         """The first of the wrong numbers weighs more than its break, so that the chain which ends there is the best one
         so far; the jump back behind it costs more than it brings. Beyond 40 the right chain is no longer looked at."""
-        for count, is_astray in ((39, False), (40, False), (41, True)):
+        for count, astray in ((39, []), (40, []), (41, [21])):
             wrong = [Reading(40, 21, 3, (17,))]  # one field too late
             wrong += [Reading(41 + place, (place * 7919 + 30000) % 79999, 1, (18,)) for place in range(count - 1)]
             ones = believed(readings(*range(1, 21)) + wrong + readings(*range(60, 80), first=119))
-            self.assertEqual([number for _, number in ones],
-                             list(range(1, 21)) + [21] * is_astray + list(range(60, 80)), count)
-
-    def test_wrong_numbers_that_fit_one_another_for_long(self):
-        # they weigh 14, and the jumps there and back cost 8 each; the best of all chains goes astray before the end
-        wrong = [Reading(41 + 2 * place, 61 + place, 1, (18,)) for place in range(14)]
-        ones = readings(*range(1, 21)) + wrong + readings(*range(35, 61), first=69)
-        self.assertEqual([number for _, number in believed(ones)], list(range(1, 21)) + list(range(35, 61)))
+            self.assertEqual([number for _, number in ones], [*range(1, 21), *astray, *range(60, 80)], count)
 
     def test_noise_asks_for_no_more_prices_than_are_remembered(self):
         numbers = list(range(1, 101)) + [(place * 7919) % 79999 for place in range(100)]
@@ -191,11 +179,6 @@ class Chains(unittest.TestCase):
             self.assertEqual([(one.field, one.number) for one in chain(ones, pace)],
                              [(one.field, one.number) for one in row], kind)
 
-    def test_a_wrong_number_in_a_still(self):
-        """It fits the still before it, and the number behind it is then as good as one that stays, but for later."""
-        ones = believed(readings(*[30] * 10, 31, *[30] * 10))
-        self.assertEqual([number for _, number in ones], [30] * 20)
-
     def test_what_was_found_of_like_readings_is_found_again(self):
         # with a wild number, a lost word and a lost field in each tenth picture, over and over
         for kind, count in (("both", 480), ("film", 240)):  # of 300 pictures those that aren't wild or lost
@@ -224,87 +207,71 @@ class Chains(unittest.TestCase):
                                        for one in found))
                 self.assertEqual((values[0], better[0]), (values[1], better[1]), (kind, seed))
 
-    def test_both_fields_of_a_picture(self):
-        ones = [Reading(field, 10 + field // 2, 4, (17, 18)) for field in range(2, 12)]
-        found = chain(ones, Pace("both"))
+    def test_variants(self):
+        """The second field of a picture is one; film has 3 fields of pictures with an odd or with an even number."""
+        found = chain([Reading(field, 10 + field // 2, 4, (17, 18)) for field in range(2, 12)], Pace("both"))
         self.assertEqual([(one.number, one.variant) for one in found],
                          [(number, variant) for number in range(11, 16) for variant in (0, 1)])
-
-    def test_film_with_pictures_of_3_fields_by_turns(self):
         for odd in (0, 1):
-            field, ones = 1, []
-            for number in range(1, 31):
-                ones.append(Reading(field, number, 4, (17, 18)))
-                field += 2 + (number % 2 == odd)
-            found = chain(ones, Pace("film"))
-            self.assertEqual(len(found), 30)
-            self.assertEqual({one.variant for one in found}, {1 - odd})
+            fields = [2 * number - 1 + (number - 1 + odd) // 2 for number in range(1, 31)]
+            found = chain([Reading(field, number, 4, (17, 18)) for number, field in enumerate(fields, 1)], Pace("film"))
+            self.assertEqual([one.variant for one in found], [1 - odd] * 30)
 
 
-WHOLE = 1500  # pictures of a minute
+# Fields with their pictures of a second, others with their minutes, and which number is then in which field. A minute
+# in a field without a second counts for the run that the field is in, or that is right beside it.
+RUNS = """
+    inside | 1:0 3:1 7:3 | 5:4 | 1:6000 3:6001 7:6003
+    right behind | 1:0 3:1 | 4:4 | 1:6000 3:6001
+    right before | 3:1 5:2 | 2:4 | 3:6001 5:6002
+    before a run that begins with a minute: it is of the one before | 3:0 5:1 | 2:4 | 3:7500 5:7501
+    further behind | 1:0 3:1 | 5:4 | none
+    further still | 1:0 3:1 | 6:4 | none
+    further before | 3:0 5:1 | 1:4 | none
+    between two runs, right beside the one behind | 1:0 3:1 7:700 | 6:4 | 7:6700
+    beside the one before | 1:0 3:1 7:700 | 4:4 | 1:6000 3:6001
+    beside both: of the one before | 1:0 3:1 5:700 | 4:4 | 1:6000 3:6001
+    over the end of a minute | 1:1499 3:0 | 3:8 | 1:11999 3:12000
+"""
+# Which numbers were passed over, for how many of them there are fields, whether fields are lost, and why each is
+# missing. A field for a number is enough, and between two sides (50 to 200 in the last row) it is none of either.
+FATES = """
+    at either end of a wide jump | 1-100 5 True | 1-5 undecided, 6-95 lost, 96-100 undecided
+    no field | 1-100 0 True | 1-100 lost
+    one | 1-100 1 True | 2-99 lost
+    for a tenth | 1-100 10 True | 1-10 undecided, 11-90 lost, 91-100 undecided
+    for more | 1-100 11 True | 1-100 undecided
+    no field is lost | 1-100 0 False | 1-100 unread
+    with fields for all | 1-100 100 False | 1-100 unread
+    it is left open | 1-100 0 None | 1-100 undecided
+    with fields for all | 1-100 100 None | 1-100 undecided
+    more than once | 1-100 0 True, 40-60 0 False, 55-80 0 None | 1-39 lost, 40-60 unread, 61-80 undecided, 81-100 lost,
+        101-200 unshown, 201-201 lost
+"""
 
 
-def said(parts, minutes):
-    """What each field of these parts says, where these fields say these minutes."""
-    runs = Runs(parts, {field: {minute: (17, 18)} for field, minute in minutes.items()}, WHOLE, lambda *_: 2)
-    return {field: runs.of_field[field].said_at(field) for field in parts}
+def pairs(text):
+    return dict(map(int, pair.split(":")) for pair in text.split() if pair != "none")
 
 
-class Minutes(unittest.TestCase):
-    """A minute in a field without a second counts for the run that the field is in, or that is right beside it."""
+class Rows(unittest.TestCase):
+    def test_runs(self):
+        for name, parts, minutes, wanted in cells_of(RUNS):
+            runs = Runs(pairs(parts), {field: {minute: (17, 18)} for field, minute in pairs(minutes).items()}, 1500,
+                        lambda *_: 2)
+            said = {field: runs.of_field[field].said_at(field) for field in pairs(parts)}
+            self.assertEqual({field: number for field, numbers in said.items() for number in numbers}, pairs(wanted),
+                             name)
 
-    def test_inside(self):
-        self.assertEqual(said({1: 0, 3: 1, 7: 3}, {5: 4}), {1: {6000}, 3: {6001}, 7: {6003}})
+    def test_fates(self):
+        for name, passed, fates in cells_of(FATES):
+            ones = [(*map(int, numbers.split("-")), int(fields), {"True": True, "False": False}.get(is_lost))
+                    for numbers, fields, is_lost in (one.split() for one in passed.split(", "))]
+            found = PassedOver([Passed(*one) for one in ones], [(50, 200)] if len(ones) > 1 else [])
+            for numbers, why in (fate.split() for fate in fates.split(", ")):
+                first, last = map(int, numbers.split("-"))
+                self.assertEqual({found.why(number) for number in range(first, last + 1)}, {why}, (name, numbers))
 
-    def test_right_behind_and_right_before(self):
-        self.assertEqual(said({1: 0, 3: 1}, {4: 4}), {1: {6000}, 3: {6001}})
-        self.assertEqual(said({3: 1, 5: 2}, {2: 4}), {3: {6001}, 5: {6002}})
-        # where the run begins with a minute, the field before it is of the minute before
-        self.assertEqual(said({3: 0, 5: 1}, {2: 4}), {3: {7500}, 5: {7501}})
-
-    def test_further_away(self):
-        for field in (5, 6):
-            self.assertEqual(said({1: 0, 3: 1}, {field: 4}), {1: set(), 3: set()})
-        self.assertEqual(said({3: 0, 5: 1}, {1: 4}), {3: set(), 5: set()})
-
-    def test_between_two_runs(self):
-        """The one that is right beside the field; of two the one before it."""
-        self.assertEqual(said({1: 0, 3: 1, 7: 700}, {6: 4}), {1: set(), 3: set(), 7: {6700}})
-        self.assertEqual(said({1: 0, 3: 1, 7: 700}, {4: 4}), {1: {6000}, 3: {6001}, 7: set()})
-        self.assertEqual(said({1: 0, 3: 1, 5: 700}, {4: 4}), {1: {6000}, 3: {6001}, 5: set()})
-
-    def test_over_the_end_of_a_minute(self):
-        self.assertEqual(said({1: 1499, 3: 0}, {3: 8}), {1: {7 * WHOLE + 1499}, 3: {8 * WHOLE}})
-
-
-class Fates(unittest.TestCase):
-    def test_beside_a_wide_jump(self):
-        """Of 100 numbers with fields for five those five at either end may have been there."""
-        passed = PassedOver([Passed(1, 100, 5, True)])
-        whys = [passed.why(number) for number in range(1, 101)]
-        self.assertEqual(whys, ["undecided"] * 5 + ["lost"] * 90 + ["undecided"] * 5)
-
-    def test_a_tenth_of_the_numbers(self):
-        self.assertEqual([PassedOver([Passed(1, 100, spare, True)]).why(50) for spare in (0, 1, 10, 11)],
-                         ["lost", "lost", "lost", "undecided"])
-        passed = PassedOver([Passed(1, 100, 10, True)])
-        self.assertEqual([passed.why(number) for number in (10, 11, 90, 91)],
-                         ["undecided", "lost", "lost", "undecided"])
-
-    def test_where_no_field_is_lost(self):
-        for is_lost, why in ((False, "unread"), (None, "undecided")):
-            whys = [PassedOver([Passed(1, 100, spare, is_lost)]).why(50) for spare in (0, 1, 100)]
-            self.assertEqual(whys, [why] * 3)
-
-    def test_where_they_are_passed_over_more_than_once(self):
-        """A field for a number is enough, and between two sides it is none of either."""
-        passed = PassedOver([Passed(1, 100, 0, True), Passed(40, 60, 0, False), Passed(55, 80, 0, None)], [(50, 200)])
-        self.assertEqual([passed.why(number) for number in (39, 40, 60, 61, 80, 81, 100, 101, 200, 201)],
-                         ["lost", "unread", "unread", "undecided", "undecided", "lost", "lost", "unshown", "unshown",
-                          "lost"])
-
-
-class Loops(unittest.TestCase):
     def test_without_numbers_nothing_is_shown_again(self):
         none = no_numbers("PAL")
         self.assertIs(with_loops(none, []), none)

@@ -1,22 +1,20 @@
-"""Judging chapters and picture stops: states, forms of readings, refusals; and on a few simulated sides the promise
-that is made of a believed chapter, and that the tool which measures this sees it broken. The expected values are worked
-out by hand from what include/ldvbi.h says: a code of pass 1 weighs 2, one of pass 2 or 3 weighs 1, and 10 is enough; of
-stops line 16 or 17 in pass 1 is enough, or both."""
+"""Judging chapters and picture stops: states; and on a few simulated sides the promise that is made of a believed
+chapter, and that the tool which measures this sees it broken. The expected values are worked out by hand from what
+include/ldvbi.h says: a code of pass 1 weighs 2, one of pass 2 or 3 weighs 1, and 10 is enough; of stops line 16 or 17
+in pass 1 is enough, or both."""
 
 import random
 import unittest
 from collections import Counter
 
 import ldvbi
-from cases import InFolder, reason
-from compact import rows
-from discs import BLANK, STOP, answer, picture, plain, side
+from compact import made
+from discs import plain, side
 from judged import packed_of
 from judged_chapters import ChapterTruth, chapter_in, judged, of_package
 from ldvbi import Number, State
 from ldvbi_side.judge.answer import analyse
 from simulate import KINDS, PLAYED, Simulated
-from streams import NTSC, write_stream
 from test_judged import PICTURES
 
 NOTHING = Number(None, State.nothing)
@@ -35,10 +33,10 @@ STATES = (
 
 
 def answers(text):
-    return ldvbi.judge_chapters(side(rows(text)).readings)
+    return ldvbi.judge_chapters(made(text, side).readings)
 
 
-class Chapters(InFolder):
+class Chapters(unittest.TestCase):
     def test_states(self):
         for text, wanted in STATES:
             found = [one for one in answers(text) if one != NOTHING]
@@ -52,26 +50,10 @@ class Chapters(InFolder):
         known = answers("-/c19/- B -/c2/-x9 B -/c3/-x9")
         self.assertEqual([ldvbi.first_of(known, number) for number in (2, 3, 19, 4)], [2, 12, None, None])
 
-    def test_each_form(self):
-        words = [0x803DDD] * 4 + [0, 0x803DDD]
-        wanted = [(3, State.believed)] * 4 + [NOTHING, (3, State.believed)]
-        write_stream(self.path, NTSC, [[0, word, word] for word in words], 5)
-        with ldvbi.Stream(self.path, *NTSC) as stream:
-            block, = stream.packed(0, len(words))
-            for one in (stream, block, bytes(block), list(stream), (field for field in stream)):
-                self.assertEqual(ldvbi.judge_chapters(one), wanted)
-        self.assertEqual(ldvbi.judge_chapters([]), [])
-
-    def test_refusals(self):
-        for readings, text in ((None, "readings are none of fields, but of the type NoneType"),
-                               (b"12345", "packed readings have 24 bytes to a field, and these are 5"),
-                               ([[(0, 0, 0, 0)] * 2], "readings[0] is not three readings")):
-            self.assertEqual(reason(ldvbi.judge_chapters, readings), text)
-
 
 def truth_of(text, misread=()):
     """The truth of this side, of which these words were misread: (field, line, word on the disc)."""
-    return ChapterTruth(Simulated("", "", "", {}, [], [], [], [], list(misread)), plain(rows(text)))
+    return ChapterTruth(Simulated("", "", "", {}, [], [], [], [], list(misread)), made(text, plain))
 
 
 class Beside(unittest.TestCase):
@@ -106,38 +88,32 @@ class Beside(unittest.TestCase):
         self.assertFalse(truth.may_be_believed(5, 4))
 
     def test_the_package_beside(self):
-        fields = plain(rows("0..299 1:600/2.18=- 2:200/2=-/c0/- 202:400/2=-/c1/- 402:600/2=-/c2/- 102=-/c48/-"))
+        fields = made("0..299 1:600/2.18=- 2:200/2=-/c0/- 202:400/2=-/c1/- 402:600/2=-/c2/- 102=-/c48/-", plain)
         found = list(of_package(fields, analyse(fields)))
         self.assertEqual((found[99], found[100], found[101]), ({0}, set(), set()))
         self.assertEqual(ldvbi.judge_chapters(packed_of(fields))[101], (48, State.doubtful))
         self.assertEqual((chapter_in(0x812DDD), chapter_in(0xF00012), chapter_in(0)), (12, None, None))
 
 
-LETTERS = {"n": State.nothing, "b": State.believed, "d": State.doubtful}
+# Fields, and whether a stop is believed there, doubtful, or there is none
+STOPS = {"b": "S/S/- S/-/- -/S/- S*/S*/- S*/S^/- S^/S^/- S/S^/-", "d": "S*/-/- -/S*/- S^/-/- -/S^/- S*/-/S",
+         "n": "B -/-/S 87FFFF/88FFFF/82CFFE"}
 
 
-def stops_of(lines):
-    return ldvbi.judge_stops(side(lines).readings)
+def stops_of(text):
+    return "".join(state.name[0] for state in ldvbi.judge_stops(made(text, side).readings))
 
 
 class Stops(unittest.TestCase):
     def test_lines_and_passes(self):
-        for row, letter in (
-                ("- - -", "n"), ("S S -", "b"), ("S - -", "b"), ("- S -", "b"), ("S* - -", "d"), ("- S* -", "d"),
-                ("S^ - -", "d"), ("- S^ -", "d"), ("S* S* -", "b"), ("S* S^ -", "b"), ("S^ S^ -", "b"), ("S S^ -", "b"),
-                ("- - S", "n"), ("S* - S", "d"), ("87FFFF 88FFFF 82CFFE", "n")):
-            self.assertEqual(stops_of([BLANK, row.replace("S", STOP)]), [State.nothing, LETTERS[letter]], row)
-        self.assertEqual(ldvbi.judge_stops([]), [])
-
-    def test_refusals(self):
-        for readings, text in ((None, "readings are none of fields, but of the type NoneType"),
-                               (b"12345", "packed readings have 24 bytes to a field, and these are 5")):
-            self.assertEqual(reason(ldvbi.judge_stops, readings), text)
+        for letter, fields in STOPS.items():
+            for field in fields.split():
+                self.assertEqual(stops_of("B " + field), "n" + letter, field)
 
     def test_the_same_stops_of_the_package(self):
         chance = random.Random(82)
-        items = ["-", "?", STOP, STOP, STOP + "*", STOP + "^", picture(7), "8BA0A1"]
-        rows = [" ".join(chance.choice(items) for _ in range(3)) for _ in range(500)]
-        stops = [field for field, state in enumerate(stops_of(rows), 1) if state == State.believed]
+        items = ["-", "?", "S", "S", "S*", "S^", "#7", "8BA0A1"]
+        text = " ".join("/".join(chance.choice(items) for _ in range(3)) for _ in range(500))
+        stops = [field for field, state in enumerate(stops_of(text), 1) if state == "b"]
         self.assertGreater(len(stops), 200)
-        self.assertEqual([one["field"] for one in answer(rows)["stops"]], stops)
+        self.assertEqual([one["field"] for one in made(text)["stops"]], stops)

@@ -1,38 +1,63 @@
-"""The classes of words in Python: rows of each pattern and its edges, and each word beside the library."""
+"""The classes of words in Python: rows of each pattern and its edges, what words say and where each kind of code stands
+(IEC 60857 and 60856), and each word beside the library."""
 
+import ctypes
 import os
 import re
 import struct
-import subprocess
 import sys
-import tempfile
 import unittest
 
+from cases import reason
+from compact import cells_of
 from ldvbi.classes import Code, Format, Kind, classify, format_of
+from ldvbi.codes import STANDARD_LINES, code, code_of, codes_by_kind, name_of, value_of
 from streams import TOP
 
-BLOCK = 4096  # words that tests/python/all_codes.c writes at once
+BLOCK = 4096  # words that are compared at once
 
-# Patterns of docs/FORMATS.md: words in each, with the numbers read off their digits, and words next to it
-ROWS = [
-    (0x88FFFF, Kind.lead_in, 0, 0), (0x88FFFE, Kind.other, 0, 0),
-    (0x80EEEE, Kind.lead_out, 0, 0), (0x81EEEE, Kind.other, 0, 0),
-    (0x82CFFF, Kind.picture_stop, 0, 0), (0x82CFFE, Kind.other, 0, 0),
-    (0x87FFFF, Kind.clv_mark, 0, 0), (0x86FFFF, Kind.other, 0, 0),
-    (0xF12345, Kind.picture, 12345, 0), (0xF00000, Kind.picture, 0, 0), (0xF79999, Kind.picture, 79999, 0),
-    (0xF80001, Kind.picture, 1, 0), (0xFF9999, Kind.picture, 79999, 0), (0xF0A000, Kind.other, 0, 0),
-    (0xF00A00, Kind.other, 0, 0), (0xF000A0, Kind.other, 0, 0), (0xF0000A, Kind.other, 0, 0),
-    (0x800DDD, Kind.chapter, 0, 0), (0x879DDD, Kind.chapter, 79, 0), (0x8A9DDD, Kind.chapter, 29, 0),
-    (0x8AADDD, Kind.other, 0, 0), (0x800DDE, Kind.other, 0, 0),
-    (0xF0DD00, Kind.time, 0, 0), (0xF9DD59, Kind.time, 9, 59), (0xF1DD99, Kind.time, 1, 99),
-    (0xFADD00, Kind.other, 0, 0), (0xF0DC00, Kind.other, 0, 0), (0xF0DD0A, Kind.other, 0, 0),
-    (0x8AE000, Kind.clv_picture, 0, 0), (0x8FE999, Kind.clv_picture, 59, 99), (0x8BE207, Kind.clv_picture, 12, 7),
-    (0x89E000, Kind.other, 0, 0), (0x8AEA00, Kind.other, 0, 0), (0x8AE0A0, Kind.other, 0, 0),
-    (0x8DC000, Kind.cx_on, 0, 0), (0x8DCFFF, Kind.cx_on, 4095, 0), (0x8CC000, Kind.other, 0, 0),
-    (0x80D000, Kind.users, 0, 0), (0x87DFFF, Kind.users, 7, 4095), (0x83D0A1, Kind.users, 3, 161),
-    (0x88D000, Kind.other, 0, 0), (0x800000, Kind.other, 0, 0), (0xE00000, Kind.other, 0, 0),
-    (0xFFFFFF, Kind.other, 0, 0),
-]
+# Patterns of docs/FORMATS.md: words in each, with the numbers read off their digits; of other words those next to one
+ROWS = """
+    lead_in | 88FFFF
+    lead_out | 80EEEE
+    picture_stop | 82CFFF
+    clv_mark | 87FFFF
+    picture | F12345 12345 | F00000 0 | F79999 79999 | F80001 1 | FF9999 79999
+    chapter | 800DDD 0 | 879DDD 79 | 8A9DDD 29 | 8F9DDD 79
+    time | F0DD00 0 0 | F9DD59 9 59 | F1DD99 1 99
+    clv_picture | 8AE000 0 0 | 8FE999 59 99 | 8BE207 12 7
+    cx_on | 8DC000 0 | 8DCFFF 4095
+    users | 80D000 0 0 | 87DFFF 7 4095 | 83D0A1 3 161
+    other | 88FFFE | 81EEEE | 82CFFE | 86FFFF | F0A000 | F00A00 | F000A0 | F0000A | 8AADDD | 800DDE | FADD00 | F0DC00
+        | F0DD0A | 89E000 | 8AEA00 | 8AE0A0 | 8CC000 | 88D000 | 800000 | E00000 | FFFFFF
+"""
+# What words say: kind and numbers by name, and the one that counts
+MEANINGS = (
+    (0x88FFFF, {"kind": "lead-in"}, None), (0x80EEEE, {"kind": "lead-out"}, None), (0xABCDEF, {"kind": "other"}, None),
+    (0x82CFFF, {"kind": "picture stop"}, None), (0x87FFFF, {"kind": "clv"}, None),
+    (0xF12345, {"kind": "picture", "number": 12345}, 12345), (0x8F9DDD, {"kind": "chapter", "number": 79}, 79),
+    (0xF1DD09, {"kind": "time", "hours": 1, "minutes": 9}, 69),
+    (0xF9DD59, {"kind": "time", "hours": 9, "minutes": 59}, 599),
+    (0xF0DD60, {"kind": "time", "hours": 0, "minutes": 60}, None),
+    (0x8FE929, {"kind": "clv picture", "seconds": 59, "picture": 29}, (59, 29)),
+    (0x8DC0A1, {"kind": "cx on", "number": 0x0A1}, None),
+    (0x83D0A1, {"kind": "users", "digit": 3, "number": 0x0A1}, None))
+# The codes of three words that stand on a line of their kind; two lines that differ are two codes
+BY_KIND = (
+    ((0x82CFFF, 0x82CFFF, 0xF00002), [{"kind": "picture stop", "lines": [16, 17]},
+                                      {"kind": "picture", "number": 2, "lines": [18]}]),
+    ((0x8AE000, 0x87FFFF, 0xF0DD00), [{"kind": "clv picture", "seconds": 0, "picture": 0, "lines": [16]},
+                                      {"kind": "clv", "lines": [17]},
+                                      {"kind": "time", "hours": 0, "minutes": 0, "lines": [18]}]),
+    ((0, 0xF00001, 0xF00003), [{"kind": "picture", "number": 1, "lines": [17]},
+                               {"kind": "picture", "number": 3, "lines": [18]}]),
+    ((0xF00001, 0x8DC0A1, 0xABCDEF), []), ((0x87FFFF, 0x8AE000, 0), []))
+FORMATS = (
+    ((0, 0, 0), "neither"), ((0x88FFFF, 0x800DDD, 0x8DC000), "neither"), ((0xF00001, 0, 0), "cav"),
+    ((0, 0, 0x82CFFF), "cav"), ((0x82CFFF, 0xF00001, 0), "cav"), ((0, 0x87FFFF, 0), "clv"), ((0, 0, 0xF0DD00), "clv"),
+    ((0x8AE000, 0, 0), "clv"), ((0x82CFFF, 0x87FFFF, 0), "both"), ((0x8AE000, 0x800DDD, 0xF00001), "both"))
+LINES = {Kind.lead_in: (17, 18), Kind.picture: (17, 18), Kind.chapter: (17, 18), Kind.time: (17, 18),
+         Kind.picture_stop: (16, 17, 18), Kind.clv_mark: (17, 18), Kind.clv_picture: (16,), Kind.users: (16,)}
 
 
 def ranges_of_header():
@@ -45,50 +70,48 @@ def ranges_of_header():
 
 class Classes(unittest.TestCase):
     def test_rows(self):
-        for word, *code in ROWS:
-            with self.subTest(word="%06X" % word):
-                self.assertEqual(classify(word), Code(*code))
-                self.assertIs(type(classify(word).kind), Kind)
+        for kind, *words in cells_of(ROWS):
+            for word, *numbers in map(str.split, words):
+                with self.subTest(word):
+                    self.assertEqual(classify(int(word, 16)), (Kind[kind], *map(int, numbers), 0, 0)[:3])
+                    self.assertEqual([type(classify(int(word, 16))), type(classify(int(word, 16)).kind)], [Code, Kind])
 
-    def test_numbers_that_are_no_words(self):
-        for number in (0, 1, 0x7FFFFF, 0x1000000, 2 ** 32 + 0x800000, -1, -0x800000):
-            for call in (classify, lambda number: format_of(0, number, 0)):
-                if number or call is classify:
-                    with self.subTest(number=number), self.assertRaisesRegex(ValueError, "^number is no code word$"):
-                        call(number)
-        for value in (15803205.0, "F12345", None, b"\xF1"):
-            for call in (classify, lambda value: format_of(value, 0, 0)):
-                with self.subTest(value=value), self.assertRaisesRegex(ValueError, "^word is not a whole number$"):
-                    call(value)
+    def test_what_words_say(self):
+        for word, meaning, value in MEANINGS:
+            with self.subTest("%06X" % word):
+                self.assertEqual((code(word), value_of(code_of(word))), (meaning, value))
+                self.assertEqual(name_of(code_of(word).kind), meaning["kind"])
+        for words, wanted in BY_KIND:
+            self.assertEqual(codes_by_kind(words), wanted)
+        for words, wanted in FORMATS:
+            self.assertIs(format_of(*words), Format[wanted], words)
+        self.assertEqual(({kind: STANDARD_LINES[kind] for kind in LINES}, len(STANDARD_LINES)), (LINES, 11))
 
-    def test_formats(self):
-        rows = [((0, 0, 0), Format.neither), ((0x88FFFF, 0x800DDD, 0x8DC000), Format.neither),
-                ((0xF00001, 0, 0), Format.cav), ((0, 0, 0x82CFFF), Format.cav), ((0x82CFFF, 0xF00001, 0), Format.cav),
-                ((0, 0x87FFFF, 0), Format.clv), ((0, 0, 0xF0DD00), Format.clv), ((0x8AE000, 0, 0), Format.clv),
-                ((0x82CFFF, 0x87FFFF, 0), Format.both), ((0x8AE000, 0x800DDD, 0xF00001), Format.both)]
-        for words, wanted in rows:
-            with self.subTest(words=words):
-                self.assertIs(format_of(*words), wanted)
+    def test_no_words(self):
+        self.assertEqual([code(0), code_of(0)], [None, None])
+        for value, text in [(number, "number is no code word") for number in (
+                0, 1, 0x7FFFFF, 0x1000000, 2 ** 32 + 0x800000, -1, -0x800000)] + [
+                    (value, "word is not a whole number") for value in (15803205.0, "F12345", None, b"\xF1")]:
+            self.assertEqual(reason(classify, value), text)
+            if value != 0:
+                self.assertEqual([reason(format_of, value, 0, 0), reason(format_of, 0, value, 0)], [text] * 2)
 
     def test_each_word_beside_the_library(self):
-        with tempfile.TemporaryDirectory() as folder:
-            program, library = os.path.join(folder, "all_codes"), os.environ["LDVBI_LIBRARY"]
-            subprocess.run([os.environ.get("CC", "cc"), "-std=c99", "-O2", "-o", program, "-I" + TOP + "/include",
-                            TOP + "/tests/python/all_codes.c", library, "-Wl,-rpath," + os.path.dirname(library)],
-                           check=True)
-            # Where the lines that run are recorded, these calls would take minutes, and show no new line.
-            self.addCleanup(sys.settrace, sys.gettrace())
-            sys.settrace(None)
-            compared, greatest = 0, {}
-            with subprocess.Popen([program], stdout=subprocess.PIPE) as codes:
-                for begin in range(0x800000, 0x1000000, BLOCK):
-                    wanted = list(struct.iter_unpack("=III", codes.stdout.read(12 * BLOCK)))
-                    self.assertEqual(list(map(classify, range(begin, begin + BLOCK))), wanted)
-                    compared += len(wanted)
-                    for kind, *numbers in set(wanted):
-                        greatest[kind] = list(map(max, greatest.get(kind, numbers), numbers))
-                self.assertEqual(codes.stdout.read(), b"")
-            self.assertEqual((codes.returncode, compared), (0, 2 ** 23))
-            ranges = ranges_of_header()
-            self.assertEqual([(kind, place, greatest[kind][place]) for kind, place, _ in ranges], ranges)
-            self.assertEqual(len(ranges), 10)
+        call = ctypes.CDLL(os.environ["LDVBI_LIBRARY"]).ldvbi_classify
+        call.argtypes = ctypes.c_uint32, ctypes.c_void_p
+        codes = (ctypes.c_uint32 * (3 * BLOCK))()
+        places = range(ctypes.addressof(codes), ctypes.addressof(codes) + 12 * BLOCK, 12)
+        # Where the lines that run are recorded, these calls would take minutes, and show no new line.
+        self.addCleanup(sys.settrace, sys.gettrace())
+        sys.settrace(None)
+        greatest = {}
+        for begin in range(0x800000, 0x1000000, BLOCK):
+            words = range(begin, begin + BLOCK)
+            self.assertFalse(any(map(call, words, places)))
+            wanted = list(struct.iter_unpack("=III", codes))
+            self.assertEqual(list(map(classify, words)), wanted)
+            for kind, *numbers in set(wanted):
+                greatest[kind] = list(map(max, greatest.get(kind, numbers), numbers))
+        ranges = ranges_of_header()
+        self.assertEqual([(kind, place, greatest[kind][place]) for kind, place, _ in ranges], ranges)
+        self.assertEqual(len(ranges), 10)

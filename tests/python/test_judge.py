@@ -4,149 +4,127 @@ number is believed from 10 on."""
 
 import ctypes
 import os
+import re
 import unittest
 
 import ldvbi
 from cases import InFolder, reason
-from compact import rows
+from compact import made
 from discs import side
 from ldvbi import Counted, Number, Pace, State
 from streams import NTSC, write_stream
 from test_refusals import WIDE
 
 NOTHING = Number(None, State.nothing)
-# Sides, and their fields' states by their first letters, but of those that show no number and have none due. Picture 1
-# stands on both lines of field 1, say, and what is on one line weighs half as much.
+VIDEO = "-/#1/- B -/#2/- B -/#3/- B -/#4/- B -/#5/- B"
+LETTERS = {State.believed: "b", State.doubtful: "d", State.due: "u"}
+# Sides, and the numbers and states of their fields: believed, doubtful, due (u) or nothing (-); or the letters of those
+# states alone. Picture 1 stands on both lines of field 1, say, and what is on one line weighs half as much.
 STATES = (
+    ("each state", "1 2 Bx2 4 -/#79999/- B 6 7 2:14/2=B", "1b - 2b - 3u - 4b - 5u - 6b - 7b -"),
+    ("alone", "-/#5/#5 B", "5d -"),
+    ("both lines say one: none is due", "1 2 Bx2 4 79999 6 7 2:14/2=B", "1b - 2b - 3u - 4b - 79999d - 6b - 7b -"),
     ("weights 9 and 10", "1..2 -/#3*/- B", "ddd"), ("10", "1..2 -/#3/- B", "bbb"),
     ("of pass 2: 9", "-/#1*/#1* B -/#2*/#2* B -/#3*/#3* B -/#4*/#4* B -/#5*/- B", "ddddd"),
     ("10 of pass 2", "-/#1*/#1* B -/#2*/#2* B -/#3*/#3* B -/#4*/#4* B -/#5*/#5* B", "bbbbb"),
-    ("24 fields away", "1..2 Bx20 -/#13/- B", "bb" + 10 * "d" + "b"),
+    ("24 fields away", "1..2 Bx20 -/#13/- B", "1b - 2b - 3u - 4u - 5u - 6u - 7u - 8u - 9u - 10u - 11u - 12u - 13b -"),
     ("26: the first and the last are out of reach", "1..2 Bx22 -/#14/- B", "dbd"),
+    ("nothing is due at a jump", "1..3 Bx2 10..12", "1b - 2b - 3b - - - 10b - 11b - 12b -"),
+    ("the greatest", "79997..79999", "79997b - 79998b - 79999b -"), ("the least", "0..2", "0b - 1b - 2b -"),
+    ("lines that differ", "1..2 -/#79999/#3 B 4", "1b - 2b - 3b - 4b -"),
+    ("alone", "-/#4/#9", "4d"), ("on line 18", "-/-/#9", "9d"),
     ("two rows that weigh the same", "-/#0/#100 B -/#1/#101 B -/#2/#102 B -/#3/#103 B -/#4/#104 B", "ddddd"),
     ("film", "f1..5", "bbbbb", "pictures", "film"), ("film as video", "f1..5", "ddddd", "pictures", "video"),
     # 3 is five fields from both, 4 from 2 alone, behind which no believed one is as far
-    ("film with losses", "f1..5 6=B 9=B", "bbdb", "pictures", Pace.film),
-    ("video", "-/#1/- B -/#2/- B -/#3/- B -/#4/- B -/#5/- B", "bbbbb", "pictures", "video"),
+    ("film with losses", "f1..5 6=B 9=B", "bbub", "pictures", Pace.film),
     # of film two pictures are five fields
-    ("video as film", "-/#1/- B -/#2/- B -/#3/- B -/#4/- B -/#5/- B", "ddbdd", "pictures", "film"),
+    ("video", VIDEO, "bbbbb", "pictures", "video"), ("video as film", VIDEO, "ddbdd", "pictures", "film"),
     # a still weighs 4 less
     ("a still", "7x3 -/#7*/- B", "dddd", "pictures", "video"), ("of 10", "7x3 -/#7/- B", "bbbb", "pictures", "video"),
     ("one of which stands apart", "-/#7/#7x3 B -/#7/#7", "dddd", "pictures", "video"),
-    ("times", "t0..8", "b" * 9, "times"),
+    ("times", "t0..8", "b" * 9, "times"), ("few", "t0..3", "dddd", "times"), ("of NTSC", "NTSC t0..3", "dddd", "times"),
     ("the lighter line counts", "t0..8 1.16=s0.0* 3.16=s0.1* 5.16=s0.2* 7.16=s0.3* 9.16=s0.4* 11.16=s0.5* 13.16=s0.6* "
-     "15.16=s0.7* 17.16=s0.8*", "d" * 9, "times"))
+     "15.16=s0.7* 17.16=s0.8*", "d" * 9, "times"),
+    ("the rate of PAL", "s2.20/@1:09/@1:09", "103570d", "times"),
+    ("the rate of NTSC", "NTSC s2.20/@1:09/@1:09", "124280d", "times"), ("no picture", "s2.20/@1:09/@1:09", "-"),
+    # each time weighs 2, since it stands on line 18 alone
+    ("over the end of a minute", "t1497..1502 5=B", "1497b - 1498b - 1499u - 1500b - 1501b - 1502b -", "times"),
+    ("of NTSC", "NTSC t1797..1802 5=B", "1797b - 1798b - 1799u - 1800b - 1801b - 1802b -", Counted.times),
+    ("what no clock shows", "s2.25/-/@0:01", "-", "times"), ("a minute", "s2.24/-/@0:60", "-", "times"),
+    ("no second", "-/-/@0:01", "-", "times"), ("no minute", "s2.24/-/-", "-", "times"),
+    ("the greatest time", "NTSC s59.29/-/@9:59", "1079999d", "times"))
 
 
-def judged(text, *words, system="PAL"):
-    return ldvbi.judge(side(rows(text, 30 if system == "NTSC" else 25), system).readings, system, *words)
+def judged(text, *words):
+    one = made(text, side)
+    return ldvbi.judge(one.readings, one.system, *words)
 
 
-def states(text, *words, system="PAL"):
-    return "".join(one.state.name[0] for one in judged(text, *words, system=system) if one != NOTHING)
+def states(text, *words):
+    return " ".join("-" if one == NOTHING else "%d%s" % (one.number, LETTERS[one.state])
+                    for one in judged(text, *words))
 
 
 class States(unittest.TestCase):
-    def test_each_state(self):
-        known = judged("1 2 Bx2 4 -/#79999/- B 6 7 2:14/2=B")
-        wanted = [(1, "b"), (2, "b"), (3, "d"), (4, "b"), (5, "d"), (6, "b"), (7, "b")]
-        self.assertEqual([(one.number, one.state.name[0]) for one in known[::2]], wanted)
-        self.assertEqual([known[4].state, known[8].state, *known[1::2]], [State.due] * 2 + [NOTHING] * 7)
-        self.assertEqual(judged("-/#5/#5 B"), [(5, State.doubtful), NOTHING])
-        # where both lines say one number, none is due
-        self.assertEqual(judged("1 2 Bx2 4 79999 6 7 2:14/2=B")[8], (79999, State.doubtful))
-
     def test_rows(self):
         for name, text, wanted, *words in STATES:
-            with self.subTest(name):
-                self.assertEqual(states(text, *words), wanted)
+            with self.subTest((name, text)):
+                found = states(text, *words)
+                self.assertEqual(re.sub("[-0-9 ]", "", found) if wanted.isalpha() else found, wanted)
 
     def test_due(self):
-        known = judged("1..2 Bx20 -/#13/- B")
-        self.assertEqual("".join(one.state.name[0] for one in known[0:25:2]), "bb" + 10 * "d" + "b")
-        self.assertEqual(known[4].state, State.due)
+        """Not where a code stands that leaves no place for a number."""
         for words, is_due in (("-/-/-", True), ("-/83D0A1/-", True), ("-/c3/-", False), ("-/-/c3", False),
                               ("-/88FFFF/-", False), ("-/-/80EEEE", False), ("-/@0:01/-", False)):
-            found = judged("-/#1/#1 B -/#2/#2 B %s B -/#4/#4 B -/#5/#5 B" % words)[4]
-            self.assertEqual(found, (3, State.due) if is_due else NOTHING, words)
-        self.assertEqual(judged("1..3 Bx2 10..12")[6], NOTHING)  # nothing beyond a jump
-        self.assertEqual([judged("79997..79999")[4], judged("0..2")[0]], [(79999, State.believed), (0, State.believed)])
-
-    def test_lines_that_differ(self):
-        self.assertEqual(judged("1..2 -/#79999/#3 B 4")[4], (3, State.believed))
-        self.assertEqual(judged("-/#4/#9"), [(4, State.doubtful)])
-        self.assertEqual(judged("-/-/#9"), [(9, State.doubtful)])
-
-
-class Times(unittest.TestCase):
-    def test_rates(self):
-        for system, rate in (("PAL", 25), ("NTSC", 30)):
-            self.assertEqual(judged("s2.20/@1:09/@1:09", "times", system=system),
-                             [((69 * 60 + 2) * rate + 20, State.doubtful)])
-            # over the end of a minute; each time weighs 2, since it stands on line 18 alone
-            first = 60 * rate - 3
-            known = judged("t%d..%d 5=B" % (first, first + 5), Counted.times, system=system)
-            self.assertEqual([one.number for one in known[::2]], list(range(first, first + 6)))
-            self.assertEqual([one.state.name[0] for one in known[::2]], ["b", "b", "d", "b", "b", "b"])
-            self.assertEqual([known[4], *known[1::2]], [(first + 2, State.due)] + [NOTHING] * 6)
-            self.assertEqual(states("t0..3", "times", system=system), "dddd")
-        self.assertEqual(judged("s2.20/@1:09/@1:09"), [NOTHING])
-
-    def test_what_no_clock_shows(self):
-        for row in ("s2.25/-/@0:01", "s2.24/-/@0:60", "-/-/@0:01", "s2.24/-/-"):
-            self.assertEqual(judged(row, "times"), [NOTHING])
-        self.assertEqual(judged("s59.29/-/@9:59", "times", system="NTSC"), [(10 * 3600 * 30 - 1, State.doubtful)])
+            found = states("-/#1/#1 B -/#2/#2 B %s B -/#4/#4 B -/#5/#5 B" % words)
+            self.assertEqual(found, "1b - 2b - %s - 4b - 5b -" % ("3u" if is_due else "-"), words)
 
 
 class Paces(unittest.TestCase):
     def test_found(self):
         """Film of NTSC alone, as a disc of film is; by ldvbi.find_pace as by ldvbi.judge."""
-        video = "-/#1/- B -/#2/- B -/#3/- B -/#4/- B -/#5/- B"
-
-        def found(text, system, *words):
-            return ldvbi.find_pace(side(rows(text), system).readings, system, *words)
-        for text, system, pace in (("f1..5", "NTSC", Pace.film), (video, "NTSC", Pace.video),
-                                   (video, "PAL", Pace.video)):
+        def found(text, *words):
+            one = made(text, side)
+            return ldvbi.find_pace(one.readings, one.system, *words)
+        for text, pace in (("NTSC f1..5", Pace.film), ("NTSC " + VIDEO, Pace.video), (VIDEO, Pace.video)):
             for words in ((), ("pictures",), ("pictures", "find"), (Counted.pictures, Pace.find), (1, 3)):
-                self.assertEqual(states(text, *words, system=system), "bbbbb")
-                self.assertIs(found(text, system, *words[:1]), pace)
-        self.assertEqual(states("f1..5"), "ddddd")
-        self.assertEqual([found("f1..5", "PAL"), found("f1..5", "NTSC", "times")], [Pace.video] * 2)
+                self.assertEqual(re.sub("[-0-9 ]", "", states(text, *words)), "bbbbb")
+                self.assertIs(found(text, *words[:1]), pace)
+        self.assertEqual(re.sub("[-0-9 ]", "", states("f1..5")), "ddddd")
+        self.assertEqual([found("f1..5"), found("NTSC f1..5", "times")], [Pace.video] * 2)
 
     def test_two_clean_discs(self):
         """One picture of 1,000 is misread by one, on one line or both, in pass 1 or 2: no wrong number is believed."""
         for system in ("NTSC", "PAL"):
             for words in ("-/#502/#502", "-/#502/-", "-/#501/#502", "-/#502*/#502*"):
-                text = "1..1000 2:2000/2=B 1001=%s" % words
-                known = judged(text, system=system)
+                one = made("%s 1..1000 2:2000/2=B 1001=%s" % (system, words), side)
+                known = ldvbi.judge(one.readings, system)
                 believed = {field: one.number for field, one in enumerate(known) if one.state is State.believed}
                 self.assertGreaterEqual(len(believed), 999)
                 self.assertEqual(believed, {field: 1 + field // 2 for field in believed})
-                self.assertIs(ldvbi.find_pace(side(rows(text), system).readings, system), Pace.video)
+                self.assertIs(ldvbi.find_pace(one.readings, system), Pace.video)
 
 
 class Forms(InFolder):
-    """The same readings in each form that they come in."""
-
-    WANTED = [(3, State.believed), NOTHING, (4, State.due), NOTHING, (5, State.believed), NOTHING, (6, State.believed),
-              NOTHING]
-
-    def setUp(self):
-        super().setUp()
-        words = [0xF00003, 0, 0, 0, 0xF00005, 0x800DDD, 0xF00006, 0]
-        write_stream(self.path, NTSC, [[0, word, word] for word in words], 5)
+    """The same readings in each form that they come in: readings, a stream, and what the library wrote."""
 
     def test_each(self):
-        """Readings, a stream, and what the library wrote."""
+        words = [0xF00003, 0x803DDD, 0, 0x803DDD, 0xF00005, 0x803DDD, 0xF00006, 0x803DDD]
+        believed = [Number(number, State.believed) for number in (3, 5, 6)]
+        chapter = Number(3, State.believed)
+        wanted = ([believed[0], NOTHING, (4, State.due), NOTHING, believed[1], NOTHING, believed[2], NOTHING],
+                  [NOTHING, chapter] * 4)
+        write_stream(self.path, NTSC, [[0, word, word] for word in words], 5)
         readings = list(ldvbi.fields(self.path, *NTSC))
         plain = [tuple(map(tuple, field)) for field in readings]
         with ldvbi.Stream(self.path, *NTSC) as stream:
             block, = stream.packed(0, 8)
             known = bytes(block)
-            for one in (readings, tuple(readings), iter(readings), ldvbi.fields(self.path, *NTSC), plain, stream, block,
-                        known, bytearray(known), memoryview(known), memoryview(b"x" + known)[1:],
-                        (ctypes.c_uint32 * 48).from_buffer_copy(known)):
-                self.assertEqual(ldvbi.judge(one, ldvbi.System.NTSC), self.WANTED)
+            for form in (lambda: readings, lambda: tuple(readings), lambda: iter(readings), lambda: plain,
+                         lambda: ldvbi.fields(self.path, *NTSC), lambda: stream, lambda: block, lambda: known,
+                         lambda: bytearray(known), lambda: memoryview(known), lambda: memoryview(b"x" + known)[1:],
+                         lambda: (ctypes.c_uint32 * 48).from_buffer_copy(known)):
+                self.assertEqual((ldvbi.judge(form(), ldvbi.System.NTSC), ldvbi.judge_chapters(form())), wanted)
         self.assertEqual((len(readings), reason(ldvbi.judge, stream, "NTSC")), (8, "the stream is closed"))
         number = ldvbi.judge(known, "NTSC")[0]
         self.assertIsInstance(number, Number)
@@ -154,7 +132,7 @@ class Forms(InFolder):
 
     def test_none(self):
         for one in ([], (), b"", iter([]), ldvbi.Stream(b"", *NTSC)):
-            self.assertEqual(ldvbi.judge(one, "NTSC"), [])
+            self.assertEqual([ldvbi.judge(one, "NTSC"), ldvbi.judge_chapters(one), ldvbi.judge_stops(one)], [[]] * 3)
             self.assertIs(ldvbi.find_pace(one, "NTSC"), Pace.video)
 
 
@@ -185,14 +163,15 @@ class Refusals(unittest.TestCase):
                                ([[line, line, (0, 0, 0)]], "readings[0] is not three readings"),
                                ([[line, line, (0, 0, 0, 2 ** 32)]], "readings[0] is not three readings"),
                                ("ab", "readings[0] is not three readings")):
-            self.assertEqual(reason(ldvbi.judge, readings, "PAL"), text)
-            self.assertEqual(reason(ldvbi.find_pace, readings, "PAL"), text)
+            for call, *words in ((ldvbi.judge, "PAL"), (ldvbi.find_pace, "PAL"), (ldvbi.judge_chapters,),
+                                 (ldvbi.judge_stops,)):
+                self.assertEqual(reason(call, readings, *words), text)
 
 
 class Parts(unittest.TestCase):
     def test_each_field_from_its_part(self):
         """As `judge` answers of the whole side: film, with a field that shows nothing, a misread number, a due one."""
-        readings = side(rows("f1..59 41=B 61=999"), "NTSC").readings
+        readings = made("NTSC f1..59 41=B 61=999", side).readings
         for pace in (Pace.video, Pace.film):
             whole = ldvbi.judge(readings, "NTSC", pace=pace)
             for field, number in enumerate(whole):
@@ -202,7 +181,7 @@ class Parts(unittest.TestCase):
         self.assertEqual({one.state for one in whole}, set(State))
 
     def test_refusals(self):
-        readings = side(rows("0..59")).readings
+        readings = made("0..59", side).readings
         for count, field, words, text in (
                 (98, 0, (), "field 0 of 98, which may be 97 at most"),
                 (5, 5, (), "field 5 of 5, which may be 97 at most"),

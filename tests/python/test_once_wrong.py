@@ -5,7 +5,7 @@ import random
 import sys
 import unittest
 
-from compact import check, of_member, rows
+from compact import check, made, rows
 from discs import BLANK, answer, picture, plain
 from ldvbi_side.judge.answer import analyse
 from ldvbi_side.seek import seek, text_of, wanted_of
@@ -15,29 +15,19 @@ READ = ("bb .b b. .. bo .. .. oo oo .o bo oo b. o. .o o. o. ob o. .. oo bo o. oo
         " .. .. .b").split()
 # A disc that has its seconds on each fifth picture alone
 SPARSE = "t0..199 3:400/10.16=- 5:400/10.16=- 7:400/10.16=- 9:400/10.16=-"
-WHEEL = (3, 3, 4, 5, 5, 6, 8, 9, 10, 10, 11, 12, 12, 11, 10, 11, 12, 13)  # a wheel is turned, from 37 on
-
-
-def shown(found):
-    return [number for number, _, _ in found["showings"]]
-
-
-def numbered(numbers, kind=""):
-    """The parts of a side with these numbers."""
-    return " ".join("%s%d" % (kind, number) for number in numbers)
+# A wheel is turned: 44 is passed over
+WHEEL = [40, 40, 41, 42, 42, 43, 45, 46, 47, 47, 48, 49, 49, 48, 47, 48, 49, 50]
+TURNED = "1..40 %s 50 49 48 48 50 51 52..90" % " ".join(map(str, WHEEL))
 
 
 class Read(unittest.TestCase):
     """What was read, and what is due."""
 
     def test_worn_lines_of_numbers_on_both_fields(self):
-        forms = {"b": "- {0} {0}", "o": "- - {0}", ".": BLANK}
-        found = answer([forms[read].format(picture(1000 + place)) for place, pair in enumerate(READ) for read in pair])
-        read = [1000 + place for place, pair in enumerate(READ) if pair != ".."]
-        self.assertEqual((found["pace"], shown(found)), ("both", read))
-        self.assertEqual(found["doubtful"] + found["lost"] + found["stills"] + found["breaks"], [])
-        self.assertEqual([one["number"] for one in found["unread"]],
-                         [number for number in range(1000, 1038) if number not in read])
+        forms = {"b": "-/#{0}/#{0}", "o": "-/-/#{0}", ".": "B"}
+        side = " ".join(forms[read].format(1000 + place) for place, pair in enumerate(READ) for read in pair)
+        check(self, "worn | %s | pace both | no doubtful lost stills breaks | numbers 30 1000 to 1037 | unread 1003@7, "
+              "1005@11, 1006@13, 1019@39, 1026@53, 1032@65, 1035@71, 1036@73" % side)
 
     def test_minutes_behind_a_skip(self):
         """Of the times behind a skip one has its minute, in its field or in the next one."""
@@ -67,11 +57,11 @@ class Read(unittest.TestCase):
     in one field | -/M/#1 | format cav
     other codes of both | S/-/- 8AE000/-/- | format cav
     """)
-        found = answer(rows("1..20 9=-/#17/#17* 17=?"))
+        found = made("1..20 9=-/#17/#17* 17=?")
         self.assertEqual([text_of(seek(found, wanted_of(text))) for text in ("5", "9")], [
             "field 9, frame 5, by the numbers around it: another number was read there: 17",
             "field 17, frame 9, by the numbers around it: no number was read there"])
-        self.assertIsNone(seek(answer(rows("1..30 19=C")), wanted_of("10")))
+        self.assertIsNone(seek(made("1..30 19=C"), wanted_of("10")))
 
     def test_sparse(self):
         """Something was seen on line 16 of a picture, say, or the fields of pictures 54 to 63 are lost."""
@@ -81,9 +71,9 @@ class Read(unittest.TestCase):
     something seen | {0} 101.16=? 103.16=? | unread 0:00:02.00@101, 0:00:02.01@103
     lost | {0} -109:128 | lost 101-111 20 number | no unread | missing 0:00:02.01-0:00:02.14..
     """.format(SPARSE))
-        unread = [3, 4, 8, 9, 11, 15, 16, 17, 22, 24, 28, 29, 30, 34, 35, 40, 41, 45, 50, 51]  # a worn disc is none
-        found = answer(rows("t0..59 " + " ".join("%d.16=-" % (2 * number + 1) for number in unread)))
-        self.assertEqual([one["field"] for one in found["unread"]], [2 * number + 1 for number in unread])
+        fields = [7, 9, 17, 19, 23, 31, 33, 35, 45, 49, 57, 59, 61, 69, 71, 81, 83, 91, 101, 103]  # a worn disc is none
+        found = made("t0..59 " + " ".join("%d.16=-" % field for field in fields))
+        self.assertEqual([one["field"] for one in found["unread"]], fields)
 
 
 class Lost(unittest.TestCase):
@@ -153,9 +143,8 @@ class Lost(unittest.TestCase):
     far off | Lx10 1..59 Ox10 60000..60059 | no lost missing | reasons joined | count 119
     and lost within one | 60000..60059 Ox10 1..19 70000..70039 | missing 20-59999 lost, 60060-69999 lost
     a wrong word of pass 2 | 1..59 -/80EEEE*/- 560..619 | lost 117-120 999 number
+    whose fields of one kind meet | PAL/74 1..31 Ox11 Lx7 501..530 | no lost
     """)
-        first = [place % 2 == 0 for place in range(73)] + [place % 2 == 0 for place in range(67)]
-        self.assertEqual(answer(rows("1..31 Ox11 Lx7 501..530"), first=first)["lost"], [])
 
     def test_between_two_losses(self):
         """Two times weigh 4, and a break more than the one that is there costs 7. One that says 11.17 is believed where
@@ -191,9 +180,9 @@ class Stood(unittest.TestCase):
         """In fields 95 to 99 stand the times 98 and 99; a round ends before 98 comes again."""
         side = rows("t50..139")
         found = answer(side[:100] + 12 * side[95:100] + side[100:])
-        self.assertEqual(of_member(found, "breaks").count("back "), 12)
-        self.assertEqual({(one["from"], one["to"], one["fields"]) for one in found["breaks"]},
-                         {("0:00:03.24", "0:00:03.23", 5)})
+        self.assertEqual(len(found["breaks"]), 12)
+        self.assertEqual({(one["kind"], one["from"], one["to"], one["fields"]) for one in found["breaks"]},
+                         {("back", "0:00:03.24", "0:00:03.23", 5)})
         for length in range(4, 12):
             for side in (rows("t50..139"), rows("50..139")):
                 found = answer(side[:100] + 9 * side[100 - length:100] + side[100:])
@@ -219,10 +208,10 @@ class Stood(unittest.TestCase):
         """Of a disc that is looked at picture by picture, one is shown once or twice between two that stand."""
         for step in (20, 200, -2, -20, -200):
             for count in (1, 2, 3):
-                found = answer(rows("1000x20 %dx%d %dx20" % (1000 + step, count, 1000 + 2 * step)))
-                self.assertEqual((found["doubtful"], 1000 + step in shown(found)), ([], True), (step, count))
+                side = "1000x20 %dx%d %dx20" % (1000 + step, count, 1000 + 2 * step)
+                check(self, "%s | %s | no doubtful | @41 %d" % (side, side, 1000 + step))
         for words in ("-/#7*/#7", "-/#7/#9", "-/?/#7"):  # a wrong number
-            self.assertEqual(shown(answer(rows("1000x20 %s B 1200x20" % words))), [1000] * 20 + [1200] * 20)
+            check(self, "%s | 1000x20 %s B 1200x20 | showings x40 | @41 " % (words, words))
 
 
 class Turned(unittest.TestCase):
@@ -230,39 +219,29 @@ class Turned(unittest.TestCase):
 
     def test_no_number_is_due_where_both_lines_say_another(self):
         """The numbers of a stretch that fit the ones around it by chance say nothing of the others."""
-        for begin in range(2, 13):
-            turned = [37 + step for step in WHEEL[:begin] + WHEEL[begin - 2:begin] + WHEEL[begin:]]
-            side = rows("1..40 %s 51..90" % numbered(turned))
-            for one in answer(side)["unread"]:
-                self.assertEqual(side[one["field"] - 1], BLANK, (begin, one))
+        sides = ["1..40 %s 51..90" % " ".join(map(str, WHEEL[:begin] + WHEEL[begin - 2:])) for begin in range(2, 13)]
         # 42 stands twice and 44 is passed over, so that 45 comes in the field in which it is due
-        side = rows("1..42 42 42 43 43 45 48..79")
-        found = answer(side)
-        self.assertEqual([one for one in found["unread"] if "F" in side[one["field"] - 1]], [])
+        for side in sides + ["1..42 42 42 43 43 45 48..79"]:
+            self.assertEqual([one for one in made(side)["unread"] if "F" in rows(side)[one["field"] - 1]], [], side)
+        found = made("1..42 42 42 43 43 45 48..79")
         self.assertEqual({one["why"] for one in found["missing"]} - {"lost", "undecided"}, set())
         self.assertIsNone(seek(found, wanted_of("47")))
 
     def test_all_that_was_shown_is_believed(self):
-        """Also one that no two around it leave room for; but a number far off, and one near number alone, are wrong."""
-        side = "1..40 %s 50 49 48 48 50 51 52..90" % numbered(37 + step for step in WHEEL)
-        found = answer(rows(side))
-        self.assertEqual([found["doubtful"], [field for _, field, _ in found["showings"]]],
-                         [[], [place + 1 for place, row in enumerate(rows(side)) if " F" in row]])
-        check(self, "far off | %s 87=99 | aside 87, 87\none near | 1..60 101=53 | aside 101, 101" % side)
-
-    def test_numbers_on_both_fields(self):
-        """From 43 it was turned to 45. Backwards, each second one is shown twice: that isn't another speed, which would
-        show each one once."""
-        found = answer(rows("b1..40 %s b51..90" % numbered((37 + step for step in WHEEL), "b")))
-        self.assertEqual([found["pace"], found["doubtful"], found["unread"]], ["both", [], []])
-        self.assertEqual(set(shown(found)), {*range(1, 91)} - {44})
-        self.assertEqual((of_member(found, "missing"), of_member(found, "lost")), ("44 lost", "92-93 2 number"))
-        check(self, "two in each step | b100..146 b146 b145x2 b143x2 b141x2 b139x2 b137x2 b135x2 b136..169"
-              " | no speeds unread doubtful")
-
-    def test_a_number_shown_again_that_was_read_once(self):
-        """In pass 2, on one line: it is the number of the still that follows."""
-        check(self, "again | 1..40 %s 53 53 54..89 117=-/?/#53* | no doubtful" % numbered(37 + step for step in WHEEL))
+        """Also one that no two around it leave room for; but a number far off, and one near number alone, are wrong. In
+        pass 2 on one line a number was read that is that of the still which follows."""
+        shown = [place for place, row in enumerate(rows(TURNED), 1) if " F" in row]
+        self.assertEqual([field for _, field, _ in made(TURNED)["showings"]], shown)
+        check(self, """
+    all | {0} | no doubtful
+    far off | {0} 87=99 | aside 87, 87
+    one near | 1..60 101=53 | aside 101, 101
+    again | 1..40 {1} 53 53 54..89 117=-/?/#53* | no doubtful
+    two in each step, backwards | b100..146 b146 b145x2 b143x2 b141x2 b139x2 b137x2 b135x2 b136..169
+        | no speeds unread doubtful
+    on both fields | b1..40 {2} b51..90 | pace both | no doubtful unread | missing 44 lost | lost 92-93 2 number
+        | count 89
+    """.format(TURNED, " ".join(map(str, WHEEL)), " ".join("b%d" % number for number in WHEEL)))
 
 
 class Steps(unittest.TestCase):
@@ -294,6 +273,6 @@ class Steps(unittest.TestCase):
                  "alike": ["- %s %s" % (one, one) for one in wild[:count]],
                  "times": ["%s %s %s" % three for three in zip(seconds, minute, minute[count:])],
                  "by turns": rows("-/#100/#20000x%d" % count), "still": rows("5x%d" % (count // 2)),
-                 "jumps": rows(numbered(40000 * (place // 5 % 2) + place for place in range(count // 2)))}
+                 "jumps": rows(" ".join(str(40000 * (place // 5 % 2) + place) for place in range(count // 2)))}
         for name, side in worst.items():
             self.assertLess(self.calls(side), self.MOST * clean, name)

@@ -4,7 +4,8 @@ titles say is in test_drawing.py."""
 import unittest
 import xml.etree.ElementTree as xml
 
-import discs
+from compact import made
+from discs import side
 from ldvbi_side.draw.drawing import drawing_of
 
 SPACE = "{http://www.w3.org/2000/svg}"
@@ -34,25 +35,11 @@ def place_of(part):
     return [fields, part.get("d").split("l")[0]]
 
 
-def places_of(rows, **more):
-    picture = xml.fromstring(drawing_of(discs.side(rows, **more), "side.tbc"))
-    return [(part.get("class"), " ".join(place_of(part))) for part in picture.iter() if part.get("class")]
-
-
-def faulty():
-    """Pictures 7 and 8 are skipped, 11 comes three times, 14 has no codes, 17 reads 79999, 20 reads 0, 23 reads 5, and
-    behind 26 come 24 to 27. The pictures begin with field 3; chapter 1 with 13, the 13th of them."""
-    numbers = [*range(1, 7), 9, 10, 11, 11, 11, 12, 13, None, 15, 16, 79999, 18, 19, 0, 21, 22, 5, *range(24, 27),
-               *range(24, 28)]
-    rows = [discs.LEAD_IN] * 2
-    for place, number in enumerate(numbers, 1):
-        picture, chapter = discs.picture(number or 0), discs.chapter(place > 12)
-        rows += [discs.BLANK if number is None else "- %s %s" % (picture, picture), "- %s %s" % (chapter, chapter)]
-    rows[6] = "82CFFF 82CFFF F00003"
-    rows[9], rows[11] = "- 82CFFF 800DDD", "- 87FFFF 800DDD"
-    return rows + [discs.LEAD_OUT] * 2
-
-
+# Sides, and what the drawing has of these classes, in this order. In the first one pictures 7 and 8 are skipped, 11
+# comes three times, 14 has no codes, 17 reads 79999, 20 reads 0, 23 reads 5, and behind 26 come 24 to 27. The pictures
+# begin with field 3; chapter 1 with 13, the 13th of them.
+FAULTS = "NTSC Lx2 1..6 9..10 11x3 12..13 B C 15..16 79999 18..19 0 21..22 5 24..26 24..27 Ox2 28:62/2=-/c1/c1"
+FAULTS += " 7=S/S/#3 10=-/S/c0 12=-/M/c0"
 FAULTY = """\
 title: 150 28 side.tbc
 line-16: 1-6 150-240 blank 28; 7-7 240-255 word 28; 8-64 255-1110 blank 28
@@ -80,18 +67,9 @@ run: 3-13 6 188 484 338 439; 15-27 7 368 412 548 377; 31-33 2 608 359 638 350; 3
 """
 
 
-def clocks():
-    """A CLV disc of PAL: 40 fields, 24 pixels each, from 0:59:59.15 on. The minutes of two fields are wrong, those of a
-    third no clock shows, the picture of a fourth no clock shows, and three times are lost."""
-    rows = []
-    for place in [*range(16), *range(19, 23)]:
-        number = 3599 * 25 + 15 + place
-        time = {4: "F0DD58", 6: "F9DD59", 8: "F0DD61"}.get(place, discs.minutes(number // 90000, number // 1500 % 60))
-        second = discs.second(number // 25 % 60, 25 if place == 12 else number % 25)
-        rows += ["%s 87FFFF %s" % (second, time), "- 87FFFF 803DDD"]
-    return rows
-
-
+# 40 fields, 24 pixels each, from 0:59:59.15 on. The minutes of two fields are wrong, those of a third no clock shows,
+# the picture of a fourth no clock shows, and three times are lost.
+TIMES = "t89990..90005 t90009..90012 2:40/2=-/M/c3 9.18=@0:58 13.18=@9:59 17.18=@0:61 25.16=s0.25"
 CLOCKS = """\
 number-label: 140 487 0:59:59.15; 140 435 0:59:59.20; 140 382 1:00:00; 140 330 1:00:00.05; 140 278 1:00:00.10
 axis: 36 368 time; 630 692 field
@@ -123,36 +101,27 @@ empty: 630 368 no picture number and no time
 """
 
 
+ONE_LINE = "NTSC 1..9600 1:19200/2.18=- 2:19200/2=B "
+SIDES = ((FAULTS, FAULTY), (TIMES, CLOCKS), ("NTSC m59x20 m60x28", MINUTES), (ONE_LINE + "9601=-/?/#4801", MANY),
+         ("NTSC S/S*/- ~/?/!", EACH_CAUSE))
+
+
+def places_of(text):
+    picture = xml.fromstring(drawing_of(made(text, side), "side.tbc"))
+    return [(part.get("class"), " ".join(place_of(part))) for part in picture.iter() if part.get("class")]
+
+
 class Places(unittest.TestCase):
-    def check(self, wanted, rows, **more):
-        """What the drawing has of these classes is in these places, in this order, and there is no more of it."""
-        wanted = dict(line.split(": ") for line in wanted.replace(";\n   ", ";").splitlines())
-        found = places_of(rows, **more)
-        for name, places in wanted.items():
-            self.assertEqual([place for other, place in found if other == name], places.split("; "), name)
-
-    def test_a_side_with_faults(self):
-        self.check(FAULTY, faulty(), system="NTSC")
-
-    def test_times(self):
-        self.check(CLOCKS, clocks())
-
-    def test_minutes_alone(self):
-        rows = ["- 87FFFF %s" % discs.minutes(field > 20, 0 if field > 20 else 59) for field in range(1, 49)]
-        self.check(MINUTES, rows, system="NTSC")
-
-    def test_many_fields_on_a_pixel(self):
-        rows = [row for number in range(1, 9601) for row in ("- " + discs.picture(number) + " -", discs.BLANK)]
-        rows[9600] = "- ? " + discs.picture(4801)
-        self.check(MANY, rows, system="NTSC")
-
-    def test_each_cause(self):
-        self.check(EACH_CAUSE, ["82CFFF 82CFFF* -", "~ ? !"], system="NTSC")
+    def test_sides(self):
+        """What the drawing has of these classes is in these places, and there is no more of it."""
+        for text, wanted in SIDES:
+            found = places_of(text)
+            for line in wanted.replace(";\n   ", ";").splitlines():
+                name, _, places = line.partition(": ")
+                self.assertEqual("; ".join(place for other, place in found if other == name), places, (text, name))
 
     def test_marks_that_fall_together_are_one(self):
-        rows = [row for number in range(1, 9601) for row in (
-            "- " + ("- -" if number % 96 == 48 or number == 5042 else discs.picture(number) + " -"), discs.BLANK)]
-        found = [place for name, place in places_of(rows, system="NTSC") if name == "unread"]
+        found = [place for name, place in places_of(ONE_LINE + "95:19200/192=B 10083=B") if name == "unread"]
         self.assertEqual(len(found), 100)
         self.assertIn("10078-10084 654-656", found)
 

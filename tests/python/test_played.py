@@ -2,39 +2,26 @@
 
 import unittest
 
-from compact import check, of_member, rows
-from discs import answer
+from compact import check, made
 from ldvbi_side.command.summary import summary
 from ldvbi_side.seek import seek, wanted_of
-
-SYSTEMS = (("PAL", 25), ("NTSC", 30))
-
-
-def lists(found, *names):
-    return [found[name] for name in names]
 
 
 class Swaps(unittest.TestCase):
     def test_one_pair(self):
         """Its number is believed where it was read. Time n stands in field 2n + 1, picture n in field 2n - 1; those of
-        film begin in fields 1, 4, 6, 9, 11; of numbers on both fields 5 stands in 9 and 10."""
-        turns = [place % 2 == 0 for place in range(40)]
-        turns[10:12] = False, True  # first fields are swapped with their numbers
-        for system, side, field, number, shown, first in (
-                *((system, "t0..19 ~%d" % field, field, number, 12, None) for system, _ in SYSTEMS
-                  for field, number in ((11, "0:00:00.05"), (12, "0:00:00.06"))),
-                *((system, "1..20 ~%d" % field, field, number, 12, None) for system, _ in SYSTEMS
-                  for field, number in ((11, 6), (12, 7))),
-                ("PAL", "1..20 11=-/#6/- ~11", 11, 6, 12, None), ("PAL", "1..20 11=-/#6*/#6* ~11", 11, 6, 12, None),
-                ("NTSC", "f1..30 ~11", 11, 5, 12, None), ("NTSC", "b1..30 ~10", 10, 6, 10, None),
-                ("PAL", "1..20 ~11", 11, 6, 12, turns)):
-            found = answer(rows(side, dict(SYSTEMS)[system]), system, first)
-            with self.subTest((system, side)):
-                self.assertEqual(found["swapped"], [{"field": field, "number": number}])
-                self.assertIn([number, shown, shown], found["showings"])
-                self.assertEqual(lists(found, "doubtful", "missing", "unread", "breaks", "lost", "repeated"), [[]] * 6)
-                self.assertEqual([one["why"] for one in found["reasons"]], ["swapped"])
-        found = seek(answer(rows("t0..19 ~11")), wanted_of("0:00:00.05"))
+        film begin in fields 1, 4, 6, 9, 11; of numbers on both fields 5 stands in 9 and 10. In the last row first
+        fields are swapped with their numbers."""
+        for systems, side, number, field, shown in (
+                ("PAL NTSC", "t0..19 ~11", "0:00:00.05", 11, 12), ("PAL NTSC", "t0..19 ~12", "0:00:00.06", 12, 12),
+                ("PAL NTSC", "1..20 ~11", 6, 11, 12), ("PAL NTSC", "1..20 ~12", 7, 12, 12),
+                ("PAL", "1..20 11=-/#6/- ~11", 6, 11, 12), ("PAL", "1..20 11=-/#6*/#6* ~11", 6, 11, 12),
+                ("NTSC", "f1..30 ~11", 5, 11, 12), ("NTSC", "b1..30 ~10", 6, 10, 10),
+                ("PAL/11,13", "1..20 ~11", 6, 11, 12)):
+            for system in systems.split():
+                check(self, "{0} {1} | {0} {1} | swapped {2}@{3} | @{4} {2} | reasons swapped | "
+                      "no doubtful missing unread breaks lost repeated".format(system, side, number, field, shown))
+        found = seek(made("t0..19 ~11"), wanted_of("0:00:00.05"))
         self.assertEqual((found["field"], found["read"]), (12, True))
 
     def test_others(self):
@@ -58,34 +45,23 @@ def played(step, begin=90, count=20):
     return [*range(begin), *stretch, *range(stretch[-1] + 1, stretch[-1] + 41)], len(stretch)
 
 
-def side_of(kind, numbers, rate=25):
-    return rows(" ".join("%s%d" % (kind, number) for number in numbers), rate)
-
-
 class Speeds(unittest.TestCase):
-    STEPS = ("2", "3", "-1", "-2", "-3", "1/3")
-
     def test_each_speed(self):
         """All numbers are believed, those passed over are lost, and the speed is why the side isn't whole."""
-        for step in self.STEPS:
+        for step in ("2", "3", "-1", "-2", "-3", "1/3"):
             numbers, count = played(step)
-            passed = max(numbers) - min(numbers) + 1 - len(set(numbers))
-            for system, rate in SYSTEMS:
-                for kind in ("t", ""):
-                    found = answer(side_of(kind, numbers, rate), system)
-                    with self.subTest((step, system, kind)):
-                        self.assertEqual(of_member(found, "speeds"), "%s 181-%d" % (step, 181 + 2 * (count - 1)))
-                        self.assertEqual(lists(found, "breaks", "lost", "doubtful", "unread", "stills", "swapped"),
-                                         [[]] * 6)
-                        self.assertEqual((found["numbers"]["count"], len(found["showings"])),
-                                         (len(set(numbers)), len(numbers)))
-                        self.assertEqual(sum(one["count"] for one in found["missing"] if one["why"] == "lost"), passed)
-                        self.assertEqual([one["why"] for one in found["reasons"]],
-                                         ["speed", "missing"][:1 + (passed > 0)])
-            found = answer(side_of("b", numbers), "NTSC")
-            self.assertEqual([one["numbers"] for one in found["speeds"]], [step])
-            self.assertEqual(lists(found, "breaks", "doubtful", "stills"), [[]] * 3)
-            self.assertEqual(found["numbers"]["count"], len(set(numbers)))
+            gaps = sum(other - one > 1 for one, other in zip(numbers, numbers[1:]))
+            for kind in ("PAL t", "PAL ", "NTSC t", "NTSC ", "NTSC b"):
+                system, _, letter = kind.partition(" ")
+                side = "%s %s" % (system, " ".join(letter + str(number) for number in numbers))
+                if letter == "b":
+                    check(self, "%s%s | %s | speeds x1 | speeds %s .. | no breaks doubtful stills | count %d" % (
+                        kind, step, side, step, len(set(numbers))))
+                    continue
+                check(self, "%s%s | %s | no breaks lost doubtful unread stills swapped | speeds %s 181-%d | count %d | "
+                      "showings x%d | missing x%d | whys %s | reasons speed%s" % (
+                          kind, step, side, step, 179 + 2 * count, len(set(numbers)), len(numbers), gaps,
+                          "lost" if gaps else "", ", missing" if gaps else ""))
 
     def test_stretches(self):
         """0 to 90 in fields 1 to 181, then 89 to 70 up to field 221, then 71 to 110, say."""
@@ -118,7 +94,7 @@ class Speeds(unittest.TestCase):
         the disc goes on behind them as far ahead, they cost no more than it does without them."""
         weak = " ".join("-/#%d*/- B" % number for number in range(22, 38, 2))
         for behind, is_stretch in ((26, False), (60, True)):
-            found = answer(rows("1..19 %s %d..%d" % (weak, behind, behind + 19)))
+            found = made("1..19 %s %d..%d" % (weak, behind, behind + 19))
             self.assertEqual(bool(found["speeds"]), is_stretch, behind)
 
 
@@ -128,5 +104,5 @@ class Summaries(unittest.TestCase):
                 ("1..20", []), ("1..20 ~11", ["swapped fields: 1 (picture 6 in field 11 or 12), other speeds: none"]),
                 ("0..90 89..70 71..110",
                  ["swapped fields: none, other speeds: 1 (-1 numbers a picture in fields 181 to 221)"])):
-            lines = summary(answer(rows(side)), None)
+            lines = summary(made(side), None)
             self.assertEqual([text for text in lines if text.startswith("swapped")], line)

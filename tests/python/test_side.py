@@ -7,8 +7,8 @@ import unittest
 from unittest import mock
 
 from cases import InFolder, reason
-from compact import rows
-from discs import answer, plain, side
+from compact import made
+from discs import plain, side
 from ldvbi.readings import Cut
 from ldvbi_side.command.summary import MOST_LINES, summary
 from ldvbi_side.command.tables import bad_line_rows, field_rows
@@ -31,7 +31,9 @@ SOUGHT = (
         "10": "19 10" + AROUND + "another number was read there: 70000"}),
     # of a number that comes by again the field in which it was read
     ("1..30 11..50 39=?", {"20": "79 40"}),
-    ("1..40 22:80/2=-/c3/c3 4=-/c7/c7", {"chapter 0": "2 1", "chapter 3": "22 11", "chapter 7": ""}))
+    ("1..40 22:80/2=-/c3/c3 4=-/c7/c7", {"chapter 0": "2 1", "chapter 3": "22 11", "chapter 7": ""}),
+    # a side that begins with a second field
+    ("PAL/1 1..20 -1", {"2": "2 1", "chapter 0": "1 0"}))
 
 
 class Collector(unittest.TestCase):
@@ -40,7 +42,7 @@ class Collector(unittest.TestCase):
         try:
             for is_enabled, set_so in ((True, gc.enable), (False, gc.disable)):
                 set_so()
-                answer(rows("1 2"))
+                made("1 2")
                 self.assertEqual(gc.isenabled(), is_enabled)
         finally:
             gc.enable()
@@ -57,91 +59,109 @@ class Seeking(unittest.TestCase):
 
     def test_what_is_found(self):
         for text, asked in SOUGHT:
-            known = answer(rows(text))
             for number, wanted in asked.items():
                 with self.subTest((text, number)):
-                    found = text_of(seek(known, wanted_of(number)))
+                    found = text_of(seek(made(text), wanted_of(number)))
                     self.assertEqual(re.sub(r"^field (\d+), frame ", r"\1 ", found), wanted or "not found")
-        parity = answer(rows("1..20 -1"), first=[False, True] * 19 + [False])
-        self.assertEqual([text_of(seek(parity, wanted_of(text))) for text in ("2", "chapter 0")],
-                         ["field 2, frame 1", "field 1, frame 0"])
+
+
+# Rows of sides: field, frame, format, picture, chapter, time, stop, doubtful, programme status, users' codes, unknown.
+# Minutes stand in the fields that say them, pictures in both fields that have them.
+FIELD_ROWS = (
+    ("L B 1..4 5=S/S/#2 7=-/#3/#79999 9=8DC0A1/-/-", """1|1|neither  3|2|cav|1  4|2|neither||0  5|3|cav|2|||stop
+        6|3|neither||0  7|4|cav|3||||picture 79999 on line 18, pass 1: lines  8|4|neither||0
+        9|5|neither||||||cx on 0A1  10|5|neither||0"""),
+    ("8BAFFF/#1/#1 -/88FFFB/F00E81* 87D00A/#2/- A00000/-/- B -/8DC000/80D000 8DC0A1/-/-", """
+        1|1|cav|1|||||cx off FFF  2|1|neither||||||||88FFFB on line 17; F00E81 on line 18  3|2|cav|2||||||7 00A
+        4|2|neither||||||||A00000 on line 16
+        6|3|neither|||||cx on on line 17, pass 1: line; users on line 18, pass 1: line  7|4|neither||||||cx on 0A1"""),
+    ("t1498..1501 6=-/-/@0:01 7=8AE001/?/?", """1|1|clv|||0:00:59.23  2|1|clv||0||||cx off 000  3|2|clv|||0:00:59.24
+        4|2|clv||0||||cx off 000  5|3|clv|||0:01:00.00  6|3|clv|||0:01  7|4|clv|||0:01:00.01
+        8|4|clv||0||||cx off 000"""),
+    ("m9 -/M/- -/@0:09/-", "1|1|clv|||0:09  2|1|clv  3|2|clv|||0:09"),
+    ("b4..5", "1|1|cav|4  2|1|cav|4  3|2|cav|5  4|2|cav|5"), ("B", ""))
 
 
 class Tables(unittest.TestCase):
-    """Rows: field, frame, format, picture, chapter, time, stop, doubtful, programme status, users' codes, unknown."""
-
-    def check(self, text, *wanted):
-        found = ["|".join(map(str, row)).rstrip("|") for row in field_rows(side(rows(text)))]
-        self.assertEqual(found, list(wanted))
-
-    def test_a_row_for_each_field_with_any_code(self):
-        self.check("L B 1..4 5=S/S/#2 7=-/#3/#79999 9=8DC0A1/-/-", "1|1|neither", "3|2|cav|1", "4|2|neither||0",
-                   "5|3|cav|2|||stop", "6|3|neither||0", "7|4|cav|3||||picture 79999 on line 18, pass 1: lines",
-                   "8|4|neither||0", "9|5|neither||||||cx on 0A1", "10|5|neither||0")
-        self.check("8BAFFF/#1/#1 -/88FFFB/F00E81* 87D00A/#2/- A00000/-/- B -/8DC000/80D000 8DC0A1/-/-",
-                   "1|1|cav|1|||||cx off FFF", "2|1|neither||||||||88FFFB on line 17; F00E81 on line 18",
-                   "3|2|cav|2||||||7 00A", "4|2|neither||||||||A00000 on line 16", "6|3|neither|||||cx on on line 17, "
-                   "pass 1: line; users on line 18, pass 1: line", "7|4|neither||||||cx on 0A1")
-        self.check("B")
-
-    def test_doubtful_and_stray_codes(self):
-        found = list(field_rows(side(rows("1..20 21=-/#70000*/#70000* 23=8AE000/M/#12 32=-/c7/c7"))))
-        self.assertEqual(found[31][:7], [32, 16, "neither", "", "", "", ""])
-        self.assertEqual([found[20][:8], found[22][:8]], [
+    def test_rows(self):
+        for text, wanted in FIELD_ROWS:
+            found = ["|".join(map(str, row)).rstrip("|") for row in field_rows(made(text, side))]
+            self.assertEqual(found, re.split(r"\s{2,}", wanted.strip()) if wanted else [], text)
+        found = list(field_rows(made("1..20 21=-/#70000*/#70000* 23=8AE000/M/#12 32=-/c7/c7", side)))
+        self.assertEqual([found[20][:8], found[22][:8], found[31][:7]], [
             [21, 11, "cav", "", "", "", "", "picture 70000 on line 17, pass 2: neighbours; "
              "picture 70000 on line 18, pass 2: neighbours"],
-            [23, 12, "both", 12, "", "", "", "clv picture on line 16, pass 1: format; clv on line 17, pass 1: format"]])
-
-    def test_times(self):
-        """Minutes stand in the fields that say them, pictures in both fields that have them."""
-        mark = "|clv||0||||cx off 000"
-        self.check("t1498..1501 6=-/-/@0:01 7=8AE001/?/?", "1|1|clv|||0:00:59.23", "2|1" + mark, "3|2|clv|||0:00:59.24",
-                   "4|2" + mark, "5|3|clv|||0:01:00.00", "6|3|clv|||0:01", "7|4|clv|||0:01:00.01", "8|4" + mark)
-        self.check("m9 -/M/- -/@0:09/-", "1|1|clv|||0:09", "2|1|clv", "3|2|clv|||0:09")
-        self.check("b4..5", "1|1|cav|4", "2|1|cav|4", "3|2|cav|5", "4|2|cav|5")
+            [23, 12, "both", 12, "", "", "", "clv picture on line 16, pass 1: format; clv on line 17, pass 1: format"],
+            [32, 16, "neither", "", "", "", ""]])
 
     def test_bad_lines(self):
-        self.assertEqual(list(bad_line_rows(side(["- ? F00001"], "NTSC"))), [[1, 17, "change 170", 29120, "", "", ""]])
-        self.assertEqual(list(bad_line_rows(side(["- - -"]))), [])
+        for text, wanted in (("NTSC -/?/#1", [[1, 17, "change 170", 29120, "", "", ""]]), ("B", [])):
+            self.assertEqual(list(bad_line_rows(made(text, side))), wanted)
 
 
-def lines_of(one, path="side.tbc"):
-    return list(summary(one.answer, lambda *line: plot_command(one, path, *line)))
+def lines_of(one):
+    return list(summary(one.answer, lambda *line: plot_command(one, "side.tbc", *line)))
+
+
+DAMAGED = """
+whole: no: 2 fields lost; 1 picture lost
+system: PAL, CAV
+fields: 62, cut: none
+line 16: 1 words, 0 of them read only after smoothing; 1 bad (50.00 %), 60 blank
+line 17: 61 words, 0 of them read only after smoothing; 1 bad (1.61 %), 0 blank
+line 18: 61 words, 0 of them read only after smoothing; 1 bad (1.61 %), 0 blank
+pictures: 27, from 1 to 30
+lost: 1 (picture 22 after field 43)
+unread: 2 (pictures 10 to 11 after field 19)
+lost fields: 2 (2 after field 43)
+jumps: none
+stills: none
+shown again: none
+doubtful, set aside: 3 (picture 79999 in field 21 line 17, picture 79999 in field 21 line 18,
+ picture 3 in field 27 line 18)
+lines 17 and 18 differ: 1 (field 27: picture 13 and 3, 13 taken)
+chapters: 1 (chapter 0 in field 4)
+picture stops: 1 (picture 12 in field 25)
+lead-in: 2 (fields 1 to 2), lead-out: 2 (fields 61 to 62)
+unknown words: none
+programme status: none, users' codes: none
+codes out of place: none
+"""
+
+
+# Sides, and lines of their summaries, of which one that begins with | goes on from the one before
+SUMMARIES = (
+    ("1..30 5=-/#3^/#3^ 7=-/#4^/?", """whole: yes
+        line 17: 60 words, 0 of them read only after smoothing, 2 recovered; 0 bad (0.00 %), 0 blank
+        line 18: 59 words, 0 of them read only after smoothing, 1 recovered; 1 bad (1.67 %), 0 blank"""),
+    ("1..10 10x3 11..30 21..30 3=? 7=? 11=? 15=? 41=?", """lost: none
+        unread: 5 (picture 2 after field 1, picture 4 after field 5, picture 6 after field 9,
+        |picture 8 after field 13 and 1 more)
+        jumps: 1 (picture 30 to 21 in field 67)
+        stills: 1 (picture 10 in fields 19 to 25)
+        shown again: 2 (picture 10 in field 21, pictures 21 to 30 in field 67)"""),
+    ("1..3 3x2 4..53!10,31,32,33 54x6 55..100!61,62 91..95 71..100", """
+        |lost: 6 (picture 10 after field 21, pictures 31 to 33 after field 61, pictures 61 to 62 after field 125)
+        lost fields: 12 (2 after field 21, 6 after field 61, 4 after field 125)
+        jumps: 2 (picture 100 to 91 in field 203, picture 95 to 71 in field 213)
+        stills: 2 (picture 3 in fields 5 to 9, picture 54 in fields 103 to 113)"""),
+    ("1..30 2:60/2.16=8DC0A1 4=8BA0A1/88FFFB/800DDD 6=83D00F/800DDD/F00E81*", """
+        |unknown words: 2 (88FFFB in field 4 line 17, F00E81 in field 6 line 18)
+        programme status: 29 (CX on 0A1 in 28 fields, CX off 0A1 in 1 field), users' codes: 1 (3 00F in 1 field)"""),
+    ("1..30 2.16=8BA0A1 4:60/2.16=8DC0A1",
+     "programme status: 30 (CX off 0A1 in 1 field, CX on 0A1 in 29 fields), users' codes: none"),
+    ("NTSC f1..30", "whole: yes\nsystem: NTSC, CAV, film (2 and 3 fields a picture)"),
+    ("NTSC t0..1 t3..4", """system: NTSC, CLV\ntimes: 4, from 0:00:00.00 to 0:00:00.04\nlost: none
+        unread: none, undecided: 1 (time 0:00:00.02 after field 3)"""),
+    ("NTSC t0..5999!400%1001", "skipped by the disc itself: 6"))
 
 
 class Summaries(unittest.TestCase):
-    def check(self, text, wanted, system="PAL"):
-        """The summary has these lines, of which one that begins with `|` goes on from the one before."""
-        found = lines_of(side(rows(text, 30 if system == "NTSC" else 25), system))
-        for line in re.sub(r"\n *\|", " ", wanted.strip()).split("\n"):
-            self.assertIn(line.strip(), found)
-
     def test_a_damaged_side(self):
-        one = side(rows("Lx2 1..30 Ox2 21=79999 23=?/!/~ 25=S/S/#12 27=-/#13/#3 -45:46"))
-        self.assertEqual(lines_of(one), [
-            "whole: no: 2 fields lost; 1 picture lost",
-            "system: PAL, CAV",
-            "fields: 62, cut: none",
-            "line 16: 1 words, 0 of them read only after smoothing; 1 bad (50.00 %), 60 blank",
-            "line 17: 61 words, 0 of them read only after smoothing; 1 bad (1.61 %), 0 blank",
-            "line 18: 61 words, 0 of them read only after smoothing; 1 bad (1.61 %), 0 blank",
-            "pictures: 27, from 1 to 30",
-            "lost: 1 (picture 22 after field 43)",
-            "unread: 2 (pictures 10 to 11 after field 19)",
-            "lost fields: 2 (2 after field 43)",
-            "jumps: none",
-            "stills: none",
-            "shown again: none",
-            "doubtful, set aside: 3 (picture 79999 in field 21 line 17, picture 79999 in field 21 line 18, "
-            "picture 3 in field 27 line 18)",
-            "lines 17 and 18 differ: 1 (field 27: picture 13 and 3, 13 taken)",
-            "chapters: 1 (chapter 0 in field 4)",
-            "picture stops: 1 (picture 12 in field 25)",
-            "lead-in: 2 (fields 1 to 2), lead-out: 2 (fields 61 to 62)",
-            "unknown words: none",
-            "programme status: none, users' codes: none",
-            "codes out of place: none"])
-        lines = lines_of(side(rows("L")))
+        """What it has of lead-in alone stands in the same order, without what there are no numbers for."""
+        lines = lines_of(made("Lx2 1..30 Ox2 21=79999 23=?/!/~ 25=S/S/#12 27=-/#13/#3 -45:46", side))
+        self.assertEqual(lines, DAMAGED.replace("\n ", " ").strip().split("\n"))
+        lines = lines_of(made("L", side))
         self.assertEqual(lines[:1] + lines[6:], [
             "whole: can't tell: no picture number and no time",
             "pictures: none", "doubtful, set aside: none", "lines 17 and 18 differ: none", "chapters: none",
@@ -150,33 +170,14 @@ class Summaries(unittest.TestCase):
 
     def test_lines(self):
         """Lists stand in the order of the side, and of more than four entries the first are named."""
-        self.check("1..30 5=-/#3^/#3^ 7=-/#4^/?", """whole: yes
-            line 17: 60 words, 0 of them read only after smoothing, 2 recovered; 0 bad (0.00 %), 0 blank
-            line 18: 59 words, 0 of them read only after smoothing, 1 recovered; 1 bad (1.67 %), 0 blank""")
-        self.check("1..10 10x3 11..30 21..30 3=? 7=? 11=? 15=? 41=?", """lost: none
-            unread: 5 (picture 2 after field 1, picture 4 after field 5, picture 6 after field 9,
-            |picture 8 after field 13 and 1 more)
-            jumps: 1 (picture 30 to 21 in field 67)
-            stills: 1 (picture 10 in fields 19 to 25)
-            shown again: 2 (picture 10 in field 21, pictures 21 to 30 in field 67)""")
-        self.check("1..3 3x2 4..53!10,31,32,33 54x6 55..100!61,62 91..95 71..100", """
-            lost: 6 (picture 10 after field 21, pictures 31 to 33 after field 61, pictures 61 to 62 after field 125)
-            lost fields: 12 (2 after field 21, 6 after field 61, 4 after field 125)
-            jumps: 2 (picture 100 to 91 in field 203, picture 95 to 71 in field 213)
-            stills: 2 (picture 3 in fields 5 to 9, picture 54 in fields 103 to 113)""")
-        self.check("1..30 2.16=8BA0A1 4:60/2.16=8DC0A1", "programme status: 30 (CX off 0A1 in 1 field, CX on 0A1 in 29 "
-                   "fields), users' codes: none")
-        self.check("f1..30", "whole: yes\nsystem: NTSC, CAV, film (2 and 3 fields a picture)", "NTSC")
-        self.check("t0..1 t3..4", """system: NTSC, CLV\ntimes: 4, from 0:00:00.00 to 0:00:00.04\nlost: none
-            unread: none, undecided: 1 (time 0:00:00.02 after field 3)""", "NTSC")
-        self.check("t0..5999!400%1001", "skipped by the disc itself: 6", "NTSC")
+        for text, wanted in SUMMARIES:
+            found = lines_of(made(text, side))
+            for line in re.sub(r"\n *\|", " ", wanted).split("\n"):
+                self.assertIn(line.strip(), found)
 
     def test_status_users_codes_and_unknown_words(self):
-        one = side(rows("1..30 2:60/2.16=8DC0A1 4=8BA0A1/88FFFB/800DDD 6=83D00F/800DDD/F00E81*"))
-        self.assertEqual(lines_of(one)[-3:-1], [
-            "unknown words: 2 (88FFFB in field 4 line 17, F00E81 in field 6 line 18)",
-            "programme status: 29 (CX on 0A1 in 28 fields, CX off 0A1 in 1 field), users' codes: 1 (3 00F in 1 field)"])
-        self.assertEqual([one.answer[name] for name in ("unknown", "programmeStatus", "users", "whole", "stray")], [
+        found = made("1..30 2:60/2.16=8DC0A1 4=8BA0A1/88FFFB/800DDD 6=83D00F/800DDD/F00E81*")
+        self.assertEqual([found[name] for name in ("unknown", "programmeStatus", "users", "whole", "stray")], [
             [{"field": 4, "line": 17, "word": "88FFFB", "pass": 1},
              {"field": 6, "line": 18, "word": "F00E81", "pass": 2}],
             [{"cx": True, "digits": "0A1", "count": 28, "first": 2, "last": 60},
@@ -184,28 +185,27 @@ class Summaries(unittest.TestCase):
             [{"digit": 3, "digits": "00F", "count": 1, "first": 6, "last": 6}], "yes", []])
 
     def test_levels(self):
-        blank, bad = lines_of(side(rows("Bx4"), "NTSC")), lines_of(side(rows("-/?/!x4")))
-        self.assertRegex(blank[6], r"^levels: lines 17 and 18 have 0 words, 0 are bad, 8 blank: black and white may be "
+        blank, bad, recovered = (lines_of(made(text, side))[6] for text in ("NTSC Bx4", "-/?/!x4", "-/#3^/#3^x30"))
+        self.assertRegex(blank, r"^levels: lines 17 and 18 have 0 words, 0 are bad, 8 blank: black and white may be "
                          r"too high, or the side has no codes\. Look at one: dd if=side\.tbc bs=1820 skip=542 count=1 "
                          r"status=none \| python3 \S*contrib/plot_line\.py --system NTSC --black 16384 --white 51200 "
                          r"--title 'side\.tbc, field 3, line 17' > line\.svg$")
-        self.assertRegex(bad[6], r"^levels: lines 17 and 18 have 0 words, 8 are bad, 0 blank: black and white may be "
+        self.assertRegex(bad, r"^levels: lines 17 and 18 have 0 words, 8 are bad, 0 blank: black and white may be "
                          r"wrong, or the signal is noise\. Look at one: dd ")
-        self.assertIn("levels: lines 17 and 18 have 0 words of their own, 60 are bad, 0 blank: ", "\n".join(
-            lines_of(side(rows("-/#3^/#3^x30")))))
+        self.assertRegex(recovered, "^levels: lines 17 and 18 have 0 words of their own, 60 are bad, 0 blank: ")
 
     def test_levels_are_blamed_of_the_right_file_alone(self):
         text = "perhaps another system, or another file's metadata. Look at one: dd "
-        for shown in ("Bx4", "-/?/!x4"):
-            for expected, cut, is_other in ((4, None, False), (None, None, False), (5, None, True), (3, None, True),
-                                            (4, Cut(5, 7), True), (None, Cut(5, 7), True)):
-                one = side(rows(shown), cut=cut)
+        for expected, cut, is_other in ((4, None, False), (None, None, False), (5, None, True), (3, None, True),
+                                        (4, Cut(5, 7), True), (None, Cut(5, 7), True)):
+            for shown in ("Bx4", "-/?/!x4"):
+                one = made(shown, side, cut=cut)
                 one.expected = expected
                 line = lines_of(one)[6]
                 self.assertEqual((text in line, "black and white may be" in line), (is_other, not is_other), line)
 
     def test_beside_the_judge_of_the_library(self):
-        known = side(rows("1..30")).answer
+        known = made("1..30")
         begin = "judged by the library, too: "
         self.assertEqual([line for line in summary(known, lambda *line: "dd") if line.startswith(begin)], [])
         for counts, text in (((29, 0, 1, 0, None), "29 fields alike, 0 believed by it alone, 1 here alone, 0 differ"),
@@ -216,7 +216,7 @@ class Summaries(unittest.TestCase):
 
     def test_at_most_26_lines(self):
         # a second row of numbers on line 17
-        known = side(rows("t0..8999!400%1001 -101:110 1:17972/2.17=@2:20", 30), "NTSC").answer
+        known = made("NTSC t0..8999!400%1001 -101:110 1:17972/2.17=@2:20")
         self.assertTrue(known["secondRows"] and known["leftOut"])
         known.update(levels={"shows": "bad", "words": 1, "bad": 9, "blank": 1, "field": 1, "line": 17, "tried": None},
                      judged={"both": 9, "judgeAlone": 0, "packageAlone": 0, "differ": 0, "first": None},
@@ -230,14 +230,14 @@ class Plotting(InFolder):
     def test_the_command(self):
         self.assertEqual([tbc_name(name) for name in ("a/side.vbi.json", "side.json", "side.tbc", "-")],
                          ["a/side.tbc", "side.tbc", "side.tbc", "side.tbc"])
-        command = plot_command(side(rows("B")), "my side.tbc", 1, 16)
+        command = plot_command(made("B", side), "my side.tbc", 1, 16)
         self.assertIn("dd if='my side.tbc' bs=2270 skip=15 ", command)
         self.assertIn("--title 'my side.tbc, field 1, line 16'", command)
 
     def test_where_the_script_is(self):
         """From another folder its whole path is printed, and its name where it isn't there."""
         def path():
-            return plot_command(side(rows("B")), "side.tbc", 1, 16).split("python3 ")[1].split(" ")[0]
+            return plot_command(made("B", side), "side.tbc", 1, 16).split("python3 ")[1].split(" ")[0]
         self.assertTrue(os.path.exists(path()))
         self.addCleanup(os.chdir, os.getcwd())
         os.chdir(self.folder)
@@ -249,7 +249,7 @@ class Plotting(InFolder):
 
 class Sides(unittest.TestCase):
     def test_tables(self):
-        cav, clv = side(rows("5..24 11..40 5=S/-/#7")), side(rows("t0..19"))
+        cav, clv = made("5..24 11..40 5=S/-/#7", side), made("t0..19", side)
         self.assertEqual([cav.pictures()[5], cav.pictures()[11], cav.pictures()[40]], [1, 13, 99])
         self.assertEqual([cav.times(), cav.chapters(), cav.stops(), cav.format()], [{}, {0: 2}, [5], "cav"])
         self.assertEqual([clv.pictures(), clv.times()["0:00:00.07"], clv.format()], [{}, 15, "clv"])
@@ -257,14 +257,14 @@ class Sides(unittest.TestCase):
         self.assertIsNone(cav.seek("41"))
 
     def test_codes_are_judged_by_nothing(self):
-        codes = list(side(["- F00001 F79999"]).codes())
-        self.assertEqual(codes, [{"seqNo": 1, "format": "cav", "codes": [
-            None, {"kind": "picture", "number": 1}, {"kind": "picture", "number": 79999}], "byKind": [
-                {"kind": "picture", "number": 1, "lines": [17]}, {"kind": "picture", "number": 79999, "lines": [18]}]}])
+        first, other = {"kind": "picture", "number": 1}, {"kind": "picture", "number": 79999}
+        self.assertEqual(list(made("-/#1/#79999", side).codes()), [{
+            "seqNo": 1, "format": "cav", "codes": [None, first, other],
+            "byKind": [dict(first, lines=[17]), dict(other, lines=[18])]}])
 
     def test_plain_data(self):
-        one = side(rows("-/#1/#1* ?/!/~"), "NTSC", [True, False], Cut(3, 99))
-        self.assertEqual(one.plain(), plain(rows("-/#1/#1* ?/!/~"), "NTSC", [True, False], {"seqNo": 3, "bytes": 99}))
+        one = made("NTSC/0 -/#1/#1* ?/!/~", side, cut=Cut(3, 99))
+        self.assertEqual(one.plain(), made("NTSC/0 -/#1/#1* ?/!/~", plain, cut={"seqNo": 3, "bytes": 99}))
         self.assertEqual(one.answer["cutField"], {"seqNo": 3, "bytes": 99})
         self.assertIs(one.answer, one.answer)
         self.assertEqual(SIZES, {"NTSC": (910 * 2, 263), "PAL": (1135 * 2, 313)})

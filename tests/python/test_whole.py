@@ -2,17 +2,10 @@
 
 import unittest
 
-from compact import check, rows, said_of
-from discs import answer, plain
+from compact import check, made, said_of
+from discs import plain
 from ldvbi_side.judge.answer import analyse
 from ldvbi_side.judge.whole import counted_by, reasons_of, whole_of
-
-WHOLE = "Lx4 1..30 Ox4"
-
-
-def said(side, system="PAL", **more):
-    """What is said of a side of which more is known or asked."""
-    return said_of(analyse(plain(rows(side), system)._replace(**more)))
 
 
 class Whole(unittest.TestCase):
@@ -33,15 +26,16 @@ class Whole(unittest.TestCase):
     words of CLV | 1..60 21.16=8AE000 24.16=8AE000 91.16=8AE000 | said yes
     side by side | 1..60 21.16=8AE000 23:24.16=8AE000 91.16=8AE000
         | said no: codes of CLV in 3 fields, from field 21 on
+    CAV behind CLV | t0..19 1..15 | said no: codes of CAV in 15 fields, from field 41 on
+    the parity turns | PAL/31 1..30 | said no: 1 field or more lost
+    and fields are lost | PAL/31 1..30 -41:44 | said no: 5 fields or more lost; 2 pictures lost
     """)
-        self.assertRegex(said("t0..19 1..15"), "^no: .*codes of CAV in 15 fields, from field 41")
-        for known, text in (({"expected": 68}, "yes"), ({"expected": 67}, "yes"),
-                            ({"expected": 69}, "no: 68 fields of 69 that the metadata has"),
-                            ({"cut": {"seqNo": 69, "bytes": 5}}, "no: field 69 is cut")):
-            self.assertEqual(said(WHOLE, **known), text)
-        parity = [(place % 2 == 0) == (place < 30) for place in range(60)]
-        self.assertEqual(said("1..30", first=parity), "no: 1 field or more lost")
-        self.assertEqual(said("1..30 -41:44", first=parity), "no: 5 fields or more lost; 2 pictures lost")
+        for more, said in (({"expected": 68}, "yes"), ({"expected": 67}, "yes"),
+                           ({"expected": 69}, "no: 68 fields of 69 that the metadata has"),
+                           ({"cut": {"seqNo": 69, "bytes": 5}}, "no: field 69 is cut")):
+            check(self, "known | Lx4 1..30 Ox4 | said %s" % said, **more)
+        check(self, "a cut field alone | B | said no: field 2 is cut; no picture number and no time",
+              cut={"seqNo": 2, "bytes": 5})
 
     def test_whole(self):
         check(self, """
@@ -119,24 +113,22 @@ class Whole(unittest.TestCase):
     less than a tenth set aside | 1..40 9:25/8.17=F70000 | said yes
     a tenth | 1..40 9:33/8.17=F70000 | said can't tell: numbers set aside in 4 of 40 fields
     one of ten | 1..9 -/F70000/- | said can't tell: numbers set aside in 1 of 10 fields
+    all, on one line | 1..30 1:60/2.17=#40000 | said ..numbers set aside in 30 of 30 fields
     """)
-        known = answer(rows("t0..1 t3..4", 30), "NTSC")
+        known = made("NTSC t0..1 t3..4")
         self.assertEqual([counted_by(known, why) for why in ("undecided", "lost")], [1, 0])
-        self.assertEqual(said("B", cut={"seqNo": 2, "bytes": 5}), "no: field 2 is cut; no picture number and no time")
-        wrong = [row.replace("- F00", "- F40") for row in rows("1..30")]
-        self.assertTrue(said_of(answer(wrong)).endswith("numbers set aside in 30 of 30 fields"))
 
 
 class Judged(unittest.TestCase):
     """The library's judge, in whose place a function stands here."""
 
-    def judged(self, side, theirs, system="PAL"):
+    def judged(self, side, theirs):
         calls = []
 
         def judge(*asked_for):
             calls.append(asked_for)
             return theirs
-        known = analyse(plain(rows(side, 30 if system == "NTSC" else 25), system)._replace(judge=judge))
+        known = analyse(made(side, plain)._replace(judge=judge))
         return known["judged"], said_of(known), calls
 
     def test_counts(self):
@@ -151,20 +143,20 @@ class Judged(unittest.TestCase):
 
     def test_what_is_asked(self):
         """Nothing of minutes, nor where there are no numbers."""
-        counts, _, calls = self.judged("t0..8", {1: 0, 3: 31}, "NTSC")
+        counts, _, calls = self.judged("NTSC t0..8", {1: 0, 3: 31})
         self.assertEqual(calls, [("times", "video")])
         self.assertEqual(counts["first"], {"field": 3, "judge": "0:00:01.01", "package": "0:00:00.01"})
-        self.assertEqual(self.judged("f1..39", {}, "NTSC")[2], [("pictures", "film")])
+        self.assertEqual(self.judged("NTSC f1..39", {})[2], [("pictures", "film")])
         counts, _, calls = self.judged("b1..8", {1: 1, 2: 1})
         self.assertEqual((counts["both"], counts["packageAlone"], calls), (2, 14, [("pictures", "video")]))
         for side in ("m9x9", "B", ""):
             self.assertEqual(self.judged(side, {})[::2], (None, []))
-        self.assertIsNone(answer(rows(WHOLE))["judged"])
+        self.assertIsNone(made("1..30")["judged"])
 
 
 class Order(unittest.TestCase):
     def test_the_order_of_all(self):
-        known = answer(rows("e1..40 ~48"), "NTSC")  # the first fields of picture 20
+        known = made("NTSC e1..40 ~48")  # the first fields of picture 20
         self.assertEqual([one["why"] for one in known["reasons"]], ["order"])
         place = {"after": 9, "before": 10}
         known.update(
