@@ -60,8 +60,8 @@ static const OtherKind other_kinds[] = {
     {{"steps", STEPS, 0.05, 0, 0, 0, 0}, 0},
     {{"teletext", BITS, 0.05, 0, 360, 0.66, 3}, 0},
     {{"teletext, noise", BITS, 0.5, 0, 360, 0.66, 3}, 0},
-    {{"captions", CAPTIONS, 0.05, 0.5035, 19, 0, 0}, 0},
-    {{"captions, noise", CAPTIONS, 0.5, 0.5035, 19, 0, 0}, 0},
+    {{"captions", CAPTIONS, 0.05, 0.5035, 19, 0.5, 0}, 0},
+    {{"captions, noise", CAPTIONS, 0.5, 0.5035, 19, 0.5, 0}, 0},
     {{"time code", BITS, 0.05, 1.79, 90, 1, 3}, 0},
     {{"time code, noise", BITS, 0.5, 1.79, 90, 1, 3}, 5},
     {{"bits of 1 MHz", BITS, 0.05, 1, 52, 1, 0}, 20},
@@ -73,14 +73,12 @@ static const OtherKind other_kinds[] = {
     {{"a sine of 0.1 to 1.6 MHz", SINE, 0.05, 0, 0, 0, 0}, 1500},
 };
 
-enum { WORN_KINDS = sizeof worn_kinds / sizeof *worn_kinds, OTHER_KINDS = sizeof other_kinds / sizeof *other_kinds };
-
-/* ---- Worn words */
-
-/* Lines with a word, those that are rightly and wrongly read, whose nearest word is right, that are recovered. */
+/* Lines, those with a word, that are rightly and wrongly read, whose nearest word is right, that are recovered. */
 typedef struct {
     int lines, words, read, read_wrong, near, recovered, recovered_wrong;
 } Counts;
+
+/* ---- Lines of a field */
 
 static uint32_t digits(uint32_t count)
 {
@@ -100,91 +98,57 @@ static uint32_t word_on(size_t row)
 }
 
 /* Lines 17 and 18 have one word in half of the fields, as most discs have, else two, or line 18 has none. */
-static void choose_words(uint32_t *words)
+static void draw_words(const Television *tv, const Wear *wear, uint32_t *words, uint8_t *rows)
 {
     uint32_t kind = below(4);
 
     for (size_t row = 0; row < 3; row++)
         words[row] = word_on(row);
-    if (kind == 0)
-        words[2] = 0;
-    else if (kind >= 2)
-        words[2] = words[1];
+    if (kind != 1)
+        words[2] = kind == 0 ? 0 : words[1];
+    for (size_t row = 0; row < 3; row++)
+        draw_worn(tv, wear, words[row], rows + row * 2 * tv->samples);
 }
 
-static void count_line(const Television *tv, const uint8_t *line, uint32_t word, const LdvbiReading *read,
-                       const LdvbiReading *recovered, Counts *counts)
+/* Each line has the signal as its own; in half of the fields line 18 has that of line 17. */
+static void draw_signals(const Television *tv, const Kind *kind, uint8_t *rows)
 {
-    LdvbiNear near = {0, 0, 0, 0, 0};
+    double line[WIDEST], shown[WIDEST];
+    uint32_t is_twice = below(2);
 
-    CHECK(ldvbi_nearest(tv->system, tv->black, tv->white, line, 2 * tv->samples, &near) == LDVBI_DONE);
-    counts->lines++;
-    counts->words += word != 0;
-    counts->near += word != 0 && near.word == word;
-    counts->read += word != 0 && read->word == word;
-    counts->read_wrong += read->word != 0 && read->word != word;
-    counts->recovered += word != 0 && recovered->word == word;
-    counts->recovered_wrong += recovered->word != 0 && recovered->word != word;
+    for (size_t row = 0; row < 3; row++) {
+        if (row < 2 || !is_twice)
+            draw_signal(tv, kind, line);
+        memcpy(shown, line, sizeof shown);
+        if (kind->noise > 0)
+            add_noise(tv, kind->noise, 0, shown);
+        put_line(tv, shown, rows + row * 2 * tv->samples);
+    }
 }
 
-static Counts count_worn(const Television *tv, const Wear *wear, int fields)
+static void count_field(const Television *tv, const uint8_t *rows, const uint32_t *words, Counts *counts)
 {
     size_t line = 2 * tv->samples;
-    uint8_t *rows = guarded(3 * line);
-    Counts counts = {0, 0, 0, 0, 0, 0, 0};
+    LdvbiFieldReadings read, recovered;
+    LdvbiNear near;
 
-    for (int i = 0; i < fields; i++) {
-        LdvbiFieldReadings read, recovered;
-        uint32_t words[3];
+    CHECK(ldvbi_read_rows(tv->system, tv->black, tv->white, rows, 3 * line, &read) == LDVBI_DONE);
+    CHECK(ldvbi_recover_rows(tv->system, tv->black, tv->white, rows, 3 * line, &recovered) == LDVBI_DONE);
+    for (size_t row = 0; row < 3; row++) {
+        uint32_t word = words[row], own = read.lines[row].word, found = recovered.lines[row].word;
 
-        choose_words(words);
-        for (size_t row = 0; row < 3; row++)
-            draw_worn(tv, wear, words[row], rows + row * line);
-        CHECK(ldvbi_read_rows(tv->system, tv->black, tv->white, rows, 3 * line, &read) == LDVBI_DONE);
-        CHECK(ldvbi_recover_rows(tv->system, tv->black, tv->white, rows, 3 * line, &recovered) == LDVBI_DONE);
-        for (size_t row = 0; row < 3; row++)
-            count_line(tv, rows + row * line, words[row], &read.lines[row], &recovered.lines[row], &counts);
-    }
-    return counts;
-}
-
-/* ---- Signals that are no words */
-
-/* How many lines of so many fields say a word: as they are read, and as they are recovered. Each line has the signal as
-   its own; in half of the fields line 18 has that of line 17. */
-static void count_signal(const Television *tv, const Kind *kind, int fields, int *read, int *recovered)
-{
-    size_t size = 2 * tv->samples;
-    uint8_t *rows = guarded(3 * size);
-    double line[WIDEST], shown[WIDEST];
-
-    for (int i = 0; i < fields; i++) {
-        LdvbiFieldReadings own, near;
-        uint32_t is_twice = below(2);
-
-        for (size_t row = 0; row < 3; row++) {
-            if (row < 2 || !is_twice)
-                draw_signal(tv, kind, line);
-            memcpy(shown, line, sizeof shown);
-            if (kind->noise > 0)
-                add_noise(tv, kind->noise, 0, shown);
-            put_line(tv, shown, rows + row * size);
-        }
-        CHECK(ldvbi_read_rows(tv->system, tv->black, tv->white, rows, 3 * size, &own) == LDVBI_DONE);
-        CHECK(ldvbi_recover_rows(tv->system, tv->black, tv->white, rows, 3 * size, &near) == LDVBI_DONE);
-        for (size_t row = 0; row < 3; row++) {
-            *read += own.lines[row].word != 0;
-            *recovered += near.lines[row].word != 0;
-        }
+        CHECK(ldvbi_nearest(tv->system, tv->black, tv->white, rows + row * line, line, &near) == LDVBI_DONE);
+        counts->lines++;
+        counts->words += word != 0;
+        counts->near += word != 0 && near.word == word;
+        counts->read += word != 0 && own == word;
+        counts->read_wrong += own != 0 && own != word;
+        counts->recovered += word != 0 && found == word;
+        counts->recovered_wrong += found != 0 && found != word;
     }
 }
 
 /* ---- All of them */
-
-static const char *name_of(const Television *tv)
-{
-    return tv->system == LDVBI_PAL ? "PAL" : "NTSC";
-}
 
 /* How many of these lines may be wrong where so many of 100,000 may: one more, as few lines have one by chance. */
 static int64_t allowed(int lines, int of_100000)
@@ -192,49 +156,49 @@ static int64_t allowed(int lines, int of_100000)
     return of_100000 == 0 ? 0 : 1 + (int64_t)lines * of_100000 / 100000;
 }
 
-static void test_worn(const Television *tv, size_t i, int fields, int is_shown)
+/* So many fields of one kind: of worn words, or of the signal that is no word. */
+static void test_kind(const Television *tv, const WornKind *worn, const OtherKind *other, int fields, int is_shown)
 {
-    const WornKind *kind = &worn_kinds[i];
+    uint8_t *rows = guarded(3 * 2 * tv->samples);
+    Counts c = {0, 0, 0, 0, 0, 0, 0};
 
-    begin_numbers(1000 * tv->system + i);
-    Counts c = count_worn(tv, &kind->wear, fields);
+    for (int i = 0; i < fields; i++) {
+        uint32_t words[3] = {0, 0, 0};
+
+        if (worn != NULL)
+            draw_words(tv, &worn->wear, words, rows);
+        else
+            draw_signals(tv, &other->kind, rows);
+        count_field(tv, rows, words, &c);
+    }
     int64_t words = c.words;
-    int is_wrong = words == 0 || 1000 * (int64_t)c.near < words * kind->near
-        || 1000 * (int64_t)c.recovered < words * kind->recovered || c.recovered_wrong > allowed(c.lines, kind->wrong);
+    int is_wrong = c.recovered_wrong > allowed(c.lines, worn != NULL ? worn->wrong : other->said)
+        || (worn != NULL && (words == 0 || 1000 * (int64_t)c.near < words * worn->near
+                             || 1000 * (int64_t)c.recovered < words * worn->recovered));
 
     wrong += is_wrong;
     if (is_shown || is_wrong)
-        fprintf(is_shown ? stdout : stderr,
-                "%-26s %-4s %6d words: read %6d, wrong %3d; nearest %6d; recovered %6d, wrong %3d%s\n", kind->wear.name,
-                name_of(tv), c.words, c.read, c.read_wrong, c.near, c.recovered, c.recovered_wrong,
-                is_wrong ? " !" : "");
-}
-
-static void test_signal(const Television *tv, size_t i, int fields, int is_shown)
-{
-    const OtherKind *kind = &other_kinds[i];
-    int read = 0, recovered = 0;
-
-    begin_numbers(1000 * tv->system + 100 + i);
-    count_signal(tv, &kind->kind, fields, &read, &recovered);
-    int is_wrong = recovered > allowed(3 * fields, kind->said);
-
-    wrong += is_wrong;
-    if (is_shown || is_wrong)
-        fprintf(is_shown ? stdout : stderr, "%-26s %-4s %6d lines: words read %5d, recovered %5d%s\n", kind->kind.name,
-                name_of(tv), 3 * fields, read, recovered, is_wrong ? " !" : "");
+        fprintf(is_shown ? stdout : stderr, "%-26s %-4s %6d lines, %6d words: read %6d, wrong %3d; nearest %6d; "
+                "recovered %6d, wrong %3d%s\n", worn != NULL ? worn->wear.name : other->kind.name,
+                tv->system == LDVBI_PAL ? "PAL" : "NTSC", c.lines, c.words, c.read, c.read_wrong, c.near, c.recovered,
+                c.recovered_wrong, is_wrong ? " !" : "");
 }
 
 int main(int count, char **arguments)
 {
     int fields = count > 1 ? atoi(arguments[1]) : FIELDS;
+    size_t worn = sizeof worn_kinds / sizeof *worn_kinds, others = sizeof other_kinds / sizeof *other_kinds;
 
-    for (size_t i = 0; i < WORN_KINDS; i++)
-        for (size_t system = 0; system < 2; system++)
-            test_worn(&televisions[system], i, fields, count > 1);
-    for (size_t i = 0; i < OTHER_KINDS; i++)
-        for (size_t system = 0; system < 2; system++)
-            test_signal(&televisions[system], i, fields, count > 1);
+    for (size_t i = 0; i < 2 * (worn + others); i++) {
+        const Television *tv = &televisions[i % 2];
+        size_t kind = i / 2;
+
+        begin_numbers(1000 * tv->system + (kind < worn ? kind : 100 + kind - worn));
+        if (kind < worn)
+            test_kind(tv, &worn_kinds[kind], NULL, fields, count > 1);
+        else
+            test_kind(tv, NULL, &other_kinds[kind - worn], fields, count > 1);
+    }
     printf("%d wrong\n", wrong);
     return wrong != 0;
 }

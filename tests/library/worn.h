@@ -233,77 +233,58 @@ static void hold(const Television *tv, double from, double to, double level, dou
         line[column] = level;
 }
 
-/* Bits of so many columns, the first sixteen by turns, each held at its level; of captions these stand behind seven
-   cycles of run-in and three start bits, of which the last is high. */
+/* Bits of so many columns, each held at its level: some of which the first sixteen come by turns, captions behind three
+   start bits, of which the last is high, or those of biphase, which change in their middle. */
 static void put_bits(const Television *tv, const Kind *kind, double begin, double columns, double *line)
 {
     for (int bit = 0; bit < kind->count; bit++) {
-        double from = begin + bit * columns;
+        double from = begin + bit * columns, middle = begin + (2 * bit + 1) * columns;
+        int is_fixed = kind->shape == BITS ? bit < 16 : kind->shape == CAPTIONS && bit < 3;
+        double level = !is_fixed ? below(2) : kind->shape == BITS ? bit % 2 == 0 : bit == 2;
 
-        if (kind->shape == BITS)
-            hold(tv, from, from + columns, (bit < 16 ? bit % 2 == 0 : (int)below(2)) ? kind->level : 0, line);
-        else
-            hold(tv, from, from + columns, bit < 2 ? 0 : bit == 2 ? 0.5 : 0.5 * below(2), line);
+        if (kind->shape != BIPHASE) {
+            hold(tv, from, from + columns, level * kind->level, line);
+        } else {
+            hold(tv, middle - columns, middle, 1 - level, line);
+            hold(tv, middle, middle + columns, level, line);
+        }
     }
 }
 
-static void put_biphase(const Television *tv, int count, double begin, double columns, double *line)
+/* The level of a column by itself, which is so far behind the signal's begin; of captions that of the run-in. */
+static double level_of(const Kind *kind, double place, double end, double columns, double phase)
 {
-    for (int bit = 0; bit < count; bit++) {
-        double level = below(2), middle = begin + (2 * bit + 1) * columns;
-
-        hold(tv, middle - columns, middle, 1 - level, line);
-        hold(tv, middle, middle + columns, level, line);
-    }
+    return kind->shape == WHITE ? 1
+        : kind->shape == RAMP ? place / end
+        : kind->shape == EVEN_NOISE ? evenly()
+        : kind->shape == VIDEO ? 0.5 + 0.35 * sqrt(kind->count) * normally()
+        : kind->shape == SINE ? 0.5 + 0.5 * sin(turn_of_circle * place / columns + phase)
+        : kind->shape == CAPTIONS && place < 7 * columns ? 0.25 * (1 - cos(turn_of_circle * place / columns))
+        : 0;
 }
 
-/* Levels of each column by itself: random ones, a ramp, or a sine. */
-static void put_columns(const Kind *kind, size_t begin, size_t end, double microsecond, double *line)
-{
-    double rate = kind->shape != SINE || kind->rate > 0 ? kind->rate : 0.1 + 1.5 * evenly();
-    double phase = kind->shape == SINE ? turn_of_circle * evenly() : 0;
-
-    for (size_t column = begin; column < end; column++) {
-        double place = (double)(column - begin);
-
-        line[column] = kind->shape == VIDEO ? 0.5 + 0.35 * sqrt(kind->count) * normally()
-            : kind->shape == RAMP ? place / (double)(end - begin)
-            : 0.5 + 0.5 * sin(turn_of_circle * rate * place / microsecond + phase);
-    }
-}
-
-/* A line's signal, without its noise. */
+/* A line's signal, without its noise. Noise of even levels is on all of the line. */
 static void draw_signal(const Television *tv, const Kind *kind, double *line)
 {
     double microsecond = samples_of_microsecond(tv), teletext = tv->system == LDVBI_PAL ? 6.9375 : 5.7273;
-    size_t begin = (size_t)(10 * microsecond), end = (size_t)(62 * microsecond);
-    double columns = microsecond / (kind->rate > 0 ? kind->rate : teletext), from = (double)begin;
+    double rate = kind->rate > 0 ? kind->rate : kind->shape == SINE ? 0.1 + 1.5 * evenly() : teletext;
+    double columns = microsecond / rate, phase = kind->shape == SINE ? turn_of_circle * evenly() : 0;
+    size_t begin = kind->shape == EVEN_NOISE ? 0 : (size_t)(10 * microsecond), end = (size_t)(62 * microsecond);
 
-    end = end < tv->samples ? end : tv->samples;
+    end = kind->shape == EVEN_NOISE || end > tv->samples ? tv->samples : end;
     hold(tv, 0, (double)tv->samples, 0, line);
-    if (kind->shape == WHITE)
-        hold(tv, from, (double)end, 1, line);
-    else if (kind->shape == EVEN_NOISE)
-        for (size_t column = 0; column < tv->samples; column++)
-            line[column] = evenly();
-    else if (kind->shape == STEPS)
-        for (size_t column = begin, next; column < end; column = next) {
-            next = column + 5 + below(36);
-            hold(tv, (double)column, (double)next, evenly(), line);
-        }
-    else if (kind->shape == VIDEO || kind->shape == RAMP || kind->shape == SINE)
-        put_columns(kind, begin, end, microsecond, line);
-    else if (kind->shape == BITS)
-        put_bits(tv, kind, from, columns, line);
-    else if (kind->shape == BIPHASE)
-        put_biphase(tv, kind->count, from, microsecond * (kind->level > 0 ? kind->level : 0.45 + 0.1 * evenly()), line);
-    else if (kind->shape == CAPTIONS) {
-        for (size_t column = begin; (double)column < from + 7 * columns; column++)
-            line[column] = 0.25 * (1 - cos(turn_of_circle * (double)(column - begin) / columns));
-        put_bits(tv, kind, from + 7 * columns, columns, line);
+    for (size_t column = begin; column < end; column++)
+        line[column] = level_of(kind, (double)(column - begin), (double)(end - begin), columns, phase);
+    for (size_t column = begin, next; kind->shape == STEPS && column < end; column = next) {
+        next = column + 5 + below(36);
+        hold(tv, (double)column, (double)next, evenly(), line);
     }
+    if (kind->shape == BIPHASE)
+        columns = microsecond * (kind->level > 0 ? kind->level : 0.45 + 0.1 * evenly());
+    if (kind->shape == BITS || kind->shape == CAPTIONS || kind->shape == BIPHASE)
+        put_bits(tv, kind, (double)begin + (kind->shape == CAPTIONS ? 7 * columns : 0), columns, line);
     if (kind->smeared > 1)
         smear(tv, kind->smeared, line);
     if (kind->shape == VIDEO)
-        hold(tv, 0, from, 0, line);
+        hold(tv, 0, (double)begin, 0, line);
 }
