@@ -1,5 +1,5 @@
-/* What the tests of the library in C share: memory with a page behind it that can't be touched, drawn lines that are
-   made here, from half cells of one microsecond, and the count of what was wrong. */
+/* What the tests of the library in C share: memory with a page behind it that can't be touched, the sizes of lines, and
+   the count of what was wrong. */
 #define _DEFAULT_SOURCE
 #include <ldvbi.h>
 #include <stddef.h>
@@ -45,41 +45,8 @@ static uint8_t *guarded(size_t size)
     return begin + pages - size;
 }
 
-/* ---- Drawn lines */
-
-static inline uint32_t random_number(uint32_t *state)
-{
-    *state ^= *state << 13;
-    *state ^= *state >> 17;
-    *state ^= *state << 5;
-    return *state;
-}
-
 static void put_sample(uint8_t *line, size_t column, uint32_t sample)
 {
     line[2 * column] = (uint8_t)(sample & 0xFF);
     line[2 * column + 1] = (uint8_t)(sample >> 8);
-}
-
-/* The line that shows the word, or a blank one for 0: a one is low and then high, a zero is high and then low. */
-static void draw(const Television *tv, uint32_t word, uint8_t *line)
-{
-    for (size_t column = 0; column < tv->samples; column++)
-        put_sample(line, column, tv->black);
-    if (word == 0)
-        return;
-    for (unsigned half = 0; half < 48; half++) {
-        unsigned one = word >> (23 - half / 2) & 1;
-        size_t begin = tv->start + half * tv->numerator / tv->denominator;
-        size_t end = tv->start + (half + 1) * tv->numerator / tv->denominator;
-
-        if (one == half % 2)
-            for (size_t column = begin; column < end; column++)
-                put_sample(line, column, tv->white);
-    }
-}
-
-static int is_reading(LdvbiReading reading, int cause, int pass, unsigned column, uint32_t word)
-{
-    return reading.cause == cause && reading.pass == pass && reading.column == column && reading.word == word;
 }

@@ -1,6 +1,6 @@
 #!/bin/sh
-# Calls the library from C and Python: tests over its border, in memory behind which no page follows, and the document
-# that Python's readings make beside the one of `extract`. Before that, what the library needs and gives.
+# Calls the library from C and Python: tests over its border, in memory behind which no page follows, and the package's
+# readings beside the document of `extract`. Before that, what the library needs and gives.
 # Needs libldvbi.a and libldvbi.so.1 beside the program, or at the top of the repository (`make lib`).
 # usage: sh tests/library/library.sh PROGRAM
 # runs: library rust
@@ -14,18 +14,11 @@
 
 with_python
 
-# is_among_both NAME..: whether each is memcpy or memset
-is_among_both() {
-    for name in "$@"; do
-        [ "$name" = memcpy ] || [ "$name" = memset ] || return 1
-    done
-}
-
 # What the library needs, and what it gives
-undefined=$(nm -D --undefined-only "$built/libldvbi.so.1" | sed 's/^ *U //; s/@.*//' | tr '\n' ' ')
-check 'the library needs memcpy and memset at most' is_among_both $undefined
-undefined=$(nm -u "$built/libldvbi.a" 2> err | sed -n 's/^ *U //p' | tr '\n' ' ')
-check 'the archive needs memcpy and memset at most' is_among_both $undefined
+more=$(nm -D --undefined-only "$built/libldvbi.so.1" | sed 's/^ *U //; s/@.*//' | grep -vx 'memcpy\|memset')
+check 'the library needs memcpy and memset at most' [ -z "$more" ]
+more=$(nm -u "$built/libldvbi.a" 2> err | sed -n 's/^ *U //p' | grep -vx 'memcpy\|memset')
+check 'the archive needs memcpy and memset at most' [ -z "$more" ]
 nm -D --defined-only "$built/libldvbi.so.1" | sed 's/.* //' | sort > exported
 sed -n 's/^\(LDVBI_[A-Z0-9()]* \)*[a-z0-9_]* \(ldvbi_[a-z_]*\)(.*/\2/p' "$top/include/ldvbi.h" | sort > declared
 check 'the library gives what the header declares, and nothing else' cmp -s exported declared
@@ -59,23 +52,18 @@ tests_in_c library -fsanitize=address,undefined
 tests_in_c library -fsanitize=thread
 tests_in_c library_worn ''
 
-# The document of Python's readings: drawn discs, a cut one, and a field with each cause and pass
+# The readings of the package: drawn discs, a cut one, and a field with each cause and pass
 discs
 { cat cav.tbc; head -c 100000 clv.tbc; } > cut.tbc
 signal NTSC 1 << 'WORDS' | ntsc_samples > causes.tbc
 82CFFF|82CFFF @170-171L|-
 L900 H10|82CFFF @170-174L|L164 H746
 WORDS
-while read -r name system black white; do
-    run extract --system $system --black $black --white $white $name.tbc
+for name in cav clv cut causes; do
+    case $name in clv) options=$pal on=$on_clv ;; *) options=$ntsc on=$on_cav ;; esac
+    run extract $options $name.tbc
     cp out $name.json
-    check "the document of $name" does sh -c \
-        "python3 '$here/library.py' $system $black $white $name.tbc < $name.json"
-done << 'STREAMS'
-cav NTSC 16384 51200
-clv PAL 16384 54016
-cut NTSC 16384 51200
-causes NTSC 16384 51200
-STREAMS
+    check "the readings of $name" does sh -c "python3 '$here/readings.py' $on $name.tbc < $name.json"
+done
 
 finish

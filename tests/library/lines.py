@@ -1,6 +1,6 @@
-"""Hands lines that are drawn here to the library, and compares what is read, nearest and recovered with what was drawn:
-lines of other sample rates, 8-bit samples among them, with changes of level a sample early or late, and with columns
-turned over. Lines end where no page follows.
+"""Hands lines that are drawn here to the library, and compares what is drawn, read, nearest and recovered with them:
+20,000 words a system, lines of other sample rates, 8-bit samples among them, with changes of level a sample early or
+late, and with columns turned over. Lines end where no page follows.
 
 usage: lines.py"""
 
@@ -13,7 +13,7 @@ from border import Guarded, call, expect, finish
 
 READING, NEAR = struct.Struct("<BBHI"), struct.Struct("<IIQQQ")
 BLANK, FIELDS, WORDS, MOST_LINES = 1, 2, 500, 28
-SAMPLES, ANSWER = Guarded(FIELDS * 313 * 2270), Guarded(FIELDS * 3 * READING.size)
+SAMPLES, ANSWER, ROOM = map(Guarded, (FIELDS * 313 * 2270, FIELDS * 3 * READING.size, 2270))
 chance = random.Random(60856)
 
 
@@ -61,9 +61,45 @@ def read(tv, line):
     return READING.unpack(answered("read_line", tv, line, READING.size))
 
 
-def some_words():
+def some_words(count=WORDS):
     """Words, the least and the greatest first."""
-    return [0x800000, 0xFFFFFF] + [chance.randrange(0x800000, 0x1000000) for _ in range(WORDS - 2)]
+    return [0x800000, 0xFFFFFF] + [chance.randrange(0x800000, 0x1000000) for _ in range(count - 2)]
+
+
+# ---- Words and causes, and the sizes of lines
+
+def test_words(tv):
+    """Each word as the library draws it, and as it reads it. A word is put together from its cells."""
+    edges, draw_line = tv.edges(), call("draw_line", "NNNNPS")
+    blank, zeros, ones = (drawn(tv, bits, edges).tobytes() for bits in (0, 1 << 24, 0xFFFFFF))
+    cells = [(zeros[2 * begin:2 * end], ones[2 * begin:2 * end]) for begin, end in zip(edges[::2], edges[2::2])]
+    for word in (0, *some_words(20000)):
+        shown = b"".join(cell[word >> (23 - place) & 1] for place, cell in enumerate(cells))
+        line = zeros[:2 * edges[0]] + shown + zeros[2 * edges[48]:] if word else blank
+        at = ROOM.put(b"\xAA" * len(line))
+        expect(draw_line(*tv[:3], word, at, len(line)) == 0 and ROOM.get(len(line)) == line, "draws", hex(word))
+        found = read(tv, array("H", line))
+        expect(found == ((0, 1, 0, word) if word else (BLANK, 0, 0, 0)), tv.system, hex(word), "is read as", found)
+
+
+def test_causes():
+    """Lines of NTSC whose samples are white from one column to before another; and a word, of whose first high half
+    cell two columns are black: the smoothed levels show it still."""
+    for begin, end, wanted in ((900, 910, (2, 0, 0, 0)), (14, 34, (3, 0, 34, 0)), (164, 910, (4, 0, 200, 0))):
+        line = drawn(NTSC, 0, NTSC.edges())
+        line[begin:end] = array("H", [NTSC.white]) * (end - begin)
+        expect(read(NTSC, line) == wanted, "white from", begin, "to", end, read(NTSC, line))
+    line = drawn(NTSC, 0x82CFFF, NTSC.edges())
+    line[170:172] = array("H", [NTSC.black] * 2)
+    expect(read(NTSC, line) == (0, 2, 0, 0x82CFFF), "smoothed", read(NTSC, line))
+
+
+def test_sizes():
+    calls = [call(name, "N", "S") for name in ("line_samples", "line_bytes", "lines", "field_bytes")]
+    for number in (*range(258), 65535, 65536, 1 << 31, (1 << 32) - 1):
+        tv = {tv.system: tv for tv in TELEVISIONS}.get(number)
+        wanted = [tv.samples, 2 * tv.samples, tv.lines, 2 * tv.samples * tv.lines] if tv else [0] * 4
+        expect([size(number) for size in calls] == wanted, "the sizes of system", number)
 
 
 # ---- Lines of other sample rates, as the header says they are handed over
@@ -202,10 +238,13 @@ def test_worn(tv):
 
 
 def main():
+    test_sizes()
+    test_causes()
     test_rates()
     for row in NEARS:
         test_near(*row)
     for tv in TELEVISIONS:
+        test_words(tv)
         test_worn(tv)
     finish()
 

@@ -4,6 +4,8 @@ touched.
 
 usage: refusals.py"""
 
+import struct
+
 from border import Guarded, call, expect, finish
 
 DONE, BAD_SYSTEM, BAD_LEVELS, BAD_LENGTH, BAD_WORD, BAD_COUNTED, BAD_PACE = range(7)
@@ -74,6 +76,23 @@ def test_lengths(system):
         has_status(name, asked, line, BAD_LENGTH)
     for word in (256, 65536, 0x7FFFFF, 0x1000000, 0x1800000, 0x80800000, MOST):
         has_status("draw_line", asked, line, BAD_WORD, (word, ))
+
+
+# ---- Codes and formats. What each word says, tests/python/test_classes.py compares.
+
+def test_words():
+    classify, format_of = call("classify", "NP"), call("format", "NNNP")
+    for word in (0, 1, 256, 257, 65535, 65536, 0x7FFFFF, 0x1000000, 0x80000000, MOST):
+        answer = ANSWER.put(b"\x55" * 12)
+        expect(classify(word, answer) == BAD_WORD and ANSWER.get(12) == b"\x55" * 12, "classify", hex(word))
+    expect(classify(0xF9DD59, answer) == DONE and ANSWER.get(12) == struct.pack("<3I", 3, 9, 59), "classify")
+    for words, format_or_none in (
+            ((0, 0, 0), 0), ((0x88FFFF, 0x88FFFF, 0x88FFFF), 0), ((0, 0xF00001, 0), 1), ((0, 0, 0xF0DD00), 2),
+            ((0x82CFFF, 0x87FFFF, 0), 3), ((1, 0, 0), None), ((65536, 0, 0), None), ((0, 0x7FFFFF, 0), None),
+            ((0, 0x80000000, 0), None), ((0x82CFFF, 0, 0x1000000), None), ((0, 0, 0x80800000), None)):
+        found = format_of(*words, ANSWER.put(b"\x55" * 4)), *struct.unpack("<I", ANSWER.get(4))
+        wanted = (BAD_WORD, 0x55555555) if format_or_none is None else (DONE, format_or_none)
+        expect(found == wanted, "format", words, found)
 
 
 # ---- Calls that judge
@@ -157,6 +176,7 @@ def main():
             test_judged(tuple(map(int, asked)), map(int, lengths), status)
     for bad in (0, 4, *CUT_OFF):
         test_numbers(bad)
+    test_words()
     test_nothing()
     finish()
 
