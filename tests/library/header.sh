@@ -9,28 +9,25 @@
 
 # shellcheck source=tests/helpers.sh
 . "$(dirname "$0")/../helpers.sh"
+# shellcheck source=tests/library/library_helpers.sh
+. "$here/library_helpers.sh"
 
-cc=${CC:-cc}
-cxx=${CXX:-c++}
-
+warned='-Wall -Wextra -Wpedantic -Wconversion -Werror'
 # compiles LANGUAGE STANDARD OPTION.. FILE: whether the compiler has no warning of this file
 compiles() {
     compiler=$cc
     [ "$1" = c ] || compiler=$cxx
     dialect="-x $1 -std=$2"
     shift 2
-    status=0
-    bounded $compiler $dialect -Wall -Wextra -Wpedantic -Wconversion -Werror -I"$top/include" \
-        -c -o compiled.o "$@" < empty > out 2> err || status=$?
-    [ "$status" = 0 ]
+    does $compiler $dialect $warned -I"$top/include" -c -o compiled.o "$@"
 }
 # compiles_in_both FILE: the same in C and in C++, by the oldest standard of each
 compiles_in_both() {
-    compiles c c99 "$1" && compiles c++ c++98 "$1"
+    compiles c c99 -Wno-unused-parameter "$1" && compiles c++ c++98 -Wno-unused-parameter "$1"
 }
 # is_warned_of FILE WORD: whether the compiler for C has a warning of this file, with this word
 is_warned_of() {
-    ! compiles c c99 "$1" && grep -q "$2" err
+    ! compiles c c99 -Wno-unused-parameter "$1" && grep -q "$2" err
 }
 
 echo '#include <ldvbi.h>' > once.c
@@ -45,32 +42,24 @@ for name in one two; do
     bounded $cc -std=c99 -I"$top/include" -DNAME=$name -c -o $name.o twice.c
 done
 echo 'int main(void) { return 0; }' > main.c
-status=0
-bounded $cc -o program main.c one.o two.o "$built/libldvbi.a" < empty > out 2> err || status=$?
-check 'the header in two parts of a program' ended 0 empty empty
+check 'the header in two parts of a program' does $cc -o program main.c one.o two.o "$built/libldvbi.a"
 
 # The quick start at the head of the header is a program, which finds a picture, and the stop behind it
 {
-    for name in fcntl.h ldvbi.h stdio.h stdlib.h sys/mman.h unistd.h; do
-        echo "#include <$name>"
-    done
+    printf '#include <%s>\n' fcntl.h ldvbi.h stdio.h stdlib.h sys/mman.h unistd.h
     echo 'int main(void) {'
     sed -n '1,/^ \* Where nothing/s/^ \*     //p' "$top/include/ldvbi.h"
     echo 'return 0; }'
 } > quick.c
 check 'the quick start has at most 15 lines' [ "$(wc -l < quick.c)" -le 23 ]
-status=0
-bounded $cc -std=c99 -D_DEFAULT_SOURCE -Wall -Wextra -Wpedantic -Wconversion -Werror -I"$top/include" -o quick quick.c \
-    "$built/libldvbi.a" < empty > out 2> err || status=$?
-check 'the quick start is built' ended 0 empty empty
+check 'the quick start is built' does $cc -std=c99 -D_DEFAULT_SOURCE $warned -I"$top/include" -o quick quick.c \
+    "$built/libldvbi.a"
 awk 'BEGIN { for (picture = 12340; picture < 12352; picture++) {
     stop = picture == 12341 || picture == 12348 ? "82CFFF" : "-"
     printf "%s %s F%d\n- 800DDD 800DDD\n", stop, stop == "-" ? "F" picture : stop, picture
 } }' | bounded "$program" draw $ntsc - > side.tbc
-printf '%s\n' 'picture 12345 is in field 11 of 24' 'the player stops in field 17' > wanted
-status=0
-bounded ./quick < empty > out 2> err || status=$?
-check 'the quick start finds a picture and a stop' ended 0 wanted empty
+found="picture 12345 is in field 11 of 24${newline}the player stops in field 17"
+check 'the quick start finds a picture and a stop' prints 0 "$found" ./quick
 check 'the first declaration stands before line 60' \
     [ "$(grep -n '^enum\|^[a-z].*);$' "$top/include/ldvbi.h" | head -n 1 | cut -d : -f 1)" -lt 60 ]
 
@@ -79,16 +68,7 @@ called_as() {
     taken='const void *samples, void *drawn, LdvbiReading *reading, LdvbiFieldReadings *readings, LdvbiCode *code,
 LdvbiNear *near, uint32_t *format, const LdvbiFieldReadings *read, LdvbiSightings *seen, LdvbiNumber *numbers,
 LdvbiSought *sought'
-    cat > called.c << END
-#include <ldvbi.h>
-uint32_t called($taken);
-uint32_t called($taken) {
-    (void)samples; (void)drawn; (void)reading; (void)readings; (void)code; (void)near; (void)format;
-    (void)read; (void)seen; (void)numbers; (void)sought;
-    $1;
-    return 0;
-}
-END
+    printf '%s\n' '#include <ldvbi.h>' "uint32_t called($taken);" "uint32_t called($taken) { $1; return 0; }" > called.c
 }
 # Calls, and where the last pointer of one mustn't be null, the word null before it
 while read -r pointer call; do

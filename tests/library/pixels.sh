@@ -25,16 +25,12 @@ import random, sys
 BEFORE = {"NTSC": 122, "PAL": 132}  # pixels of a line before those of active video
 chance = random.Random(60856)
 
+def is_high(word, half):
+    return 0 <= half < 48 and (word >> (23 - int(half) // 2) & 1) == int(half) % 2
+
 def level(word, time):
     """From 0 to 1, this many half cells behind the word's begin."""
-    halves = [half for bit in format(word, "024b") for half in ((0, 1) if bit == "1" else (1, 0))]
-    at = lambda place: halves[place] if 0 <= place < 48 else 0
-    here, part = int(time // 1), time % 1
-    if part < 0.125:
-        return at(here - 1) + (at(here) - at(here - 1)) * (part / 0.25 + 0.5)
-    if part > 0.875:
-        return at(here) + (at(here + 1) - at(here)) * ((part - 0.875) / 0.25)
-    return at(here)
+    return sum(is_high(word, time + part / 32) for part in range(-4, 5)) / 9
 
 def pixels(system, half_cell, word):
     begin = 10.5 + chance.uniform(-0.25, 0.25)
@@ -68,16 +64,8 @@ done
 check 'pixels: no line' [ -z "$(bounded ./pixels NTSC 16 235 < empty 2>&1)" ]
 head -c 2159 lines.y8 > part.y8
 check 'pixels: a field that is cut' refuses 'pixels: the last field is cut' sh -c './pixels PAL 16 235 < part.y8'
-while read -r system black white; do
-    check "pixels: $system $black $white" is_refused_in_a_line ./pixels $system $black $white
-done << 'WORDS'
-NTSC 16 256
-NTSC -1 235
-NTSC 51200 16384
-SECAM 16 235
-NTSC 235 16
-NTSC 16 16
-NTSC 16 x
-NTSC 16
-WORDS
+for on in 'NTSC 16 256' 'NTSC -1 235' 'NTSC 51200 16384' 'SECAM 16 235' 'NTSC 235 16' 'NTSC 16 16' 'NTSC 16 x' \
+    'NTSC 16'; do
+    check "pixels: $on" is_refused_in_a_line ./pixels $on
+done
 finish
