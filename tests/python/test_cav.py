@@ -12,8 +12,6 @@ class Cav(unittest.TestCase):
     whole | Lx2 1..50 Ox4 | system PAL | format cav | unit picture | pace video | fields 106 | numbers 50 1 to 50
         | no missing unread lost breaks stills repeated doubtful conflicts stray secondRows leftOut completed confirmed
         | no badLines | leadIn 1-2 2 | leadOut 103-106 4
-    where they stand | Lx2 1..3 | showings 1@3, 2@5, 3@7
-    far on | NTSC 31000..31039 | numbers 40 31000 to 31039 | no missing breaks doubtful
     on both fields | NTSC b1..3 | showings 1@1-2, 2@3-4, 3@5-6
     on both | NTSC b1..30 | pace both | no missing breaks stills
     film | NTSC f1..60 | pace film | count 60 | no missing breaks stills lost
@@ -48,7 +46,6 @@ class Cav(unittest.TestCase):
     a scratch that makes other words, which fit one another | 1..100 61=-/#71/? 63=-/#72/? 65=-/#73/? 67=-/#74/?
         69=-/#75/? | missing 31-35 unread | doubtful 61/17 71 neighbours, 63/17 72 neighbours, 65/17 73 neighbours,
         67/17 74 neighbours, 69/17 75 neighbours
-    line 17 without words | 1..100 1:200.17=? | count 100 | no missing | levels
     line 18 without words | 1..100 1:200.18=? | count 100 | no missing | levels
     """)
         one = made("1..600 799=79999")["doubtful"][0]
@@ -71,7 +68,6 @@ class Cav(unittest.TestCase):
     both fields of picture 21, and the first one of 22, are lost | 1..60 -41:43 | missing 21-22 lost
         | lost 39-42 3 number | breaks lost 39-42 20 to 23, 3
     a second field | 1..60 -40 | no missing | lost 39-40 1 number
-    ahead | 1..30 5001..5030 | missing 31-5000 lost | breaks lost 59-61 30 to 5001, 9940 | no doubtful
     back | 1..30 21..60 | no missing | breaks back 59-61 30 to 21, 20 | repeated 21-30@61-79 after 41
     back, with damage | 1..30 21..60 51=? 67=? | no missing | repeated 21-30@61-79 after 41 | unread 26@51, 24@67
     a still | 1..30 30x9 31..60 | stills 30@59-77 | no missing doubtful breaks | repeated 30@61-77 after 59

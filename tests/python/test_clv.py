@@ -14,7 +14,6 @@ class Clv(unittest.TestCase):
     the rate of PAL | t1495..1504 | @9 0:00:59.24 | @11 0:01:00.00 | no missing
     the rate of NTSC | NTSC t1795..1804 | @9 0:00:59.29 | @11 0:01:00.00 | no missing
     hours | t179995..180004 | numbers 10 1:59:59.20 to 2:00:00.04 | no missing breaks
-    one time | s0.7/M/@0:09 | numbers 1 0:09:00.07 to 0:09:00.07
     with the minute behind | s0.7/-/- -/@0:09/- | numbers 1 0:09:00.07 to 0:09:00.07
     with the minute before | -/@0:09/- s0.7/-/- | numbers 1 0:09:00.07 to 0:09:00.07
     with both of them | -/@0:08/- s0.7/-/- -/@0:09/- | numbers 1 0:09:00.07 to 0:09:00.07
@@ -24,8 +23,8 @@ class Clv(unittest.TestCase):
         """On line 17, on both lines, on line 18; in the field behind, and in the field before."""
         for pair in ("s7.%d/@0:09/- -/M/M", "s7.%d/@0:09/@0:09 -/M/M", "s7.%d/M/@0:09 -/M/M", "s7.%d/M/M -/@0:09/@0:09",
                      "-/@0:09/@0:09 s7.%d/M/M"):
-            found = answer(rows(" ".join(pair % number for number in range(20))))
-            self.assertEqual([of_member(found, "numbers"), found["doubtful"]], ["20 0:09:07.00 to 0:09:07.19", []])
+            check(self, "%s | %s | numbers 20 0:09:07.00 to 0:09:07.19 | no doubtful" % (
+                pair, " ".join(pair % number for number in range(20))))
 
     def test_a_turn_of_minutes_whose_neighbours_differ(self):
         """The time stands on the second field of its picture, or on the first, and its minute was read in the other
@@ -33,21 +32,21 @@ class Clv(unittest.TestCase):
         for system, rate in (("PAL", 25), ("NTSC", 30)):
             turn = 60 * rate
             for lacking, order, field in ((turn - 1, "{1} {0}", 20), (turn, "{0} {1}", 21)):
-                pairs = [order.format("s%d.%d/M/%s" % (number // rate % 60, number % rate, "-" if number == lacking else
-                                                       "@0:%d" % (number // turn)), "-/M/@0:%d" % (number // turn))
-                         for number in range(turn - 10, turn + 10)]
-                found = answer(rows(" ".join(pairs)), system)
-                self.assertEqual([showing[0] for showing in found["showings"]][8:12], [
-                    "0:00:59.%d" % (rate - 2), "0:00:59.%d" % (rate - 1), "0:01:00.00", "0:01:00.01"])
-                self.assertEqual((found["completed"], found["missing"], found["doubtful"]), ([field], [], []))
+                pairs = []
+                for number in range(turn - 10, turn + 10):
+                    minute = "@0:%d" % (number // turn)
+                    time = "s%d.%d/M/%s" % (number // rate % 60, number % rate, "-" if number == lacking else minute)
+                    pairs.append(order.format(time, "-/M/" + minute))
+                check(self, "{0} {3} | {0} {1} | completed {3} | no missing doubtful | numbers 20 0:00:59.{2} to "
+                      "0:01:00.09".format(system, " ".join(pairs), rate - 10, field))
 
     def test_damage(self):
         """Time n of these stands in field 2n + 1, the first one being 0:00:00.00 or 0:00:59.15."""
         check(self, """
     weighs as much as its weaker part, at the end and one picture too early | t0..19 39.16=s0.20* 39.17=@0:00
         | doubtful 39/16 00.20 alone.. | numbers 19 0:00:00.00 to 0:00:00.18
-    a lost minute | t1490..1509 15.18=? | count 20 | completed 15 | @15 0:00:59.22
     a wrong minute | t1490..1509 15.18=@0:08 | no missing | completed 15 | doubtful 15/18 0:08 neighbours
+        | @15 0:00:59.22
     wrong seconds | t1490..1509 15.16=s19.22 | missing 0:00:59.22 unread | doubtful 15/16 19.22 neighbours
         | unread 0:00:59.22@15=19.22
     no clock shows them | t0..19 5.16=s0.25 7.18=@0:60 | doubtful 5/16 None clock, 7/18 None clock
@@ -94,9 +93,7 @@ class Clv(unittest.TestCase):
     short ones together | NTSC t0..1501!400%1001 t2903..4403!400%1001 t5906..7406!400%1001 | lost x2
     frames that are lost | NTSC t0..5999!400,1700,4100 | lost x3
         | missing 0:00:13.10 lost, 0:00:56.20 lost, 0:02:16.20 lost
-    a short side doesn't say | NTSC t0..1 t3..4 | missing 0:00:00.02 undecided | lost 3-5 2 undecided
-    nor do less than 4000 numbers | NTSC t0..3499!400 | missing 0:00:13.10 undecided
-    up to there | NTSC t0..3998!400 | missing 0:00:13.10 undecided
+    less than 4000 numbers don't say | NTSC t0..3998!400 | missing 0:00:13.10 undecided
     as many do | NTSC t0..3999!400 | missing 0:00:13.10 lost
     two gaps, one of which is lost | NTSC t6500..6999!400%1001 t7001..7999!400%1001
         | missing 0:03:53.10 undecided, 0:04:06.27 undecided

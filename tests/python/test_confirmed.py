@@ -2,7 +2,7 @@
 
 import ldvbi
 from cases import InFolder
-from compact import of_member, rows
+from compact import check, made, of_member
 from discs import plain, second, side
 from ldvbi_side.command.map import map_rows
 from ldvbi_side.judge.answer import analyse
@@ -15,7 +15,7 @@ DUE = "1..20 9=?"  # picture 5, in field 9
 
 def asked(text, words):
     """The answer of a side, of whose lines these are the nearest words, by field, first and last line."""
-    return analyse(plain(rows(text))._replace(nearest_word=lambda *place: words.get(place)))
+    return analyse(made(text, plain)._replace(nearest_word=lambda *place: words.get(place)))
 
 
 class Confirmed(InFolder):
@@ -26,22 +26,20 @@ class Confirmed(InFolder):
 
     def test_pictures(self):
         """A line or both say one of its two words: the first bit of the first digit has no meaning."""
-        for lines in ((17, 17), (18, 18), (17, 18)):
-            for word in (0xF00005, 0xF80005):
-                with self.subTest((lines, word)):
-                    self.check(asked(DUE, {(9, *lines): word}), True)
-        for words in ({}, {(9, 17, 17): 0xF00006}, {(9, 17, 17): 0x805DDD}, {(9, 16, 16): 0xF00005},
-                      {(10, 17, 17): 0xF00005}, {(7, 18, 18): 0xF00005}):
-            with self.subTest(words):
-                self.check(asked(DUE, words), False)
+        for place, word, is_confirmed in (
+                *(((9, *lines), word, True) for lines in ((17, 17), (18, 18), (17, 18))
+                  for word in (0xF00005, 0xF80005)),
+                ((1, 17, 17), 0, False), ((9, 17, 17), 0xF00006, False), ((9, 17, 17), 0x805DDD, False),
+                ((9, 16, 16), 0xF00005, False), ((10, 17, 17), 0xF00005, False), ((7, 18, 18), 0xF00005, False)):
+            with self.subTest((place, word)):
+                self.check(asked(DUE, {place: word}), is_confirmed)
         # beside a wrong word, which is set aside all the same
         found = asked("1..20 9=-/#79999/?", {(9, 17, 17): 0xF79999, (9, 18, 18): 0xF00005})
         self.check(found, True)
         self.assertEqual([(one["field"], one["number"]) for one in found["doubtful"]], [(9, 79999)])
-        # where none is due
-        found = asked("1..20 ?x2", {(41, 17, 17): 0xF00021})
-        self.assertEqual((found["confirmed"], found["numbers"]["greatest"]), ([], 20))
-        self.assertEqual(side(rows(DUE)).answer["confirmed"], [])  # nor of a document
+        # where none is due, and of a document
+        for text, nearest in (("1..20 ?x2", lambda *place: 0xF00021), (DUE, None)):
+            check(self, "none | %s | no confirmed" % text, nearest_word=nearest)
 
     def test_sought_and_mapped(self):
         found = asked(DUE, {(9, 17, 17): 0xF00005})

@@ -192,20 +192,15 @@ class Parts(unittest.TestCase):
 
 
 class First(unittest.TestCase):
-    def test_first(self):
-        numbers = [NOTHING, Number(5, State.doubtful), Number(5, State.due), Number(6, State.believed),
-                   Number(5, State.believed), Number(6, State.due), Number(0, State.believed)]
-        for number, field in ((5, 2), (6, 3), (0, 6), (7, None), (None, None)):
-            self.assertEqual(ldvbi.first_of(numbers, number), field)
-        self.assertIsNone(ldvbi.first_of([], 5))
-
     def test_beside_the_library(self):
+        self.assertIsNone(ldvbi.first_of([], 5))
         call = ctypes.CDLL(os.environ["LDVBI_LIBRARY"]).ldvbi_first_of
         call.restype, call.argtypes = ctypes.c_size_t, [ctypes.c_void_p, ctypes.c_size_t, ctypes.c_uint32]
         numbers = judged("1..3 -/#79999/- B 5..7 30 3..6")
         packed = b"".join(number.to_bytes(4, "little") + state.to_bytes(4, "little")
                           for number, state in ((one.number or 0, int(one.state)) for one in numbers))
         found = {}
+        self.assertIsNone(ldvbi.first_of(numbers, None))
         for number in (*range(9), 30, 79999):
             place = call(packed, len(numbers), number)
             found[number] = None if place == len(numbers) else place

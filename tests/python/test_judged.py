@@ -6,7 +6,7 @@ import unittest
 from collections import Counter
 
 import ldvbi
-from compact import rows
+from compact import made
 from discs import plain
 from judged import Judged, Package, judged, packed_of
 from judged_truth import JudgedTruth
@@ -76,58 +76,50 @@ class Beside(unittest.TestCase):
 def truth_of(text, numbers, pace=Pace.video):
     """The truth of a side of pictures, whose fields have these numbers on the disc."""
     side = types.SimpleNamespace(layout="cav-pal", numbers=numbers)
-    return JudgedTruth(side, plain(rows(text)), Counted.pictures, pace)
+    return JudgedTruth(side, made(text, plain), Counted.pictures, pace)
 
 
 def fields_of_pictures(numbers):
     return [one for number in numbers for one in (number, None)]
 
 
-FORTY = fields_of_pictures(range(40))
+FORTY, SEVENS = fields_of_pictures(range(40)), fields_of_pictures([7] * 30)
 # Behind field 39 the player skipped: fields 38 and 40 are the last and the first with a number there.
 JUMP, OF_JUMP = "0..19 30..49", fields_of_pictures([*range(20), *range(30, 50)])
+FILM = [number for picture in range(1, 21) for number in [picture] + [None] * (1 + picture % 2)]
+LATE = [*FILM[:28], None, FILM[28], *FILM[30:]]  # 12, the second of a pair, comes a field late
+NINES = "7x30 21=-/#9/#9* 22=B 23=-/#9/-"  # which weigh 5, and then 6
+# What is asked of fields of a side, and of which of them it doesn't hold. In field 1 nothing can be believed, since no
+# field with a number is an even number of fields away. A number that the disc hasn't, to which those before and behind
+# count, makes it irregular; beyond a jump they count to none.
+PREMISES = (
+    ("has_run_on", "0..39", FORTY, Pace.video, range(80), []),
+    ("is_promised", "0..39", FORTY, Pace.video, (0, 1, 40), []),
+    ("has_run_on", JUMP, OF_JUMP, Pace.video, range(80), range(16, 63)),
+    ("has_run_on", "f1..20", FILM, Pace.film, range(50), []), ("has_run_on", "f1..20", FILM, Pace.video, [25], [25]),
+    ("has_run_on", "f1..20", LATE, Pace.film, [25], [25]),
+    ("is_regular", "0..39", FORTY, Pace.video, range(80), []),
+    ("is_regular", JUMP, OF_JUMP, Pace.video, range(80), []), ("is_regular", "f1..20", FILM, Pace.film, range(50), []),
+    ("is_regular", "0..39", [*FORTY[:20], None, *FORTY[21:]], Pace.video, range(80), [20]),
+    ("is_regular", "f1..20", [*FILM[:23], None, *FILM[24:]], Pace.film, range(50), [23]),
+    ("has_stood_still", "7x30", SEVENS[:58] + [8, None], Pace.video, (33, 34, 35), [34]),
+    ("is_promised", "7x30", SEVENS[:58] + [8, None], Pace.video, (32, 34), [34]),
+    ("is_promised", "7x30", SEVENS, Pace.film, [32], [32]), ("is_promised", NINES, SEVENS, Pace.video, [32], []),
+    ("is_promised", NINES + " 25=-/-/#9*", SEVENS, Pace.video, [32], [32]))
 
 
 class Premises(unittest.TestCase):
     """Where the disc ran on or stood still, and what was misread weighs, by hand."""
 
-    def test_a_disc_that_runs_on(self):
-        truth = truth_of("0..39", FORTY)
-        self.assertTrue(all(truth.has_run_on(field) and truth.wrong_weight(field) == 0 for field in range(80)))
-        # in field 1 nothing can be believed, since no field with a number is an even number of fields away
-        self.assertEqual([truth.is_promised(field) for field in (0, 1, 40)], [True, True, True])
-        truth = truth_of(JUMP, OF_JUMP)
-        self.assertEqual([field for field in range(80) if not truth.has_run_on(field)], list(range(16, 63)))
-        numbers = [one for number in range(1, 21) for one in [number] + [None] * (1 + number % 2)]
-        self.assertTrue(all(truth_of("f1..20", numbers, Pace.film).has_run_on(field) for field in range(50)))
-        self.assertFalse(truth_of("f1..20", numbers).has_run_on(25))
-        numbers[28], numbers[29] = None, numbers[28]  # 12, the second of a pair, a field late
-        self.assertFalse(truth_of("f1..20", numbers, Pace.film).has_run_on(25))
-
-    def test_a_regular_disc(self):
-        """A number that the disc hasn't where those before and behind count to it; beyond a jump they count to none."""
-        of_film = [number if field % 5 in (0, 2) else None
-                   for field, number in enumerate(2 * (field // 5) + (field % 5 == 2) for field in range(50))]
-        for text, numbers, pace, gone in (("0..39", FORTY, Pace.video, 20), (JUMP, OF_JUMP, Pace.video, None),
-                                          ("f1..20", of_film, Pace.film, 22)):
-            truth = truth_of(text, numbers, pace)
-            self.assertTrue(all(map(truth.is_regular, range(len(numbers)))))
-            if gone:
-                truth = truth_of(text, [*numbers[:gone], None, *numbers[gone + 1:]], pace)
-                self.assertEqual([field for field in range(len(numbers)) if not truth.is_regular(field)], [gone])
-
-    def test_a_still(self):
-        sevens = fields_of_pictures([7] * 30)
-        truth = truth_of("7x30", fields_of_pictures([7] * 29 + [8]))
-        self.assertEqual([truth.has_stood_still(field) for field in (33, 34, 35)], [True, False, True])
-        self.assertEqual([truth.is_promised(field) for field in (32, 34)], [True, False])
-        self.assertFalse(truth_of("7x30", sevens, Pace.film).is_promised(32))
-        misread = "7x30 21=-/#9/#9* 22=B 23=-/#9/-"  # which weighs 5, and then 6
-        self.assertTrue(truth_of(misread, sevens).is_promised(32))
-        self.assertFalse(truth_of(misread + " 25=-/-/#9*", sevens).is_promised(32))
+    def test_rows(self):
+        for name, text, numbers, pace, fields, wanted in PREMISES:
+            with self.subTest((name, text, pace)):
+                holds = getattr(truth_of(text, numbers, pace), name)
+                self.assertEqual([field for field in fields if not holds(field)], list(wanted))
 
     def test_what_was_misread_weighs(self):
         """Two wrong words of pass 1 on either of two fields are 8, one of pass 2 makes 9, and one more 10."""
+        self.assertEqual({truth_of("0..39", FORTY).wrong_weight(field) for field in range(80)}, {0})
         text = "0..39 31=9999 41=8888 55=-/#27/#77*"
         truth = truth_of(text, FORTY)
         self.assertEqual([truth.wrong_weight(field) for field in (29, 30, 54, 55, 64, 65, 78, 79)],
@@ -143,7 +135,7 @@ class Planted(unittest.TestCase):
     def counts(self, changes, text="0..39"):
         """What is counted where other answers stand in these fields of 40 pictures, of which one is damaged."""
         text += " 21=B"
-        fields = plain(rows(text))
+        fields = made(text, plain)
         known = ldvbi.judge(packed_of(fields), "PAL", "pictures", "video")
         for field, number in changes.items():
             known[field] = number
@@ -159,23 +151,21 @@ class Planted(unittest.TestCase):
 
     def test_believed_and_sought(self):
         """Where the promise speaks of it, and where so much was misread that it doesn't."""
-        counts, told = self.counts({30: Number(14, State.believed)})
-        self.assertEqual([counts.get(name, 0) for name in (
-            "wrong by the judge", "wrong by the judge where promised", "right by the package alone",
-            "seeks, found by the judge")], [1, 1, 1, 39])
-        self.assertEqual(told, [
-            "wrong by the judge where promised: field 31 has 15 and is said to have 14 (it runs on)"])
-        counts, told = self.counts({8: Number(16, State.believed)})
-        for name in ("seeks, wrong by the judge", "seeks, wrong by the judge where promised"):
-            self.assertEqual(counts[name], 1)
-        self.assertEqual(told[-1], "seeks, wrong by the judge where promised: 16 is asked for, field 9 has 4 and is "
-                         "said to have 16 (it runs on)")
-        counts, told = self.counts({30: Number(500, State.believed)}, "0..39 11:15/2=500")
-        self.assertEqual([counts.get(name, 0) for name in (
-            "wrong by the judge", "wrong by the judge where promised", "seeks of misread ones, wrong by the judge",
-            "seeks of misread ones, wrong by the judge where promised", "seeks of misread ones, wrong by the lines")],
-            [1, 0, 1, 0, 1])
-        self.assertIn("wrong by the judge: field 31 has 15 and is said to have 500 (wrong weight 12)", told)
+        asked, promised = "seeks, wrong by the judge", "wrong by the judge where promised"
+        for changes, text, wanted, line in (
+                ({30: Number(14, State.believed)}, "0..39",
+                 {"wrong by the judge": 1, promised: 1, "right by the package alone": 1,
+                  "seeks, found by the judge": 39},
+                 promised + ": field 31 has 15 and is said to have 14 (it runs on)"),
+                ({8: Number(16, State.believed)}, "0..39", {asked: 1, "seeks, " + promised: 1},
+                 "seeks, " + promised + ": 16 is asked for, field 9 has 4 and is said to have 16 (it runs on)"),
+                ({30: Number(500, State.believed)}, "0..39 11:15/2=500",
+                 {"wrong by the judge": 1, promised: 0, "seeks of misread ones, wrong by the judge": 1,
+                  "seeks of misread ones, " + promised: 0, "seeks of misread ones, wrong by the lines": 1},
+                 "wrong by the judge: field 31 has 15 and is said to have 500 (wrong weight 12)")):
+            counts, told = self.counts(changes, text)
+            self.assertEqual({name: counts.get(name, 0) for name in wanted}, wanted)
+            self.assertIn(line, told)
 
     def test_due(self):
         """In field 20, where a number is due; in field 21, which has none; behind much that was misread, of which

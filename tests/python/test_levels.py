@@ -17,17 +17,17 @@ def at_share(setup, share):
     return system, black, black + (white - black) * share // 100
 
 
-def softened(line, width=7):
+def steep(word, setup):
+    return ldvbi.draw_line(word, *setup)
+
+
+def soft(word, setup, width=7):
     """A line each of whose samples is the mean of so many: its changes of level take that long, as on a worn disc."""
+    line = steep(word, setup)
     samples = struct.unpack("<%dH" % (len(line) // 2), line)
     padded = samples[:1] * (width // 2) + samples + samples[-1:] * (width // 2)
     return struct.pack("<%dH" % len(samples), *(
         sum(padded[at:at + width]) // width for at in range(len(samples))))
-
-
-def noise(rng, setup):
-    return struct.pack("<%dH" % (ldvbi.line_bytes(setup[0]) // 2), *(
-        rng.randrange(65536) for _ in range(ldvbi.line_bytes(setup[0]) // 2)))
 
 
 class Levels(InFolder):
@@ -38,7 +38,7 @@ class Levels(InFolder):
         self.addCleanup(side.samples.close)
         return side.answer["levels"]
 
-    def draw(self, setup, line_of=lambda word, setup: ldvbi.draw_line(word, *setup), count=60):
+    def draw(self, setup, line_of=steep, count=60):
         write_stream(self.path, setup, [[line_of(word, setup) for word in field] for field in pictures(count)])
 
     def best(self, setup):
@@ -51,25 +51,24 @@ class Levels(InFolder):
     def test_rows(self):
         """A sample is high above the middle of the levels. So where codes are at 40 % of white no line has a high one;
         at 60 % steep codes are read, and soft ones aren't, whose halves are above the middle too short a time. Nothing
-        is tried where enough is read: steep codes at 60 and 80 % of white, and black that is too high by a fifth."""
-        def soft(word, setup):
-            return softened(ldvbi.draw_line(word, *setup))
-
+        is tried where enough is read: steep codes at 60 and 80 % of white, and black that is too high by a fifth. None
+        is named for a side without any code, for one of noise, and for one whose lines are grey."""
+        rng, none = random.Random(1), [0, 120, None, None]
         for drawn, setup, line_of, wanted in (
-                (at_share(NTSC, 40), NTSC, None, [0, 120, "--white 30000", 120]),
-                (at_share(PAL, 40), PAL, None, [0, 120, "--white 31000", 120]),
+                (at_share(NTSC, 40), NTSC, steep, [0, 120, "--white 30000", 120]),
+                (at_share(PAL, 40), PAL, steep, [0, 120, "--white 31000", 120]),
                 (at_share(NTSC, 60), NTSC, soft, [0, 120, "--white 37000", 120]),
                 (at_share(PAL, 60), PAL, soft, [0, 120, "--white 39000", 120]),
-                (at_share(NTSC, 60), NTSC, None, None), (at_share(NTSC, 80), NTSC, None, None),
-                (NTSC, ("NTSC", 23347, 51200), None, None),
-                (NTSC, ("NTSC", 51000, 55000), None, [0, 120, "--black 16000", 120]),
-                (("NTSC", 2000, 9000), ("NTSC", 40000, 50000), None, [0, 120, "--black 2000 --white 9000", 120])):
-            with self.subTest((drawn, setup)):
-                self.draw(drawn, *([line_of] if line_of else []))
-                if wanted:
-                    self.assertEqual(self.best(setup), wanted)
-                else:
-                    self.assertIsNone(self.levels(setup))
+                (at_share(NTSC, 60), NTSC, steep, None), (at_share(NTSC, 80), NTSC, steep, None),
+                (NTSC, ("NTSC", 23347, 51200), steep, None),
+                (NTSC, ("NTSC", 51000, 55000), steep, [0, 120, "--black 16000", 120]),
+                (("NTSC", 2000, 9000), ("NTSC", 40000, 50000), steep, [0, 120, "--black 2000 --white 9000", 120]),
+                (NTSC, NTSC, lambda word, setup: steep(0, setup), none),
+                (NTSC, NTSC, lambda word, setup: rng.getrandbits(8 * 1820).to_bytes(1820, "little"), none),
+                (NTSC, NTSC, lambda word, setup: b"\x00\x80" * 910, none)):
+            with self.subTest((drawn, setup, wanted)):
+                self.draw(drawn, line_of)
+                self.assertEqual(self.best(setup) if wanted else self.levels(setup), wanted)
 
     def test_the_other_system(self):
         """Its fields are of another size, so of its lines hardly any are where they are looked for."""
@@ -96,21 +95,11 @@ class Levels(InFolder):
         self.assertEqual(lines, ["levels: lines 17 and 18 have 0 words, 0 are bad, 40 blank: 0 of 40 lines read with "
                                  "black 16384, white 51200; 40 with --white 30000. Look at one: dd"])
 
-    def test_nothing_is_named(self):
-        """A side without any code, one of noise, one whose lines are grey, and one of a field that has no code."""
-        rng = random.Random(1)
-        for name, line_of in (("blank", lambda word, setup: ldvbi.draw_line(0, *setup)),
-                              ("noise", lambda word, setup: noise(rng, setup)),
-                              ("grey", lambda word, setup: b"\x00\x80" * (ldvbi.line_bytes(setup[0]) // 2))):
-            with self.subTest(name):
-                self.draw(NTSC, line_of)
-                self.assertEqual(self.best(NTSC), [0, 120, None, None])
-        write_stream(self.path, NTSC, [[0, 0, 0]])
-        self.assertEqual(self.best(NTSC), [0, 2, None, None])
-
     def test_a_few_lines_are_no_reason(self):
-        """One line of 20 that other levels read is named, one of 21 isn't."""
+        """One line of 20 that other levels read is named, one of 21 isn't, nor that of a field without a code."""
         drawn = at_share(NTSC, 40)
         for blank, wanted in ((19, "--white 30000"), (20, None)):
             write_stream(self.path, drawn, [[0, 0, 0]] * blank + pictures(1))
             self.assertEqual(self.best(NTSC)[2], wanted)
+        write_stream(self.path, NTSC, [[0, 0, 0]])
+        self.assertEqual(self.best(NTSC), [0, 2, None, None])

@@ -43,21 +43,6 @@ class Nearest(unittest.TestCase):
             near, wide = ldvbi.nearest(line, *setup), 29 if setup == NTSC else 35
             self.assertEqual((near.word, near.distance, near.rival), (0x88FFFF, 5 * column, (wide - 5) * column))
 
-    def test_refusals(self):
-        line = line_with(0xF12345, NTSC)
-        rows = [
-            ((b"", 3, 2, 2), "system is neither NTSC nor PAL"),
-            ((b"", "NTSC", 2, 2), "black is not below white"),
-            ((b"", "NTSC", 1, 65536), "white is not from 0 to 65535"),
-            ((b"", "NTSC", 1, 2), "1 to 28 lines have 1820 bytes each, and these are 0"),
-            ((line[1:], "NTSC", 1, 2), "1 to 28 lines have 1820 bytes each, and these are 1819"),
-            ((line, "PAL", 1, 2), "1 to 28 lines have 2270 bytes each, and these are 1820"),
-            ((29 * line, "NTSC", 1, 2), "1 to 28 lines have 1820 bytes each, and these are 52780"),
-            (([1, 2], "NTSC", 1, 2), "samples are not bytes, but of the type list"),
-        ]
-        for words, text in rows:
-            self.assertEqual(reason(ldvbi.nearest, *words), text)
-
 
 SHOWN = ldvbi.Cause.word
 BLANK = (ldvbi.Cause.blank, 0, 0, 0)
@@ -92,30 +77,25 @@ class Recovered(InFolder):
                 else:
                     self.assertEqual(line, wanted)
 
-    def test_streams(self):
+    def readings(self, setup, *words):
+        """The fields as each call reads them."""
+        size, line = ldvbi.field_bytes(setup[0]), ldvbi.line_bytes(setup[0])
+        data = [self.read("side.tbc")[size * place:size * (place + 1)] for place in range(3)]
+        with ldvbi.Stream(self.path, *setup, *words) as side:
+            self.assertEqual(side.cut_bytes, 1000)
+            yield list(side)
+            yield [side[0], side[1], side[-1]]
+        yield list(ldvbi.fields(self.path, *setup, **dict(zip(["recover"], words))))
+        yield [ldvbi.read_field(one, *setup, *words) for one in data]
+        yield [ldvbi.read_rows(one[15 * line:18 * line], *setup, *words) for one in data]
+
+    def test_each_call(self):
         for setup, fields in self.fields.items():
             write_stream(self.path, setup, fields, 1000)
-            for is_recovered in (False, True):
-                with self.subTest((setup, is_recovered)), ldvbi.Stream(self.path, *setup, is_recovered) as side:
-                    self.check(list(side), setup, is_recovered)
-                    self.check([side[0], side[1], side[-1]], setup, is_recovered)
-                    self.check(list(ldvbi.fields(self.path, *setup, recover=is_recovered)), setup, is_recovered)
-                    self.assertEqual(side.cut_bytes, 1000)
-            with ldvbi.Stream(self.path, *setup) as side:
-                self.check(list(side), setup, False)
-
-    def test_rows_and_fields(self):
-        for setup, fields in self.fields.items():
-            write_stream(self.path, setup, fields)
-            size, line = ldvbi.field_bytes(setup[0]), ldvbi.line_bytes(setup[0])
-            data = [self.read("side.tbc")[size * place:size * (place + 1)] for place in range(len(fields))]
-            rows = [one[15 * line:18 * line] for one in data]
-            for is_recovered in (False, True):
-                with self.subTest((setup, is_recovered)):
-                    self.check([ldvbi.read_field(one, *setup, is_recovered) for one in data], setup, is_recovered)
-                    self.check([ldvbi.read_rows(one, *setup, is_recovered) for one in rows], setup, is_recovered)
-            self.check([ldvbi.read_field(one, *setup) for one in data], setup, False)
-            self.check([ldvbi.read_rows(one, *setup) for one in rows], setup, False)
+            for words in ((), (False,), (True,)):
+                with self.subTest((setup, words)):
+                    for found in self.readings(setup, *words):
+                        self.check(found, setup, words == (True,))
 
     def test_the_samples_of_rows(self):
         write_stream(self.path, PAL, self.fields[PAL])
@@ -130,9 +110,18 @@ class Recovered(InFolder):
             side.rows(0)
 
     def test_refusals(self):
+        line = line_with(0xF12345, NTSC)
         for call, words, text in (
-                (ldvbi.read_rows, (b"", 3, 2, 2), "system is neither NTSC nor PAL"),
-                (ldvbi.read_rows, (b"", "NTSC", 1, 2), "three lines have 5460 bytes, not 0"),
-                (ldvbi.read_field, (b"", "PAL", 1, 2), "a field has 710510 bytes, not 0"),
-                (ldvbi.Stream, (b"", "NTSC", 2, 2), "black is not below white")):
-            self.assertEqual(reason(call, *words, recover=True), text)
+                (ldvbi.nearest, (b"", 3, 2, 2), "system is neither NTSC nor PAL"),
+                (ldvbi.nearest, (b"", "NTSC", 2, 2), "black is not below white"),
+                (ldvbi.nearest, (b"", "NTSC", 1, 65536), "white is not from 0 to 65535"),
+                (ldvbi.nearest, (b"", "NTSC", 1, 2), "1 to 28 lines have 1820 bytes each, and these are 0"),
+                (ldvbi.nearest, (line[1:], "NTSC", 1, 2), "1 to 28 lines have 1820 bytes each, and these are 1819"),
+                (ldvbi.nearest, (line, "PAL", 1, 2), "1 to 28 lines have 2270 bytes each, and these are 1820"),
+                (ldvbi.nearest, (29 * line, "NTSC", 1, 2), "1 to 28 lines have 1820 bytes each, and these are 52780"),
+                (ldvbi.nearest, ([1, 2], "NTSC", 1, 2), "samples are not bytes, but of the type list"),
+                (ldvbi.read_rows, (b"", 3, 2, 2, True), "system is neither NTSC nor PAL"),
+                (ldvbi.read_rows, (b"", "NTSC", 1, 2, True), "three lines have 5460 bytes, not 0"),
+                (ldvbi.read_field, (b"", "PAL", 1, 2, True), "a field has 710510 bytes, not 0"),
+                (ldvbi.Stream, (b"", "NTSC", 2, 2, True), "black is not below white")):
+            self.assertEqual(reason(call, *words), text)

@@ -81,20 +81,16 @@ class Lost(unittest.TestCase):
 
     def test_lost_or_damaged(self):
         """A player that searched in the dark leaves blank fields, too. Of a wide jump two pictures were there: those
-        behind it, those before it, or one of each; of a narrow one any may have been there. Of film 11 to 13 begin in
-        fields 26, 29 and 31."""
+        behind it, those before it, or one of each. Of film 11 to 13 begin in fields 26, 29 and 31."""
         check(self, """
     a field too many in nine damaged pictures | 20..25 Bx19 35..40 | missing 26-34 undecided | no lost unread
     in which something is seen | 20..25 -/?/- B -/?/- B -/?/- B -/?/- B -/?/- B -/?/- B -/?/- B -/?/- B -/?/- B -/?/-
         35..40 | missing 26-34 unread
     a picture lost of nine damaged ones | 20..25 Bx16 35..40 | missing 26-34 undecided | lost 11-29 2 number
     a wide jump | 1..20 Bx4 321..339 | missing 21-22 undecided, 23-318 lost, 319-320 undecided
-    a narrow one | 1..20 Bx4 37..59 | missing 21-36 undecided
-    a chapter's field in the place of a picture | 1..30 19=C | missing 10 unread
     a field between chapters | 1..30 -19 | missing 10 lost
     beside a blank one | 1..30 -19 18=B | missing 10 undecided
     passed over twice, and there once | 1..19 Bx2 21..30 5..30!20 | missing 20 unread
-    and the second time | 1..30!20 5..19 Bx2 21..30 | missing 20 unread
     film | NTSC f1..60 26:33=B -29:31 | missing 11-13 undecided
     without a field | NTSC f1..60 26:33=B -29:31 -26:30 | missing 11-13 lost
     a field of two | b1..30 -22 21=B | missing 11 unread
@@ -153,24 +149,11 @@ class Lost(unittest.TestCase):
         check(self, """
     two times | t0..29 t80..81 t140..169 | count 62 | lost 59-61 100 number, 63-65 116 number | no doubtful
     outside | t0..29 t20..21 t140..169 | showings x60
-    far outside | t0..29 t500..501 t140..169 | showings x60
     one time | t0..29 t292 t1490..1519 | showings x61
     between two searches | t0..29 Bx300 t200..201 Bx300 t500..529 | showings x62 | no doubtful
-    behind a search | t0..29 Bx500 t205 t1490..1519 | showings x60 | doubtful x1
     """)
         for number in (31, 35, 55, 1485, 1479, 1464):
             check(self, "%d | t0..29 t%d t1490..1519 | showings x60" % (number, number))
-
-    def test_parts(self):
-        check(self, """
-    a chapter read once behind one that never was | 1..30 2:60/2=B 2:18/2=-/-/c1 56=-/-/c3 | chapters 1@2-18, 3@56
-        | no doubtful
-    two stretches of lead-in | Lx5 Bx100 Lx3 | leadIn 1-5 5, 106-108 3
-    with chapters between | Lx5 -/800DDD/-x3 Lx3 | leadIn 1-5 5, 9-11 3
-    with a picture between | Lx5 1 Lx3 | leadIn 1-5 5, 8-10 3
-    a scratch | Lx5 Bx99 Lx3 | leadIn 1-107 8
-    with two wrong words | Lx5 -/805DDD*/- Bx9 -/807DDD*/- Lx3 | leadIn 1-19 8
-    """)
 
 
 class Stood(unittest.TestCase):
@@ -194,12 +177,9 @@ class Stood(unittest.TestCase):
         check(self, """
     a wrong number in one | 1..29 30x20 31..59 75=31 | stills 30@59-97 | doubtful 75/17 31.. | aside 75, 75
     a frozen field | 1..59 -/#60/#60x60 B 61..99 | pace video | stills 60@119-178 | whole yes
-    numbers on both | b1..59 | pace both
     and a frozen field | b1..59 -/#60/#60x60 | pace both
     one field between two | 1..29 -/#30/#30x41 -/#31/#31 -/#32/#32x41 B 33..59 | no doubtful missing
         | stills 30@59-99, 32@101-141
-    two fields | 1..29 -/#30/#30x41 -/#31/#31x2 -/#32/#32x41 B 33..59 | no doubtful missing
-        | stills 30@59-99, 31@100-101, 32@102-142
     three fields | 1..29 -/#30/#30x41 -/#31/#31x3 -/#32/#32x41 B 33..59 | no doubtful missing
         | stills 30@59-99, 31@100-102, 32@103-143
     """)

@@ -15,6 +15,7 @@ class Parts(unittest.TestCase):
         check(self, """
     each | %s | chapters 0@2-20, 1@22-40, 2@42-60
     lines that differ | %s 30=-/c3/c7 | chapterConflicts 30 3|7 3 | doubtful 30/18 7 chapter | no conflicts
+    read once behind one that never was | 1..30 2:60/2=B 2:18/2=-/-/c1 56=-/-/c3 | chapters 1@2-18, 3@56 | no doubtful
     a code of a disc without chapters | 1..200 2:400/2=B 8=-/c33/- | no chapters | doubtful 8/17 33 chapter
     """ % (THREE, TWO))
         found = answer(rows(THREE))["chapters"]
@@ -68,6 +69,7 @@ class Parts(unittest.TestCase):
     one more | L Bx100 L 1..3 | leadIn 1 1, 102 1
     two chapters | L -/c1/c1x2 L Bx4 | leadIn 1-4 2
     three chapters | L -/c1/c1x3 L Bx4 | leadIn 1 1, 5 1
+    a picture | Lx5 1 Lx3 | leadIn 1-5 5, 8-10 3
     between numbers that fit | 1..30 12=-/-/80EEEE 21=-/88FFFF/#11 | no leadIn leadOut
         | stray 12/18 lead-out place, 21/17 lead-in place
     within a minute | n0 C n0 C n0 C Lx4 n0 C n0 C n0 C | unit minute | leadIn 7-10 4 | no stray | reasons joined
@@ -108,7 +110,6 @@ class Parts(unittest.TestCase):
         check(self, """
     blank | Bx10 | levels blank 0 0 20 6/17
     bad | ?/!/?x10 | levels bad 0 20 0 6/17
-    few words | -/!/?x99 -/#1/#1 | levels bad 2 198 0 50/18
     10 of 200 | -/88FFFF/?x10 ?x90 | levels
     10 of 202 | -/88FFFF/?x10 ?x91 | levels bad 10..
     as many blank ones | -/?/-x9 | levels blank..

@@ -73,17 +73,15 @@ class Played(Sides):
     """Sides that were played in other ways, and worn ones: three of each kind, with few pictures where the kind lets
     them be few."""
 
-    PICTURES = {"skips": None, "worn": 300, "swapped": 200, "speeds": 1100, "joined": 150, "losses": 600,
-                "restarts": 150}
-    # of these three sides at least so many have exact missing numbers, exact first fields, and just the reasons why
-    # they aren't whole
-    EXACT = {"skips": (2, 2, 3), "worn": (3, 3, 3), "swapped": (3, 3, 2), "speeds": (3, 3, 2), "joined": (3, 3, 3),
-             "losses": (1, 1, 3), "restarts": (3, 3, 3)}
+    # the pictures of a side, and how many of three at least have exact missing numbers, exact first fields, and just
+    # the reasons why they aren't whole
+    EXACT = {"skips": (None, 2, 2, 3), "worn": (300, 3, 3, 3), "swapped": (200, 3, 3, 2), "speeds": (1100, 3, 3, 2),
+             "joined": (150, 3, 3, 3), "losses": (600, 1, 1, 3), "restarts": (150, 3, 3, 3)}
 
     @classmethod
     def setUpClass(cls):
         cls.totals, cls.told = {kind: Counter() for kind in PLAYED}, []
-        for kind, count in cls.PICTURES.items():
+        for kind, (count, *_) in cls.EXACT.items():
             for seed in range(3):
                 cls.totals[kind].update(measured(seed, kind, tell=cls.told.append, count=count,
                                                  sound=kind != "minutes" or seed == 0)[1])
@@ -91,9 +89,9 @@ class Played(Sides):
 
     def test_each_kind(self):
         """No answer contradicts the words of its side."""
-        self.within(self.all, "sides: %d; faults: 0" % (3 * len(self.PICTURES)))
-        for kind, least in self.EXACT.items():
-            for name, count in zip(("reasons", "first fields", "missing"), reversed(least)):
+        self.within(self.all, "sides: %d; faults: 0" % (3 * len(self.EXACT)))
+        for kind, (_, *least) in self.EXACT.items():
+            for name, count in zip(("missing", "first fields", "reasons"), least):
                 self.assertGreaterEqual(self.totals[kind][name], count, (kind, name, self.told))
 
     def test_counts(self):
@@ -110,8 +108,8 @@ class Played(Sides):
 class ByHand(Played):
     """Sides of a player at hand, and minutes alone: three of each kind."""
 
-    PICTURES = {"loops": 300, "turned": 300, "searched": 500, "sides": 200, "minutes": None}
-    EXACT = {"loops": (0, 3, 3), "turned": (0, 3, 2), "searched": (0, 2, 0), "sides": (0, 3, 3), "minutes": (0, 3, 3)}
+    EXACT = {"loops": (300, 0, 3, 3), "turned": (300, 0, 3, 2), "searched": (500, 0, 2, 0), "sides": (200, 0, 3, 3),
+             "minutes": (None, 0, 3, 3)}
 
     def test_counts(self):
         """Of film that is turned by hand numbers may be called unread that were never shown; of no other kind."""

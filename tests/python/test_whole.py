@@ -18,11 +18,8 @@ class Whole(unittest.TestCase):
     without lead-in | Lx4 1..30 Ox4 1..30
         | said no: 1 jump (back); lead-out in field 65, and numbers behind it (two sides joined)
     CLV behind CAV | Lx4 1..30 Ox4 t0..9 | said no: codes of CLV in 20 fields, from field 69 on
-    a restart | 1..30 1..40 | said no: 1 jump (back)
     jumps of both kinds | 1..30 Bx6 31..60 41..80 | said no: 2 jumps (1 back, 1 with fields too many)
     of one | 1..30 Bx6 31..60 | said no: 1 jump (with fields too many)
-    fast | t0..597/3 | whole no
-    backwards | t199..0 | whole no
     words of CLV | 1..60 21.16=8AE000 24.16=8AE000 91.16=8AE000 | said yes
     side by side | 1..60 21.16=8AE000 23:24.16=8AE000 91.16=8AE000
         | said no: codes of CLV in 3 fields, from field 21 on
@@ -42,10 +39,8 @@ class Whole(unittest.TestCase):
     CAV | Lx4 1..30 Ox4 | said yes
     from 0 on | 0..30 | said yes
     a picture | 1 | said yes
-    CLV | t0..39 | said yes
     CLV, whose first number may be left out | t1..39 | said yes
     numbers that weren't read | 1..30 5=? 21:25/2=? 51=? | said yes
-    and losses | 1..30 5=? 21:25/2=? 51=? -41:44 | said no: 4 fields lost; 2 pictures lost
     a chapter set aside | 1..5 6=-/c7/c7 | said yes
     """)
 
@@ -53,7 +48,6 @@ class Whole(unittest.TestCase):
         check(self, """
     CAV | Lx4 1..30 Ox4 | said yes
     without lead-in | 1..30 Ox4 | said no: no lead-in
-    without both | 1..30 | said no: no lead-in; no lead-out
     numbers that weren't read | 1..30 5=? 21:25/2=? 51=? | said no: 5 pictures unread; no lead-in; no lead-out
     and losses | 1..30 5=? 21:25/2=? 51=? -41:44
         | said no: 4 fields lost; 2 pictures lost; 5 pictures unread; no lead-in; no lead-out
@@ -103,8 +97,6 @@ class Whole(unittest.TestCase):
     nothing |  | said can't tell: no picture number and no time
     no number | L B | said can't tell: no picture number and no time
     left out, or lost | NTSC t0..1 t3..4 | said can't tell: 1 time undecided | lost 3-5 2 undecided
-    four fields for pictures 10 to 13 are there, and four lost | 1..9 ?x4 14..30
-        | said no: 4 fields lost; 4 pictures undecided
     film that may be swapped | NTSC e1..40 ~48 | said can't tell: fields 48 and 49 may be swapped
     twice | NTSC e1..80 ~48 ~148 | said can't tell: 2 pairs of fields may be swapped
     film that is cut once | NTSC e1..20 f21..40 | said yes
