@@ -164,6 +164,16 @@ judge() {
     check "$1" ended "$2" "$3" wanted
 }
 
+# judge_rows: runs the program with the words of each row of a table, and judges that; a row is NAME|WORDS|STATUS|OUT|ERR,
+# whose ERR stands behind `ldvbi: `
+judge_rows() {
+    while IFS='|' read -r row_name words ended wanted_out said; do
+        # shellcheck disable=SC2086
+        run $words
+        judge "$row_name" "$ended" "$wanted_out" "${said:+ldvbi: $said}"
+    done
+}
+
 # finish: ends the script with the plan that TAP wants, and status 0 where all checks are as wanted
 finish() {
     [ ! -e "$work/endless" ] || stop 'a run that takes too long'
@@ -201,6 +211,13 @@ pal_samples() {
 }
 text_samples() {
     tr 'zLyH' '  @@'
+}
+# samples_of SYSTEM: the samples of this system's usual levels
+samples_of() {
+    case $1 in
+        NTSC) ntsc_samples ;;
+        PAL) pal_samples ;;
+    esac
 }
 
 # document_head SYSTEM WIDTH HEIGHT BLACK WHITE: how a document begins

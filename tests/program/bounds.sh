@@ -4,6 +4,7 @@
 # usage: sh tests/program/bounds.sh PROGRAM
 # runs: everywhere
 # fails where: bench/bounds.awk|s/ratio < least/ratio > least/
+# shellcheck disable=SC2086
 
 # shellcheck source=tests/helpers.sh
 . "$(dirname "$0")/../helpers.sh"
@@ -25,43 +26,37 @@ measured() {
         }' bounds
 }
 
-# held: what is said of the measurements in the file `said`
-held() {
+# says STATUS LINE..: whether this is said of the measurements in the file `said`, and the status is this one
+says() {
+    wanted_status=$1
+    shift
+    printf 'bench: %s\n' "$@" > wanted
     status=0
     bounded awk -f "$bench/bounds.awk" "$bench/bounds.txt" said > out 2> err || status=$?
+    ended "$wanted_status" wanted empty
 }
 
-# held_of NAME WANTED: notes a fault where not all bounds but this one hold, or where this isn't said of it
-held_of() {
-    held
-    { echo "bench: $1: $2"; echo "bench: $((count - 1)) of $count bounds hold"; } > wanted
-    ended 1 wanted empty || echo "$1: $2: status $status" >> wrong
-}
-
+all="$count of $count bounds hold"
+but_one="$((count - 1)) of $count bounds hold"
 measured > said
-held
-echo "bench: $count of $count bounds hold" > all
-check 'each ratio is the most that it may be' ended 0 all empty
-# A ratio over its bound, and a line that is missing, each in turn
-: > wrong
-while IFS='|' read -r name most; do
-    measured "$name" 0.01 > said
-    held_of "$name" "ratio $(awk -v most="$most" 'BEGIN { print most + 0.01 }'), which is over $most"
-    measured "$name" > said
-    held_of "$name" 'not measured'
-done < bounds
-cp wrong err
-check 'a ratio over its bound, and a line that is missing' [ ! -s wrong ]
-{ measured 'read_line' 1; measured; } > said
-held
-check 'of several lines the least ratio counts' ended 0 all empty
-: > said
-held
-check 'nothing was measured' [ "$status" = 1 ]
-measured > said
+check 'each ratio is the most that it may be' says 0 "$all"
 status=0
 bounded awk -f "$bench/bounds.awk" empty said > out 2> err || status=$?
 check 'a table without bounds' [ "$status" = 1 ]
+# A ratio over its bound, and a line that is missing, each in turn
+while IFS='|' read -r name most; do
+    measured "$name" 0.01 > said
+    over="ratio $(awk -v most="$most" 'BEGIN { print most + 0.01 }'), which is over $most"
+    says 1 "$name: $over" "$but_one" || echo "$name: $over" >> wrong
+    measured "$name" > said
+    says 1 "$name: not measured" "$but_one" || echo "$name: not measured" >> wrong
+done < bounds
+check 'a ratio over its bound, and a line that is missing' [ ! -e wrong ]
+{ measured 'read_line' 1; measured; } > said
+check 'of several lines the least ratio counts' says 0 "$all"
+: > said
+bounded awk -f "$bench/bounds.awk" "$bench/bounds.txt" said > out 2> err
+check 'nothing was measured' [ $? = 1 ]
 
 # The whole of it, with a stub in place of each measurement: it writes each fifth line of the file `lines`, and fails
 # where the file `fails` has its name
@@ -73,24 +68,24 @@ number=0
 for name in $measurements; do
     echo "awk 'NR % 5 == $number' lines; ! grep -qx $name fails" > stubs/$name.sh
     echo "import subprocess, sys; sys.exit(subprocess.call(['sh', 'stubs/$name.sh']))" > stubs/$name.py
-    awk -v number=$number 'NR % 5 == number' lines >> in_turn
+    awk -v number=$number 'NR % 5 == number' lines >> wanted_text
     number=$((number + 1))
 done
-for name in nothing $measurements; do
-    echo $name > fails
+echo "bench: $all" >> wanted_text
+# all_of FAILS: runs it, where this measurement fails
+all_of() {
+    echo "$1" > fails
     status=0
     bounded sh stubs/all.sh "$program" > out 2> err || status=$?
-    if [ $name = nothing ]; then
-        cat in_turn all > wanted
-        check 'all measurements are run, and hold' ended 0 wanted empty
-    else
-        check "the measurement $name fails" [ "$status $(grep -c "^bench: .*$name.* failed\$" err)" = '1 1' ]
-    fi
+}
+all_of nothing
+judge 'all measurements are run, and hold' 0 wanted_text ''
+for name in $measurements; do
+    all_of $name
+    check "the measurement $name fails" [ "$status $(grep -c "^bench: .*$name.* failed\$" err)" = '1 1' ]
 done
 measured 'rust show' 0.01 > lines
-: > fails
-status=0
-bounded sh stubs/all.sh "$program" > out 2> err || status=$?
+all_of nothing
 check 'with a ratio over its bound it fails, and says which' \
     [ "$status $(grep -cx 'bench: rust show: ratio 1.51, which is over 1.5' out)" = '1 1' ]
 finish

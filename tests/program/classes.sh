@@ -14,7 +14,7 @@ grep -o 'least = 0x[0-9A-F]*; greatest = 0x[0-9A-F]*' "$top/crates/vbi_words/spe
     sed 's/[a-z]* = 0x//g; s/;//g' > patterns
 check 'there are eleven patterns' [ "$(wc -l < patterns)" = 11 ]
 
-awk -f "$here/code_words.awk" patterns > items
+python3 "$here/code_words.py" < patterns > items
 check 'there are 20,000 words and those of the corners' [ "$(wc -l < items)" -gt 20300 ]
 { cat items; echo -; echo -; } | paste -d ' ' - - - | sed -n '/[^ ] [^ ]* [^ ]/p' > words
 output_of draw $ntsc words | bounded "$program" show $ntsc | sed -n 's/^1[678] \([0-9A-F]\{6\} \)/\1/p' > reported

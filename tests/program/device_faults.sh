@@ -59,66 +59,66 @@ ending() {
 
 line=1820
 field=478660
+descriptor=0
+
+# faults INPUT WORD..: runs the program with these words, this file on standard input, and each row of a table: the
+# faults of reads, of writes, the status, what is written (a file, or so many of its bytes as FILE:BYTES), what is said,
+# how often reads were asked and had a fault, the same of writes, and more words
+faults() {
+    faulty_input=$1
+    shift
+    while IFS='|' read -r read_faults write_faults ended written said reads writes words; do
+        faulty_with $faulty_input "$descriptor $read_faults" "1 $write_faults" "$@" $words 3<&-
+        case $written in
+            *:*) head -c ${written#*:} ${written%:*} > part ;;
+            *) cp $written part ;;
+        esac
+        stands "$1${words:+ $words} of $faulty_input: reads: $read_faults, writes: $write_faults" $ended part \
+            "${said:+ldvbi: $said}" "$reads" "$writes"
+    done
+}
 
 # Reads: at the first byte, in rows 14 to 18 (counted from 0), within samples, and at the ends of fields. Each line is
 # asked for at once, and what is left of it where a read moved less; the texts are written one by one.
 for command in extract show; do
     for at in 0 1 25481 27303 32762 478659 478660 479661 957320 1435979 1435980; do
         fields=$((at / field))
-        rest=$((at % field))
-        before=$(((at + line - 1) / line))
-        parted=$((at % line != 0))
-        place="$command: reads at byte $at"
-        fault="ldvbi: read failed in field $((fields + 1)) at byte $rest"
-        for kind in 'error' 'error 1'; do
-            faulty_with three.tbc "0 $at $kind" 1 $command $ntsc
-            stands "$place: $kind" 1 $command.begun.$fields "$fault" "$((before + 1)) 1" "$((1 + fields)) 0"
-        done
-        faulty_with three.tbc "0 $at interrupt" 1 $command $ntsc
-        stands "$place: interruptions" 1 $command.begun.$fields "$fault" "$((before + 17)) 17" "$((1 + fields)) 0"
-        faulty_with three.tbc "0 $at interrupt 16" 1 $command $ntsc
-        stands "$place: 16 interruptions" 0 $command.whole '' "$((790 + parted + 16)) 16" '5 0'
-        [ $at = 1435980 ] && continue
-        faulty_with three.tbc "0 $at 1 1" 1 $command $ntsc
-        stands "$place: one byte" 0 $command.whole '' "$((790 + parted + ((at + 1) % line != 0))) 1" '5 0'
-        faulty_with three.tbc "0 $at end" 1 $command $ntsc
-        ending $command $fields $rest > ended.out
-        stands "$place: the end" $((rest == 0 ? 0 : 3)) ended.out '' "$((before + 1)) 1" "$((2 + fields)) 0"
+        lines=$(((at + line - 1) / line))
+        whole=$((790 + (at % line != 0)))
+        begun="1|$command.begun.$fields|read failed in field $((fields + 1)) at byte $((at % field))"
+        ending $command $fields $((at % field)) > ended.out
+        faults three.tbc $command $ntsc << END
+$at error||$begun|$((lines + 1)) 1|$((1 + fields)) 0
+$at error 1||$begun|$((lines + 1)) 1|$((1 + fields)) 0
+$at interrupt||$begun|$((lines + 17)) 17|$((1 + fields)) 0
+$at interrupt 16||0|$command.whole||$((whole + 16)) 16|5 0
+$at 1 1||0|$command.whole||$((whole + (at < 1435980 && (at + 1) % line != 0))) 1|5 0
+$at end||$((at % field == 0 ? 0 : 3))|ended.out||$((lines + 1)) 1|$((2 + fields)) 0
+END
     done
 done
 
 # Writes: within the head, and around the ends of the head, of each record and of the tail
 for command in extract show; do
     whole=$(wc -c < $command.whole)
-    set -- $(for fields in 0 1 2 3; do wc -c < $command.begun.$fields; done) $whole
-    for at in 0 1 3 $(for end in "$@"; do echo $((end - 1)) $end $((end + 1)); done) 150; do
+    ends="$(for fields in 0 1 2 3; do wc -c < $command.begun.$fields; done | paste -s -d ' ') $whole"
+    for at in 0 1 3 150 $(for end in $ends; do echo $((end - 1)) $end $((end + 1)); done); do
         [ $at -lt $whole ] || continue
-        # the texts written whole before that byte, and whether another was begun
-        texts=0
-        parted=1
-        last=1
-        for end in 0 "$@"; do
-            [ $end -le $at ] && [ $end != 0 ] && texts=$((texts + 1))
-            [ $end = $at ] && parted=0
-            [ $end = $((at + 1)) ] && last=0
-        done
-        case $texts in
-            4) lines=790 ;;
-            *) lines=$((263 * texts)) ;;
-        esac
-        head -c $at $command.whole > part
-        place="$command: writes at byte $at"
-        fault="ldvbi: write failed after $at bytes"
-        for kind in 'error' 'error 1' 'end' 'end 1'; do
-            faulty_with three.tbc 0 "1 $at $kind" $command $ntsc
-            stands "$place: $kind" 1 part "$fault" "$lines 0" "$((texts + parted + 1)) 1"
-        done
-        faulty_with three.tbc 0 "1 $at interrupt" $command $ntsc
-        stands "$place: interruptions" 1 part "$fault" "$lines 0" "$((texts + parted + 17)) 17"
-        faulty_with three.tbc 0 "1 $at interrupt 16" $command $ntsc
-        stands "$place: 16 interruptions" 0 $command.whole '' '790 0' "$((5 + parted + 16)) 16"
-        faulty_with three.tbc 0 "1 $at 1 1" $command $ntsc
-        stands "$place: one byte" 0 $command.whole '' '790 0' "$((5 + parted + last)) 1"
+        # the texts written whole before that byte, whether another was begun, and whether the byte is not its last
+        texts=$(echo "$ends" | tr ' ' '\n' | awk -v at=$at '$1 <= at { count++ } END { print count + 0 }')
+        case " 0 $ends " in *" $at "*) parted=0 ;; *) parted=1 ;; esac
+        case " $ends " in *" $((at + 1)) "*) more=0 ;; *) more=1 ;; esac
+        asked=$((texts + parted + 1))
+        begun="1|$command.whole:$at|write failed after $at bytes|$((texts < 4 ? 263 * texts : 790)) 0"
+        faults three.tbc $command $ntsc << END
+|$at error|$begun|$asked 1
+|$at error 1|$begun|$asked 1
+|$at end|$begun|$asked 1
+|$at end 1|$begun|$asked 1
+|$at interrupt|$begun|$((asked + 16)) 17
+|$at interrupt 16|0|$command.whole||790 0|$((5 + parted + 16)) 16
+|$at 1 1|0|$command.whole||790 0|$((5 + parted + more)) 1
+END
     done
 done
 
@@ -126,156 +126,110 @@ done
 head -c $field three.tbc > one.tbc
 { cat extract.begun.1; cut_field null; } > one.json
 bytes=$(wc -c < one.json)
-head -c 1 one.json > part
 often='0 interrupt 16, 1 interrupt 16, 2 interrupt 16, 140 interrupt 16'
 more='0 interrupt 16, 0 1 1, 1 interrupt'
-while IFS='|' read -r read_faults write_faults ended out said reads writes; do
-    faulty_with one.tbc "0 $read_faults" "1 $write_faults" extract $ntsc
-    stands "reads: $read_faults, writes: $write_faults" $ended $out "$said" "$reads" "$writes"
-done << END
+faults one.tbc extract $ntsc << END
 0 1|0 1|0|one.json||478661 478661|$bytes $bytes
 0 1821|0 1|0|one.json||264 264|$bytes $bytes
 $often|$often|0|one.json||331 64|70 64
-$more||1|extract.begun.0|ldvbi: read failed in field 1 at byte 1|34 34|1 0
-|$more|1|part|ldvbi: write failed after 1 bytes|0 0|34 34
+$more||1|extract.begun.0|read failed in field 1 at byte 1|34 34|1 0
+|$more|1|one.json:1|write failed after 1 bytes|0 0|34 34
 END
 
 # At the limit of fields one more line is asked for: its end ends the run, a fault is told although a byte came, and
 # whatever else comes is too many fields
+head -c $((2 * field)) three.tbc > two.tbc
 for command in extract show; do
     ending $command 2 0 > two.out
-    head -c $((2 * field)) three.tbc > two.tbc
-    while IFS='|' read -r stream faults status_wanted answer reads; do
-        out=$command.begun.2
-        writes='3 0'
-        [ $status_wanted = 0 ] && out=two.out writes='4 0'
-        faulty_with $stream.tbc "0 $faults" 1 $command --max-fields 2 $ntsc
-        stands "$command at its limit: $faults" $status_wanted $out "$answer" "$reads" "$writes"
-    done << 'END'
-three||1|ldvbi: too many fields|527 0
-three|957320 1 1|1|ldvbi: too many fields|528 1
-three|957321 end|1|ldvbi: too many fields|528 1
-three|957320 end|0||527 1
-three|957320 error|1|ldvbi: read failed in field 3 at byte 0|527 1
-three|957325 error|1|ldvbi: read failed in field 3 at byte 5|528 1
-three|957325 error 1|1|ldvbi: read failed in field 3 at byte 5|528 1
-three|957320 interrupt|1|ldvbi: read failed in field 3 at byte 0|543 17
-two||0||527 0
-two|957320 interrupt 16|0||543 16
+    begun="1|$command.begun.2"
+    faults three.tbc $command $ntsc << END
+||$begun|too many fields|527 0|3 0|--max-fields 2
+957320 1 1||$begun|too many fields|528 1|3 0|--max-fields 2
+957320 end||0|two.out||527 1|4 0|--max-fields 2
+957320 error||$begun|read failed in field 3 at byte 0|527 1|3 0|--max-fields 2
+957325 error||$begun|read failed in field 3 at byte 5|528 1|3 0|--max-fields 2
+END
+    faults two.tbc $command $ntsc << END
+||0|two.out||527 0|4 0|--max-fields 2
+957320 interrupt 16||0|two.out||543 16|4 0|--max-fields 2
 END
 done
-faulty_with /dev/zero 0 1 extract --max-fields 2 $ntsc
-document_head NTSC 910 263 16384 51200 > zeros.out
-{ blank_record 1; printf ',\n'; blank_record 2; } >> zeros.out
-stands 'an endless input' 1 zeros.out 'ldvbi: too many fields' '527 0' '3 0'
-
-# The first fault of both devices is told, and the other doesn't come
-head -c 150 extract.whole > part
-all=$(wc -c < extract.begun.3)
-while IFS='|' read -r read_fault write_fault out answer reads writes; do
-    faulty_with three.tbc "0 $read_fault" "1 $write_fault" extract $ntsc
-    stands "reads: $read_fault, writes: $write_fault" 1 $out "ldvbi: $answer" "$reads" "$writes"
-done << END
-0 error|0 error|empty|write failed after 0 bytes|0 0|1 1
-0 error|135 error|extract.begun.0|read failed in field 1 at byte 0|1 1|1 0
-478660 error|150 error|part|write failed after 150 bytes|263 0|3 1
-478659 error|150 error|extract.begun.0|read failed in field 1 at byte 478659|264 1|1 0
-1435980 error|$all error|extract.begun.3|read failed in field 4 at byte 0|790 1|4 0
+{ document_head NTSC 910 263 16384 51200; blank_record 1; printf ',\n'; blank_record 2; } > zeros.out
+faults /dev/zero extract $ntsc << END
+||1|zeros.out|too many fields|527 0|3 0|--max-fields 2
 END
 
-# PAL: fields of 313 lines of 2270 bytes
-printf '8AE012|87FFFF|F0DD00\n-|-|-\n' | signal PAL 1 | pal_samples > pal.tbc
-{
-    document_head PAL 1135 313 16384 54016
-    record 1 9101330,8912895,15785216 '"word","word","word"' 1,1,1
-} > pal.begun
-{ cat pal.begun; printf ',\n'; blank_record 2; cut_field null; } > pal.json
-faulty_with pal.tbc '0 711510 error' 1 extract $pal
-stands 'two fields of PAL, reads fail' 1 pal.begun 'ldvbi: read failed in field 2 at byte 1000' '315 1' '2 0'
-faulty_with pal.tbc '0 711510 interrupt 16' '1 150 1 1' extract $pal
-stands 'two fields of PAL, 16 interruptions' 0 pal.json '' '644 16' '6 1'
+# The first fault of both devices is told, and the other doesn't come
+faults three.tbc extract $ntsc << END
+0 error|0 error|1|empty|write failed after 0 bytes|0 0|1 1
+0 error|135 error|1|extract.begun.0|read failed in field 1 at byte 0|1 1|1 0
+478660 error|150 error|1|extract.whole:150|write failed after 150 bytes|263 0|3 1
+1435980 error|$(wc -c < extract.begun.3) error|1|extract.begun.3|read failed in field 4 at byte 0|790 1|4 0
+END
 
 # `line` asks for its one line and no more, and for no byte after it
 cp "$stored/stdin" line.raw
+cp "$stored/stdout" word
 { cat line.raw; echo rest; } > longer.raw
-while IFS='|' read -r read_fault write_fault status_wanted taken answer reads writes; do
-    head -c $taken "$stored/stdout" > part
-    faulty_with longer.raw "0 $read_fault" "1 $write_fault" line $levels
-    stands "line: reads: $read_fault, writes: $write_fault" $status_wanted part "$answer" "$reads" "$writes"
-done << 'END'
-||0|7||1 0|1 0
-1820 error|7 error|0|7||1 0|1 0
-0 error||1|0|ldvbi: read failed at byte 0|1 1|0 0
-7 error||1|0|ldvbi: read failed at byte 7|2 1|0 0
-7 interrupt||1|0|ldvbi: read failed at byte 7|18 17|0 0
-7 interrupt 16||0|7||18 16|1 0
-0 1||0|7||1820 1820|1 0
-0 end||1|0|ldvbi: short line: 0 of 1820 bytes|1 1|0 0
-1819 end 1||1|0|ldvbi: short line: 1819 of 1820 bytes|2 1|0 0
-|0 error|1|0|ldvbi: write failed after 0 bytes|1 0|1 1
-|3 error|1|3|ldvbi: write failed after 3 bytes|1 0|2 1
-|3 end|1|3|ldvbi: write failed after 3 bytes|1 0|2 1
-|3 interrupt|1|3|ldvbi: write failed after 3 bytes|1 0|18 17
-|3 interrupt 16|0|7||1 0|18 16
-|0 1|0|7||1 0|7 7
+faults longer.raw line $levels << 'END'
+||0|word||1 0|1 0
+7 error||1|empty|read failed at byte 7|2 1|0 0
+7 interrupt||1|empty|read failed at byte 7|18 17|0 0
+7 interrupt 16||0|word||18 16|1 0
+0 1||0|word||1820 1820|1 0
+1819 end 1||1|empty|short line: 1819 of 1820 bytes|2 1|0 0
+|3 error|1|word:3|write failed after 3 bytes|1 0|2 1
+|3 end|1|word:3|write failed after 3 bytes|1 0|2 1
+|3 interrupt|1|word:3|write failed after 3 bytes|1 0|18 17
+|3 interrupt 16|0|word||1 0|18 16
+|0 1|0|word||1 0|7 7
 END
 
 # `draw` asks for one byte after the other, and writes a field line by line
 printf '82CFFF F12345 F12345\n82CFFF - -\n' > words
 printf '82CFFF|F12345|F12345\n82CFFF|-|-\n' | signal NTSC 1 | ntsc_samples > drawn.tbc
-while IFS='|' read -r options read_fault write_fault status_wanted taken answer reads writes; do
-    head -c $taken drawn.tbc > part
-    faulty_with words "0 $read_fault" "1 $write_fault" draw $ntsc $options
-    stands "draw $options: reads: $read_fault, writes: $write_fault" $status_wanted part "$answer" "$reads" "$writes"
-done << 'END'
-|||0|957320||33 0|526 0
-|0 error||1|0|ldvbi: read failed in row 1|1 1|0 0
-|20 error||1|0|ldvbi: read failed in row 1|21 1|0 0
-|21 error||1|478660|ldvbi: read failed in row 2|22 1|263 0
-|32 error||1|957320|ldvbi: read failed in row 3|33 1|526 0
-|25 interrupt||1|478660|ldvbi: read failed in row 2|42 17|263 0
-|0 interrupt 16, 1 interrupt 16, 25 interrupt 16, 32 interrupt 16||0|957320||97 64|526 0
-|0 end||0|0||1 1|0 0
-|20 end||0|478660||21 1|263 0
-|21 end||0|478660||22 1|263 0
-|31 end 1||0|957320||32 1|526 0
-||0 error|1|0|ldvbi: write failed after 0 bytes|21 0|1 1
-||1000 error|1|1000|ldvbi: write failed after 1000 bytes|21 0|2 1
-||478659 error|1|478659|ldvbi: write failed after 478659 bytes|21 0|264 1
-||478660 error|1|478660|ldvbi: write failed after 478660 bytes|32 0|264 1
-||1000 interrupt|1|1000|ldvbi: write failed after 1000 bytes|21 0|18 17
-||1000 interrupt 16|0|957320||33 0|543 16
-||0 1 1820|0|957320||33 0|2345 1820
-|21 error|1000 error|1|1000|ldvbi: write failed after 1000 bytes|21 0|2 1
-|21 error|478660 error|1|478660|ldvbi: read failed in row 2|22 1|263 0
---max-fields 1|||1|478660|ldvbi: too many fields|22 0|263 0
---max-fields 1|21 error||1|478660|ldvbi: read failed in row 2|22 1|263 0
---max-fields 1|21 end||0|478660||22 1|263 0
+head -c $field drawn.tbc > first.tbc
+faults words draw $ntsc << 'END'
+||0|drawn.tbc||33 0|526 0
+20 error||1|empty|read failed in row 1|21 1|0 0
+21 error||1|first.tbc|read failed in row 2|22 1|263 0
+25 interrupt||1|first.tbc|read failed in row 2|42 17|263 0
+0 interrupt 16, 1 interrupt 16, 25 interrupt 16, 32 interrupt 16||0|drawn.tbc||97 64|526 0
+21 end||0|first.tbc||22 1|263 0
+31 end 1||0|drawn.tbc||32 1|526 0
+|1000 error|1|drawn.tbc:1000|write failed after 1000 bytes|21 0|2 1
+|478660 error|1|first.tbc|write failed after 478660 bytes|32 0|264 1
+|1000 interrupt|1|drawn.tbc:1000|write failed after 1000 bytes|21 0|18 17
+|0 1 1820|0|drawn.tbc||33 0|2345 1820
+21 error|478660 error|1|first.tbc|read failed in row 2|22 1|263 0
+||1|first.tbc|too many fields|22 0|263 0|--max-fields 1
+21 error||1|first.tbc|read failed in row 2|22 1|263 0|--max-fields 1
 END
 
 # An input that is a file is asked as standard input is. Its descriptor is the first free one: 3, where that is closed.
-faulty '3 7 error' 1 line $levels line.raw 3<&-
-stands 'a file, reads of line fail' 1 empty 'ldvbi: read failed at byte 7' '2 1' '0 0'
-faulty '3 21 error' 1 draw $ntsc words 3<&-
-head -c 478660 drawn.tbc > part
-stands 'a file, reads of draw fail' 1 part 'ldvbi: read failed in row 2' '22 1' '263 0'
-faulty '3 479660 interrupt' 1 extract $ntsc three.tbc 3<&-
-stands 'a file, interruptions' 1 extract.begun.1 'ldvbi: read failed in field 2 at byte 1000' '281 17' '2 0'
-faulty '3 479660 interrupt 16' 1 extract $ntsc three.tbc 3<&-
-stands 'a file, 16 interruptions' 0 extract.whole '' '807 16' '5 0'
+descriptor=3
+faults empty line $levels line.raw << END
+7 error||1|empty|read failed at byte 7|2 1|0 0
+END
+faults empty draw $ntsc words << END
+21 error||1|first.tbc|read failed in row 2|22 1|263 0
+END
+faults empty extract $ntsc three.tbc << END
+479660 interrupt||1|extract.begun.1|read failed in field 2 at byte 1000|281 17|2 0
+479660 interrupt 16||0|extract.whole||807 16|5 0
+END
 
-# Metadata that can't be read, which can only in part, and which comes byte by byte
+# Metadata that can't be read, or only in part, and which comes byte by byte. An interrupted read of it is made again,
+# however often: 10 bytes, 1,000 interruptions, 66 bytes, the end.
 printf '{"videoParameters":{"system":"NTSC","black16bIre":8224,"white16bIre":16448}}' > line.json
+faults line.raw line --meta line.json << 'END'
+10 end||1|empty|metadata is not JSON|2 1|0 0
+0 1||0|word||77 77|1 0
+10 interrupt 1000||0|word||1003 1000|1 0
+END
 for at in 0 10 76; do
     { faulty_inheriting "3 $at error" 1 line --meta line.json 3<&-; cat > rest; } < line.raw
     stands "metadata: reads fail at byte $at" 1 empty 'ldvbi: cannot read metadata' "$((1 + (at > 0))) 1" '0 0'
     check "metadata: reads fail at byte $at, the input" cmp rest line.raw
 done
-faulty_with line.raw '3 10 end' 1 line --meta line.json 3<&-
-stands 'metadata: the end at byte 10' 1 empty 'ldvbi: metadata is not JSON' '2 1' '0 0'
-faulty_with line.raw '3 0 1' 1 line --meta line.json 3<&-
-stands 'metadata: one byte at a time' 0 "$stored/stdout" '' '77 77' '1 0'
-# An interrupted read of metadata is made again, however often: 10 bytes, 1,000 interruptions, 66 bytes, the end
-faulty_with line.raw '3 10 interrupt 1000' 1 line --meta line.json 3<&-
-stands 'metadata: 1,000 interruptions' 0 "$stored/stdout" '' '1003 1000' '1 0'
 finish

@@ -32,8 +32,7 @@ struct device {
     int is_over;
 };
 
-static struct device input = {.descriptor = -1};
-static struct device output = {.descriptor = -1};
+static struct device input, output;
 
 /* Takes up the next fault, where there is one. */
 static void next_fault(struct device *device)
@@ -70,9 +69,17 @@ static ssize_t allow(struct device *device, size_t size)
     return size < strtoul(device->kind, NULL, 10) ? size : strtoul(device->kind, NULL, 10);
 }
 
-/* Takes down a call's answer, and gives it. */
-static ssize_t answered(struct device *device, ssize_t count)
+/* Calls the function of this name behind this one. Of the device's descriptor it moves no more than the faults allow. */
+static ssize_t move(struct device *device, const char *name, int descriptor, void *bytes, size_t size)
 {
+    ssize_t (*real)(int, void *, size_t) = (ssize_t (*)(int, void *, size_t))dlsym(RTLD_NEXT, name);
+    ssize_t count;
+
+    if (descriptor != device->descriptor)
+        return real(descriptor, bytes, size);
+    count = allow(device, size);
+    if (count > 0)
+        count = real(descriptor, bytes, count);
     if (count > 0)
         device->moved += count;
     if (count == 0 || (count < 0 && errno != EINTR))
@@ -82,46 +89,26 @@ static ssize_t answered(struct device *device, ssize_t count)
 
 ssize_t read(int descriptor, void *bytes, size_t size)
 {
-    static ssize_t (*real)(int, void *, size_t);
-    ssize_t count;
-
-    if (real == NULL)
-        real = (ssize_t (*)(int, void *, size_t))dlsym(RTLD_NEXT, "read");
-    if (descriptor != input.descriptor)
-        return real(descriptor, bytes, size);
-    count = allow(&input, size);
-    return answered(&input, count > 0 ? real(descriptor, bytes, count) : count);
+    return move(&input, "read", descriptor, bytes, size);
 }
 
 ssize_t write(int descriptor, const void *bytes, size_t size)
 {
-    static ssize_t (*real)(int, const void *, size_t);
-    ssize_t count;
-
-    if (real == NULL)
-        real = (ssize_t (*)(int, const void *, size_t))dlsym(RTLD_NEXT, "write");
-    if (descriptor != output.descriptor)
-        return real(descriptor, bytes, size);
-    count = allow(&output, size);
-    return answered(&output, count > 0 ? real(descriptor, bytes, count) : count);
+    return move(&output, "write", descriptor, (void *)bytes, size);
 }
 
-static void begin(struct device *device, const char *name)
+static void begin(struct device *device, const char *plan)
 {
-    char *end;
-    const char *plan = getenv(name);
+    char *faults = "";
 
-    device->faults = "";
-    if (plan == NULL)
-        return;
-    device->descriptor = strtol(plan, &end, 10);
-    device->faults = end;
+    device->descriptor = plan == NULL ? -1 : strtol(plan, &faults, 10);
+    device->faults = faults;
 }
 
 __attribute__((constructor)) static void begin_both(void)
 {
-    begin(&input, "DEVICE_READ");
-    begin(&output, "DEVICE_WRITE");
+    begin(&input, getenv("DEVICE_READ"));
+    begin(&output, getenv("DEVICE_WRITE"));
 }
 
 __attribute__((destructor)) static void record(void)

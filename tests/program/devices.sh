@@ -8,14 +8,10 @@ command -v "$compiler" > /dev/null || {
 }
 "$compiler" -std=c99 -shared -fPIC -O2 -Wall -o devices.so "$here/devices.c" -ldl || exit 1
 
-# faulty READS WRITES WORD..: the program with nothing on standard input, its input and output having these faults (see
-# devices.c)
 DEVICE_RECORD=$work/record
 export DEVICE_READ DEVICE_WRITE DEVICE_RECORD
-faulty() {
-    faulty_with empty "$@"
-}
-# faulty_with FILE READS WRITES WORD..: the same with this file on standard input
+# faulty_with FILE READS WRITES WORD..: the program with this file on standard input, its input and output having these
+# faults (see devices.c)
 faulty_with() {
     run_input=$1
     shift

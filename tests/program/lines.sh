@@ -10,47 +10,38 @@
 
 # The stored line in each way that it can come, and what can be wrong with it
 echo 82CFFF | signal NTSC 0 | text_samples > line.raw
-run_with "$stored/stdin" line $levels
-judge 'standard input' 0 "$stored/stdout" ''
+{ cat line.raw; echo rest; } > longer.raw
+head -c 1819 line.raw > short.raw
+echo 8AE012 | signal PAL 0 | pal_samples | head -c 2269 > short_pal.raw
 check 'the stored line is the drawn one' cmp line.raw "$stored/stdin"
+run_with line.raw line $levels
+judge 'standard input' 0 "$stored/stdout" ''
 run_with line.raw line $levels -
 judge 'standard input as -' 0 "$stored/stdout" ''
-run line $levels line.raw
-judge 'a file' 0 "$stored/stdout" ''
-{ cat line.raw; echo rest; } > longer.raw
 run_leaving longer.raw line $levels
 judge 'a longer input' 0 "$stored/stdout" ''
-echo rest > unread
-check 'the rest is left unread' cmp rest unread
-
-head -c 1819 line.raw > short.raw
-run line $levels short.raw
-judge 'a short line' 1 empty 'ldvbi: short line: 1819 of 1820 bytes'
-run line $levels
-judge 'no line' 1 empty 'ldvbi: short line: 0 of 1820 bytes'
-echo 8AE012 | signal PAL 0 | pal_samples | head -c 2269 > short.raw
-run line $pal short.raw
-judge 'a short line of PAL' 1 empty 'ldvbi: short line: 2269 of 2270 bytes'
-run line $levels .
-judge 'a folder as input' 1 empty 'ldvbi: read failed at byte 0'
+check 'the rest is left unread' [ "$(cat rest)" = rest ]
 run_inheriting line $levels <&-
 judge 'standard input that is closed' 1 empty 'ldvbi: read failed at byte 0'
+judge_rows << END
+a file|line $levels line.raw|0|$stored/stdout|
+a short line|line $levels short.raw|1|empty|short line: 1819 of 1820 bytes
+no line|line $levels|1|empty|short line: 0 of 1820 bytes
+a short line of PAL|line $pal short_pal.raw|1|empty|short line: 2269 of 2270 bytes
+a folder as input|line $levels .|1|empty|read failed at byte 0
+END
 
-# outputs that take nothing: a full device, standard output that is closed, a pipe that nobody reads
-status=0
-output_of line $levels line.raw > /dev/full 2> err || status=$?
-cp empty out
-judge 'no room for the output' 1 empty 'ldvbi: write failed after 0 bytes'
-status=0
-output_of line $levels line.raw >&- 2> err || status=$?
-judge 'standard output that is closed' 1 empty 'ldvbi: write failed after 0 bytes'
+# Outputs that take nothing: a full device, standard output that is closed, a pipe that nobody reads
 mkfifo unread_pipe
 # shellcheck disable=SC2094
 exec 3<> unread_pipe 4> unread_pipe 3<&-
-status=0
-output_of line $levels line.raw >&4 2> err || status=$?
+for place in /dev/full '&-' '&4'; do
+    status=0
+    eval "output_of line $levels line.raw >$place 2> err" || status=$?
+    cp empty out
+    judge "standard output goes to $place" 1 empty 'ldvbi: write failed after 0 bytes'
+done
 exec 4>&-
-judge 'a pipe that nobody reads' 1 empty 'ldvbi: write failed after 0 bytes'
 
 # A word is written as ever where standard error is closed (words.sh has faults that can't be said).
 status=0
@@ -64,59 +55,46 @@ for command in line extract show draw; do
     check "$command: standard input beside a file" cmp rest longer.raw
 done
 
-# What a line shows, by its reading
-# one_line NAME ANSWER WORD..: checks what the program says of the line in shown.raw
-one_line() {
-    line_name=$1
-    echo "$2" > answer
-    shift 2
-    run line "$@" shown.raw
-    judge "$line_name" 0 answer ''
-}
-printf '%1820s' '' > shown.raw
-one_line '1820 spaces' blank $levels
-echo 82CFFF | signal NTSC 0 | tr 'zLyH' '\000\100\000\204' > shown.raw
-one_line 'high samples midway between black and white' blank $ntsc
-echo 82CFFF | signal NTSC 0 | tr 'zLyH' '\000\100\001\204' > shown.raw
-one_line 'high samples one above' 82CFFF $ntsc
-while IFS='|' read -r description answer; do
-    echo "$description" | signal NTSC 0 | ntsc_samples > shown.raw
-    one_line "NTSC: $description" "$answer" $ntsc
-done << 'END'
-FFFFFF/11/48|FFFFFF
-FFFFFF/11/47 H18|FFFFFF
-FFFFFF/11/47 H19|hold 535
-L14 H20|change 34
-L14 H14|hold 46
-L14 H22|hold 72
--|blank
-H1|change 0
-L164 H746|hold 200
-L383 FFFFFE/11/47|unfinished
-82CFFF @170-172L|82CFFF
-82CFFF @170-173L|change 170
-82CFFF @0-0H|82CFFF
-L900 H10|unfinished
-L874 H36|unfinished
-L873 H37|hold 909
-L382 FFFFFF/11/48 @100-100H|change 101
-L374 FFFFFF/11/47 H19|FFFFFF
-L363 FFFFFF/11/47 H19|hold 898
+# What a line shows, by its reading: of samples that are spaces, of high ones midway between black and white, or one
+# above, and of those of the usual levels
+printf '%1820s' '' > spaces.raw
+echo 82CFFF | signal NTSC 0 > line.text
+tr 'zLyH' '\000\100\000\204' < line.text > midway.raw
+tr 'zLyH' '\000\100\001\204' < line.text > above.raw
+echo blank > blank
+judge_rows << END
+1820 spaces|line $levels spaces.raw|0|blank|
+high samples midway between black and white|line $ntsc midway.raw|0|blank|
+high samples one above|line $ntsc above.raw|0|$stored/stdout|
 END
-while IFS='|' read -r description answer; do
-    echo "$description" | signal PAL 0 | pal_samples > shown.raw
-    one_line "PAL: $description" "$answer" $pal
+while IFS='|' read -r system description answer; do
+    options=$ntsc
+    [ "$system" = NTSC ] || options=$pal
+    echo "$description" | signal "$system" 0 | samples_of "$system" > shown.raw
+    run line $options shown.raw
+    echo "$answer" > answer
+    judge "$system: $description" 0 answer ''
 done << 'END'
-8AE012|8AE012
--|blank
-L207 H928|hold 251
-L17 H24|change 41
-L17 H17|hold 56
-L17 H28|hold 89
-8AE012 @50-52H|8AE012
-8AE012 @50-53H|change 54
-FFFFFF/14/47 H22|FFFFFF
-FFFFFF/14/47 H23|hold 680
+NTSC|FFFFFF/11/48|FFFFFF
+NTSC|FFFFFF/11/47 H18|FFFFFF
+NTSC|FFFFFF/11/47 H19|hold 535
+NTSC|L14 H21|change 35
+NTSC|L14 H14|hold 46
+NTSC|L7 H11 FFFFFF/11/46|change 7
+NTSC|L382 FFFFFF/11/48 @100-100H|change 101
+NTSC|-|blank
+NTSC|H1|change 0
+NTSC|L164 H746|hold 200
+NTSC|L383 FFFFFE/11/47|unfinished
+NTSC|82CFFF @170-172L|82CFFF
+NTSC|82CFFF @170-173L|change 170
+NTSC|82CFFF @0-0H|82CFFF
+NTSC|L873 H37|hold 909
+PAL|8AE012|8AE012
+PAL|L207 H928|hold 251
+PAL|L10 FFFFFF/13/48|change 36
+PAL|FFFFFF/14/47 H22|FFFFFF
+PAL|FFFFFF/14/47 H23|hold 680
 END
 
 # How near lines are that are read as different words, as docs/FORMATS.md has it. The last two cells of 800000 are as
@@ -125,9 +103,8 @@ END
 # turned over behind the change leave no four equal ones before 517 (NTSC), or 658 (PAL).
 while IFS='|' read -r system description answer; do
     options=$ntsc
-    samples=ntsc_samples
-    [ "$system" = NTSC ] || { options=$pal; samples=pal_samples; }
-    echo "$description|-|-" | signal "$system" 1 | $samples > near.tbc
+    [ "$system" = NTSC ] || options=$pal
+    echo "$description|-|-" | signal "$system" 1 | samples_of "$system" > near.tbc
     run extract $options near.tbc
     jq -r '.fields[0] | "\(.vbi.vbiData[0]) \(.vbiPass[0])"' out > reading
     read -r word pass < reading

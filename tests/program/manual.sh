@@ -22,10 +22,6 @@ same() {
 options_in_help() {
     grep -o '^ *-[^ ].*' | sed 's/^ *//; s/   .*//' | grep -o -e '--[a-z-]*' | sort -u
 }
-# side_help WORD..: the help of ldvbi-side behind these words
-side_help() {
-    COLUMNS=500 PYTHONDONTWRITEBYTECODE=1 bounded "$side" "$@" --help < empty 2> err
-}
 # page PAGE: whether mandoc has nothing to say of this page, and its options are those of the file wanted
 page() {
     status=0
@@ -37,20 +33,34 @@ page() {
 }
 
 for command in '' $commands; do
-    output_of $command --help | options_in_help > ${command:-none}.options
+    output_of $command --help | options_in_help > ${command:-ldvbi}.options
 done
-cat ./*.options | sort -u > wanted
+sort -u ./*.options > wanted
 page ldvbi.1
 for command in '' compare join index scan; do
-    side_help $command | options_in_help
-done | sort -u > wanted
+    COLUMNS=500 PYTHONDONTWRITEBYTECODE=1 bounded "$side" $command --help < empty 2> err |
+        options_in_help > ${command:-side}.options
+done
+sort -u side.options compare.options join.options index.options scan.options > wanted
 page ldvbi-side.1
 
-# What is offered behind each of these command lines: behind a command the options of its help
-list() {
-    paste -s -d ' '
-}
+# offered COMMAND: checks what is offered behind each of these command lines: those of the file `offers`, and what
+# differs between the shells. bash offers all at once, zsh options behind a dash alone; the file names of zsh are those
+# of this folder.
+mkdir folder
 touch page.txt page.one
+offered() {
+    sed 's/^ldvbi |.*/ldvbi |--help --version draw extract help line show/' offers >> bash.offers
+    cat offers >> zsh.offers
+    sed 's/|.*//' bash.offers | bounded bash "$here/complete.bash" "$completions/$1.bash" > out 2> err
+    check "what bash offers behind $1" cmp out bash.offers
+    sed 's/|.*//' zsh.offers | bounded zsh -f "$here/complete.zsh" "$completions" > out 2> err
+    check "what zsh offers behind $1" cmp out zsh.offers
+}
+# list FILE: its lines as one
+list() {
+    paste -s -d ' ' "$1"
+}
 cat > offers << END
 ldvbi |draw extract help line show
 ldvbi ex|extract
@@ -66,56 +76,34 @@ ldvbi extract --max-fields=|
 END
 for command in $commands; do
     cat << END
-ldvbi $command --|$(list < $command.options)
-ldvbi $command --m|$(grep -e '^--m' $command.options | list)
+ldvbi $command --|$(list $command.options)
+ldvbi $command --m|$(grep -e '^--m' $command.options | list -)
 ldvbi $command --system |NTSC PAL
 ldvbi $command --black |
 ldvbi $command --white |
 END
 done >> offers
-# What differs between the shells: bash offers all at once, zsh options behind a dash alone; the file names of zsh are
-# those of this folder.
-{
-    sed "s/^ldvbi |.*/ldvbi |--help --version draw extract help line show/" offers
-    printf '%s\n' 'ldvbi extract |files' 'ldvbi extract --meta |files' 'ldvbi extract --meta=s|files'
-} > bash.offers
-{
-    cat offers
-    printf '%s\n' 'ldvbi extract pag|page.one page.txt' \
-        'ldvbi extract --meta page.t|page.txt' 'ldvbi extract --meta=page.t|page.txt'
-} > zsh.offers
-sed 's/|.*//' bash.offers | bounded bash "$here/complete.bash" "$completions/ldvbi.bash" > out 2> err
-check 'what bash offers' cmp out bash.offers
-sed 's/|.*//' zsh.offers | bounded zsh -f "$here/complete.zsh" "$completions" > out 2> err
-check 'what zsh offers' cmp out zsh.offers
-
-# The same behind ldvbi-side
+printf '%s\n' 'ldvbi extract |files' 'ldvbi extract --meta |files' 'ldvbi extract --meta=s|files' > bash.offers
+printf '%s\n' 'ldvbi extract pag|page.one page.txt' 'ldvbi extract --meta page.t|page.txt' \
+    'ldvbi extract --meta=page.t|page.txt' > zsh.offers
+offered ldvbi
 cat > offers << END
-ldvbi-side --|$(side_help | options_in_help | list)
+ldvbi-side --|$(list side.options)
 ldvbi-side side.tbc --s|--seek --strict --summary --svg --system
 ldvbi-side --system |NTSC PAL
 ldvbi-side --system=P|PAL
 ldvbi-side --seek |
-ldvbi-side scan --|$(side_help scan | options_in_help | list)
+ldvbi-side scan --|$(list scan.options)
 ldvbi-side scan --j|--jobs --json
 ldvbi-side scan -j |
-ldvbi-side join --|$(side_help join | options_in_help | list)
+ldvbi-side join --|$(list join.options)
 ldvbi-side join a.tbc --r|--ranges
 ldvbi-side compare --|--black --help --json --system --white
 ldvbi-side compare a.tbc --system |NTSC PAL
 END
-{
-    cat offers
-    printf '%s\n' 'ldvbi-side |files' 'ldvbi-side --svg |files' 'ldvbi-side -o s|files' 'ldvbi-side scan --html |files'
-} > bash.offers
-{
-    cat offers
-    printf '%s\n' 'ldvbi-side page.t|page.txt' 'ldvbi-side --svg page.t|page.txt' 'ldvbi-side --csv --j|' \
-        'ldvbi-side scan --html=fol|folder'
-} > zsh.offers
-mkdir folder
-sed 's/|.*//' bash.offers | bounded bash "$here/complete.bash" "$completions/ldvbi-side.bash" > out 2> err
-check 'what bash offers behind ldvbi-side' cmp out bash.offers
-sed 's/|.*//' zsh.offers | bounded zsh -f "$here/complete.zsh" "$completions" > out 2> err
-check 'what zsh offers behind ldvbi-side' cmp out zsh.offers
+printf '%s\n' 'ldvbi-side |files' 'ldvbi-side --svg |files' 'ldvbi-side -o s|files' \
+    'ldvbi-side scan --html |files' > bash.offers
+printf '%s\n' 'ldvbi-side page.t|page.txt' 'ldvbi-side --svg page.t|page.txt' 'ldvbi-side --csv --j|' \
+    'ldvbi-side scan --html=fol|folder' > zsh.offers
+offered ldvbi-side
 finish

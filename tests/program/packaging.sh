@@ -25,17 +25,16 @@ done
 ) > git.log 2>&1
 cp "$program" tree/ldvbi
 
-# made WORD..: `make` in the copy
+# made WORD..: `make` in the copy, by somebody whose new files are for themselves alone
+path=$work/tools
 made() {
     status=0
-    (cd tree && bounded env PATH="$work/tools" make -s "$@") < empty > out 2> err || status=$?
+    (cd tree && umask 077 && bounded env PATH="$path" make -s "$@") < empty > out 2> err || status=$?
 }
-# made_privately WORD..: the same of somebody whose new files are for themselves alone
-made_privately() {
-    mask=$(umask)
-    umask 077
-    made "$@"
-    umask "$mask"
+
+# below FOLDER: the files below a folder
+below() {
+    (cd "$1" && find . ! -type d | sed 's/^..//' | sort)
 }
 
 # What is installed below a prefix: of the program, and of both
@@ -61,8 +60,8 @@ printf '%s\n' bin/ldvbi-other include/ldvbi-other.h lib/libldvbi-other.a lib/lib
     share/man/man1/ldvbi-other.1 share/zsh/site-functions/_ldvbi-other > others
 # are_for_all FOLDER: whether all can read what is installed there, and run what is to be run
 are_for_all() {
-    (cd "$1" && xargs rm < "$work/others" && find . ! -type l -printf '%m %y %p\n') | awk '
-        { wanted = $2 == "d" || $3 ~ /\/bin\/|\.so\./ ? 755 : 644 } $1 != wanted { print; wrong = 1 } END { exit wrong }'
+    (cd "$1" && find . ! -type l -printf '%m %y %p\n') |
+        awk '$1 != ($2 == "d" || $3 ~ /\/bin\/ldvbi(-side)?$|\.so\.1/ ? 755 : 644) { print; wrong = 1 } END { exit wrong }'
 }
 # installs NAME FILES FOLDER WORD..: installs with these words, and takes that away
 installs() {
@@ -72,16 +71,17 @@ installs() {
     shift 3
     mkdir -p "$folder"
     (cd "$folder" && xargs dirname < "$work/others" | xargs mkdir -p && xargs touch < "$work/others")
-    made_privately install "$@"
+    made install "$@"
     check "$name: make install" [ $status = 0 ]
-    (cd "$folder" && find . ! -type d | sed 's/^..//' | sort) | comm -23 - others > found
+    below "$folder" | comm -23 - others > found
     check "$name: what is installed" cmp found "$files"
     check "$name: the program is copied as it is" cmp "$folder/bin/ldvbi" "$program"
-    cp -r "$folder" "$folder.kept"
-    check "$name: it is for all" are_for_all "$folder.kept"
+    check "$name: it is for all" are_for_all "$folder"
+    PYTHONDONTWRITEBYTECODE=1 bounded "$folder/bin/ldvbi-side" --help < empty > out 2> err || status=$?
+    check "$name: ldvbi-side finds its module" [ "$status $(head -c 18 out)" = '0 usage: ldvbi-side ' ]
     made uninstall "$@"
     check "$name: make uninstall" [ $status = 0 ]
-    (cd "$folder" && find . ! -type d | sed 's/^..//' | sort) > found
+    below "$folder" > found
     check "$name: what is left is not ours" cmp found others
     check "$name: no folder of ours is left" [ -z "$(find "$folder" -path '*share/*' -name ldvbi)" ]
 }
@@ -90,29 +90,35 @@ check 'make uninstall where nothing of ours is' [ $status = 0 ]
 installs 'a prefix' files one/usr PREFIX="$work/one/usr"
 installs 'a prefix below DESTDIR' files two/usr DESTDIR="$work/two" PREFIX=/usr
 installs 'no place named' files three/usr/local DESTDIR="$work/three"
-status=0
-PYTHONDONTWRITEBYTECODE=1 bounded one/usr.kept/bin/ldvbi-side --help < empty > out 2> err || status=$?
-check 'ldvbi-side finds its module where it is installed' [ "$status $(head -c 18 out)" = '0 usage: ldvbi-side ' ]
 
 # What is refused, with nothing installed; and before `make rust` nothing is taken from there
 while IFS='|' read -r words said; do
-    (cd tree && eval "bounded env PATH=$work/tools make -s $words DESTDIR=$work/stage") < empty > out 2> err
+    eval "made DESTDIR=$work/stage $words"
     check "make $words is refused" grep -q "^make: $said" err
 done << END
 install 'PREFIX=/a b'|PREFIX, LIBDIR and DESTDIR can't have a space
 install-lib 'LIBDIR=/c d'|PREFIX, LIBDIR and DESTDIR can't have a space
 uninstall 'PREFIX=/a b'|PREFIX, LIBDIR and DESTDIR can't have a space
+install 'DESTDIR=/e f'|PREFIX, LIBDIR and DESTDIR can't have a space
 install FROM=here|FROM is 'proved' or 'rust'
 install FROM=rust|rust/.* isn't there: make rust builds it
 install-lib FROM=rust|rust/.* isn't there: make rust builds it
 wheel FROM=rust|rust/libldvbi.so.1 isn't there
 END
-made install DESTDIR="$work/e f"
-check 'a space in DESTDIR is refused' grep -q "^make: PREFIX, LIBDIR and DESTDIR can't have a space" err
 check 'nothing is installed then' [ ! -e stage ]
 
-# Archives of source and program, the same ones each time, whoever packs them: of somebody who isn't root, too, and
-# whose new files are for themselves alone
+# What `make rust` leaves, as which the program stands here with a crate that has been built by cargo
+mkdir -p tree/rust/crate/src tree/rust/crate/target tree/rust/crate/.cargo
+cp "$program" tree/rust/ldvbi
+echo '[package]' > tree/rust/crate/Cargo.toml
+echo '//! A crate' > tree/rust/crate/src/lib.rs
+touch tree/rust/crate/target/built tree/rust/crate/.cargo/config.toml
+mv tree/ldvbi kept.ldvbi
+installs 'what make rust leaves' files rusty/usr PREFIX="$work/rusty/usr" FROM=rust
+mv kept.ldvbi tree/ldvbi
+
+# Archives of source and program, of that program and its crate, which have nothing of this machine. They are the same
+# ones each time, whoever packs them: of somebody who isn't root, too, and whose new files are for all.
 made_by_another() {
     chmod 711 "$work"
     cp -a tree theirs
@@ -123,48 +129,28 @@ made_by_another() {
     fi
     bounded "$@" > out 2> err
 }
-# packed NAME PREFIX: what an archive of dist/ has below its folder, as it is installed
+# packed NAME FILES: checks what an archive of dist/ has below its folder, as it is installed
 packed() {
-    tar -tzf "tree/dist/$1" | sed "/\/\$/d; s,^$2/,,; /^\$/d" | sort
+    tar -tzf "tree/dist/$1" | sed '/\/$/d; s,^[^/]*/,,' | sort > found
+    check "what $1 has: $2" cmp found "$2"
 }
 release=ldvbi-0.1.0
+(cd tree && git ls-files | sort) > source_files
+printf '%s\n' Cargo.toml src/lib.rs > crate_files
 made dist
-check 'make dist without the toolchain' [ "$status $(wc -l < tree/dist/SHA256SUMS)" = '0 2' ]
+check 'make dist without the toolchain' [ "$status $(wc -l < tree/dist/SHA256SUMS)" = '0 4' ]
 check 'the checksums' sh -c 'cd tree/dist && sha256sum -c --quiet SHA256SUMS'
-packed $release.tar.gz $release > found
-(cd tree && git ls-files | sort) > listed
-check 'the source archive has each file' cmp found listed
-packed $release-x86_64-linux.tar.gz $release-x86_64-linux > found
-check 'the archive of the program has what is installed' cmp found files
-for archive in tree/dist/*.tar.gz; do tar --numeric-owner -tvzf "$archive"; done | awk '{ print $2 }' | sort -u > owners
+packed $release.tar.gz source_files
+packed $release-x86_64-linux.tar.gz files
+packed $release-rust-$(uname -m)-linux.tar.gz files
+packed $release.crate crate_files
+for archive in tree/dist/*.tar.gz tree/dist/*.crate; do tar --numeric-owner -tvzf "$archive"; done |
+    awk '{ print $2 }' | sort -u > owners
 check "the files in the archives are root's" [ "$(cat owners)" = 0/0 ]
-cp tree/dist/SHA256SUMS sums
 sleep 1
-made_privately dist
-check 'archives made again are the same' cmp sums tree/dist/SHA256SUMS
 check 'make dist of one who is not root' made_by_another
-check 'their archives are the same' cmp sums theirs/dist/SHA256SUMS
+check 'their archives are the same' cmp tree/dist/SHA256SUMS theirs/dist/SHA256SUMS
 rm -rf theirs
-
-# What `make rust` leaves, as which the program stands here with a crate that has been built by cargo
-mkdir -p tree/rust/crate/src tree/rust/crate/target tree/rust/crate/.cargo
-cp "$program" tree/rust/ldvbi
-echo '[package]' > tree/rust/crate/Cargo.toml
-echo '//! A crate' > tree/rust/crate/src/lib.rs
-touch tree/rust/crate/target/built tree/rust/crate/.cargo/config.toml
-made dist
-check 'archives of what make rust leaves' [ "$status $(wc -l < tree/dist/SHA256SUMS)" = '0 4' ]
-packed $release-rust-$(uname -m)-linux.tar.gz $release-rust-$(uname -m)-linux > found
-check 'the archive of its program has what is installed' cmp found files
-packed $release.crate $release > found
-printf '%s\n' Cargo.toml src/lib.rs > listed
-check 'the crate has its files, and nothing of this machine' cmp found listed
-cp tree/dist/SHA256SUMS sums
-made_privately dist
-check 'with the crate they are the same, too' cmp sums tree/dist/SHA256SUMS
-mv tree/ldvbi kept.ldvbi
-installs 'what make rust leaves' files rusty/usr PREFIX="$work/rusty/usr" FROM=rust
-mv kept.ldvbi tree/ldvbi
 touch -d @1300000000 tree/rust/ldvbi
 made dist
 check 'nothing of it is packed that is older than its source' [ "$(wc -l < tree/dist/SHA256SUMS)" = 2 ]
@@ -174,32 +160,33 @@ if [ -e "$built/libldvbi.a" ]; then
     cp "$built/libldvbi.a" tree && cp "$built/libldvbi.so.1" tree && ln -s libldvbi.so.1 tree/libldvbi.so
     installs 'both' files_of_both both/usr PREFIX="$work/both/usr"
     made install DESTDIR="$work/debian" PREFIX=/usr LIBDIR=/usr/lib/x86_64-linux-gnu
-    (cd debian/usr && find . ! -type d | sed 's,^..,,; s,^lib/x86_64-linux-gnu,lib,' | sort) > found
+    below debian/usr | sed 's,^lib/x86_64-linux-gnu,lib,' | sort > found
     check 'a library below its architecture' cmp found files_of_both
     made uninstall DESTDIR="$work/debian" PREFIX=/usr LIBDIR=/usr/lib/x86_64-linux-gnu
-    check 'nothing of it is left' [ -z "$(find debian ! -type d)" ]
+    check 'nothing of it is left' [ -z "$(below debian)" ]
     made install-lib DESTDIR="$work/apart" PREFIX=/usr LIBDIR=/elsewhere/lib
     check 'a library apart is described by its own place' \
         grep -qx 'libdir=/elsewhere/lib' apart/elsewhere/lib/pkgconfig/ldvbi.pc
-    (cd tree && bounded env PATH=/usr/bin:/bin make -s dist) < empty > out 2> err
-    packed $release-x86_64-linux.tar.gz $release-x86_64-linux > found
-    check 'the archive of both has what is installed' cmp found files_of_both
+    path=/usr/bin:/bin
+    made dist
+    packed $release-x86_64-linux.tar.gz files_of_both
     check 'a wheel beside it' [ "$(find tree/dist -name '*.whl' | wc -l)" = 1 ]
     touch tree/crates.txt
-    (cd tree && bounded env PATH=/usr/bin:/bin make -s dist) < empty > out 2> err
+    made dist
     check 'neither where they are older than their source' [ "$(wc -l < tree/dist/SHA256SUMS)" = 1 ]
-    mv tree/ldvbi kept.ldvbi
+    path=$work/tools
     mv tree/libldvbi.* tree/rust
-    cp -p kept.ldvbi tree/rust/ldvbi
+    mv tree/ldvbi tree/rust
     installs 'both of make rust' files_of_both rusty_both/usr PREFIX="$work/rusty_both/usr" FROM=rust
+    made install-lib PREFIX="$work/static" FROM=rust
     check 'its description names what the archive needs' \
-        grep -qx 'Libs.private: -lpthread -ldl' rusty_both/usr.kept/lib/pkgconfig/ldvbi.pc
-    mv kept.ldvbi tree/ldvbi
+        grep -qx 'Libs.private: -lpthread -ldl' static/lib/pkgconfig/ldvbi.pc
 else
-    leave_out 19
+    leave_out 22
 fi
-rm -rf tree/rust/crate tree/rust/ldvbi tree/rust/libldvbi.* *.kept
+rm -rf tree/rust/crate tree/rust/ldvbi tree/rust/libldvbi.*
 
+cp "$program" tree/ldvbi
 touch tree/crates.txt
 made dist
 check 'no archive of a program older than its source' [ ! -e tree/dist/$release-x86_64-linux.tar.gz ]
@@ -224,32 +211,24 @@ seq 99 >&2
 touch "out/$crate" "out/lib$crate.a"
 END
 chmod +x toolchain/rt
-# proves CRATE WORD..: `make` with these words by that toolchain, which fails in this crate; its times are N
+path=$work/toolchain:$PATH
+program_crates='vbi_words vbi_line vbi_field vbi_meta vbi_cli ldvbi'
+library_crates='vbi_words vbi_line vbi_near vbi_side vbi_c'
+# proves WORD..: `make` with these words by that toolchain, which fails in the crate FAILS; its times are N
 proves() {
-    status=0
-    fails=$1
-    shift
-    (cd tree && bounded env FAILS="$fails" PATH="$work/toolchain:$PATH" make -s "$@") < empty > said 2> err || status=$?
-    sed 's/, [0-9][0-9]* s$/, N s/' said > out
+    made "$@"
+    sed -i 's/, [0-9][0-9]* s$/, N s/' out
 }
 # proved NAME..: a line for each crate
 proved() {
     printf '%s proved, N s\n' "$@"
 }
-proves none ldvbi
-program_crates='vbi_words vbi_line vbi_field vbi_meta vbi_cli ldvbi'
-library_crates='vbi_words vbi_line vbi_near vbi_side vbi_c'
-proved $program_crates > wanted_text
-judge 'make says one line of a crate' 0 wanted_text ''
-{ echo 'rt run --jobs 1 -- --help'; seq 99; } > wanted
-check 'the log has what the toolchain said' cmp tree/crates/ldvbi/out/make.log wanted
-check 'the program is copied from where it is built' cmp tree/ldvbi tree/crates/ldvbi/out/ldvbi
 # On so many processors, where make has this word, each large crate is proved by so many jobs.
 while IFS='|' read -r processors word jobs; do
     rm tree/ldvbi
     printf '#!/bin/sh\necho %s\n' "$processors" > toolchain/nproc
     chmod +x toolchain/nproc
-    proves none ldvbi $word
+    proves ldvbi $word
     printf "rt lib --jobs %s\n" $jobs $jobs $jobs 1 $jobs > wanted
     echo 'rt run --jobs 1 -- --help' >> wanted
     for crate in $program_crates; do sed -n 1p "tree/crates/$crate/out/make.log"; done > found
@@ -261,11 +240,15 @@ done << 'END'
 8||4
 8|JOBS=3|3
 END
-proves none libldvbi.a
+proved $program_crates > wanted_text
+judge 'make says one line of a crate' 0 wanted_text ''
+{ echo 'rt run --jobs 1 -- --help'; seq 99; } > wanted
+check 'the log has what the toolchain said' cmp tree/crates/ldvbi/out/make.log wanted
+check 'the program is copied from where it is built' cmp tree/ldvbi tree/crates/ldvbi/out/ldvbi
+proves libldvbi.a
 proved $library_crates > wanted_text
 judge 'make lib says one line of a crate' 0 wanted_text ''
-status=0
-(cd tree && bounded make -s lib) < empty > out 2> err || status=$?
+made lib
 check 'make of the shared library' ended 0 empty empty
 check 'its short name' [ "$(readlink tree/libldvbi.so)" = libldvbi.so.1 ]
 # How a library with a call in it is linked: bound when it is loaded, and not at all where it needs what nobody has
@@ -274,17 +257,25 @@ linked_with() {
     rm -f tree/libldvbi.so.1 tree/libldvbi.a
     echo "int ldvbi_absent(void); int ldvbi_call(void); int ldvbi_call(void) { $1; }" > call.c
     bounded "${CC:-cc}" -fPIC -c -o call.o call.c && ar rc tree/libldvbi.a call.o
-    status=0
-    (cd tree && bounded make -s lib) < empty > out 2> err || status=$?
+    made lib
 }
-cp tree/libldvbi.a kept.a
 linked_with 'return 0'
 check 'the library is bound when it is loaded' sh -c "readelf -d tree/libldvbi.so.1 | grep -q '(FLAGS) *BIND_NOW'"
 linked_with 'return ldvbi_absent()'
 check 'no library that needs what nobody has' [ "$status $(grep -c 'undefined reference to .ldvbi_absent' err)" = '2 1' ]
-cp kept.a tree/libldvbi.a
+
+touch tree/crates.txt
+proves FAILS=vbi_line ldvbi
+{ proved vbi_words; echo 'vbi_line failed'; } > wanted_text
+check 'make stops at a crate that fails' ended 2 wanted_text err
+{ seq 80 99; echo 'make: vbi_line failed; crates/vbi_line/out/make.log has all that the toolchain said'; } > wanted
+head -n 21 err > found
+check 'the end of the log stands above its name' cmp found wanted
+check 'the status is that of the toolchain' [ "$(sed -n '22s/.*\(Error [0-9]*\)$/\1/p' err)" = 'Error 7' ]
 
 # What is built is built anew after a change of any of its sources, and after no other change.
+path=$work/tools
+touch tree/libldvbi.so.1
 # is_current TARGET FILE: whether `make` finds that it needn't be built where this file is the latest of the copy, behind
 # those that are built
 is_current() {
@@ -292,7 +283,8 @@ is_current() {
     touch -d @1100000000 tree/libldvbi.a
     touch -d @1200000000 tree/ldvbi tree/libldvbi.so.1
     touch -d @1300000000 "tree/$2"
-    (cd tree && bounded env PATH="$work/tools" make -q "$1") < empty > out 2>&1
+    made -q "$1"
+    return $status
 }
 # are_current TARGET CRATE..: says after a change of which file of these crates, one of each kind, it isn't built anew
 are_current() {
@@ -312,50 +304,10 @@ for file in README.md Makefile contrib/plot_line.py include/ldvbi.h tests/gate.s
         [ "$(is_current ldvbi $file && is_current lib $file && echo current)" = current ]
 done
 
-touch tree/crates.txt
-proves vbi_line ldvbi
-{ proved vbi_words; echo 'vbi_line failed'; } > wanted_text
-check 'make stops at a crate that fails' ended 2 wanted_text err
-{ seq 80 99; echo 'make: vbi_line failed; crates/vbi_line/out/make.log has all that the toolchain said'; } > wanted
-head -n 21 err > found
-check 'the end of the log stands above its name' cmp found wanted
-check 'the status is that of the toolchain' [ "$(sed -n '22s/.*\(Error [0-9]*\)$/\1/p' err)" = 'Error 7' ]
-
-# What the tests need and this PATH hasn't
-made check
-missing='gcc libc6-dev g++ binutils python3 jq perl pkg-config cmake less mandoc mypy parallel pv zsh'
-/usr/bin/python3 -c 'import jsonschema' 2> /dev/null || missing="$missing python3-jsonschema"
-for pair in coverage:coverage ensurepip:venv setuptools:setuptools wheel:wheel; do
-    /usr/bin/python3 -c "import ${pair%:*}" 2> /dev/null || missing="$missing python3-${pair#*:}"
-done
-echo "tests: missing on this machine, as Debian's packages: $missing (make setup installs them)" > wanted
-head -n 1 err > found
-check 'make check names the tools that are missing' cmp found wanted
-check 'it runs nothing then' [ "$status $(wc -c < out)" = '2 0' ]
-
-# `make check` looks for its tools, then runs the scripts on the program that it is given, and fails where they do
-printf 'echo tools "$@"\n' > tree/tests/tools.sh
-printf 'echo scripts "$@"\n' > tree/tests/scripts.sh
-while IFS='|' read -r words asked; do
-    made check $words
-    printf '%s\n' tools "scripts $asked --as-built" > wanted_text
-    judge "make check $words" 0 wanted_text ''
-done << 'END'
-PROGRAM=/where/it/is/ldvbi|/where/it/is/ldvbi
-|./ldvbi
-FROM=rust|./rust/ldvbi
-END
-for name in scripts tools; do
-    echo 'exit 1' >> tree/tests/$name.sh
-    made check
-    check "make check fails where $name.sh does" [ "$status $(tail -n 1 out | cut -d ' ' -f 1)" = "2 $name" ]
-done
-
 # `make clean` takes away what was built, and leaves the source
 mkdir -p tree/rust/out tree/rust/x86_64-pc-windows-gnu
 touch tree/rust/out/kept tree/rust/x86_64-pc-windows-gnu/ldvbi.exe tree/rust/ldvbi tree/rust/libldvbi.dylib
 made clean
-(cd tree && find . -type f ! -path './.git/*' | sed 's/^..//' | sort) > found
-(cd tree && git ls-files | sort) > listed
-check 'make clean leaves the source' cmp found listed
+below tree | grep -v '^\.git/' > found
+check 'make clean leaves the source' cmp found source_files
 finish

@@ -5,6 +5,7 @@
 # usage: sh tests/program/peers.sh PROGRAM
 # runs: everywhere
 # fails where: peers/compare.py|s/return read == words and/return/
+# shellcheck disable=SC2086
 
 # shellcheck source=tests/helpers.sh
 . "$(dirname "$0")/../helpers.sh"
@@ -43,9 +44,8 @@ stub bin/ldverify << 'END'
 printf 'lead-in code detected\ndetected frame 1\nlead-out code detected\nfinal frame number was %s\n' "${LAST:-100}"
 echo "${VERIFIED:-}"
 END
-for name in ZVBI EDGES; do
-    printf '#!/bin/sh\ncat > /dev/null\ntr " " "\\n" < "$DRAWN" | sed "1s/.*/${%s_READS:-&}/"\n' $name |
-        stub bin/$(echo $name | tr A-Z a-z)
+for name in zvbi:ZVBI_READS edges:EDGES_READS; do
+    printf '#!/bin/sh\ncat > /dev/null\ntr " " "\\n" < "$DRAWN" | sed "1s/.*/${%s:-&}/"\n' ${name#*:} | stub bin/${name%:*}
 done
 stub bin/recovered << 'END'
 #!/bin/sh
@@ -78,38 +78,43 @@ check 'it links the library beside the program' grep -qF "/recovered.c -I$top/pe
 around python3
 check 'it ends with 1 where the comparison does' [ "$status" = 1 ]
 # What fails, or isn't there, and what is said
+tools='chdman and ldverify are in mame-tools'
 while IFS='|' read -r what said; do
     case $what in
         /*) around "$what" ;;
         *) mv alone/$what away; around; mv away alone/$what ;;
     esac
     check "it ends with 1 for $what" [ "$status $(tail -n 1 err)" = "1 peers: $said" ]
-done << 'END'
+done << END
 /edges.c|edges.c can't be built (it needs the C library alone)
 /recovered.c|recovered.c can't be built (its library is built by make lib)
 /zvbi.c|zvbi.c can't be built (its library is in libzvbi-dev)
-cc|cc isn't there (chdman and ldverify are in mame-tools)
-chdman|chdman isn't there (chdman and ldverify are in mame-tools)
-ldverify|ldverify isn't there (chdman and ldverify are in mame-tools)
-python3|python3 isn't there (chdman and ldverify are in mame-tools)
+cc|cc isn't there ($tools)
+chdman|chdman isn't there ($tools)
+ldverify|ldverify isn't there ($tools)
+python3|python3 isn't there ($tools)
 END
 
 # The reader by edges, and that of recovered words, which needs the library: of three lines one by one, and of four of
 # which each two bear a word
 echo 'F12345 - 800001' > words
-run_with words draw $ntsc -
-tail -c +27301 out | head -c 5460 > lines
+output_of draw $ntsc words > drawn.tbc
+tail -c +27301 drawn.tbc | head -c 5460 > lines
 tail -c 1820 lines | cat lines - > four_lines
-${CC:-cc} -std=c99 -Wall -Wextra -Werror -o edges "$top/peers/edges.c"
-./edges 16384 51200 < lines > out
-check 'the reader by edges' [ "$(paste -s -d ' ' out)" = 'F12345 none 800001' ]
+# built_reader NAME WORD..: builds one of the readers
+built_reader() {
+    name=$1
+    shift
+    ${CC:-cc} -std=c99 -Wall -Wextra -Werror -o "$name" "$top/peers/$name.c" "$@"
+}
+built_reader edges
+check 'the reader by edges' [ "$(./edges 16384 51200 < lines | paste -s -d ' ')" = 'F12345 none 800001' ]
 if [ -e "$built/libldvbi.so" ]; then
-    ${CC:-cc} -std=c99 -Wall -Wextra -Werror "-I$top/include" -o recovered "$top/peers/recovered.c" \
-        "-L$built" -lldvbi "-Wl,-rpath,$built"
-    ./recovered 16384 51200 1 < lines > out
-    check 'the reader of recovered words, line by line' [ "$(paste -s -d ' ' out)" = 'F12345 1 none 800001 1' ]
-    ./recovered 16384 51200 2 < four_lines > out
-    check 'the same of two lines in a field' [ "$(paste -s -d ' ' out)" = 'F12345 1 800001 1' ]
+    built_reader recovered "-I$top/include" "-L$built" -lldvbi "-Wl,-rpath,$built"
+    check 'the reader of recovered words, line by line' \
+        [ "$(./recovered 16384 51200 1 < lines | paste -s -d ' ')" = 'F12345 1 none 800001 1' ]
+    check 'the same of two lines in a field' \
+        [ "$(./recovered 16384 51200 2 < four_lines | paste -s -d ' ')" = 'F12345 1 800001 1' ]
 else
     leave_out 2
 fi
@@ -120,12 +125,11 @@ import sys
 sys.path.insert(0, sys.argv.pop(1))
 import compare
 compare.readers.avi.write = lambda *words: None
-tables = [(what, rows[:2], rounds, is_of_thousand) for what, rows, rounds, is_of_thousand in compare.TABLES[:2]]
 if sys.argv.pop(1) == "lines":
     compare.verify_disc = lambda program: True
+    compare.TABLES = [(what, rows[:2], *more) for what, rows, *more in compare.TABLES[:2]]
 else:
-    tables = []
-compare.TABLES = tables
+    compare.TABLES = []
 compare.main()
 END
 
@@ -139,24 +143,20 @@ alike='the words of lines as they were drawn are not read alike'
 disc="ldverify finds an error on a drawn disc, or ldvbi doesn't read its words"
 while IFS='|' read -r part fault said; do
     compares "$fault" "$part"
-    if [ "$said" ]; then
-        check "$part with $fault" [ "$status $(tail -n 1 err)" = "1 $said" ]
-    else
-        check "$part: nothing is wrong" [ "$status$(cat err)" = 0 ]
-    fi
+    check "$part${fault:+ with $fault}" [ "$status$(tail -n 1 err)" = "$said" ]
 done << END
-lines||
-lines|MAME_READS=F12345|$alike
-lines|ZVBI_READS=none|$alike
-lines|ZVBI_READS=F12345|$alike
-lines|EDGES_READS=F12345|$alike
-lines|RECOVERED_READS=F12345 3|$alike
-lines|BOTH_READS=none|$alike
-lines|MISREAD="vbiData":[0|$alike
-disc||
-disc|MISREAD="vbiData":[0|$disc
-disc|LAST=99|$disc
-disc|VERIFIED=(ERROR)|$disc
+lines||0
+lines|MAME_READS=F12345|1$alike
+lines|ZVBI_READS=none|1$alike
+lines|ZVBI_READS=F12345|1$alike
+lines|EDGES_READS=F12345|1$alike
+lines|RECOVERED_READS=F12345 3|1$alike
+lines|BOTH_READS=none|1$alike
+lines|MISREAD="vbiData":[0|1$alike
+disc||0
+disc|MISREAD="vbiData":[0|1$disc
+disc|LAST=99|1$disc
+disc|VERIFIED=(ERROR)|1$disc
 END
 
 # The counts: of three words of a row one is read wrong, and one isn't read

@@ -9,9 +9,15 @@
 # shellcheck source=tests/helpers.sh
 . "$(dirname "$0")/../helpers.sh"
 
+# made NAME SYSTEM < DESCRIPTIONS: makes the fields NAME.tbc
+made() {
+    signal "$2" 1 | samples_of "$2" > "$1.tbc"
+}
+
 # `extract`: no field, a black field in each way that it can come, cut ones, and the limit of fields
-echo '-|-|-' | signal NTSC 1 | ntsc_samples > black.tbc
+echo '-|-|-' | made black NTSC
 cat black.tbc black.tbc > two.tbc
+{ cat two.tbc; printf x; } > longer.tbc
 document_head NTSC 910 263 16384 51200 > head.json
 { cat head.json; cut_field null; } > none.json
 { cat head.json; blank_record 1; } > begun.json
@@ -19,10 +25,6 @@ document_head NTSC 910 263 16384 51200 > head.json
 { cat begun.json; printf ',\n'; blank_record 2; } > two_begun.json
 { cat two_begun.json; cut_field null; } > two.json
 check 'the expected documents have 155 and 247 bytes' [ "$(wc -c < none.json) $(wc -c < black.json)" = '155 247' ]
-run extract $ntsc
-judge 'the document of no field' 0 none.json ''
-run extract $ntsc black.tbc
-judge 'the document of a black field' 0 black.json ''
 mkfifo pipe
 cat black.tbc > pipe &
 run_with pipe extract $ntsc
@@ -34,26 +36,11 @@ for bytes in 1 27299 27300 27301 32760 478659; do
     run extract $ntsc cut.tbc
     judge "the document of a field cut after $bytes bytes" 3 cut.json ''
 done
-{ cat begun.json; cut_field '{"seqNo":2,"bytes":1}'; } > cut.json
 head -c 478661 two.tbc > cut.tbc
-run extract $ntsc cut.tbc
-judge 'the document of a field and a cut one' 3 cut.json ''
-{ cat two.tbc; printf x; } > longer.tbc
-while read -r most input out ended; do
-    run extract $ntsc --max-fields $most $input
-    said='ldvbi: too many fields'
-    [ $ended = 1 ] || said=
-    judge "$input, at most $most fields" $ended $out.json "$said"
-done << 'END'
-1 black.tbc black 0
-1 two.tbc begun 1
-1 /dev/zero begun 1
-2 two.tbc two 0
-2 longer.tbc two_begun 1
-END
+{ cat begun.json; cut_field '{"seqNo":2,"bytes":1}'; } > cut.json
 
-# each cause, and both passes
-signal NTSC 1 << 'END' | ntsc_samples > causes.tbc
+# each cause, and both passes (classes.sh has the texts of all classes)
+made causes NTSC << 'END'
 82CFFF|82CFFF @170-171L|-
 L900 H10|82CFFF @170-174L|L164 H746
 END
@@ -64,8 +51,6 @@ END
     record 2 0,0,0 '"unfinished","change 170","hold 200"' 0,0,0
     cut_field null
 } > causes.json
-run extract $ntsc causes.tbc
-judge 'the document of each cause' 0 causes.json ''
 cat > causes.txt << 'END'
 system NTSC 910x263 black 16384 white 51200
 field 1 cav
@@ -78,21 +63,63 @@ field 2 neither
 18 none hold 200
 fields 2 cut none
 END
-run show $ntsc causes.tbc
-judge 'the report of each cause' 0 causes.txt ''
-
-# `show`: a cut field, and the limit of fields (classes.sh has the texts of all classes)
 head -n 5 causes.txt > begun.txt
-run show $ntsc --max-fields 1 causes.tbc
-judge 'the report of too many fields' 1 begun.txt 'ldvbi: too many fields'
+head -c 478661 causes.tbc > cut_causes.tbc
 { cat begun.txt; echo 'fields 1 cut field 2 bytes 1'; } > cut.txt
-head -c 478661 causes.tbc > cut.tbc
-run show $ntsc cut.tbc
-judge 'the report of a cut field' 3 cut.txt ''
+
+# a drawn field, and what `extract` says of it; the same in PAL, and the other commands: a field of 313 lines of 2270
+# bytes, whose line 17 begins 36320 bytes in
+echo '82CFFF|F12345|F12345' | made drawn NTSC
+{
+    cat head.json
+    record 1 8572927,15803205,15803205 '"word","word","word"' 1,1,1
+    cut_field null
+} > drawn.json
+echo '8AE012|87FFFF|F0DD00' | made pal PAL
+{
+    document_head PAL 1135 313 16384 54016
+    record 1 9101330,8912895,15785216 '"word","word","word"' 1,1,1
+} > pal_begun.json
+{ cat pal_begun.json; cut_field null; } > pal.json
+cat > pal.txt << 'END'
+system PAL 1135x313 black 16384 white 54016
+field 1 clv
+16 8AE012 clv picture 00 12
+17 87FFFF clv
+18 F0DD00 time 0:00
+fields 1 cut none
+END
+echo 87FFFF > pal.line
+echo '8AE012 87FFFF F0DD00' > pal.words
+tail -c +36321 pal.tbc > pal.rest
+{ cat pal.tbc; head -c 710509 pal.tbc; } > cut_pal.tbc
+{ cat pal_begun.json; cut_field '{"seqNo":2,"bytes":710509}'; } > cut_pal.json
+judge_rows << END
+the document of no field|extract $ntsc|0|none.json|
+the document of a black field|extract $ntsc black.tbc|0|black.json|
+the document of a field and a cut one|extract $ntsc cut.tbc|3|cut.json|
+black.tbc, at most 1 fields|extract $ntsc --max-fields 1 black.tbc|0|black.json|
+two.tbc, at most 1 fields|extract $ntsc --max-fields 1 two.tbc|1|begun.json|too many fields
+/dev/zero, at most 1 fields|extract $ntsc --max-fields 1 /dev/zero|1|begun.json|too many fields
+two.tbc, at most 2 fields|extract $ntsc --max-fields 2 two.tbc|0|two.json|
+longer.tbc, at most 2 fields|extract $ntsc --max-fields 2 longer.tbc|1|two_begun.json|too many fields
+the document of each cause|extract $ntsc causes.tbc|0|causes.json|
+the report of each cause|show $ntsc causes.tbc|0|causes.txt|
+the report of too many fields|show $ntsc --max-fields 1 causes.tbc|1|begun.txt|too many fields
+the report of a cut field|show $ntsc cut_causes.tbc|3|cut.txt|
+the document of a drawn field|extract $ntsc drawn.tbc|0|drawn.json|
+a field of PAL drawn|draw $pal pal.words|0|pal.tbc|
+the document of a field of PAL|extract $pal pal.tbc|0|pal.json|
+the report of a field of PAL|show $pal pal.tbc|0|pal.txt|
+a line of a field of PAL|line $pal pal.rest|0|pal.line|
+the document of a field of PAL and a cut one|extract $pal cut_pal.tbc|3|cut_pal.json|
+a document as metadata, drawn|extract --meta drawn.json drawn.tbc|0|drawn.json|
+a document as metadata, pal|extract --meta pal.json pal.tbc|0|pal.json|
+words drawn by a document as metadata|draw --meta pal.json pal.words|0|pal.tbc|
+END
 
 # `draw`: what each text of words gives
-echo '82CFFF|F12345|F12345' | signal NTSC 1 | ntsc_samples > drawn.tbc
-echo '82CFFF|-|-' | signal NTSC 1 | ntsc_samples > stop.tbc
+echo '82CFFF|-|-' | made stop NTSC
 while IFS='|' read -r ended out said words text; do
     printf '%b' "$text" > words
     run draw $ntsc $words words
@@ -107,52 +134,11 @@ done << 'END'
 1|empty|row 1 is malformed||\n
 1|empty|row 1 is malformed||7FFFFF - -\n
 1|empty|row 1 is malformed||82CFFF - -\r\n
-1|empty|row 1 is malformed||888888888888888888888888888888
 1|empty|row 1 is malformed||82CFFF  F12345 -\n
 1|empty|row 1 is malformed||82CFFF F12345 F12345 \n
-0|drawn.tbc||--max-fields 1|82CFFF F12345 F12345\n
 1|drawn.tbc|too many fields|--max-fields 1|82CFFF F12345 F12345\n\n
 END
 
-# a drawn field, and what `extract` says of it
-{
-    cat head.json
-    record 1 8572927,15803205,15803205 '"word","word","word"' 1,1,1
-    cut_field null
-} > drawn.json
-run extract $ntsc drawn.tbc
-judge 'the document of a drawn field' 0 drawn.json ''
-
-# the same in PAL, and the other commands: a field of 313 lines of 2270 bytes, whose line 17 begins 36320 bytes in
-echo '8AE012|87FFFF|F0DD00' | signal PAL 1 | pal_samples > pal.tbc
-{
-    document_head PAL 1135 313 16384 54016
-    record 1 9101330,8912895,15785216 '"word","word","word"' 1,1,1
-    cut_field null
-} > pal.json
-cat > pal.txt << 'END'
-system PAL 1135x313 black 16384 white 54016
-field 1 clv
-16 8AE012 clv picture 00 12
-17 87FFFF clv
-18 F0DD00 time 0:00
-fields 1 cut none
-END
-echo 87FFFF > pal.line
-echo '8AE012 87FFFF F0DD00' > pal.words
-run draw $pal pal.words
-judge 'a field of PAL drawn' 0 pal.tbc ''
-run extract $pal pal.tbc
-judge 'the document of a field of PAL' 0 pal.json ''
-run show $pal pal.tbc
-judge 'the report of a field of PAL' 0 pal.txt ''
-tail -c +36321 pal.tbc > pal.rest
-run line $pal pal.rest
-judge 'a line of a field of PAL' 0 pal.line ''
-{ cat pal.tbc; head -c 710509 pal.tbc; } > cut.tbc
-{ sed '$d' pal.json; printf '],"cutField":{"seqNo":2,"bytes":710509}}\n'; } > cut.json
-run extract $pal cut.tbc
-judge 'the document of a field of PAL and a cut one' 3 cut.json ''
 # Other readers of JSON, Python's `json` and jq, find in these documents what was written of each field and the cut one.
 # Python refuses a key that comes twice in an object, and bytes that aren't UTF-8.
 cat > find.py << 'END'
@@ -163,30 +149,19 @@ def once(members):
     return dict(members)
 
 with open(sys.argv[1], encoding="utf-8") as file:
-    document = json.load(file, object_pairs_hook=once)
-for field in document["fields"]:
-    print(field["seqNo"], *field["vbi"]["vbiData"], *field["vbiCause"], *field["vbiPass"])
-cut = document["cutField"]
-print("cut", *(["none"] if cut is None else [cut["seqNo"], cut["bytes"]]))
+    print(json.dumps(json.load(file, object_pairs_hook=once)))
 END
 cat > find.jq << 'END'
 (.fields[] | [.seqNo, .vbi.vbiData[], .vbiCause[], .vbiPass[]]),
 (.cutField | ["cut"] + (if . == null then ["none"] else [.seqNo, .bytes] end)) | map(tostring) | join(" ")
 END
 while IFS='|' read -r document wanted; do
-    check "$document.json, read by python3" [ "$(python3 find.py $document.json | paste -s -d ';')" = "$wanted" ]
     check "$document.json, read by jq" [ "$(jq -r -f find.jq $document.json | paste -s -d ';')" = "$wanted" ]
+    python3 find.py $document.json > again.json 2> err
+    check "$document.json, read by python3" [ "$(jq -r -f find.jq again.json | paste -s -d ';')" = "$wanted" ]
 done << 'END'
 none|cut none
 causes|1 8572927 8572927 0 word word blank 1 2 0;2 0 0 0 unfinished change 170 hold 200 0 0 0;cut none
-cut|1 9101330 8912895 15785216 word word word 1 1 1;cut 2 710509
+cut_pal|1 9101330 8912895 15785216 word word word 1 1 1;cut 2 710509
 END
-
-# The program's own reader: the document is metadata with the settings that it was made with.
-for name in drawn pal; do
-    run extract --meta $name.json $name.tbc
-    judge "a document as metadata, $name" 0 $name.json ''
-done
-run draw --meta pal.json pal.words
-judge 'words drawn by a document as metadata' 0 pal.tbc ''
 finish

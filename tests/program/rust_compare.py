@@ -34,28 +34,14 @@ FIT = {"--meta": ["meta.json"], "--system": ["NTSC", "NTSC", "PAL"], "--black": 
 OF_CLAP = re.compile(rb"Print (?:help|version)(?: information)?(?: \((?:see|use) [^()]*\))?")
 
 
-class Programs:
-    """The two programs, which are run in one folder."""
-
-    def __init__(self, proved, other, runner):
-        self.commands = [[proved], [*runner, other]]
-        self.folder = pathlib.Path(tempfile.mkdtemp())
-
-    def run(self, words, given=b""):
-        """What each of the two answered: status, output, and what it said."""
-        def answer(command):
-            done = subprocess.run([*command, *words], input=given, capture_output=True, cwd=self.folder, timeout=120,
-                                  check=False)
-            return done.returncode, done.stdout, done.stderr
-        return [answer(command) for command in self.commands]
-
-
 def put_files(folder):
+    """The files that words of the command line name."""
     # A ramp, of which the answer has the column of the middle of black and white
     (folder / "line.raw").write_bytes(struct.pack("<910H", *range(0, 72 * 910, 72)))
     videos = '{"videoParameters":{"system":"NTSC","black16bIre":8224,"white16bIre":16448}}'
     (folder / "meta.json").write_text(videos, encoding="utf-8")
     (folder / "bad.json").write_text(videos[:-1], encoding="utf-8")
+    (folder / "empty").write_bytes(b"")
 
 
 def near(choose, name):
@@ -105,11 +91,8 @@ def random_words(choose):
     return words
 
 
-def compare_words(programs, choose, count):
-    put_files(programs.folder)
-    for _ in range(count):
-        words = random_words(choose)
-        yield words, programs.run(words)
+def words_alone(choose):
+    yield random_words(choose), b""
 
 
 def of_help(text):
@@ -137,67 +120,76 @@ def options_of(system, black, white):
     return ["--system", system, "--black", str(black), "--white", str(white)]
 
 
-def compare_streams(programs, choose, count):
-    for _ in range(count):
-        system = choose.choice(list(SYSTEMS))
-        _, width, height = SYSTEMS[system]
-        black, white = random_levels(choose)
-        stream = bytearray()
-        for _ in range(choose.randrange(4)):
-            field = bytearray(black.to_bytes(2, "little") * (width * height))
-            for row in range(15, 18):
-                line = random_line(choose, system, black, white)
-                field[2 * width * row:2 * width * (row + 1)] = line
-            stream += field
-        if choose.random() < 0.3:
-            stream += bytes(choose.randrange(2 * width * height))
-        words = [choose.choice(["extract", "show"]), *options_of(system, black, white)]
-        if choose.random() < 0.2:
-            words += ["--max-fields", str(choose.randrange(4))]
-        yield words, programs.run(words, bytes(stream))
-        line = random_line(choose, system, black, white)
-        words = ["line", *options_of(system, black, white)]
-        yield words, programs.run(words, line[:len(line) - choose.choice([0, 0, 0, 1, 500])])
+def streams(choose):
+    """A stream of fields, and a line."""
+    system = choose.choice(list(SYSTEMS))
+    _, width, height = SYSTEMS[system]
+    black, white = random_levels(choose)
+    stream = bytearray()
+    for _ in range(choose.randrange(4)):
+        blank = black.to_bytes(2, "little") * width
+        lines = b"".join(random_line(choose, system, black, white) for _ in range(3))
+        stream += blank * 15 + lines + blank * (height - 18)
+    if choose.random() < 0.3:
+        stream += bytes(choose.randrange(2 * width * height))
+    words = [choose.choice(["extract", "show"]), *options_of(system, black, white)]
+    if choose.random() < 0.2:
+        words += ["--max-fields", str(choose.randrange(4))]
+    yield words, bytes(stream)
+    line = random_line(choose, system, black, white)
+    yield ["line", *options_of(system, black, white)], line[:len(line) - choose.choice([0, 0, 0, 1, 500])]
 
 
-def compare_rows(programs, choose, count):
+def rows(choose):
+    """Rows of words to be drawn."""
     items = ["-", "F12345", "82CFFF", "8ae012", "800000", "FFFFFF", "7FFFFF", "12345", "G12345", "f12345", "1234567"]
-    for _ in range(count):
-        rows = []
-        for _ in range(choose.randrange(6)):
-            row = [choose.choice(items[:6]) for _ in range(3)]
-            if choose.random() < 0.1:
-                row[choose.randrange(3)] = choose.choice(items)
-            text = " ".join(row)
-            rows.append(text if choose.random() < 0.95 else text + choose.choice([" ", "\r", "\t", " -", "\0"]))
-        text = "\n".join(rows) + choose.choice(["\n", "\n", ""])
-        words = ["draw", *options_of(choose.choice(list(SYSTEMS)), *random_levels(choose))]
-        yield words + [text], programs.run(words, text.encode())
+    texts = []
+    for _ in range(choose.randrange(6)):
+        row = [choose.choice(items[:6]) for _ in range(3)]
+        if choose.random() < 0.1:
+            row[choose.randrange(3)] = choose.choice(items)
+        behind = "" if choose.random() < 0.95 else choose.choice([" ", "\r", "\t", " -", "\0"])
+        texts.append(" ".join(row) + behind)
+    words = ["draw", *options_of(choose.choice(list(SYSTEMS)), *random_levels(choose))]
+    yield words, ("\n".join(texts) + choose.choice(["\n", "\n", ""])).encode()
 
 
-def compare_metadata(programs, choose, count):
-    for _ in range(count):
-        data = random_metadata(choose)
-        (programs.folder / "random.json").write_bytes(data)
-        words = ["extract", "--meta", "random.json"]
-        if choose.random() < 0.3:
-            words += choose.choice(["--system NTSC", "--black 5", "--white 60000", "--max-fields 0"]).split()
-        yield words + [data], programs.run(words)
+def metadata(choose):
+    """Metadata, and sometimes an option."""
+    words = ["extract", "--meta", "given", "empty"]
+    if choose.random() < 0.3:
+        words += choose.choice(["--system NTSC", "--black 5", "--white 60000", "--max-fields 0"]).split()
+    yield words, random_metadata(choose)
+
+
+KINDS = {"words": words_alone, "streams": streams, "rows": rows, "metadata": metadata}
+
+
+def run(command, words, given, folder):
+    """What a program answered: status, output, and what it said."""
+    done = subprocess.run([*command, *words], input=given, capture_output=True, cwd=folder, timeout=120, check=False)
+    return done.returncode, done.stdout, done.stderr
+
+
+def compare_programs(what, commands, choose, count):
+    """Runs of one kind, each in a folder with the files of `put_files` and what the run is given, which is on standard
+    input as well."""
+    with tempfile.TemporaryDirectory() as name:
+        folder = pathlib.Path(name)
+        put_files(folder)
+        for _ in range(count):
+            for words, given in KINDS[what](choose):
+                (folder / "given").write_bytes(given)
+                yield (words, given), [run(command, words, given, folder) for command in commands]
 
 
 class At:
     """A place in what a call writes, behind so many bytes."""
-
     def __init__(self, count):
         self.bytes = count
 
 
-def number(value):
-    return ctypes.c_uint32(value)
-
-
-def size(value):
-    return ctypes.c_size_t(value)
+number, size = ctypes.c_uint32, ctypes.c_size_t
 
 
 def decimal(value):
@@ -333,7 +325,6 @@ def compare_library(paths, choose, count):
 
 SIZES = ("ldvbi_line_samples", "ldvbi_line_bytes", "ldvbi_lines", "ldvbi_field_bytes")
 LONG = (*SIZES, "ldvbi_first_of")
-PARTS = {"words": compare_words, "streams": compare_streams, "rows": compare_rows, "metadata": compare_metadata}
 
 
 def main(what, proved, other, count, seed, *runner):
@@ -341,10 +332,9 @@ def main(what, proved, other, count, seed, *runner):
     if what == "library":
         pairs = compare_library([proved, other], choose, int(count))
     else:
-        pairs = PARTS[what](Programs(proved, other, runner), choose, int(count))
+        pairs = compare_programs(what, [[proved], [*runner, other]], choose, int(count))
     are_alike = answer_alike if what == "words" else operator.eq
-    runs = 0
-    different = 0
+    runs = different = 0
     for given, (one, two) in pairs:
         runs += 1
         if not are_alike(one, two):

@@ -47,21 +47,18 @@ fi
 cat > altering << 'END'
 #!/bin/sh
 status=0
-"$@" > "$ALTERING/answer.out" 2> "$ALTERING/answer.err" || status=$?
-if grep -q "$ALTER_LIKE" "$ALTERING/answer.$ALTER_FILE"; then
+"$@" > answer.out 2> answer.err || status=$?
+! grep -q "$ALTER_LIKE" "answer.$ALTER_FILE" || echo >> "$ALTERING/alike"
+if [ "$(wc -l < "$ALTERING/alike")" = 3 ]; then
     echo >> "$ALTERING/alike"
-    if [ "$(wc -l < "$ALTERING/alike")" = 3 ]; then
-        case $ALTER_HOW in
-            letter) # in its middle
-                at=$(($(wc -c < "$ALTERING/answer.$ALTER_FILE") / 2))
-                printf '~' | dd of="$ALTERING/answer.$ALTER_FILE" bs=1 seek=$at conv=notrunc 2> "$ALTERING/dd" ;;
-            status) status=$((status + 1)) ;;
-            stream) exec 3>&1 1>&2 2>&3 ;;
-        esac
-    fi
+    case $ALTER_HOW in
+        letter) sed -i '$s/.$/~/' "answer.$ALTER_FILE" ;;
+        status) status=$((status + 1)) ;;
+        stream) exec 3>&1 1>&2 2>&3 ;;
+    esac
 fi
-cat "$ALTERING/answer.out"
-cat "$ALTERING/answer.err" >&2
+cat answer.out
+cat answer.err >&2
 exit $status
 END
 chmod +x altering
@@ -92,7 +89,7 @@ found() {
         grep -q "^$script: $1: [0-9]* runs, 1 different$" found && [ ! -s err ]
 }
 while IFS='|' read -r what count ALTER_FILE ALTER_LIKE ALTER_HOW; do
-    rm -f alike
+    : > alike
     check "$what: the $ALTER_HOW of an answer whose $ALTER_FILE is like $ALTER_LIKE" \
         found "$what" "$proved" "$proved" "$count" "$work/altering"
 done << 'END'

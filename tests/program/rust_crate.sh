@@ -10,22 +10,17 @@
 # shellcheck source=tests/helpers.sh
 . "$(dirname "$0")/../helpers.sh"
 
-# erases: takes the contracts out of the folder `crates`, into the folder `crate`
-erases() {
-    rm -rf crate
-    status=0
-    bounded python3 "$top/rust/erase.py" crates "$top/rust/hand" crate > out 2> err || status=$?
-}
-# stops PLACE WHY FILE SED: whether it stops with this place and reason once the file is altered by this program of sed
+# stops PLACE WHY FILE SED: whether the script stops with this place and reason once the file is altered by this program
+# of sed
 stops() {
-    rm -rf crates
+    rm -rf crates crate
     mkdir crates
-    cp -r "$top"/crates/vbi_words "$top"/crates/vbi_line "$top"/crates/vbi_field "$top"/crates/vbi_meta \
-        "$top"/crates/vbi_cli "$top"/crates/vbi_c crates
+    for crate in vbi_words vbi_line vbi_field vbi_meta vbi_cli vbi_c; do cp -r "$top/crates/$crate" crates; done
     sed -i "$4" "crates/$3"
     ! cmp -s "crates/$3" "$top/crates/$3" || return 1
-    erases
-    echo "erase.py: crates/$1: $2" > wanted
+    status=0
+    bounded python3 "$top/rust/erase.py" crates "$top/rust/hand" crate > out 2> err || status=$?
+    echo "erase.py: crates/$3:$1: $2" > wanted
     [ "$status" = 1 ] && cmp -s err wanted
 }
 # line_of FILE PATTERN: the number of the first line with this pattern
@@ -33,29 +28,25 @@ line_of() {
     grep -n -m 1 "$2" "$top/crates/$1" | cut -d : -f 1
 }
 
-line=$(line_of vbi_words/src/levels.rt '    ensures')
 levels=vbi_words/src/levels.rt
-check 'an unknown clause' stops "$levels:$line" "'decreases' is no keyword that is known" $levels \
-    "${line}s/ensures/decreases/"
-check 'an unknown item' stops "$levels:1" "'lemma' is no keyword that is known" $levels '1s/.*/lemma small { }/'
-line=$(wc -l < "$top/crates/$levels")
-check 'a clause that is not closed' stops "$levels:$((line + 1))" "a clause isn't closed" $levels \
-    '$a\    ensures { (result ≡ 0'
-check 'a ghost line that is not closed' stops "$levels:$((line + 1))" "a ghost line isn't closed" $levels \
-    '$aghost use Rattle.std'
-line=$(line_of vbi_line/src/laws.rt '^{}$')
-check 'a law with a body' stops "vbi_line/src/laws.rt:$line" 'a law has a body' vbi_line/src/laws.rt \
-    "${line}s/{}/{ one_outcome() }/"
-line=$(($(wc -l < "$top/crates/$levels") + 1))
-check 'a function without a body' stops "$levels:$line" 'a function has no body' $levels '$apub fn levels_differ();'
-check 'an unknown macro' stops "$levels:$line" "'print' is no macro that is known" $levels \
-    '$aconst PRINTED: () = print!("");'
-check 'an unknown attribute' stops "$levels:$line" "'ensures' is no attribute that is known" $levels \
-    '$a#[ensures(true)]'
-
-check 'a sign of contracts' stops "$levels:$line" "'≡' is unknown here" $levels '$aconst SAME: bool = 1 ≡ 1;'
-check 'a let .. else in another place' stops "$levels:$line" 'a let .. else of another form' $levels \
-    '$afn few(word: Option<u8>) { let Some(_) = word }'
+laws=vbi_line/src/laws.rt
+clause=$(line_of $levels '    ensures')
+body=$(line_of $laws '^{}$')
+behind=$(($(wc -l < "$top/crates/$levels") + 1))
+while IFS='|' read -r name line why file altered; do
+    check "$name" stops "$line" "$why" "$file" "$altered"
+done << END
+an unknown clause|$clause|'decreases' is no keyword that is known|$levels|${clause}s/ensures/decreases/
+an unknown item|1|'lemma' is no keyword that is known|$levels|1s/.*/lemma small { }/
+a clause that is not closed|$behind|a clause isn't closed|$levels|\$a\\    ensures { (result ≡ 0
+a ghost line that is not closed|$behind|a ghost line isn't closed|$levels|\$aghost use Rattle.std
+a law with a body|$body|a law has a body|$laws|${body}s/{}/{ one_outcome() }/
+a function without a body|$behind|a function has no body|$levels|\$apub fn levels_differ();
+an unknown macro|$behind|'print' is no macro that is known|$levels|\$aconst PRINTED: () = print!("");
+an unknown attribute|$behind|'ensures' is no attribute that is known|$levels|\$a#[ensures(true)]
+a sign of contracts|$behind|'≡' is unknown here|$levels|\$aconst SAME: bool = 1 ≡ 1;
+a let .. else in another place|$behind|a let .. else of another form|$levels|\$afn few(word: Option<u8>) { let Some(_) = word }
+END
 
 version=$(sed -n 's/^version = "\(.*\)"$/\1/p' "$top/rust/hand/Cargo.toml")
 check 'the version of the crate is that of make' [ "$version" = "$(sed -n 's/^VERSION := //p' "$top/Makefile")" ]
@@ -71,13 +62,18 @@ quiet() {
     ! grep -q '^\(warning\|error\)' "$work/err" && [ "$status" = 0 ]
 }
 touch src/lib.rs
-check 'no warning of rustc and clippy' quiet cargo clippy --quiet --all-targets
-check 'none of those of the program either' quiet cargo clippy --quiet --all-targets --features cli
-check 'none of its documents' quiet cargo doc --quiet --no-deps
-check 'it is laid out by rustfmt' quiet cargo fmt --check
-check 'bits_above is the plain loop' quiet rustc --edition 2021 --test -A dead_code -O -o "$work/bits_above" \
-    src/bits_above.rs
-check 'at every position and of every value' quiet "$work/bits_above"
+while IFS='|' read -r name words; do
+    check "$name" quiet $words
+done << END
+no warning of rustc and clippy|cargo clippy --quiet --all-targets
+none of those of the program either|cargo clippy --quiet --all-targets --features cli
+none of its documents|cargo doc --quiet --no-deps
+it is laid out by rustfmt|cargo fmt --check
+bits_above is the plain loop|rustc --edition 2021 --test -A dead_code -O -o $work/bits_above src/bits_above.rs
+at every position and of every value|$work/bits_above
+the example in its documents|cargo test --doc --quiet
+its interface on drawn sides|cargo test --quiet --test facade
+END
 # The way of 64-bit ARM, with functions that do what its five instructions do
 sed 's/"x86_64"/"none"/; s/"aarch64"/"x86_64"/; s/std::arch::aarch64/crate::neon/' src/bits_above.rs > "$work/neon.rs"
 cat >> "$work/neon.rs" << 'END'
@@ -93,14 +89,10 @@ END
 check 'that of 64-bit ARM' quiet rustc --edition 2021 --test -A dead_code -O -o "$work/neon" "$work/neon.rs"
 check 'is the plain loop, too' quiet "$work/neon"
 check 'a panic ends the process' sh -c "cargo rustc --quiet --release --lib -- --print cfg | grep -qx 'panic=\"abort\"'"
-check 'the example in its documents' quiet cargo test --doc --quiet
-check 'its interface on drawn sides' quiet cargo test --quiet --test facade
-# is_small: whether who takes the library takes none of what the program alone needs
-is_small() {
-    bounded cargo tree --quiet --edges normal --prefix none > "$work/out" 2> "$work/err" &&
-        grep -q '^byteorder v' "$work/out" && ! grep -q '^\(clap\|serde_json\|arrayvec\|itoa\) v' "$work/out"
-}
-check 'the library needs no clap and no serde_json' is_small
+# Who takes the library takes none of what the program alone needs.
+bounded cargo tree --quiet --edges normal --prefix none > "$work/out" 2> "$work/err"
+check 'the library needs no clap and no serde_json' \
+    [ "$(grep -o '^\(byteorder\|clap\|serde_json\|arrayvec\|itoa\) v' "$work/out")" = 'byteorder v' ]
 
 # The package, which has nothing of this machine, and builds by itself. As a repository others depend on it by git.
 sources=

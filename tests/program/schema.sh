@@ -10,16 +10,6 @@
 . "$(dirname "$0")/../helpers.sh"
 
 schema=$top/share/schema/ldvbi.schema.json
-# validated NAME: keeps the document in `out`, which is to be valid
-mkdir documents
-: > names
-kept=0
-validated() {
-    kept=$((kept + 1))
-    cp out documents/$kept.json
-    echo "$1" >> names
-}
-
 # Looks at each column that a cause can name, and at numbers of fields, and prints what is wrong of these.
 cat > bounds.py << 'END'
 import json
@@ -40,13 +30,10 @@ FORMS = ("%s", "%s ", "%s 0100", "%s +100", "%s 100.0", "%s 1e2", "%s  100", " %
 for system, width, hold in (("Ntsc", 910, 40), ("Pal", 1135, 50)):
     cause = validator_of(schema["$defs"]["cause" + system])
     for name, least in (("change", 0), ("hold", hold)):
-        for column in [*range(-1, 1200), 1910, 9099, 9100, 11340, 11350]:
-            text = "%s %d" % (name, column)
-            if cause.is_valid(text) != (least <= column < width):
-                print(system, text)
-        for form in FORMS:
-            if cause.is_valid(form % name):
-                print(system, repr(form % name))
+        texts = {"%s %d" % (name, column): least <= column < width
+                 for column in [*range(-1, 1200), 1910, 9099, 9100, 11340, 11350]}
+        texts.update((form % name, False) for form in FORMS)
+        print(*[(system, text) for text, is_valid in texts.items() if cause.is_valid(text) != is_valid], sep="\n", end="")
 fields = validator_of(schema["properties"]["fields"])
 for count in (0, 1, 999999, 1000000, 1000001):
     if fields.is_valid([{}] * count) != (count <= 1000000):
@@ -54,58 +41,47 @@ for count in (0, 1, 999999, 1000000, 1000001):
 END
 
 # Documents of every kind: no field, each cause with the least and the greatest columns, both passes, a cut field
-run extract $ntsc empty
-validated 'no field'
-run extract --system PAL --black 0 --white 65535 empty
-validated 'the least black and the greatest white'
-signal NTSC 1 << 'END' | ntsc_samples > fields.tbc
+signal NTSC 1 << 'END' | ntsc_samples > ntsc.tbc
 82CFFF|82CFFF @170-171L|-
 L900 H10|82CFFF @170-174L|L164 H746
 H1|L1 H1|L908 H1
 L11 H11|L11 H37|L873 H37
 800000|FFFFFF|F12345
 END
-run extract $ntsc fields.tbc
-echo '["change 0","change 1","change 909"] ["hold 40","hold 47","hold 909"]' > columns
-jq -c '.fields[2, 3].vbiCause' out | paste -d ' ' - - > out.columns
-check 'the least and the greatest columns, NTSC' cmp out.columns columns
-validated 'every cause, NTSC'
-jq -c . out > whole.json
-head -c 957319 fields.tbc > cut.tbc
-run extract $ntsc cut.tbc
-validated 'the longest cut field, NTSC'
-jq -c . out > cut.json
-printf x > byte.tbc
-run extract $ntsc byte.tbc
-validated 'the shortest cut field'
-signal PAL 1 << 'END' | pal_samples > fields.tbc
+signal PAL 1 << 'END' | pal_samples > pal.tbc
 8AE012|8AE012 @200-201L|-
 L1130 H5|8AE012 @220-224L|H1
 L1 H1|L1133 H1|L14 H14
 L14 H45|L1090 H45|800000
 END
-run extract $pal fields.tbc
-{
-    printf '["unfinished","change 220","change 0"] ["change 1","change 1134","hold 50"] '
-    echo '["hold 58","hold 1134","word"]'
-} > columns
-jq -c '.fields[1, 2, 3].vbiCause' out | paste -d ' ' - - - > out.columns
-check 'the least and the greatest columns, PAL' cmp out.columns columns
-validated 'every cause, PAL'
-jq -c . out > pal.json
-head -c 710509 fields.tbc > cut.tbc
-run extract $pal cut.tbc
-validated 'the longest cut field, PAL'
-
-# What is said of all of them
+head -c 957319 ntsc.tbc > cut.tbc
+head -c 710509 pal.tbc > cut_pal.tbc
+printf x > byte.tbc
+mkdir documents
+while read -r name words; do
+    output_of extract $words > documents/$name.json
+done << END
+none $ntsc empty
+levels --system PAL --black 0 --white 65535 empty
+ntsc $ntsc ntsc.tbc
+cut $ntsc cut.tbc
+byte $ntsc byte.tbc
+pal $pal pal.tbc
+cut_pal $pal cut_pal.tbc
+END
+cat > columns << 'END'
+["change 0","change 1","change 909"]
+["hold 40","hold 47","hold 909"]
+["unfinished","change 220","change 0"]
+["change 1","change 1134","hold 50"]
+["hold 58","hold 1134","word"]
+END
+{ jq -c '.fields[2, 3].vbiCause' documents/ntsc.json; jq -c '.fields[1, 2, 3].vbiCause' documents/pal.json; } > found
+check 'the least and the greatest columns' cmp found columns
 status=0
-# shellcheck disable=SC2046
-validates "$schema" $(seq -f 'documents/%g.json' $kept) > said 2> err || status=$?
-check 'all documents are looked at' [ "$status $(wc -l < said)" = "0 $kept" ]
-cut -d ' ' -f 1 said | paste -d '|' - names > rows
-while IFS='|' read -r said name; do
-    check "$name" [ "$said" = valid ]
-done < rows
+validates "$schema" documents/*.json > said 2> err || status=$?
+cat said >> err
+check 'documents of every kind are valid' [ "$status $(grep -c '^valid ' said)" = '0 7' ]
 
 # What may stand at each place of a document is valid there, and all else is refused: of a document of one record each,
 # with a word on some of its lines
@@ -139,9 +115,9 @@ END
     done
 }
 while read -r document record count words; do
-    jq -c ".fields |= .[$record:$record + 1] | .cutField = {seqNo: 7, bytes: 9}" $document.json > one.json
+    jq -c ".fields |= .[$record:$record + 1] | .cutField = {seqNo: 7, bytes: 9}" documents/$document.json > one.json
     case $document in
-        whole) system='NTSC PAL 910 263 478660' ;;
+        ntsc) system='NTSC PAL 910 263 478660' ;;
         pal) system='PAL NTSC 1135 313 710510' ;;
     esac
     places $system $words > places
@@ -150,9 +126,9 @@ while read -r document record count words; do
     cat said >> err
     check "each place of a record of $document with $words" [ "$status $(cat said)" = "0 27 places, $count documents" ]
 done << 'END'
-whole 0 291 word word none
-whole 1 297 none none none
-whole 4 288 word word word
+ntsc 0 291 word word none
+ntsc 1 297 none none none
+ntsc 4 288 word word word
 pal 0 291 word word none
 pal 1 297 none none none
 pal 3 294 none none word
@@ -162,5 +138,5 @@ END
 status=0
 bounded "$(with_jsonschema)" bounds.py "$schema" < empty > said 2> err || status=$?
 cat said >> err
-check 'columns and counts of fields at and beyond each bound' [ "$status $(wc -l < said)" = '0 0' ]
+check 'columns and counts of fields at and beyond each bound' [ "$status$(cat said)" = 0 ]
 finish

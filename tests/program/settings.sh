@@ -14,31 +14,36 @@ printf '{"a":NaN}' > nan.json
 
 # The order of what can be wrong: the words, the metadata file, the input file, the metadata, the settings. A run that
 # is refused takes nothing of its input.
-echo "error: invalid value '65536' for '--black <N>': 65536 is not in 0..=65535
+equal='--system NTSC --black 5 --white 5'
+cat > refusal << 'END'
+error: invalid value '65536' for '--black <N>': 65536 is not in 0..=65535
 
-For more information, try '--help'." > refusal
+For more information, try '--help'.
+END
+for what in Width:911 Height:264; do
+    printf '{"videoParameters":{"field%s":%s}}' "${what%:*}" "${what#*:}" > "${what%:*}.json"
+done
 for command in $commands; do
     run $command --meta absent.json --black 65536 absent.raw
     check_refusal "$command: words before files" ended 2 empty refusal
-    run $command $levels --meta absent.json absent.raw
-    judge "$command: the metadata file before the input file" 1 empty 'ldvbi: cannot read metadata'
-    run $command --system NTSC --black 5 --white 5 --meta . line.raw
-    judge "$command: the metadata file before the levels" 1 empty 'ldvbi: cannot read metadata'
-    run $command --system NTSC --black 5 --white 5 absent.raw
-    judge "$command: the input file before the levels" 1 empty 'ldvbi: cannot open input'
-    run $command $levels --meta nan.json absent.raw
-    judge "$command: the input file before the metadata" 1 empty 'ldvbi: cannot open input'
-    run_leaving line.raw $command $levels --meta nan.json
-    judge "$command: metadata that is not JSON" 1 empty 'ldvbi: metadata is not JSON'
-    check "$command: metadata that is not JSON, the input" cmp rest line.raw
-    run_leaving line.raw $command --system NTSC --black 5 --white 5 --max-fields 0
-    judge "$command: levels out of order" 1 empty 'ldvbi: black level is not below white level'
-    check "$command: levels out of order, the input" cmp rest line.raw
-    run_leaving line.raw $command $levels --max-fields 0
-    judge "$command: no fields" 1 empty 'ldvbi: max fields is not from 1 to 1000000'
-    check "$command: no fields, the input" cmp rest line.raw
-    run $command --black 8224 --white 16448 .
-    judge "$command: no system, and a folder as input" 1 empty 'ldvbi: no system given'
+    judge_rows << END
+$command: the metadata file before the input file|$command $levels --meta absent.json absent.raw|1|empty|cannot read metadata
+$command: the metadata file before the levels|$command $equal --meta . line.raw|1|empty|cannot read metadata
+$command: the input file before the levels|$command $equal absent.raw|1|empty|cannot open input
+$command: the input file before the metadata|$command $levels --meta nan.json absent.raw|1|empty|cannot open input
+$command: no system, and a folder as input|$command --black 8224 --white 16448 .|1|empty|no system given
+$command: another width|$command $levels --meta Width.json line.raw|1|empty|field width differs
+$command: another height|$command $levels --meta Height.json line.raw|1|empty|field height differs
+END
+    while IFS='|' read -r words said; do
+        run_leaving line.raw $command $words
+        judge "$command: $said" 1 empty "ldvbi: $said"
+        check "$command: $said, the input" cmp rest line.raw
+    done << END
+$levels --meta nan.json|metadata is not JSON
+$equal --max-fields 0|black level is not below white level
+$levels --max-fields 0|max fields is not from 1 to 1000000
+END
 done
 
 # Metadata: each row has a document, or what videoParameters hold; options; and what `line` says of the stored line.
@@ -58,16 +63,13 @@ done << END
 []|$all|metadata has no videoParameters
 {"videoParameters":3}||metadata has no videoParameters
 {"videoParameters":{}}||no system given
-{"videoParameters":{}}|$all|82CFFF
 {"videoParameters":{},"fields":[1e999]}|$all|metadata is not JSON
-"system":"PAL_M"||unknown system
 "system":null,"isSourcePal":true||unknown system
 "system":"NTSC","isSourcePal":"no"||unknown system
 "system":"NTSC","isSourcePal":"no"|--system NTSC|no black level given
 "system":"NTSC","isSourcePal":true||system and isSourcePal disagree
 "system":"PAL","black16bIre":65536||black level is not a whole number from 0 to 65535
 "system":"NTSC","black16bIre":8224.0||black level is not a whole number from 0 to 65535
-"system":"NTSC","black16bIre":8224e0||black level is not a whole number from 0 to 65535
 "system":"NTSC","black16bIre":8224.0,"white16bIre":16448|--black 8224|82CFFF
 "system":"NTSC","black16bIre":8224,"white16bIre":16448|--white 8224|black level is not below white level
 "system":"NTSC","black16bIre":8224,"white16bIre":16448|--black 0 --white 65535|blank
@@ -79,21 +81,12 @@ done << END
 "isSourcePal":false,"black16bIre":8224,"white16bIre":16448||82CFFF
 "isSourcePal":true,"black16bIre":8224,"white16bIre":16448,"fieldWidth":910||field width differs
 "isSourcePal":true,"black16bIre":8224,"white16bIre":16448,"fieldHeight":312||field height differs
-"isSourcePal":true,"black16bIre":8224,"white16bIre":16448|--max-fields 0|max fields is not from 1 to 1000000
-"system":"NTSC","black16bIre":8224,"white16bIre":16448,"sampleRate":14318181.5||82CFFF
 "system":"NTSC","black16bIre":8224,"white16bIre":16448|--max-fields 1000000|82CFFF
 "system":"NTSC","black16bIre":8224,"white16bIre":16448|--max-fields 1000001|max fields is not from 1 to 1000000
 "fieldWidth":910,"fieldHeight":263|$all|82CFFF
 "fieldWidth":910.0|$all|field width differs
-"fieldHeight":"263"|$all|field height differs
 END
-for command in $commands; do
-    for what in 'width|911' 'height|264'; do
-        printf '{"videoParameters":{"field%s":%s}}' "$(echo ${what%|*} | sed 's/w/W/; s/^h/H/')" "${what#*|}" > row.json
-        run $command $levels --meta row.json line.raw
-        judge "$command: a field ${what%|*}, where the options say all else" 1 empty "ldvbi: field ${what%|*} differs"
-    done
-done
+
 # What the JSON library doesn't read: a byte order mark, UTF-16, and wrong JSON of each kind, where memory isn't wanted:
 # short, and a mebibyte long by this byte between its two parts
 while IFS='|' read -r head fill tail; do
@@ -107,36 +100,23 @@ done << 'END'
 \357\273\277{"videoParameters":{}}||
 \377\376{\000}\000||
 x|x|
-\000|\000|
--|0|
 "|a|
-"|a|\377"
-"|a|\n"
 '|a|'
-[|\040|
 ]|\040|
-{"a":1|\040|
 {"a":|\040|NaN}
-{}|\040|{}
-[1,|\040|]
 END
 
-# nested DEPTH: brackets that open so often, and then close
-nested() {
-    { printf "%${1}s" '' | tr ' ' '['; printf "%${1}s" '' | tr ' ' ']'; } > nested.json
-}
-nested 127
-run line --meta nested.json line.raw
-judge 'metadata nested 127 deep' 1 empty 'ldvbi: metadata has no videoParameters'
-nested 128
-run line $levels --meta nested.json line.raw
-judge 'metadata nested 128 deep' 1 empty 'ldvbi: metadata is not JSON'
+# Brackets that open so often, and then close; and as many bytes as are allowed, which take no room on a disk, or one more
+for depth in 127 128; do
+    { printf "%${depth}s" '' | tr ' ' '['; printf "%${depth}s" '' | tr ' ' ']'; } > nested$depth.json
+done
 dd if=/dev/null of=zeros.json bs=1 seek=268435456 2> zeros.log
-run line $levels --meta zeros.json line.raw
-judge 'metadata of as many bytes as are allowed' 1 empty 'ldvbi: metadata is not JSON'
-echo >> zeros.json
-run line $levels --meta zeros.json line.raw
-judge 'metadata of a byte more' 1 empty 'ldvbi: metadata too large'
-run line $levels --meta /dev/zero line.raw
-judge 'endless metadata' 1 empty 'ldvbi: metadata too large'
+{ dd if=/dev/null of=more.json bs=1 seek=268435456; echo >> more.json; } 2> zeros.log
+judge_rows << END
+metadata nested 127 deep|line --meta nested127.json line.raw|1|empty|metadata has no videoParameters
+metadata nested 128 deep|line $levels --meta nested128.json line.raw|1|empty|metadata is not JSON
+metadata of as many bytes as are allowed|line $levels --meta zeros.json line.raw|1|empty|metadata is not JSON
+metadata of a byte more|line $levels --meta more.json line.raw|1|empty|metadata too large
+endless metadata|line $levels --meta /dev/zero line.raw|1|empty|metadata too large
+END
 finish

@@ -19,16 +19,10 @@ function level_of(word, half,    bit, digit, is_one) {
     return (half % 2 == 0) == is_one ? "H" : "L"
 }
 
-function drawn(word,    text, half) {
-    text = run("L", start)
-    for (half = 1; half <= 48; half++)
-        text = text run(level_of(word, half), boundary[half + 1] - boundary[half])
-    return text
-}
-
-function halves(word, columns, count,    text, half) {
+# The first half cells of a word, each of so many columns, or as wide as they are drawn
+function halves(word, count, columns,    text, half) {
     for (half = 1; half <= count; half++)
-        text = text run(level_of(word, half), columns)
+        text = text run(level_of(word, half), columns ? columns : boundary[half + 1] - boundary[half])
     return text
 }
 
@@ -52,9 +46,9 @@ function line(description,    text, count, part, i, piece, level) {
             text = replaced(filled(text), piece[1], run(level, piece[2] - piece[1] + 1))
         } else if (part[i] ~ /\//) {
             split(part[i], piece, "/")
-            text = text halves(piece[1], piece[2], piece[3])
+            text = text halves(piece[1], piece[3], piece[2])
         } else if (part[i] != "-") {
-            text = text drawn(part[i])
+            text = text run("L", start) halves(part[i], 48)
         }
     }
     return filled(text)

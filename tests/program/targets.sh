@@ -23,9 +23,7 @@ cp "$top/.ci/run" tree/.ci
 for script_path in tests/tools.sh tests/gate.sh tests/scripts.sh bench/all.sh peers/compare.sh rust/build.sh; do
     stub tree/$script_path "echo $script_path \"\$@\"; [ \"\${FAULT:-}\" != $script_path ]"
 done
-: > tree/libldvbi.a
-: > tree/libldvbi.so.1
-: > tree/ldvbi
+touch tree/libldvbi.a tree/libldvbi.so.1 tree/ldvbi
 stub bin/rt 'echo rt'
 
 # ran FOLDER COMMAND..: runs a command there, with the stubs on the PATH
@@ -33,19 +31,23 @@ ran() {
     (cd "$1" && shift && PATH=$work/bin:$PATH && export PATH && bounded "$@") < empty > out 2> err
     status=$?
 }
-# Targets with their words, and what is run; where the last of that fails, make does. There are folders with the names
-# of most of them.
+# Targets with their words, and what is run; make ends where one of that fails. There are folders with the names of most
+# of them.
 while IFS='|' read -r words wanted; do
     ran tree make -s $words
     echo "$wanted" | tr ',' '\n' > wanted_text
     judge "make $words" 0 wanted_text ''
-    last=$(echo "${wanted##*,}" | cut -d ' ' -f 1)
-    ran tree env FAULT="$last" make -s $words
-    check "make $words ends where $last fails" [ "$status $(tail -n 1 out | cut -d ' ' -f 1)" = "2 $last" ]
+    for fault in $(cut -d ' ' -f 1 wanted_text | sort -u); do
+        ran tree env FAULT="$fault" make -s $words
+        check "make $words ends where $fault fails" [ "$status $(tail -n 1 out | cut -d ' ' -f 1)" = "2 $fault" ]
+    done
 done << 'END'
 setup|tests/tools.sh install
 test|tests/tools.sh rust,tests/gate.sh
 setup test|tests/tools.sh install,tests/tools.sh rust,tests/gate.sh
+check|tests/tools.sh,tests/scripts.sh ./ldvbi --as-built
+check PROGRAM=/a/ldvbi|tests/tools.sh,tests/scripts.sh /a/ldvbi --as-built
+check FROM=rust|tests/tools.sh,tests/scripts.sh ./rust/ldvbi --as-built
 rust|rust/build.sh
 rust TARGET=mips|rust/build.sh mips
 rust-compare|tests/scripts.sh rust/ldvbi rust_compare
@@ -131,8 +133,7 @@ for tool in cc c++ nm python3 jq prove pkg-config cmake git less mandoc mypy par
     cargo-clippy; do
     stub alone/$tool 'exit 0'
 done
-mkdir none/librust-arrayvec-dev none/librust-byteorder-dev none/librust-clap-dev none/librust-itoa-dev \
-    none/librust-libc-dev none/librust-serde-json-dev none/librust-thiserror-dev
+(cd none && mkdir ${for_rust#*rust-clippy})
 stub no_module 'exit 0'
 for word in '' rust install; do
     tools $word

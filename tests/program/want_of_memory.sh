@@ -103,36 +103,24 @@ said_of_texts 'a text without its end' '' 'ldvbi: metadata is not JSON'
 sed -i 1,2d lengths
 said_of_texts 'a text' '"' 'ldvbi: metadata has no videoParameters'
 
-# Metadata of 10 MB, as ld-decode writes it; here what is wanted stands behind the records of fields
-awk 'BEGIN {
-    printf "{\"fields\":["
-    for (field = 1; written < 10000000; field++) {
-        record = "%s{\"audioSamples\":735,\"diskLoc\":%d.1,\"isFirstField\":true,\"medianBurstIRE\":19.7,\"seqNo\":%d,"
-        record = sprintf(record "\"syncConf\":100,\"vitsMetrics\":{\"bPSNR\":38.1}}", field > 1 ? "," : "", field, field)
-        written += length(record)
-        printf "%s", record
-    }
-    printf "],\"videoParameters\":{\"system\":\"NTSC\",\"black16bIre\":8224,\"white16bIre\":16448}}"
-}' > long.json
+# Metadata of 10 MB, as ld-decode writes it; here what is wanted stands behind the records of fields. Want of memory is
+# said exactly where an allocation was refused, with so many times its bytes of memory at most.
+field='"audioSamples":735,"diskLoc":1.1,"isFirstField":true,"medianBurstIRE":19.7,"seqNo":1,"syncConf":100'
+{
+    printf '{"fields":[0'
+    yes ",{$field,\"vitsMetrics\":{\"bPSNR\":38.1}}" | head -c 10000000 | sed '$d'
+    printf '],"videoParameters":{"system":"NTSC","black16bIre":8224,"white16bIre":16448}}'
+} > long.json
 bytes=$(wc -c < long.json)
-
-# within TIMES: runs the program over it with this many times its bytes of memory at most, and checks that want of
-# memory is said exactly where an allocation was refused
-within() {
+for times in 2 4 6 8 10 12 14 16 18 20; do
     rm -f mark
     status=0
     bounded sh -c 'ulimit -v $1; shift; LD_PRELOAD=$1 REFUSE_MARK=mark "$2" line --meta long.json "$3"' \
-        sh $((bytes * $1 / 1024)) "$work/refuse.so" "$program" "$stored/stdin" > out 2> err || status=$?
-    if [ -e mark ]; then
-        judge "10 MB of metadata within $1 times its bytes" 1 empty 'ldvbi: out of memory'
-    else
-        judge "10 MB of metadata within $1 times its bytes" 0 "$stored/stdout" ''
-    fi
-}
-within 2
-check 'twice the bytes of metadata are too few' [ -e mark ]
-for times in 4 6 8 10 12 14 16 18 20; do
-    within $times
+        sh $((bytes * times / 1024)) "$work/refuse.so" "$program" "$stored/stdin" > out 2> err || status=$?
+    set -- 0 "$stored/stdout" ''
+    [ ! -e mark ] || set -- 1 empty 'ldvbi: out of memory'
+    judge "10 MB of metadata within $times times its bytes" "$@"
+    [ $times != 2 ] || check 'twice the bytes of metadata are too few' [ -e mark ]
 done
 check '20 times the bytes of metadata are enough' [ ! -e mark ]
 finish
