@@ -12,18 +12,8 @@
 # shellcheck source=tests/python/python_helpers.sh
 . "$here/python_helpers.sh"
 
-# tells NAME STATUS WANTED OPTION..: checks what the command prints, and its status
-tells() {
-    name=$1
-    wanted_status=$2
-    printf '%s\n' "$3" > wanted_text
-    shift 3
-    told "$@"
-    judge "$name" "$wanted_status" wanted_text ''
-}
-
 # A CAV disc with a stop on lines 16 and 17, a chapter beside a picture, and a number that is wrong on line 18
-cat > cav_words << 'END'
+side_of "$ntsc" << 'END'
 - 88FFFF 88FFFF
 - - -
 - F00001 F00001
@@ -36,7 +26,8 @@ cat > cav_words << 'END'
 - 801DDD 801DDD
 - 80EEEE 80EEEE
 END
-cav_csv='field,frame,format,picture,chapter,time,stop,doubt,status,users,unknown
+cat > csv << 'END'
+field,frame,format,picture,chapter,time,stop,doubt,status,users,unknown
 1,1,neither,,,,,,,,
 3,2,cav,1,,,,,,,
 4,2,neither,,0,,,,,,
@@ -46,30 +37,15 @@ cav_csv='field,frame,format,picture,chapter,time,stop,doubt,status,users,unknown
 8,4,cav,,1,,stop,,,,
 9,5,cav,4,,,,,,,
 10,5,neither,,1,,,,,,
-11,6,neither,,,,,,,,'
-side_of "$ntsc" < cav_words
-tells 'fields of a document' 0 "$cav_csv" side.vbi.json --csv
-tells 'fields of a TBC file' 0 "$cav_csv" side.tbc $ntsc --csv
+11,6,neither,,,,,,,,
+END
 for source in side.vbi.json "side.tbc $ntsc"; do
-    tells "a picture of $source" 0 'field 7, frame 4' $source --seek 3
-    tells "a picture that $source doesn't have" 1 'not found' $source --seek 5
+    told $source --csv
+    judge "the fields of $source" 0 csv ''
 done
-cp side.vbi.json document
-tells 'a document under another name' 0 'field 7, frame 4' document --seek 3
 status=0
-bounded python3 -m ldvbi_side - --seek 3 < side.vbi.json > out 2> err || status=$?
-echo 'field 7, frame 4' > wanted_text
-judge 'a document on standard input' 0 wanted_text ''
-echo '{"videoParameters":{"system":"NTSC","black16bIre":16384.0,"white16bIre":51200,"fieldWidth":910.0}}' > meta.json
-tells 'an option instead of metadata' 1 'not found' side.tbc --meta meta.json --white 65535 --black 65534 --seek 3
-
-# isFirstField of the metadata, with a document: frame 1 begins with field 2
-jq -c '{videoParameters, fields: [.fields[] | {seqNo, isFirstField: (.seqNo % 2 == 0)}]}' side.vbi.json > meta.json
-tells 'frames of a document by isFirstField' 0 'field 7, frame 3' side.vbi.json --meta meta.json --seek 3
-jq -c '.fields |= map({seqNo})' meta.json > without.json
-told side.vbi.json --meta without.json --seek 3
-echo 'field 7, frame 4' > wanted_text
-judge 'metadata without isFirstField' 0 wanted_text 'ldvbi-side: without.json has no isFirstField of each field'
+bounded python3 -m ldvbi_side - --csv < side.vbi.json > out 2> err || status=$?
+judge 'a document on standard input' 0 csv ''
 
 # Levels that can't be right are recognised, and the command that looks at a line is printed
 told side.tbc --system NTSC --black 1 --white 2 --summary
@@ -80,29 +56,6 @@ ln -s "$program" ldvbi
 status=0
 (PATH=$PATH:. && bounded sh look.sh) < empty > out 2> err || status=$?
 check 'the command that is printed draws the line' [ "$status $(grep -c '<svg' line.svg)" = '0 1' ]
-
-# A CLV disc with marks on line 17 and the minutes on line 18
-cat > clv_words << 'END'
-8FE923 87FFFF F0DD00
-8DC0A1 87FFFF 800DDD
-8FE924 87FFFF F0DD00
-8DC0A1 87FFFF 800DDD
-8AE000 87FFFF F0DD01
-8DC0A1 87FFFF 801DDD
-8AE001 87FFFF -
-8DC0A1 87FFFF 801DDD
-END
-side_of "$pal" < clv_words
-tells 'times of a TBC file' 0 'field,frame,format,picture,chapter,time,stop,doubt,status,users,unknown
-1,1,clv,,,0:00:59.23,,,,,
-2,1,clv,,0,,,,cx on 0A1,,
-3,2,clv,,,0:00:59.24,,,,,
-4,2,clv,,0,,,,cx on 0A1,,
-5,3,clv,,,0:01:00.00,,,,,
-6,3,clv,,1,,,,cx on 0A1,,
-7,4,clv,,,0:01:00.01,,,,,
-8,4,clv,,1,,,,cx on 0A1,,' side.tbc $pal --csv
-tells 'a time of a TBC file' 0 'field 3, frame 2' side.tbc $pal --seek 0:00:59.24
 
 # Each cause, and a word of the second reading, in a stream that is cut
 signal NTSC 1 << 'WORDS' | ntsc_samples > side.tbc
@@ -136,11 +89,6 @@ done
 tail -c +505961 side.tbc | head -c 1820 | bounded "$program" line $ntsc > found
 check 'the offset is that of the line' [ "$(cat found)" = unfinished ]
 
-# What is refused, with status 2 and a line on standard error
-side_of "$ntsc" < cav_words
-told side.vbi.json --system PAL
-judge 'refused: --system of a document' 2 empty \
-    'ldvbi-side: side.vbi.json: a document has its system and levels; they are options of a TBC file'
 for wrong in '--seek x' '--seek -1' '--csv --seek 1' '--system SECAM' '--black 1.0'; do
     told side.tbc $wrong
     check "refused: $wrong" [ $status = 2 ]

@@ -41,13 +41,17 @@ def worn_line(word, setup, cell, columns):
 def write_stream(path, setup, fields, rest=0):
     """Makes a TBC file of fields, each of which is a list of lines 16, 17 and 18: words, 0 for a blank line, or
     samples. `rest` bytes of one more field come behind them."""
-    size, line = ldvbi.field_bytes(setup[0]), ldvbi.line_bytes(setup[0])
     with open(path, "wb") as file:
-        for number, lines in enumerate(fields):
-            for row, shown in enumerate(lines, 15):
-                file.seek(number * size + row * line)
-                file.write(shown if isinstance(shown, bytes) else ldvbi.draw_line(shown, *setup))
-        file.truncate(len(fields) * size + rest)
+        write_fields(file, setup, fields)
+        file.truncate(len(fields) * ldvbi.field_bytes(setup[0]) + rest)
+
+
+def write_fields(file, setup, fields):
+    size, line = ldvbi.field_bytes(setup[0]), ldvbi.line_bytes(setup[0])
+    for number, lines in enumerate(fields):
+        for row, shown in enumerate(lines, 15):
+            file.seek(number * size + row * line)
+            file.write(shown if isinstance(shown, bytes) else ldvbi.draw_line(shown, *setup))
 
 
 def pictures(count):

@@ -2,12 +2,26 @@
 
 import gzip
 import os
+import shutil
 import unittest
 from unittest import mock
 
 from cases import InFolder
 from ldvbi.packed import packed_as
 from ldvbi_side.command.folders import Found, files_of, page_name, sides_in
+
+# Files, what is asked for, and the sides that are found
+ROWS = (
+    ("d/b.tbc d/a/z.tbc d/a.tbc d/c/a.tbc c.tbc", "d c.tbc", "c.tbc d/a/z.tbc d/a.tbc d/b.tbc d/c/a.tbc"),
+    ("d/a.tbc d/a.tbc.json d/a.tbc.db d/a.json d/a.efm d/a.html d/b.vbi.json d/tbc d/folder.tbc/x", "d",
+     "d/a.tbc d/b.vbi.json"),
+    # what is named is taken for a side, whatever its name is
+    ("d/a.json d/tbc", "d/a.json d/tbc absent", "absent d/a.json d/tbc"),
+    # a side has one row
+    ("d/a.tbc d/a.vbi.json d/a.tbc.gz d/b.tbc.gz d/c.tbc.zst d/d.tbc.flac d/e.vbi.json d/e/e.tbc d/f.gz", "d",
+     "d/a.tbc d/b.tbc.gz d/c.tbc.zst d/d.tbc.flac d/e/e.tbc d/e.vbi.json"),
+    ("d/a.vbi.json d/a.tbc", "d/a.vbi.json d/a.tbc", "d/a.tbc d/a.vbi.json"),
+    ("d/a.tbc d/b.tbc", "d/a.tbc d ./d/a.tbc", "./d/a.tbc d/b.tbc"))
 
 
 class Folders(InFolder):
@@ -21,41 +35,23 @@ class Folders(InFolder):
             os.makedirs(os.path.dirname(name) or ".", exist_ok=True)
             self.write(name, b"")
 
-    def found(self, *paths):
-        found = sides_in(paths)
-        self.assertEqual({one.fault for one in found}, {None} if found else set())
-        return [one.path for one in found]
+    def check(self, paths, wanted):
+        self.assertEqual(sides_in(paths.split()), [Found(path) for path in wanted.split()])
 
-    def test_order(self):
-        self.add("d/b.tbc", "d/a/z.tbc", "d/a.tbc", "d/c/a.tbc", "c.tbc")
-        self.assertEqual(self.found("d", "c.tbc"), ["c.tbc", "d/a/z.tbc", "d/a.tbc", "d/b.tbc", "d/c/a.tbc"])
-
-    def test_what_is_a_side(self):
-        self.add("d/a.tbc", "d/a.tbc.json", "d/a.tbc.db", "d/a.json", "d/a.efm", "d/a.html", "d/b.vbi.json", "d/tbc")
-        os.mkdir("d/folder.tbc")
-        self.assertEqual(self.found("d"), ["d/a.tbc", "d/b.vbi.json"])
-        # what is named is taken for a side, whatever its name is
-        self.assertEqual(self.found("d/a.json", "d/tbc", "absent"), ["absent", "d/a.json", "d/tbc"])
-
-    def test_one_row_a_side(self):
-        self.add("d/a.tbc", "d/a.vbi.json", "d/a.tbc.gz", "d/b.tbc.gz", "d/c.tbc.zst", "d/d.tbc.flac", "d/e.vbi.json",
-                 "d/e/e.tbc", "d/f.gz")
-        self.assertEqual(self.found("d"), ["d/a.tbc", "d/b.tbc.gz", "d/c.tbc.zst", "d/d.tbc.flac", "d/e/e.tbc",
-                                           "d/e.vbi.json"])
-        self.assertEqual(self.found("d/a.vbi.json", "d/a.tbc"), ["d/a.tbc", "d/a.vbi.json"])
-        self.assertEqual(self.found("d/a.tbc", "d", "./d/a.tbc", os.path.abspath("d/a.tbc"))[:2],
-                         [os.path.abspath("d/a.tbc"), "d/b.tbc.gz"])
+    def test_rows(self):
+        for files, paths, wanted in ROWS:
+            with self.subTest(files):
+                shutil.rmtree("d", ignore_errors=True)
+                self.add(*files.split())
+                self.check(paths, wanted)
 
     def test_links(self):
         self.add("d/a.tbc", "d/e/b.tbc")
         os.symlink("../d", "d/e/again")
         os.symlink("a.tbc", "d/c.tbc")
         os.symlink("d", "l")
-        self.assertEqual(self.found("d"), ["d/a.tbc", "d/e/b.tbc"])
-        self.assertEqual(self.found("l"), ["l/a.tbc", "l/e/b.tbc"])
-
-    def test_a_folder_that_is_not_read(self):
-        self.add("d/a.tbc", "d/e/b.tbc")
+        self.check("d", "d/a.tbc d/e/b.tbc")
+        self.check("l", "l/a.tbc l/e/b.tbc")
         with mock.patch("os.scandir", side_effect=PermissionError(13, "Permission denied", "d")):
             self.assertEqual(sides_in(["d"]), [Found("d", "Permission denied")])
 

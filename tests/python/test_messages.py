@@ -13,9 +13,6 @@ from streams import NTSC, write_stream
 
 SETTINGS = "give --meta, or --system, --black and --white"
 HALF = "--system NTSC --black 16384"
-# The first bytes of compressed files
-PACKED = {"gzip": gzip.compress(b"video"), "zstd": b"\x28\xb5\x2f\xfd\x04\x58\x29\x00",
-          "FLAC": b"fLaC\x00\x00\x00\x22\x10\x00\x10\x00"}
 NOT_JSON = "not JSON: line 1 is wrong from column 1 on"
 ABSENT = "absent/out: No such file or directory"
 
@@ -49,12 +46,11 @@ class Messages(Runs):
             ("side.tbc: black is not below white", "side.tbc --white 16384 " + HALF))
 
     def test_compressed_files(self):
-        for form, data in PACKED.items():
-            for name, words in (("packed.tbc", "packed.tbc LEVELS"), ("packed.tbc.gz", "packed.tbc.gz"),
-                                ("packed.vbi.json", "packed.vbi.json"),
-                                ("packed.vbi.json", "compare side.vbi.json packed.vbi.json"),
-                                ("packed.tbc.json", "side.tbc --meta packed.tbc.json")):
-                self.each_file(name, words, (": it is compressed (%s): unpack it first" % form, data))
+        for name, words in (("packed.tbc", "packed.tbc LEVELS"), ("packed.tbc.gz", "packed.tbc.gz"),
+                            ("packed.vbi.json", "packed.vbi.json"),
+                            ("packed.vbi.json", "compare side.vbi.json packed.vbi.json"),
+                            ("packed.tbc.json", "side.tbc --meta packed.tbc.json")):
+            self.each_file(name, words, (": it is compressed (gzip): unpack it first", gzip.compress(b"video")))
 
     def test_documents(self):
         self.each_file(
@@ -63,24 +59,19 @@ class Messages(Runs):
             (": not JSON: byte 13 is not UTF-8", b'{"version":"\xff"}'),
             (": not JSON: NaN is no number", b'{"version":NaN}'),
             (": not JSON: it is nested too deep", b"[" * 100000), (": not JSON: a number is too long", b"1" * 5000),
-            (": not a document of version 2 or 3", b'{"version":1}'),
             (": field 1: seqNo is not there", self.document.replace(b'"seqNo":1,', b'"number":1,')))
         self.each(("standard input: " + NOT_JSON, "-"),
                   ("side.vbi.json is a document, and --document is of a TBC file", "side.vbi.json --document"),
-                  ("side.vbi.json: a document has its system and levels; they are options of a TBC file",
-                   "side.vbi.json --black 16384"))
+                  *(("side.vbi.json: a document has its system and levels; they are options of a TBC file",
+                     "side.vbi.json " + option) for option in ("--black 16384", "--system PAL")))
 
     def test_metadata(self):
         words = "side.tbc --meta meta.json"
         self.refused("meta.json: No such file or directory", words)
         none = " is no metadata with videoParameters"
-        self.each_file("meta.json", words, (none, b""), (none, b"[]"), (none, b"\xff"), (none, b"{}"), *(
-            (text, '{"videoParameters":{%s}}' % parameters) for text, parameters in (
-                (": unknown system", '"system":"SECAM","black16bIre":1,"white16bIre":2'),
-                (": fieldWidth is not 910", '"system":"NTSC","fieldWidth":1135,"black16bIre":1,"white16bIre":2'),
-                (": black level is no number", '"system":"NTSC","black16bIre":null,"white16bIre":2'),
-                (": no system given", '"black16bIre":1,"white16bIre":2'),
-                (": no black level given", '"system":"NTSC"'))))
+        self.each_file("meta.json", words, (none, b""), (none, b"[]"), (none, b"\xff"), (none, b"{}"),
+                       (": unknown system", '{"videoParameters":{"system":"SECAM","black16bIre":1,"white16bIre":2}}'),
+                       (": no black level given", '{"videoParameters":{"system":"NTSC"}}'))
         self.each_file("meta.db", "side.tbc --meta meta.db",
                        (": SQLite can't read it: file is not a database", b"SQLite format 3\0" + bytes(1000)))
         with contextlib.closing(sqlite3.connect(self.named("video.db"))) as database:

@@ -105,13 +105,6 @@ class Sizes(unittest.TestCase):
         for system, line, field in (("NTSC", 1820, 478660), (ldvbi.System.PAL, 2270, 710510), (1, 1820, 478660)):
             self.assertEqual((ldvbi.line_bytes(system), ldvbi.field_bytes(system)), (line, field))
 
-        library = ctypes.CDLL(os.environ["LDVBI_LIBRARY"])
-        for system in ldvbi.System:
-            for name in ("line_bytes", "field_bytes"):
-                call = getattr(library, "ldvbi_" + name)
-                call.restype, call.argtypes = ctypes.c_size_t, [ctypes.c_uint32]
-                self.assertEqual(getattr(ldvbi, name)(system), call(system))
-
 
 def run(code, **variables):
     """Runs Python code in a process of its own, with these environment variables, of which None takes one away."""

@@ -7,33 +7,28 @@ from cases import reason
 from streams import NTSC
 
 WIDE = (65536, 65536 + 100, 2 ** 31, 2 ** 32 - 1, 2 ** 32, 2 ** 32 + 1, 2 ** 64 + 1, -1)
+LINE, FIELD = ldvbi.draw_line(0xF12345, *NTSC), bytes(ldvbi.field_bytes("NTSC"))
+NO_SYSTEM, NOT_BELOW = "system is neither NTSC nor PAL", "black is not below white"
 
 
 class Refusals(unittest.TestCase):
     def test_rows(self):
-        line = ldvbi.draw_line(0xF12345, *NTSC)
-        field = bytes(ldvbi.field_bytes("NTSC"))
-        rows = [
-            (ldvbi.read_line, (line, "ntsc", 1, 2), "system is neither NTSC nor PAL"),
-            (ldvbi.read_line, (line, None, 1, 2), "system is neither NTSC nor PAL"),
-            (ldvbi.read_line, (line, "NTSC", 1.0, 2), "black is not a whole number"),
-            (ldvbi.read_line, (line, "NTSC", 1, "2"), "white is not a whole number"),
-            (ldvbi.read_line, (line[1:], "NTSC", 1, 2), "a line has 1820 bytes, not 1819"),
-            (ldvbi.read_line, (line, "PAL", 1, 2), "a line has 2270 bytes, not 1820"),
-            (ldvbi.read_rows, (line * 2, "NTSC", 1, 2), "three lines have 5460 bytes, not 3640"),
-            (ldvbi.read_rows, (line * 3, "PAL", 1, 2), "three lines have 6810 bytes, not 5460"),
-            (ldvbi.read_field, (field + b"x", "NTSC", 1, 2), "a field has 478660 bytes, not 478661"),
-            (ldvbi.read_field, (b"", "PAL", 1, 2), "a field has 710510 bytes, not 0"),
-            (ldvbi.line_bytes, (3,), "system is neither NTSC nor PAL"),
-            (ldvbi.field_bytes, ("SECAM",), "system is neither NTSC nor PAL"),
-            (ldvbi.field_bytes, (257,), "system is neither NTSC nor PAL"),
-            (ldvbi.draw_line, ("F12345", *NTSC), "word is not a whole number"),
-            # The first refusal of the library's order is the one that is raised.
-            (ldvbi.read_line, (b"", 3, 2, 2), "system is neither NTSC nor PAL"),
-            (ldvbi.read_line, (b"", "NTSC", 2, 2), "black is not below white"),
-            (ldvbi.draw_line, (5, "NTSC", 2, 2), "black is not below white"),
-        ]
-        for call, words, text in rows:
+        """Of what is refused for more than one reason the first one of the library's order is the one that is raised."""
+        for call, words, text in (
+                (ldvbi.read_line, (LINE, "ntsc", 1, 2), NO_SYSTEM), (ldvbi.read_line, (LINE, None, 1, 2), NO_SYSTEM),
+                (ldvbi.read_line, (LINE, "NTSC", 1.0, 2), "black is not a whole number"),
+                (ldvbi.read_line, (LINE, "NTSC", 1, "2"), "white is not a whole number"),
+                (ldvbi.read_line, (LINE[1:], "NTSC", 1, 2), "a line has 1820 bytes, not 1819"),
+                (ldvbi.read_line, (LINE, "PAL", 1, 2), "a line has 2270 bytes, not 1820"),
+                (ldvbi.read_rows, (LINE * 2, "NTSC", 1, 2), "three lines have 5460 bytes, not 3640"),
+                (ldvbi.read_rows, (LINE * 3, "PAL", 1, 2), "three lines have 6810 bytes, not 5460"),
+                (ldvbi.read_field, (FIELD + b"x", "NTSC", 1, 2), "a field has 478660 bytes, not 478661"),
+                (ldvbi.read_field, (b"", "PAL", 1, 2), "a field has 710510 bytes, not 0"),
+                (ldvbi.line_bytes, (3,), NO_SYSTEM), (ldvbi.field_bytes, ("SECAM",), NO_SYSTEM),
+                (ldvbi.field_bytes, (257,), NO_SYSTEM),
+                (ldvbi.draw_line, ("F12345", *NTSC), "word is not a whole number"),
+                (ldvbi.read_line, (b"", 3, 2, 2), NO_SYSTEM), (ldvbi.read_line, (b"", "NTSC", 2, 2), NOT_BELOW),
+                (ldvbi.draw_line, (5, "NTSC", 2, 2), NOT_BELOW)):
             with self.subTest((call.__name__, words[1:])):
                 self.assertEqual(reason(call, *words), text)
 
@@ -41,26 +36,16 @@ class Refusals(unittest.TestCase):
         """Numbers at the edges of 8, 16 and 32 bits, and beyond them: each is refused by what it is, and never by what
         is left of it in fewer bits."""
         line = ldvbi.draw_line(0xF12345, "NTSC", 16384, 65535)
-        calls = {
-            "read_line": lambda *setup: ldvbi.read_line(line, *setup),
-            "read_rows": lambda *setup: ldvbi.read_rows(line * 3, *setup),
-            "read_field": lambda *setup: ldvbi.read_field(bytes(478660), *setup),
-            "fields": lambda *setup: ldvbi.fields(b"", *setup),
-            "Stream": lambda *setup: ldvbi.Stream(b"", *setup),
-            "draw_line": lambda *setup: ldvbi.draw_line(0xF12345, *setup),
-        }
-        for name, call in calls.items():
-            with self.subTest(name):
-                for system in (0, 3, 256, 257, 258, 65535, 65537) + WIDE:
-                    self.assertEqual(reason(call, system, 16384, 65535), "system is neither NTSC nor PAL", system)
-                for number in WIDE:
-                    self.assertEqual(reason(call, "NTSC", number, 65535), "black is not from 0 to 65535", number)
-                    self.assertEqual(reason(call, "NTSC", 100, number), "white is not from 0 to 65535", number)
-                self.assertEqual(reason(call, "NTSC", 65536, 65537), "black is not from 0 to 65535")
-                self.assertEqual(reason(call, "NTSC", 65535, 65535), "black is not below white")
-                self.assertEqual(reason(call, "NTSC", 257, 256), "black is not below white")
-                for levels in ((256, 257), (257, 65535), (0, 65535), (16384, 65535)):
-                    self.assertIsNone(reason(call, "NTSC", *levels), levels)
+        rows = [((system, 16384, 65535), NO_SYSTEM) for system in (0, 3, 256, 257, 258, 65535, 65537) + WIDE]
+        rows += [(("NTSC", number, 65535), "black is not from 0 to 65535") for number in WIDE]
+        rows += [(("NTSC", 100, number), "white is not from 0 to 65535") for number in WIDE]
+        rows += [(("NTSC", 65536, 65537), "black is not from 0 to 65535"),
+                 (("NTSC", 65535, 65535), NOT_BELOW), (("NTSC", 257, 256), NOT_BELOW)]
+        rows += [(("NTSC", *levels), None) for levels in ((256, 257), (257, 65535), (0, 65535), (16384, 65535))]
+        for call, first in ((ldvbi.read_line, line), (ldvbi.read_rows, line * 3), (ldvbi.read_field, FIELD),
+                            (ldvbi.fields, b""), (ldvbi.Stream, b""), (ldvbi.draw_line, 0xF12345)):
+            for setup, text in rows:
+                self.assertEqual(reason(call, first, *setup), text, (call, setup))
         for word in (256, 257, 65535, 0x7FFFFF, 0x1000000) + WIDE:
             self.assertEqual(reason(ldvbi.draw_line, word, *NTSC), "number is no code word", word)
 
@@ -71,7 +56,7 @@ class Values(unittest.TestCase):
         rows = b"".join(ldvbi.draw_line(word, *NTSC) for word in (0x82CFFF, 0, 0xF00001))
         readings = ldvbi.read_rows(rows, *NTSC)
         self.assertEqual([line.word for line in readings], [0x82CFFF, 0, 0xF00001])
-        field = bytearray(ldvbi.field_bytes("NTSC"))
+        field = bytearray(FIELD)
         field[15 * 1820:18 * 1820] = rows
         self.assertEqual(ldvbi.read_field(field, *NTSC), readings)
         self.assertIsInstance(readings, ldvbi.FieldReadings)

@@ -1,11 +1,13 @@
-"""The command as a process: documents of TBC files, metadata beside them, two captures, cut sides."""
+"""The command as a process: documents of TBC files, metadata beside them, two captures, cut sides; and the files that it
+writes, never in the place of an input."""
 
 import json
 import os
+import shutil
 from unittest import mock
 
 import ldvbi
-from command_runs import SIZE, Runs
+from command_runs import IN_PLACE, SIZE, Runs
 from compact import words_of
 from ldvbi_side.side import side_of_tbc
 from streams import NTSC, PAL, pictures, write_stream
@@ -23,7 +25,8 @@ class WithoutLibrary(Runs):
                 # a number in each field is no whole side
                 self.assertEqual((found[0], found[2]), (int(words == "--summary"), ""))
                 self.assertEqual(self.run_command("side.vbi.json " + words), found)
-        self.assertEqual(self.run_command("--help", env=absent), (0, self.printed("--help"), ""))
+        status, text, said = self.run_command("--help", env=absent)
+        self.assertEqual((status, text[:18], said), (0, b"usage: ldvbi-side ", ""))
         for words in ("", " --csv", " --document"):
             self.assertEqual(self.run_command("side.tbc LEVELS" + words, env=absent), (2, b"", NO_LIBRARY))
 
@@ -39,19 +42,6 @@ class Documents(Runs):
         self.write("side.tbc", b"")
         self.assertEqual(self.printed("side.tbc LEVELS --csv").count(b"\n"), 1)
         self.assertEqual(self.printed("side.tbc LEVELS --document"), self.extracted("side.tbc"))
-
-    def test_metadata_that_is_named(self):
-        self.metadata("side.tbc.json", black16bIre=16383.5)
-        self.database("side.tbc.db")
-        said = "ldvbi-side: side.tbc: black16bIre is 16383.5, rounded to 16384\n"
-        self.assertEqual(self.printed("side.tbc --meta side.tbc.json --document", said=said), self.document)
-        self.assertEqual(self.printed("side.tbc --meta side.tbc.db --document"), self.document)
-
-    def test_with_a_drawing(self):
-        self.assertEqual(self.printed("side.tbc LEVELS --document --svg one.svg"), self.document)
-        self.printed("side.tbc LEVELS --svg two.svg")
-        self.assertEqual(self.read("one.svg"), self.read("two.svg"))
-        self.assertIn(b"<svg", self.read("one.svg"))
 
     def test_alone_of_its_kind(self):
         for other in ("--csv", "--json", "--summary", "--bad-lines"):
@@ -69,6 +59,10 @@ class Metadata(Runs):
                             ("LEVELS --seek 4", b"field 5, frame 3\n")):
             self.assertEqual(self.printed("side.tbc " + words), text)
         self.assertEqual(self.run_command("side.tbc --meta other.json --seek 4")[:2], (1, b"not found\n"))
+        self.assertEqual(self.printed("side.vbi.json --meta side.tbc.json --seek 4"), b"field 5, frame 2\n")
+        self.metadata("without.json")
+        self.assertEqual(self.printed("side.vbi.json --meta without.json --seek 4", said="ldvbi-side: without.json has "
+                                      "no isFirstField of each field\n"), b"field 5, frame 3\n")
         os.rename(self.named("side.tbc.json"), self.named("side.tbc.db"))
         self.assertEqual(self.printed("side.tbc --document"), self.document)
 
@@ -141,3 +135,60 @@ class Judged(Runs):
         with mock.patch("ldvbi_side.side.judge", side_effect=OSError("too old")):
             answer = side_of_tbc(*setup, recover=False).answer
         self.assertEqual((answer["judged"], answer["whole"], answer["numbers"]["count"]), (None, "yes", 30))
+
+
+class Files(Runs):
+    def test_outputs_into_a_file(self):
+        for words, status, option in (("--document", 0, "-o"), ("--csv", 0, "--output"), ("", 1, "-o"),
+                                      ("--seek 99", 1, "--output")):
+            with self.subTest((words, option)):
+                printed = self.run_command("side.tbc LEVELS " + words)
+                self.assertEqual(printed[0], status)
+                self.assertEqual(self.run_command("side.tbc LEVELS %s %s out" % (words, option)), (status, b"", ""))
+                self.assertEqual(self.read("out"), printed[1])
+                os.unlink(self.named("out"))
+
+    def test_a_map(self):
+        self.assertEqual(self.printed("side.vbi.json --map side.map"), b"")
+        rows = self.read("side.map").split(b"\n")
+        self.assertEqual([rows[0], rows[5], rows[-1]], [b"kind,number,field,frame,how", b"picture,4,5,3,read", b""])
+        self.assertEqual(self.printed("side.tbc LEVELS --map two --seek 4"), b"field 5, frame 3\n")
+        self.assertEqual(self.printed("side.tbc LEVELS --map three --document --svg svg"), self.document)
+        self.assertEqual([self.read("two"), self.read("three")], [self.read("side.map")] * 2)
+        self.assertIn(b"<svg", self.read("svg"))
+
+    def test_pages_and_their_index(self):
+        columns = bytearray(self.read("side.tbc"))
+        begin = 2 * ((2 * 263 + 16) * 910 + 170)
+        columns[begin:begin + 10] = columns[:10]  # five black columns in line 17 of field 3
+        self.write("side.tbc", bytes(columns))
+        self.assertEqual(self.printed("side.tbc LEVELS --html side.html"), b"")
+        for text in ("<summary>field 3, line 17: change ", "side.tbc, field 3, line 17</text>"):
+            self.assertIn(text, self.text("side.html"))
+        self.write("side.vbi.json", self.extracted("side.tbc"))
+        self.assertEqual(self.printed("side.vbi.json --html two.html"), b"")
+        self.assertNotIn("Bad lines,", self.text("two.html"))
+        self.assertEqual(self.printed("index index.html side.html two.html"), b"")
+        self.assertIn('<a href="two.html">side.vbi.json</a>', self.text("index.html"))
+        self.refused(IN_PLACE % "side.html", "index side.html side.html")
+
+    def test_no_output_in_the_place_of_an_input(self):
+        shutil.copy(self.named("side.vbi.json"), self.named("meta.json"))
+        os.symlink("side.tbc", self.named("soft.tbc"))
+        self.metadata("side.tbc.json")
+        before = self.files()
+        for name, words in (("side.tbc", "side.tbc LEVELS --document -o side.tbc"),
+                            ("soft.tbc", "side.tbc LEVELS --svg soft.tbc"), ("side.tbc", "soft.tbc LEVELS -o side.tbc"),
+                            ("meta.json", "side.tbc LEVELS --meta meta.json -o meta.json"),
+                            ("side.tbc.json", "side.tbc -o side.tbc.json"),
+                            ("side.vbi.json", "side.vbi.json --svg side.vbi.json"),
+                            ("new", "side.vbi.json --svg new -o new"), ("new", "side.vbi.json --svg new --map new")):
+            with self.subTest(words):
+                self.refused(IN_PLACE % name, words)
+        for name, words in (("side.vbi.json", "side.vbi.json"), ("side.tbc", "side.tbc LEVELS --document"),
+                            *(("side.vbi.json", command + " side.vbi.json side.vbi.json")
+                              for command in ("compare", "join", "scan"))):
+            with self.subTest(words), open(self.named(name), "ab") as file:
+                self.assertEqual(self.run_command(words, stdout=file),
+                                 (2, None, "ldvbi-side: %s\n" % IN_PLACE % "standard output"))
+        self.assertEqual(self.files(), before)

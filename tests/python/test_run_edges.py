@@ -1,7 +1,8 @@
-"""The command where what is around it isn't as usual: streams that are closed, signals at any time, names and files of
-others."""
+"""The command where what is around it isn't as usual: streams that are closed or a terminal's, signals at any time, no
+reader, names and files of others."""
 
 import contextlib
+import fcntl
 import functools
 import json
 import os
@@ -9,15 +10,25 @@ import shutil
 import signal
 import sqlite3
 import sys
+import termios
 import time
 import xml.etree.ElementTree as xml
 
-from command_runs import BUFFERED, LEVELS, Runs
-from streams import NTSC, PROGRAM, TOP, pictures, worn_line, write_stream
+from command_runs import BUFFERED, DEADLINE, LEVELS, SIZE, Runs
+from streams import NTSC, TOP, pictures, worn_line, write_stream
 
 SIGNALS = ((signal.SIGTERM, 143), (signal.SIGHUP, 129), (signal.SIGINT, 130))
 WORN = worn_line(0xF00001, NTSC, 20, 9)
 WAITING = "with open('pipe') as file:\n    file.read()\n"
+# A run that is interrupted once it has printed its words
+INTERRUPTED = """
+import sys, ldvbi_side.__main__, ldvbi_side.command.main
+def interrupted(words):
+    print(words)
+    raise KeyboardInterrupt
+ldvbi_side.command.main.main = interrupted
+sys.exit(ldvbi_side.__main__.main(['words']))
+"""
 
 
 class Closed(Runs):
@@ -130,6 +141,54 @@ class Signals(Runs):
         self.ended(process, 0, b"field 4, frame 2\n")
 
 
+class Terminals(Runs):
+    def test_progress(self):
+        """None of documents, where nobody looks, or between the lines of a document."""
+        for words in ("--csv", "--summary", "--document", "--document -o out", "--svg side.svg"):
+            with self.subTest(words):
+                shown, text = self.on_terminal(int(words == "--summary"), "side.tbc LEVELS " + words)
+                self.assertTrue(shown.startswith("\r0 of 12 fields, 0 %\x1b[K"), shown)
+                self.assertTrue(shown.endswith("\r12 of 12 fields, 100 %\x1b[K\r\x1b[K"), shown)
+                _, printed, said = self.run_command("side.tbc LEVELS " + words)
+                self.assertEqual((text, said), (printed, ""))
+        self.assertEqual(self.read("out"), self.document)
+        self.assertEqual(self.on_terminal(0, "side.vbi.json --seek 3")[0], "")
+        shown, _ = self.on_terminal(0, "side.tbc LEVELS --document", is_output_on_it=True)
+        self.assertEqual(shown.replace("\r\n", "\n").encode(), self.document)
+
+
+class Interrupted(Runs):
+    def long_document(self):
+        """The process that prints one."""
+        write_stream(self.named("side.tbc"), NTSC, [[0, 0, 0]], 2000 * SIZE)
+        return self.started("side.tbc LEVELS --document")
+
+    def test_while_nobody_reads(self):
+        """The pipe is full, and what can't be written any more must not be waited for."""
+        process = self.long_document()
+        waiting = [-2, -1]
+        while waiting[-1] != waiting[-2] or waiting[-1] < 4096:
+            time.sleep(0.3)
+            count = fcntl.ioctl(process.stdout.fileno(), termios.FIONREAD, bytes(4))
+            waiting.append(int.from_bytes(count, sys.byteorder))
+        process.send_signal(signal.SIGINT)
+        self.assertEqual((process.wait(DEADLINE), process.stderr.read()), (130, b""))
+        self.assertTrue(self.extracted("side.tbc").startswith(process.stdout.read()))
+
+    def test_no_reader(self):
+        """Ctrl-C ends the reader of a pipe, too: what was printed has nowhere to go then. And one that has seen it."""
+        for status, words, more in ((130, ("-c", INTERRUPTED), {"command": [sys.executable]}),
+                                    (2, ("side.vbi.json", "--csv"), {})):
+            ours, theirs = os.pipe()
+            os.close(ours)
+            self.assertEqual(self.run_command(*words, stdout=theirs, env=BUFFERED, **more), (status, None, ""))
+            os.close(theirs)
+        process = self.long_document()
+        process.stdout.read(100)
+        process.stdout.close()
+        self.assertEqual((process.stderr.read(), process.wait(DEADLINE)), (b"", 2))
+
+
 class Names(Runs):
     NAME = os.fsdecode(b"s\xff\x1b[31m\xef\xbf\xbe<&>.tbc")
 
@@ -176,43 +235,21 @@ class Names(Runs):
                 self.assertEqual((status, text, said[:17]), (2, b"", "usage: ldvbi-side"))
                 self.assertRegex(said, "error: a (file|folder) has to have a name\n$")
 
-    def test_outputs_with_a_long_name(self):
-        name = "\u00fc" * 125  # of 250 bytes
-        for option in ("-o", "--html", "--map", "--svg"):
-            self.assertEqual(self.run_command("side.vbi.json", "--seek", "3", option, name)[0], 0)
-            os.unlink(self.named(name))
-        long = "x" * 246 + ".tbc"
-        self.write(long, self.read("side.tbc"))
-        self.metadata(long + ".json")
-        status, text, said = self.run_command("scan", "--json", "--html", "pages", long)
-        self.assertEqual((status, json.loads(text)["sides"][0]["fault"], said), (1, None, ""))
-
 
 class Others(Runs):
     """Files of others."""
-
-    def said_briefly(self, words, begin, end=""):
-        """A run says this, on one line that can be shown, and that isn't too long."""
-        status, text, said = self.run_command(words)
-        self.assertEqual((status, text), (2, b""))
-        self.assertTrue(said.startswith("ldvbi-side: " + begin) and said.endswith(end + "\n"), said)
-        self.assertTrue(said[:-1].isprintable())
-        self.assertLess(len(said), 650)
 
     def test_a_database(self):
         with contextlib.closing(sqlite3.connect(self.named("side.tbc.db"))) as database, database:
             database.execute("BEGIN")  # else the disk is waited for 300 times
             for number in range(300):
                 database.execute('CREATE TABLE "\x1b[31m\n%03d" (system TEXT)' % number)
-        self.said_briefly("side.tbc",
-                          "side.tbc.db: no table capture; there are: \\x1b[31m\\n000, \\x1b[31m\\n001, ")
-        table = self.run_words("scan --csv side.tbc")[1]
-        self.assertTrue(table.replace("\n", "").isprintable())
-        self.assertLess(len(table), 750)
-
-    def test_a_document(self):
-        self.write("wrong.vbi.json", self.document.replace(b'"word"', b'"\\u001b[31m%s"' % (b"x" * 5000), 1))
-        self.said_briefly("wrong.vbi.json", "wrong.vbi.json: field 1: \"\\u001b[31mxxx", "xxx\" is no cause")
+        status, text, said = self.run_words("side.tbc")
+        begin = "ldvbi-side: side.tbc.db: no table capture; there are: \\x1b[31m\\n000, \\x1b[31m\\n001, "
+        self.assertEqual((status, text, said[:len(begin)]), (2, "", begin))
+        for shown in (said, self.run_words("scan --csv side.tbc")[1]):
+            self.assertTrue(shown.replace("\n", "").isprintable())
+            self.assertLess(len(shown), 750)
 
     def test_an_option_beside_metadata(self):
         self.metadata("side.tbc.json")
@@ -227,19 +264,3 @@ class Others(Runs):
         with open("/dev/zero", "rb") as zeros:
             self.assertEqual(self.run_command("-", stdin=zeros), (
                 2, b"", "ldvbi-side: standard input: not JSON: line 1 is wrong from column 1 on\n"))
-
-    def test_metadata_that_the_program_refuses(self):
-        """It isn't JSON: names in the place of numbers, numbers that are too large, and what is nested too deep."""
-        self.metadata("side.tbc.json")
-        begin = self.text("side.tbc.json")[:-1]
-        deep = "[" * 126 + "]" * 126
-        for value, is_taken in (("1e308", True), (deep, True), ("NaN", False), ("-Infinity", False), ("1e999", False),
-                                ("[%s]" % deep, False), ('{"a":%s}' % deep, False)):
-            with self.subTest(value[:20]):
-                self.write("meta.json", '%s, "a": %s}' % (begin, value))
-                status, _, said = self.run_command("extract --meta meta.json side.tbc", command=[PROGRAM])
-                self.assertEqual(status == 0, is_taken, said)
-                if is_taken:
-                    self.assertEqual(self.printed("side.tbc --meta meta.json --document"), self.document)
-                else:
-                    self.refused("meta.json is no metadata with videoParameters", "side.tbc --meta meta.json")

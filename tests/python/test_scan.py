@@ -4,6 +4,7 @@ import csv
 import html
 import json
 import os
+import time
 from urllib.parse import quote
 
 from command_runs import IN_PLACE
@@ -143,15 +144,6 @@ class Pages(Scans):
     def time_of(self, name):
         return os.stat(self.named(name)).st_mtime_ns
 
-    def test_sides_of_one_name(self):
-        self.add("a/side.tbc")
-        self.add("b/side.tbc", "1..20")
-        self.assertEqual(self.scan("--html pages a b")[0], 0)
-        one, other = self.page("a/side.tbc"), self.page("b/side.tbc")
-        self.assertIn("30, from 1 to 30", self.text(one))
-        self.assertIn("20, from 1 to 20", self.text(other))
-        self.assertEqual(self.page("b/../a/side.tbc"), one)  # a side has one page, however it is named
-
     def test_a_page_that_is_newer(self):
         """The side isn't read again, but keeps its row: what is in its file now isn't looked at."""
         self.add("side.tbc")
@@ -179,12 +171,18 @@ class Pages(Scans):
                 self.assertEqual(self.read(page), whole)
 
     def test_a_file_that_grows_while_it_is_read(self):
-        """Its page has the time at which it began to be read."""
+        """Its page has the time at which it began to be read, before its metadata came."""
         self.add("side.tbc")
-        before, page = self.time_of("side.tbc"), self.time_of(self.page())
-        self.assertLessEqual(before, page)
-        # a process was started in between, and the side read
-        self.assertGreater(self.time_of("pages/index.html") - page, 20000000)
+        self.metadata("meta.json")
+        os.unlink(self.named("side.tbc.json"))
+        os.mkfifo(self.named("side.tbc.json"))
+        process = self.started("scan --html pages --csv side.tbc")
+        with open(self.named("side.tbc.json"), "wb") as file:
+            began = time.time_ns()
+            file.write(self.read("meta.json"))
+        self.ended(process, 0, ("%s\n%s\n" % (",".join(HEAD), YES)).encode())
+        page = [name for name in os.listdir(self.named("pages")) if name.startswith("side.tbc-")][0]
+        self.assertTrue(self.time_of("side.tbc") <= self.time_of("pages/" + page) < began)
 
     def test_what_is_no_page(self):
         """Another file in the place of a page is written anew, as is a page that lacks what a row has."""

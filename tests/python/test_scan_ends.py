@@ -44,27 +44,6 @@ def until(found):
     raise AssertionError("it never came")
 
 
-class Ends(Scans):
-    def add_waiting(self, *names):
-        """Sides that are never read, as their metadata is a pipe to which nobody writes."""
-        for name in names:
-            self.add(name)
-            os.unlink(self.named(name + ".json"))
-            os.mkfifo(self.named(name + ".json"))
-
-    def scanning(self, words, count, **more):
-        """A scan that has printed so many lines, which are the answer, too."""
-        process = self.started("scan", *words.split(), **more)
-        return process, [process.stdout.readline().decode() for _ in range(count)]
-
-    def ended(self, process, status, text=b""):
-        """As any run, and no process is left over."""
-        of_it = children(process.pid)
-        super().ended(process, status, text)
-        for one in of_it:
-            self.assertNotIn(b"spawn_main", command_of(one))
-
-
 def fails(path, page):
     """Reads no side: what it raises isn't what a file is to blame for."""
     raise KeyError("a fault of the program")
@@ -89,7 +68,26 @@ class Failing(Scans):
             self.assertEqual(printed.getvalue().split("\n")[1:], [row, ""])
 
 
-class Killed(Ends):
+class Ends(Scans):
+    def add_waiting(self, *names):
+        """Sides that are never read, as their metadata is a pipe to which nobody writes."""
+        for name in names:
+            self.add(name)
+            os.unlink(self.named(name + ".json"))
+            os.mkfifo(self.named(name + ".json"))
+
+    def scanning(self, words, count, **more):
+        """A scan that has printed so many lines, which are the answer, too."""
+        process = self.started("scan", *words.split(), **more)
+        return process, [process.stdout.readline().decode() for _ in range(count)]
+
+    def ended(self, process, status, text=b""):
+        """As any run, and no process is left over."""
+        of_it = children(process.pid)
+        super().ended(process, status, text)
+        for one in of_it:
+            self.assertNotIn(b"spawn_main", command_of(one))
+
     def test_one_side_fails_and_the_others_are_read(self):
         for name in ("1.tbc", "3.tbc"):
             self.add(name)
@@ -102,8 +100,6 @@ class Killed(Ends):
                                b"./3.tbc,yes,0,0,cav,1,30,60,\n")
         self.assertEqual(len(os.listdir(self.named("pages"))), 3)
 
-
-class Interrupted(Ends):
     def test_while_sides_are_read(self):
         """By Ctrl-C at a terminal, which all processes get, and by a signal to the first one alone."""
         self.add("1.tbc")

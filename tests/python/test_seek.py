@@ -10,29 +10,18 @@ from cases import reason
 from compact import words_of
 from ldvbi import Number, Pace, State
 from simulate import simulated
-from streams import NTSC, PAL
+from streams import NTSC, PAL, write_fields
 
 SIDES = int(os.environ.get("SEEK_SIDES", "40"))
 
 
-class Memory:
-    """A side in memory, drawn from words: the pages of other lines are never touched, so they take no room."""
-
-    def __init__(self, fields, setup=PAL, rest=0):
-        size, line, drawn = ldvbi.field_bytes(setup[0]), ldvbi.line_bytes(setup[0]), {}
-        self.memory = mmap.mmap(-1, max(len(fields) * size + rest, 1))
-        for number, words in enumerate(fields):
-            for row, word in enumerate(words, 15):
-                if word:
-                    if word not in drawn:
-                        drawn[word] = ldvbi.draw_line(word, *setup)
-                    at = number * size + row * line
-                    self.memory[at:at + line] = drawn[word]
-        self.side = ldvbi.Stream(memoryview(self.memory)[:len(fields) * size + rest], *setup)
-
-
-def memory_of(text, setup=PAL, rest=0):
-    return Memory(words_of(text), setup, rest).side
+def side_of(fields, setup=PAL, rest=0):
+    """A side of these fields, or of those of a text, in memory. No pages are touched but those of drawn lines."""
+    fields = words_of(fields) if isinstance(fields, str) else fields
+    length = len(fields) * ldvbi.field_bytes(setup[0]) + rest
+    memory = mmap.mmap(-1, max(length, 1))
+    write_fields(memory, setup, fields)
+    return ldvbi.Stream(memoryview(memory)[:length], *setup)
 
 
 VIDEO, FILM = (State.believed, Pace.video, True), (State.believed, Pace.film, True)
@@ -54,25 +43,25 @@ ROWS = (
 class Seeking(unittest.TestCase):
     def test_rows(self):
         for text, setup, asked, wanted in ROWS:
-            found = ldvbi.seek(memory_of(text, setup), *asked)
+            found = ldvbi.seek(side_of(text, setup), *asked)
             with self.subTest((text, asked)):
                 self.assertEqual(found and (found.field, found.number.state, found.pace, found.looked <= 400), wanted)
 
     def test_a_side_that_runs_on(self):
-        memory = memory_of("Lx30 1..399 Ox300")
+        side = side_of("Lx30 1..399 Ox300")
         for number in (1, 2, 3, 30, 199, 200, 398, 399):
-            self.assertEqual(ldvbi.seek(memory, number)[:3],
+            self.assertEqual(ldvbi.seek(side, number)[:3],
                              (28 + 2 * number, Number(number, State.believed), Pace.video))
         for number in (0, 400, 79999, 2 ** 32 - 1):
-            self.assertIsNone(ldvbi.seek(memory, number))
+            self.assertIsNone(ldvbi.seek(side, number))
 
     def test_few_fields_are_read(self):
-        memory = memory_of("1..4000")
-        self.assertLessEqual(max(ldvbi.seek(memory, number).looked for number in range(1, 4001, 97)), 200)
+        side = side_of("1..4000")
+        self.assertLessEqual(max(ldvbi.seek(side, number).looked for number in range(1, 4001, 97)), 200)
 
     def test_a_cut_side_and_refusals(self):
-        self.assertEqual(ldvbi.seek(memory_of("5..7", rest=700000), 7)[0], 4)
-        side = Memory([]).side
+        self.assertEqual(ldvbi.seek(side_of("5..7", rest=700000), 7)[0], 4)
+        side = side_of([])
         for asked, text in ((("chapters",), "neither pictures nor times are counted"),
                             (("pictures", "slow"), "pace is neither that of video nor of film, nor to be found")):
             self.assertEqual(reason(ldvbi.seek, side, 7, *asked), text)
@@ -86,18 +75,18 @@ class BesideTheJudge(unittest.TestCase):
         for seed in range(SIDES):
             side = simulated(seed, count=250)
             setup = NTSC if side.document["videoParameters"]["system"] == "NTSC" else PAL
-            memory = Memory([field["vbi"]["vbiData"] for field in side.document["fields"]], setup).side
+            stream = side_of([field["vbi"]["vbiData"] for field in side.document["fields"]], setup)
             counted = "times" if side.layout.startswith("clv") else "pictures"
-            answers = {pace: ldvbi.judge(memory, setup[0], counted, pace) for pace in ("video", "film")}
+            answers = {pace: ldvbi.judge(stream, setup[0], counted, pace) for pace in ("video", "film")}
             for number in {number for number in side.numbers[::37] if number is not None}:
                 with self.subTest(seed=seed, number=number):
-                    was_found, was_known = self.beside(memory, answers, number, counted)
+                    was_found, was_known = self.beside(stream, answers, number, counted)
                     found, known = found + was_found, known + was_known
         self.assertGreaterEqual(found, 0.97 * known)
 
-    def beside(self, memory, answers, number, counted):
+    def beside(self, stream, answers, number, counted):
         """Whether a number is found, and whether any field has it by the judge of the whole side."""
-        place = ldvbi.seek(memory, number, counted)
+        place = ldvbi.seek(stream, number, counted)
         if place is None:
             return False, ldvbi.first_of(answers["video"], number) is not None
         self.assertLessEqual(place.looked, 400)

@@ -62,14 +62,9 @@ class Statuses(Scans):
                               ("join cut.tbc whole.tbc lost.tbc", 3), ("compare cut.tbc whole.tbc", 3)):
             self.assertEqual(self.run_words(words)[0], status, words)
 
-    def test_what_is_only_printed(self):
+    def test_what_is_printed_alone(self):
+        """The version, and the summary of a side without an option."""
         self.assertEqual(self.run_words("--version"), (0, "ldvbi-side %s\n" % ldvbi.__version__, ""))
-        status, text, said = self.run_words("--help")
-        self.assertEqual((status, text[:18], said), (0, "usage: ldvbi-side ", ""))
-        self.run_words("whole.tbc --html page.html")
-        self.assertEqual(self.run_words("index index.html page.html"), (0, "", ""))
-
-    def test_a_side_without_an_option_is_its_summary(self):
         for name in SIDES:
             self.assertEqual(self.run_words(name), self.run_words(name, "--summary"))
         self.assertEqual(self.run_words("whole.tbc")[1].split("\n")[0], "whole: yes")
