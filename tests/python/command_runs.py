@@ -26,7 +26,6 @@ BUFFERED = {name: value for name, value in os.environ.items() if name != "PYTHON
 class Commands(InFolder):
     def setUp(self):
         super().setUp()
-        self.path = self.named
         self.maxDiff = None
 
     def text(self, name):

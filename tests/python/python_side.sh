@@ -89,10 +89,6 @@ done
 tail -c +505961 side.tbc | head -c 1820 | bounded "$program" line $ntsc > found
 check 'the offset is that of the line' [ "$(cat found)" = unfinished ]
 
-for wrong in '--seek x' '--seek -1' '--csv --seek 1' '--system SECAM' '--black 1.0'; do
-    told side.tbc $wrong
-    check "refused: $wrong" [ $status = 2 ]
-done
 # The pictures of SIDES.md, made again
 mkdir made
 status=0

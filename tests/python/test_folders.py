@@ -2,6 +2,7 @@
 
 import gzip
 import os
+import re
 import shutil
 import unittest
 from unittest import mock
@@ -56,10 +57,16 @@ class Folders(InFolder):
             self.assertEqual(sides_in(["d"]), [Found("d", "Permission denied")])
 
     def test_names_of_pages(self):
-        names = {page_name(path) for path in ("d/a.tbc", "d/b.tbc", "e/a.tbc", "d/a.vbi.json", "a.tbc")}
-        self.assertEqual(len(names), 5)
-        for name in names:
-            self.assertRegex(name, r"^[ab]\.(tbc|vbi\.json)-[0-9a-f]{8}\.html$")
+        """The name of a side's file, and digits; of the longest names that there are it has the beginning."""
+        long = "a" * 251 + ".tbc"
+        names = {page_name(path): os.fsencode(os.path.basename(path))
+                 for path in ("d/a.tbc", "d/b.tbc", "e/a.tbc", "d/a.vbi.json", "a.tbc", long, long[1:], "b" * 255,
+                              "ü" * 127, "d/" + long)}
+        self.assertEqual(len(names), 10)
+        for name, of_side in names.items():
+            begin = os.fsencode(re.fullmatch(r"(.*)-[0-9a-f]{8}\.html", name).group(1))
+            self.assertTrue(of_side.startswith(begin), name)
+            self.assertTrue(begin == of_side or 100 < len(os.fsencode(name)) < 220, name)
         self.assertEqual(page_name("d/a.tbc"), page_name(os.path.abspath("d/../d/a.tbc")))
 
     def test_files(self):

@@ -27,13 +27,13 @@ class Copies(Runs):
         self.write(name, json.dumps({"videoParameters": PARAMETERS, "fields": fields}))
 
     def database(self, count, name="side.tbc.db"):
-        in_database(self.path(name), *FORM.split(";"), *(
+        in_database(self.named(name), *FORM.split(";"), *(
             ("INSERT INTO field_record VALUES (4, ?, 0.5, ?, 17.25)", (place, place % 2)) for place in range(count)))
 
     def words_of(self, name):
         """The words of each field of a copy, or of a document."""
         if name.endswith(".db"):
-            rows, = in_database(self.path(name), "SELECT vbi0, vbi1, vbi2 FROM vbi ORDER BY field_id")
+            rows, = in_database(self.named(name), "SELECT vbi0, vbi1, vbi2 FROM vbi ORDER BY field_id")
             return list(map(list, rows))
         return [field["vbi"]["vbiData"] for field in json.loads(self.read(name))["fields"]]
 
@@ -54,11 +54,11 @@ class Words(Copies):
                             ("copy.json", ("side.tbc", "side.tbc LEVELS", "side.tbc --no-recover",
                                            "side.vbi.json --meta side.tbc.json"))):
             self.write(name, b"old")
-            os.chmod(self.path(name), 0o640)
+            os.chmod(self.named(name), 0o640)
             for words in texts:
                 self.assertEqual(self.copied(words, name), wanted)
                 before.setdefault(name, self.read(name))
-            self.assertEqual(os.stat(self.path(name)).st_mode & 0o777, 0o640)
+            self.assertEqual(os.stat(self.named(name)).st_mode & 0o777, 0o640)
         self.assertEqual(self.files(), before)
 
     def test_all_else_stays_as_it_was(self):
@@ -78,7 +78,7 @@ class Words(Copies):
     def test_recovered_words(self):
         fields = pictures(12)
         fields[4][1] = worn_line(0xF00004, NTSC, 10, 10)
-        write_stream(self.path("side.tbc"), NTSC, fields)
+        write_stream(self.named("side.tbc"), NTSC, fields)
         self.run_command("side.tbc --document --recovered -o side.vbi.json")
         for words, word in (("side.tbc", 0), ("side.tbc --recovered", 0xF00004)):
             self.assertEqual(self.copied(words)[4], [0xF00004, word, 0xF00004])
@@ -98,10 +98,10 @@ class Words(Copies):
                 self.assertEqual(printed[0], status)
                 self.assertEqual(self.run_command("side.tbc --into copy.json " + words), printed)
                 self.assertEqual(len(self.words_of("copy.json")), 12)
-                os.unlink(self.path("copy.json"))
+                os.unlink(self.named("copy.json"))
 
     def test_a_cut_field_has_no_words(self):
-        os.truncate(self.path("side.tbc"), 11 * SIZE + 7)
+        os.truncate(self.named("side.tbc"), 11 * SIZE + 7)
         self.write("side.vbi.json", self.extracted("side.tbc"))
         self.metadata(11)
         said = "ldvbi-side: %s: the last field is cut: field 12 has 7 of 478660 bytes\n"
@@ -130,7 +130,7 @@ class Refused(Copies):
         self.write("side.tbc.json", b"{")
         for words in ("side.tbc LEVELS", "side.vbi.json --meta side.tbc.json"):
             self.refused("side.tbc.json is no metadata with videoParameters", words + " --into copy")
-        os.unlink(self.path("side.tbc.json"))
+        os.unlink(self.named("side.tbc.json"))
         for words, text in (("side.tbc LEVELS", "side.tbc: no side.tbc.json or side.tbc.db beside it"),
                             ("side.vbi.json", "side.vbi.json: no metadata is looked for beside a name that doesn't end "
                              "with .tbc")):
@@ -141,7 +141,7 @@ class Refused(Copies):
         self.assertNotIn("copy", self.names())
 
     def test_onto_an_input(self):
-        os.link(self.path("side.tbc.json"), self.path("hard"))
+        os.link(self.named("side.tbc.json"), self.named("hard"))
         before = self.files()
         for name, words in (("side.tbc", ""), ("hard", ""), ("copy", "--svg copy "), ("rows.db", "--meta rows.db "),
                             ("rows.db-wal", "--meta rows.db "), ("rows.db-journal", "--meta rows.db ")):
@@ -153,7 +153,7 @@ class Refused(Copies):
             self.write("copy" + end, b"")
             self.refused("copy%s is there: copy is in use, or was left unfinished" % end,
                          "side.tbc --meta rows.db --into copy")
-            os.unlink(self.path("copy" + end))
+            os.unlink(self.named("copy" + end))
         self.refused("/dev/null is no file", "side.tbc --meta rows.db --into /dev/null")
         self.assertNotIn("copy", self.names())
 
@@ -190,7 +190,7 @@ class Interrupted(Copies):
 class Long(Copies):
     def setUp(self):
         super().setUp()
-        write_stream(self.path("side.tbc"), NTSC, pictures(4), 20000 * SIZE)
+        write_stream(self.named("side.tbc"), NTSC, pictures(4), 20000 * SIZE)
         self.metadata(20004, dropOuts={"startx": list(range(80))}, vbi={"vbiData": [0, 0, 0]})
         self.database(20004, "rows.db")
 
@@ -201,7 +201,7 @@ class Long(Copies):
 
         # what records each line holds more with each of them
         env = {name: value for name, value in os.environ.items() if name != "COVERAGE_PROCESS_START"}
-        self.assertGreater(os.path.getsize(self.path("side.tbc.json")), 8 << 20)
+        self.assertGreater(os.path.getsize(self.named("side.tbc.json")), 8 << 20)
         for meta, copy in (("side.tbc.json", "copy.json"), ("rows.db", "copy.db")):
             ended = self.run_command("side.tbc", "--meta", meta, "--into", copy, preexec_fn=limit, env=env)
             self.assertEqual(ended, (0, b"", ""))
@@ -210,15 +210,15 @@ class Long(Copies):
 
 class Sides(Copies):
     def test_is_first_field_of_a_database(self):
-        os.unlink(self.path("side.tbc.json"))
+        os.unlink(self.named("side.tbc.json"))
         self.database(12)
         for words in ("side.tbc", "side.vbi.json --meta side.tbc.db"):
             self.assertEqual(self.printed(words + " --seek 4"), b"field 5, frame 2\n")
 
     def test_compare_with_system_and_levels(self):
         """These stand in place of the metadata's, each by itself."""
-        os.unlink(self.path("side.tbc.json"))
-        write_stream(self.path("other.tbc"), NTSC, pictures(16)[4:])
+        os.unlink(self.named("side.tbc.json"))
+        write_stream(self.named("other.tbc"), NTSC, pictures(16)[4:])
         wanted = self.printed("compare side.vbi.json side.vbi.json")
         self.refused(NO_METADATA, "compare side.tbc side.vbi.json")
         self.assertEqual(self.printed("compare LEVELS side.tbc side.tbc"),

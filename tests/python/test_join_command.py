@@ -11,7 +11,7 @@ class Joins(Runs):
 
     def setUp(self):
         super().setUp()
-        write_stream(self.path("other.tbc"), NTSC, pictures(16)[4:8] + pictures(16)[10:])
+        write_stream(self.named("other.tbc"), NTSC, pictures(16)[4:8] + pictures(16)[10:])
         self.metadata("other.tbc.json")
 
     def joined(self, words=""):

@@ -1,12 +1,10 @@
 """Each fault in its whole message: one line that names the file, and says what is wrong with it or was looked for."""
 
-import contextlib
 import gzip
 import os
-import sqlite3
 import unittest
 
-from cases import reason
+from cases import in_database, reason
 from command_runs import NO_METADATA, Runs
 from ldvbi_side.command.faults import naming
 from streams import NTSC, write_stream
@@ -74,8 +72,7 @@ class Messages(Runs):
                        (": no black level given", '{"videoParameters":{"system":"NTSC"}}'))
         self.each_file("meta.db", "side.tbc --meta meta.db",
                        (": SQLite can't read it: file is not a database", b"SQLite format 3\0" + bytes(1000)))
-        with contextlib.closing(sqlite3.connect(self.named("video.db"))) as database:
-            database.execute("CREATE TABLE video (system TEXT)")
+        in_database(self.named("video.db"), "CREATE TABLE video (system TEXT)")
         self.refused("video.db: no table capture; there are: video", "side.tbc --meta video.db")
 
     def test_outputs(self):
@@ -91,9 +88,8 @@ class Messages(Runs):
     def test_pages_and_captures(self):
         none = " is no page that --html wrote"
         self.each_file(
-            "page.html", "index index.html page.html", (none, b""), (none, b"<title>\xff\xfe</title>"),
-            (none, b'<meta name="ldvbi-side" content="[]">'), (none, b'<meta name="ldvbi-side" content="{">'),
-            (none, b'<meta name="ldvbi-side">'),
+            "page.html", "index index.html page.html", (none, b"<title>\xff\xfe</title>"),
+            (none, b'<meta name="ldvbi-side" content="[]">'), (none, b'<meta name="ldvbi-side">'),
             (" is a page of another version: write it again", b'<meta name="ldvbi-side" content="{}">'))
         write_stream(self.named("dark.tbc"), NTSC, [[0, 0, 0]])
         self.metadata("dark.tbc.json")

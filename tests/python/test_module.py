@@ -13,7 +13,6 @@ import unittest
 
 import ldvbi
 from cases import InFolder, reason
-from ldvbi.samples import Samples
 from streams import NTSC, TOP, line_with
 
 WORD = (ldvbi.Cause.word, 1, 0, 0xF12345)
@@ -84,16 +83,8 @@ class Kinds(unittest.TestCase):
             for call in asked:
                 self.assertEqual(reason(call, source, *NTSC), "samples are " + text, (call, type(source)))
 
-    def test_a_buffer_is_held(self):
+    def test_a_buffer_is_given_back(self):
         line = bytearray(self.line)
-        with Samples(line) as memory:
-            self.assertEqual(ctypes.string_at(memory.address, memory.length), self.line)
-            with self.assertRaises(BufferError):
-                line.append(0)
-        line.append(0)
-        self.assertEqual(memory.length, 1820)  # it is there still, and holds nothing any more
-
-        line = bytearray(self.line)  # and it is given back
         ldvbi.read_line(line, *NTSC)
         line.append(0)  # a BufferError while somebody holds its bytes
         self.assertIsNotNone(reason(ldvbi.read_line, line, *NTSC))

@@ -10,7 +10,6 @@ from unittest import mock
 from cases import InFolder, reason
 import discs
 from ldvbi_side import outside
-from ldvbi_side.command.folders import page_name
 from ldvbi_side.command.outputs import drop_part, whole_file, whole_path
 from ldvbi_side.draw.index import PART, head_of, index_of
 from ldvbi_side.draw.page import MARK, page_of, said_of
@@ -72,15 +71,6 @@ class LongNames(InFolder):
             self.assertEqual(len(self.names()), 1)
             drop_part(self.named(name), os.getpid())
             self.assertEqual(self.names(), [])
-
-    def test_pages(self):
-        long = "a" * 251 + ".tbc"
-        names = {page_name(self.named(name))
-                 for name in (long, long[1:], "b" * 255, "ü" * 127, os.path.join("d", long))}
-        self.assertEqual(len(names), 5)
-        for name in names:
-            self.assertLess(len(os.fsencode(name)), 220)
-            self.assertRegex(name, r"-[0-9a-f]{8}\.html$")
 
 
 # What a page of others says, by member

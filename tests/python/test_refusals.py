@@ -13,7 +13,7 @@ NO_SYSTEM, NOT_BELOW = "system is neither NTSC nor PAL", "black is not below whi
 
 class Refusals(unittest.TestCase):
     def test_rows(self):
-        """Of what is refused for more than one reason the first one of the library's order is the one that is raised."""
+        """Of what is refused for more than one reason that is raised which comes first in the library's order."""
         for call, words, text in (
                 (ldvbi.read_line, (LINE, "ntsc", 1, 2), NO_SYSTEM), (ldvbi.read_line, (LINE, None, 1, 2), NO_SYSTEM),
                 (ldvbi.read_line, (LINE, "NTSC", 1.0, 2), "black is not a whole number"),

@@ -1,4 +1,4 @@
-"""The command as a process: documents of TBC files, metadata beside them, two captures, cut sides; and the files that it
+"""The command as a process: documents of TBC files, metadata beside them, two captures; and the files that it
 writes, never in the place of an input."""
 
 import json
@@ -7,7 +7,7 @@ import shutil
 from unittest import mock
 
 import ldvbi
-from command_runs import IN_PLACE, SIZE, Runs
+from command_runs import IN_PLACE, Runs
 from compact import words_of
 from ldvbi_side.side import side_of_tbc
 from streams import NTSC, PAL, pictures, write_stream
@@ -43,9 +43,10 @@ class Documents(Runs):
         self.assertEqual(self.printed("side.tbc LEVELS --csv").count(b"\n"), 1)
         self.assertEqual(self.printed("side.tbc LEVELS --document"), self.extracted("side.tbc"))
 
-    def test_alone_of_its_kind(self):
-        for other in ("--csv", "--json", "--summary", "--bad-lines"):
-            self.assertEqual(self.run_command("side.tbc LEVELS --document " + other)[0], 2)
+    def test_refused(self):
+        for words in ("--document --csv", "--document --json", "--document --summary", "--document --bad-lines",
+                      "--csv --seek 1", "--seek x", "--seek -1", "--system SECAM", "--black 1.0"):
+            self.assertEqual(self.run_command("side.tbc LEVELS " + words)[:2], (2, b""), words)
 
 
 class Metadata(Runs):
@@ -97,21 +98,6 @@ class Metadata(Runs):
             "same": [{"first": 4, "last": 11, "count": 8}], "numbers": {"count": 16, "least": 0, "greatest": 15},
             "missing": [], "leftOut": []})
         self.assertEqual(self.run_command("compare side.vbi.json")[0], 2)
-
-
-class CutSides(Runs):
-    def test_cut_and_too_short(self):
-        for size, cut in ((4 * SIZE + 85360, (5, 85360)), (SIZE - 1, (1, SIZE - 1)), (1, (1, 1))):
-            os.truncate(self.named("side.tbc"), size)
-            self.write("side.vbi.json", self.extracted("side.tbc"))
-            for source, words in (("side.tbc", " LEVELS"), ("side.vbi.json", "")):
-                with self.subTest((size, source)):
-                    said = "ldvbi-side: %s: the last field is cut: field %d has %d of 478660 bytes\n" % (source, *cut)
-                    status, text, errors = self.run_command(source + words + " --csv")
-                    self.assertEqual((status, errors, text.count(b",cav,")), (3, said, cut[0] - 1))
-                    if words:
-                        self.assertEqual(self.run_command("side.tbc LEVELS --document"),
-                                         (3, self.read("side.vbi.json"), said))
 
 
 class Judged(Runs):

@@ -1,19 +1,18 @@
 """The command where what is around it isn't as usual: streams that are closed or a terminal's, signals at any time, no
 reader, names and files of others."""
 
-import contextlib
 import fcntl
 import functools
 import json
 import os
 import shutil
 import signal
-import sqlite3
 import sys
 import termios
 import time
 import xml.etree.ElementTree as xml
 
+from cases import in_database
 from command_runs import BUFFERED, DEADLINE, LEVELS, SIZE, Runs
 from streams import NTSC, TOP, pictures, worn_line, write_stream
 
@@ -240,10 +239,8 @@ class Others(Runs):
     """Files of others."""
 
     def test_a_database(self):
-        with contextlib.closing(sqlite3.connect(self.named("side.tbc.db"))) as database, database:
-            database.execute("BEGIN")  # else the disk is waited for 300 times
-            for number in range(300):
-                database.execute('CREATE TABLE "\x1b[31m\n%03d" (system TEXT)' % number)
+        in_database(self.named("side.tbc.db"), "BEGIN",  # else the disk is waited for 300 times
+                    *('CREATE TABLE "\x1b[31m\n%03d" (system TEXT)' % number for number in range(300)))
         status, text, said = self.run_words("side.tbc")
         begin = "ldvbi-side: side.tbc.db: no table capture; there are: \\x1b[31m\\n000, \\x1b[31m\\n001, "
         self.assertEqual((status, text, said[:len(begin)]), (2, "", begin))

@@ -1,7 +1,6 @@
 """`scan`: the table of a folder of sides, its statuses, and the pages with their index."""
 
 import csv
-import html
 import json
 import os
 import time
@@ -79,22 +78,15 @@ class Tables(Scans):
                          "     9000")
 
     def check_index(self, index, pages):
-        """A row for each side: first those that weren't read, then those that aren't whole, and the whole ones last."""
+        """What links the pages, or says why there is none; `index_of` has the rest."""
         self.assertIn("<h1>12 sides, whole: 4 yes, 3 no, 2 can&#x27;t tell, 3 faults</h1>", index)
-        order = ["fault", "no", "can't tell", "yes"]
-        rows = [line for line in index.replace("<tbody>", "\n").split("\n") if line.startswith("<tr>")]
-        self.assertEqual(len(rows), 12)
-        for name, row in zip(sorted(ROWS, key=lambda one: order.index(ROWS[one][0])), rows):
-            whole, _, _, _, least, greatest, fields, why = [cell.strip("-") for cell in ROWS[name]]
-            page, base = pages[name], os.path.basename(name)
-            self.assertEqual(page is None, whole == "fault", name)
+        for name, page in pages.items():
+            base = os.path.basename(name)
+            self.assertEqual(page is None, ROWS[name][0] == "fault", name)
+            self.assertIn('<td><a href="%s">%s</a></td>' % (quote(os.path.basename(page)), base) if page else
+                          "<td>%s</td><td>fault</td>" % name, index)
             if page:
                 self.assertIn("<title>%s</title>" % base, self.text(page))
-            shown = '<a href="%s">%s</a>' % (quote(os.path.basename(page)), base) if page else name
-            cells = row.partition("<tr><td>")[2].split("</td><td>")
-            self.assertEqual(cells[:3], [shown, html.escape(whole), fields])
-            self.assertIn(", %s to %s" % (least, greatest) if least else "none" if page else "", cells[3])
-            self.assertIn(why, cells[5])
 
 
 class Statuses(Scans):

@@ -168,12 +168,6 @@ def ignores(task, tell):
     time.sleep(DEADLINE)
 
 
-def listens(task, tell):
-    """A job whose process ends with its task."""
-    tell([task])
-    os._exit(task)
-
-
 def tidies(task, tell):
     """A job that signals reach while its process ends, behind a first one or by itself."""
     def tidy():
@@ -185,13 +179,6 @@ def tidies(task, tell):
 
 
 class Processes(unittest.TestCase):
-    def test_messages_and_ends(self):
-        ended = []
-        with SideBySide(listens, [3, 0, 7], 2, lambda task, process: ended.append(task)) as messages:
-            found = sorted(messages, key=lambda one: (one[0], isinstance(one[1], Ended)))
-        self.assertEqual(sorted(ended), [0, 3, 7])
-        self.assertEqual(found, [(0, [3]), (0, Ended(3)), (1, [0]), (1, Ended(0)), (2, [7]), (2, Ended(7))])
-
     def test_one_that_stays(self):
         ended = []
         with mock.patch.object(processes, "GRACE", 0.1), \

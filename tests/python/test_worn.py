@@ -31,7 +31,7 @@ class Noise(Runs):
         rng = random.Random(kind)
         setup = SETUPS[kind]
         rows = disc(rng, kind, PICTURES)
-        write_stream(self.path("side.tbc"), setup, [
+        write_stream(self.named("side.tbc"), setup, [
             [noisy(rng, word, setup, noise) if word else 0 for word in words] for _, words, _ in rows])
         return [(number, words) for number, words, _ in rows]
 
@@ -78,7 +78,7 @@ class Noise(Runs):
 class Pages(Runs):
     def test_the_row_of_the_nearest_word(self):
         """It is drawn behind a bad line that has one, and the columns that differ are marked."""
-        write_stream(self.path("side.tbc"), NTSC, [[0, worn_line(0xF12345, NTSC, 9, 11), 0],
+        write_stream(self.named("side.tbc"), NTSC, [[0, worn_line(0xF12345, NTSC, 9, 11), 0],
                                                    [line_with(0, NTSC, [(3, 30, True)]), 0, 0]])
         folds = self.page().split("<summary>field ")[1:]
         self.assertEqual([fold.partition(":")[0] for fold in folds], ["1, line 17", "2, line 16"])
@@ -99,7 +99,7 @@ class Documents(Runs):
         """Line 17 of field 1 is worn: its word is 11 columns off, and any other one 29 - 11. Field 2 is clean. Line 18
         of field 3 is 13 columns off, which is too much."""
         super().setUp()
-        write_stream(self.path("side.tbc"), NTSC, [[0, worn_line(0xF12345, NTSC, 9, 11), 0], [0x82CFFF, 0, 0xF00002],
+        write_stream(self.named("side.tbc"), NTSC, [[0, worn_line(0xF12345, NTSC, 9, 11), 0], [0x82CFFF, 0, 0xF00002],
                                                    [0, 0, worn_line(0xF54321, NTSC, 9, 13)]])
 
     def test_as_extract_writes_it(self):
@@ -125,7 +125,7 @@ class Documents(Runs):
         self.assertEqual(json.loads(self.printed("again.json --json")), found)
 
     def test_a_cut_field_and_refused(self):
-        write_stream(self.path("side.tbc"), NTSC, [], 7)
+        write_stream(self.named("side.tbc"), NTSC, [], 7)
         status, text, said = self.run_command("side.tbc LEVELS --document --recovered")
         self.assertEqual((status, said), (
             3, "ldvbi-side: side.tbc: the last field is cut: field 1 has 7 of 478660 bytes\n"))
