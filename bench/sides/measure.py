@@ -7,6 +7,7 @@ usage: measure.py FROM TO [--kind KIND]... [--parity] [--show N]     the seeds F
 Without --kind each seed has a kind of KINDS; --kind `each` is each kind of PLAYED. --parity hands over isFirstField of
 each field, too; --show prints the first N differences."""
 
+import operator
 import time
 
 from comparison import Comparison
@@ -26,8 +27,9 @@ EXACT = ("missing", "left out", "first fields", "stops", "chapter table", "whole
 def fields_of(side, parity=False):
     """The plain data of a simulated side."""
     records = side.document["fields"]
-    return Fields(side.document["videoParameters"]["system"], [record["vbi"]["vbiData"] for record in records],
-                  [record["vbiPass"] for record in records], [record["vbiCause"] for record in records], None,
+    words, passes, causes = ([tuple(of(record)) for record in records] for of in (
+        lambda record: record["vbi"]["vbiData"], operator.itemgetter("vbiPass"), operator.itemgetter("vbiCause")))
+    return Fields(side.document["videoParameters"]["system"], words, passes, causes, None,
                   side.first if parity else None)
 
 

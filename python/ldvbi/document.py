@@ -3,7 +3,7 @@ the same bytes as the program's. Those with recovered words, version 3, are read
 is read is checked; what isn't as it has to be raises a ValueError that says where. The readings that are written are
 those of the library, which is proved; that the text is the program's is shown by tests alone."""
 
-import itertools
+import array
 import json
 import re
 from typing import Any, Callable, Dict, Iterable, Iterator, NamedTuple, Optional, TextIO, Tuple
@@ -20,12 +20,17 @@ MAX_FIELDS = 1000000  # the program has the same limit
 _BEGIN = re.compile(rb'\s*\{\s*"version"')
 _CAUSE = re.compile(r"(word|blank|unfinished)|(change|hold) (0|[1-9][0-9]{0,3})")
 
-RECORD = '{"seqNo":%d,"vbi":{"vbiData":[%d,%d,%d]},"vbiCause":["%s","%s","%s"],"vbiPass":[%d,%d,%d]}'
+CAUSES = '"vbiCause":["%s","%s","%s"],"vbiPass":[%d,%d,%d]'
+RECORD = '{"seqNo":%d,"vbi":{"vbiData":[%d,%d,%d]},' + CAUSES + "}"
 _NUMBER = "(?:0|[1-9][0-9]{0,18})"
+_WORD = "(?:0|[1-9][0-9]{6,7})"  # or a number that is none
 _NEAR = r'(?:null|\{"word":%s,"distance":%s,"rival":%s\})' % (3 * (_NUMBER,))
-_RECORD = re.compile(re.escape(RECORD[:-1]).replace("%d", "(%s)" % _NUMBER).replace("%s", "([a-z0-9 ]*)")
+# A record's number, its words, and its causes with its passes
+_RECORD = re.compile(r'\{"seqNo":([^,]*),"vbi":\{"vbiData":\[(%s,%s,%s)\]\},([^]]*\],[^]]*\])' % (3 * (_WORD,))
                      + r'(?:,"vbiNear":\[%s,%s,%s\])?\}' % (3 * (_NEAR,)))
-_PART = 1024  # records that are taken apart at once
+_CAUSES_AND_PASSES = re.compile(re.escape(CAUSES).replace("%d", "(%s)" % _NUMBER).replace("%s", "([a-z0-9 ]*)"))
+_LEAST_WORD, _GREATEST_WORD = 0x800000, 0xFFFFFF
+_PIECE = 1 << 17  # characters of records that are taken apart at once
 _FRAME = 400  # characters: more than what stands before the records and behind them
 _LONGEST = 1135  # samples of a line
 # Of each cause, by its number, the texts by column
@@ -203,38 +208,69 @@ def _as_written(data: bytes) -> Optional[Document]:
         body, _, tail = rest.rpartition("\n],")
         frame = json.loads(head + "]," + tail) if len(head) + len(tail) < _FRAME else None
         system, levels, version = _system(frame["videoParameters"]), _levels(frame), frame["version"]
-        records = body.split(",\n")
-        cut = _cut(frame, len(records) + 1, system)
+        packed = b"".join(_packed_pieces(body, _KnownCauses(size_of(system)[0], version)))
+        cut = _cut(frame, len(packed) // PACKED_FIELD.size + 1, system)
         is_framed = head_of(version, system, *levels) == head + "\n" and tail_of(cut) == "\n]," + tail
         if not is_framed or version not in (2, 3):
             return None
-        known = _KnownTexts(size_of(system)[0], version)
-        packed = b"".join([_packed_records(records[first:first + _PART], first + 1, known)
-                           for first in range(0, len(records), _PART)])
         return Document(system, PackedFields(packed), cut, levels)
     except (KeyError, TypeError, ValueError):
         return None
 
 
-def _packed_records(records, number, known):
-    """The packed readings of records, the first of which has this number; a ValueError where one has a fault."""
-    matches = list(map(_RECORD.fullmatch, records))
-    if None in matches:
-        raise ValueError("a record isn't as it is written")
-    columns = list(zip(*[match.groups() for match in matches]))
-    if columns[0] != tuple(map(str, range(number, number + len(records)))):
-        raise ValueError("a record has another number")
-    lines = [map(known.__getitem__, zip(*columns[line::3])) for line in (1, 2, 3)]
-    return b"".join(itertools.chain.from_iterable(zip(*lines)))
+def _packed_pieces(body, known):
+    """Yields the packed readings of the records, piece by piece; a ValueError where one has a fault."""
+    number, end = 1, -2
+    while end != len(body):
+        begin = end + 2
+        end = body.find(",\n", begin + _PIECE)
+        end = len(body) if end < 0 else end
+        # what stands before each record, its parts, and what stands behind the last
+        parts = _RECORD.split(body[begin:end])
+        numbers, words, causes = parts[1::4], parts[2::4], parts[3::4]
+        if parts[::4] != ["", *[",\n"] * (len(numbers) - 1), ""]:
+            raise ValueError("a record isn't as it is written")
+        if numbers != list(map(str, range(number, number + len(numbers)))):
+            raise ValueError("a record has another number")
+        # an int from each text takes half as long again
+        yield _packed_fields(array.array("I", json.loads("[%s]" % ",".join(words))), [known[one] for one in causes])
+        number += len(numbers)
 
 
-class _KnownTexts(_KnownLines):
-    """The same of the texts of word, cause and pass."""
+def _packed_fields(words, lines):
+    """The packed readings of fields with these words, three of each, and with what is known of their lines."""
+    if max(words) > _GREATEST_WORD or min(filter(None, words), default=_LEAST_WORD) < _LEAST_WORD:
+        raise ValueError("a number is no word")
+    if bytes(map(bool, words)) != b"".join([one.shown for one in lines]):
+        raise ValueError("word, cause and pass of a line don't fit")
+    halves = array.array("I", bytes(PACKED_FIELD.size * len(lines)))  # of each line its first four bytes and its word
+    halves[::2] = array.array("I", b"".join([one.begins for one in lines]))
+    halves[1::2] = words
+    return halves.tobytes()
 
-    def __missing__(self, line):
-        word, cause, number_of_pass = line
-        self[line] = _line(int(word), cause, int(number_of_pass), self.width, self.version)
-        return self[line]
+
+class _Lines(NamedTuple):
+    """Of the three lines of a field whether each shows a word, a byte each, and the four bytes before its word."""
+    shown: bytes
+    begins: bytes
+
+
+class _KnownCauses(Dict[str, _Lines]):
+    """The lines of each text of causes and passes, of which few differ."""
+
+    def __init__(self, width: int, version: int) -> None:
+        super().__init__()
+        self.width, self.version = width, version
+
+    def __missing__(self, text: str) -> _Lines:
+        match = _CAUSES_AND_PASSES.fullmatch(text)
+        if not match:
+            raise ValueError("causes and passes aren't as they are written")
+        causes, passes = match.groups()[:3], list(map(int, match.groups()[3:]))
+        packed = [_line(_LEAST_WORD if number else 0, cause, number, self.width, self.version)
+                  for cause, number in zip(causes, passes)]
+        self[text] = _Lines(bytes(map(bool, passes)), b"".join([one[:4] for one in packed]))
+        return self[text]
 
 
 # ---- Written

@@ -1,6 +1,6 @@
 """System, black and white of a run, how many fields there are and which of them begin a frame, from ld-decode's
 metadata, JSON or SQLite. JSON is read as `ldvbi` reads it, but for this: levels with decimals are rounded here to the
-next whole number, a half upwards, and no more than one field is held at a time."""
+next whole number, a half upwards, and no more than a few fields are held at a time."""
 
 import io
 import math
@@ -78,7 +78,7 @@ def _of_text(file: BinaryIO, on_field: Optional[OnField]) -> _Found:
         try:
             for name in scanner.members():
                 if name == "fields" and scanner.comes("["):
-                    first = list(_first_of_each(scanner, on_field))
+                    first = _first_of_each(scanner, on_field)
                     continue
                 value = scanner.value()
                 if name == "videoParameters":
@@ -91,12 +91,19 @@ def _of_text(file: BinaryIO, on_field: Optional[OnField]) -> _Found:
     return _Found(parameters, first)
 
 
-def _first_of_each(scanner: Scanner, on_field: Optional[OnField]) -> Iterator[Any]:
+def _first_of_each(scanner: Scanner, on_field: Optional[OnField]) -> List[Any]:
+    first: List[Any] = []
+    for fields in _told(scanner, on_field) if on_field else scanner.values():
+        first += [field.get("isFirstField") if isinstance(field, dict) else None for field in fields]
+    return first
+
+
+def _told(scanner: Scanner, on_field: OnField) -> Iterator[List[Any]]:
+    """Yields each field, of which `on_field` has been told."""
     for _ in scanner.items():
         field = scanner.value()
-        if on_field:
-            on_field(scanner.begin, scanner.text, field)
-        yield field.get("isFirstField") if isinstance(field, dict) else None
+        on_field(scanner.begin, scanner.text, field)
+        yield [field]
 
 
 def _count(parameters):

@@ -1,7 +1,6 @@
 """Levels and systems that are tried on the lines of a side of which hardly any word is read. Nothing is read anew by
 them: what comes of the trial is said, for somebody to look at."""
 
-import statistics
 import struct
 from typing import Any, Dict, Iterator, List, NamedTuple, Optional, Tuple
 
@@ -69,6 +68,7 @@ def _read(rows: List[bytes], setup: Setup) -> int:
 def _levels_in(rows: List[bytes], system: System) -> Optional[Levels]:
     """The low and the high level of lines 17 and 18, where some of them have two: those of the lines in which the two
     are far from each other, as a code's are."""
+    import statistics  # which takes long, and few sides need it
     spans = [_span(field, system, line) for field in rows for line in (1, 2)]
     widest = max((high - low for low, high in spans), default=0)
     if widest < LEAST:

@@ -70,6 +70,25 @@ class Values(unittest.TestCase):
                     for _, value, own, begin in found:
                         self.assertEqual((own, json.loads(own)), (text[begin:begin + len(own)], value))
 
+    def test_several_together(self):
+        """The values of a list are those that come one by one, whichever are read together; and so are its faults."""
+        choose = random.Random(6)
+        inner = [{"a": [{"b": 1}, {"c": 2}]}, {"a": "},{"}, {"a": {}}, {}, 5, [{}, {}], {"a": drawn(choose)}]
+        deep = "[" * 125 + "]" * 125  # in the object of a list
+        faults = [",]", ",5", "}", "", ',{"a":[%s]},{}]' % deep, ",{},1e999,{},{}]", ",{},[1.],{},{}]"]
+        for count in range(96):
+            whole = [choose.choice(inner) if count % 3 else {"a": count} for _ in range(300)]
+            whole += [{"a": json.loads(deep)}] * (count % 2) + [{}]
+            text = json.dumps(whole, indent=choose.choice([None, 1]), separators=choose.choice([None, (",", ":")]))
+            text = text if count % 4 else text[:-1] + faults[count // 4 % len(faults)]
+            for piece in (100, 1 << 18):
+                one = Scanner(io.StringIO(text, newline=""), piece)
+                found = []
+                why = reason(lambda: (found.extend(itertools.chain.from_iterable(one.values())), one.end()))
+                self.assertEqual(why, reason(scanned, text, piece), (text[-400:], piece))
+                self.assertEqual((why is None, found if why is None else None),
+                                 (count % 4 > 0, whole if why is None else None))
+
     def test_lists_inside(self):
         text = ' {"a" : [1 , [2]], "b\\u0041":[ ],"c":{"d":5 }} '
         for piece in range(1, 30):

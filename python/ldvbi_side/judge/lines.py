@@ -1,6 +1,5 @@
 """What the lines of a side show where they show no word, and what that says of the levels they were read with."""
 
-import operator
 from collections import Counter
 from typing import Counter as Counted, Dict, List, Optional
 
@@ -10,6 +9,7 @@ from .readings import Answer, Fields
 SIZES = {"NTSC": (1820, 263), "PAL": (2270, 313)}  # bytes of a line, lines of a field
 BAD = ("change", "hold", "unfinished")
 _GOOD = frozenset(["word", "blank"])
+_PASSES = ("", "pass1", "pass2", "near")  # what a line without a word is counted as, its cause says
 FEW = 20  # lines to a word: of the lines 17 and 18 of a disc half have one, or a fifth at least
 
 
@@ -31,17 +31,13 @@ def bad_lines_of(fields: Fields) -> List[Answer]:
 def rates_of(fields: Fields) -> Dict[str, Dict[str, int]]:
     """Of each line how many fields show what."""
     rates = {}
+    alike = Counter(zip(fields.causes, fields.passes))  # many fields are
     for place, line in enumerate(LINES):
-        passes = Counter(map(operator.itemgetter(place), fields.passes))
-        counts = {"pass1": passes[1], "pass2": passes[2], "near": passes[3],
-                  "blank": 0, "unfinished": 0, "change": 0, "hold": 0}
-        causes = Counter(map(operator.itemgetter(place), fields.causes))
-        if passes[3]:  # a recovered word has a cause, too
-            causes.subtract(each[place] for each, own in zip(fields.causes, fields.passes) if own[place] == 3)
-        for cause, count in causes.items():
-            if cause != "word":
-                counts[cause.partition(" ")[0]] += count
-        rates[str(line)] = counts
+        rates[str(line)] = counts = {"pass1": 0, "pass2": 0, "near": 0,
+                                     "blank": 0, "unfinished": 0, "change": 0, "hold": 0}
+        for (causes, passes), count in alike.items():
+            # a recovered word has a cause, too
+            counts[_PASSES[passes[place]] or causes[place].partition(" ")[0]] += count
     return rates
 
 

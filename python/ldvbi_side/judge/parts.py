@@ -31,9 +31,10 @@ def chapters_of(codes: Codes, places: Places) -> Tuple[List[Answer], List[Answer
     breaks += [field for one in places.numbers.speeds if one.line.step < 0
                for field in (one.first + 1, one.first + 2, one.last, one.last + 2)]
     breaks.sort()
-    # at each break any chapter may follow, so the breaks up to its field are part of a reading's number
-    readings = [Reading(field, 100 * bisect.bisect(breaks, field) + chapter, weight, lines)
-                for field, chapter, weight, lines, _ in codes.readings(Kind.chapter)]
+    readings = codes.readings(Kind.chapter)
+    if breaks:  # at each any chapter may follow, so the breaks up to its field are part of a reading's number
+        readings = [Reading(field, 100 * bisect.bisect(breaks, field) + chapter, weight, lines)
+                    for field, chapter, weight, lines, _ in readings]
     believed = chain(readings, ChapterPace())
     if LEAST_SHARE * len(believed) < len(codes.fields.words):
         believed = []

@@ -1,5 +1,6 @@
 """What the lines of a side say, by kind of code: the plain data that the judge takes in, and the codes found in it."""
 
+import functools
 from typing import Any, Callable, Dict, Iterable, List, NamedTuple, Optional, Set, Tuple
 
 from ldvbi import Kind, classify
@@ -65,20 +66,18 @@ class Codes(NamedTuple):
     def weight(self, field: int, lines: Iterable[int]) -> int:
         """What the words of these lines of a field weigh together: a word of the line itself more than one of its
         smoothed levels or a recovered one, more of which are wrong."""
-        passes = self.fields.passes[field - 1]
-        weight = 0
-        for line in lines:
-            weight += WEIGHTS[passes[line - 16]]
-        return weight
+        return _weight(self.fields.passes[field - 1], tuple(lines))
 
     def sure_fields(self, kind: Kind) -> Set[int]:
         """The fields that have a code of this kind on a line of pass 1, or on two lines."""
+        passes = self.fields.passes
         return {field for field, values in self.kinds[kind].items()
-                if self.weight(field, [line for lines in values.values() for line in lines]) >= WEIGHTS[1]}
+                if _weight(passes[field - 1], sum(values.values(), ())) >= WEIGHTS[1]}
 
     def readings(self, kind: Kind) -> List[Reading]:
         """The values of a kind as readings, by field."""
-        return [Reading(field, value, self.weight(field, lines), lines)
+        passes = self.fields.passes
+        return [Reading(field, value, _weight(passes[field - 1], lines), lines)
                 for field, values in self.kinds[kind].items() for value, lines in values.items()]
 
     def words_of(self, kinds: Iterable[Kind]) -> List[Tuple[int, Dict[str, int]]]:
@@ -88,8 +87,12 @@ class Codes(NamedTuple):
         for kind in kinds:
             place = STANDARD_LINES[kind][0] - LINES[0]
             for field in self.kinds[kind]:
-                one = found.setdefault(self.fields.words[field - 1][place], {"count": 0, "first": field})
-                one.update(count=one["count"] + 1, last=field)
+                word = self.fields.words[field - 1][place]
+                one = found.get(word)
+                if one is None:
+                    one = found[word] = {"count": 0, "first": field}
+                one["count"] += 1
+                one["last"] = field
         return sorted(found.items(), key=lambda pair: pair[1]["first"])
 
     def minutes(self) -> ByField:
@@ -102,6 +105,12 @@ class Codes(NamedTuple):
             if values:
                 found[field] = values
         return found
+
+
+@functools.lru_cache(maxsize=None)
+def _weight(passes, lines):
+    """What the words of these lines of a field with these passes weigh together: few of either differ."""
+    return sum(WEIGHTS[passes[line - LINES[0]]] for line in lines)
 
 
 def codes_of(fields: Fields) -> Codes:
@@ -156,7 +165,11 @@ def _collected(words):
         if one:
             take(field, first[one])
         if two and two == three:
-            take(field, both[two])
+            fields, said, _ = known = both[two]
+            if said is None or field in fields:
+                take(field, known)
+            else:  # of most fields nothing more is to be done
+                fields[field] = said
         else:
             if two:
                 take(field, second[two])
