@@ -1,6 +1,7 @@
 #!/usr/bin/env python3
 """Compares what the documents name with the source. Each CHECK prints how much it looked at; what doesn't fit it names
 on standard error, and then the status is 1, as where it doesn't see one of its ALTERED. texts/write.py has the rest.
+A check yields a text for what doesn't fit, and None for what does.
 
 links   what a document links to is there, a heading (`#..`) too; a link to the net is one of NET
 paths   the files and folders that documents name are there, of the repository or of a crate
@@ -83,20 +84,18 @@ def anchors(path):
     return {re.sub(r"[^\w\- ]", "", head.lower()).replace(" ", "-") for head in heads}
 
 
-def links(faults):
-    looked_at = 0
+def links():
     for path in documents():
         for link in re.findall(r"\]\(([^)\s]*)\)", prose(path)):
-            looked_at += 1
             target, _, anchor = link.partition("#")
             file = os.path.normpath(os.path.join(os.path.dirname(path), target)) if target else path
             if link.startswith("https://"):
-                faults += [] if link in NET else [f"{path}: {link} is none of the links to the net that are known"]
+                yield None if link in NET else f"{path}: {link} is none of the links to the net that are known"
             elif not os.path.exists(file):
-                faults.append(f"{path}: {link} isn't there")
-            elif anchor and anchor not in anchors(file):
-                faults.append(f"{path}: {link} is no heading of {file}")
-    return looked_at
+                yield f"{path}: {link} isn't there"
+            else:
+                is_there = not anchor or anchor in anchors(file)
+                yield None if is_there else f"{path}: {link} is no heading of {file}"
 
 
 # ---- paths
@@ -105,21 +104,17 @@ def is_built(path):
     return any(fnmatch.fnmatch(path, one) or fnmatch.fnmatch(path, one + "/*") for one in BUILT)
 
 
-def paths(faults):
+def paths():
     """A name alone is in the folder named before it in its line. CONTRIBUTING.md names paths without code font, too."""
-    looked_at = 0
     for document in documents():
         for line in prose(document).split("\n"):
             folder = ""
             text = line if document == "CONTRIBUTING.md" else " ".join(codes(line))
             for path in PATH.findall(text):
                 there = [place for begin in (*FOLDERS, folder + "/") for place in glob.glob(begin + path)]
-                looked_at += 1
-                if not there and not is_built(path):
-                    faults.append(f"{document}: {path} isn't there")
-                elif there and "/" in path:
+                yield None if there or is_built(path) else f"{document}: {path} isn't there"
+                if there and "/" in path:
                     folder = there[0] if os.path.isdir(there[0]) else os.path.dirname(there[0])
-    return looked_at
 
 
 # ---- names
@@ -172,25 +167,22 @@ class Source:
         return name in self.items or any(name in words for item in items for words in self.items[item])
 
 
-def names(faults):
+def names():
     """In a table of PROMISES.md a clause is one of the functions in its row, or of those in the rows above; a field is
     one of the records in its row or in the table's head, or of `Ran`."""
-    looked_at, source = 0, Source()
+    source = Source()
     for path in documents():
         for code in codes(prose(path)):
             if NAME.fullmatch(code) and not PATH.fullmatch(code):
-                looked_at += 1
-                faults += [] if source.has(code) else [f"{path}: {code} isn't in the source"]
+                yield None if source.has(code) else f"{path}: {code} isn't in the source"
     above = set()
     for row in rows(prose("docs/PROMISES.md")):
         named = [re.match(r"[\w:.]*", code)[0] for cell in row for code in codes(cell) if re.match(r"\w", code)]
         parts = {part for code in named for part in re.split(r"::|\.", code) if part in source.items}
         above = above | parts if row else {"Ran"}
         for name in (name for name in named if re.fullmatch("[a-z_]+", name)):
-            looked_at += 1
-            if not source.is_near(name, above):
-                faults.append(f"docs/PROMISES.md: {name} isn't in the source, in the row: {' | '.join(row)[:80]}")
-    return looked_at
+            where = f"docs/PROMISES.md: {name} isn't in the source, in the row: {' | '.join(row)[:80]}"
+            yield None if source.is_near(name, above) else where
 
 
 # ---- faults
@@ -202,7 +194,7 @@ FAULT = re.compile(r"^(?:impl fmt::Display for|pub\S* enum) (?:App|Draw|Main|Met
 NO_FAULT = ("{}", "{0}", "feeder failed before")
 
 
-def fault_texts(faults):
+def fault_texts():
     """Both tables of faults have the source's texts and no others, the first one in the source's order."""
     texts = [text for path in sorted(glob.glob("crates/*/src/*.rt")) for body in FAULT.findall(read(path))
              for text in re.findall(r'"([^"]+)"', body) if text not in NO_FAULT]
@@ -213,22 +205,21 @@ def fault_texts(faults):
     shown = re.findall(r"^\.Sq (\w[^:\n]+?) ?\.?$", read("share/man/ldvbi.1").partition(".Sh DIAGNOSTICS")[2], re.M)
     said = settings + others + shown
     places = [[place for place, pattern in enumerate(patterns) if re.fullmatch(pattern, text)] for text in said]
-    faults += [f"'{text}' of FORMATS.md or the manual page is no fault text of the source"
-               for text, found in zip(said, places) if len(found) != 1]
-    faults += [f"FORMATS.md doesn't have the fault text '{pattern}'"
-               for place, pattern in enumerate(patterns) if [place] not in places[:-len(shown)]]
+    for text, found in zip(said, places):
+        yield None if len(found) == 1 else f"'{text}' of FORMATS.md or the manual page is no fault text of the source"
+    yield from (f"FORMATS.md doesn't have the fault text '{pattern}'"
+                for place, pattern in enumerate(patterns) if [place] not in places[:-len(shown)])
     if places[:len(settings)] != sorted(places[:len(settings)]):
-        faults.append("FORMATS.md has the faults of metadata and settings in another order than the source")
+        yield "FORMATS.md has the faults of metadata and settings in another order than the source"
     causes = re.findall(r'push_str\("([a-z]+) ?"\)', read("crates/vbi_field/src/cause_texts.rt"))
-    outcomes = read("docs/FORMATS.md").partition("\n### The outcome of a line")[2].partition("\n### ")[0]
+    outcomes = codes(read("docs/FORMATS.md").partition("\n### The outcome of a line")[2].partition("\n### ")[0])[1:]
+    if outcomes != causes:
+        yield f"FORMATS.md has the outcomes {outcomes}, and the source {causes}"
     rows_drawn = dict(re.findall(r"^(drawn|glitch|too long) +([.#]+)", read("docs/FORMATS.md"), re.M))
     most = int(re.search(r"pub few : m ≤ (\d+)", read("crates/vbi_words/specs/Smooth.antt"))[1])
     gaps = {name: len(gap) for name, row in rows_drawn.items() for gap in re.findall(r"#(\.+)#", row)}
     if gaps != {"glitch": most, "too long": most + 1}:
-        faults.append(f"FORMATS.md draws the damaged rows {gaps}, and a glitch has up to {most} columns")
-    if codes(outcomes)[1:] != causes:
-        faults.append(f"FORMATS.md has the outcomes {codes(outcomes)[1:]}, and the source {causes}")
-    return len(places)
+        yield f"FORMATS.md draws the damaged rows {gaps}, and a glitch has up to {most} columns"
 
 
 CHECKS = {"links": links, "paths": paths, "names": names, "faults": fault_texts}
@@ -237,17 +228,17 @@ CHECKS = {"links": links, "paths": paths, "names": names, "faults": fault_texts}
 def main():
     status = 0
     for check in sys.argv[1:] or CHECKS:
-        faults = []
-        looked_at = CHECKS[check](faults)
-        if looked_at < LEAST[check]:
-            faults.append(f"{check}: {looked_at} looked at, and there were {LEAST[check]}")
-        print(f"{check}: {looked_at} looked at")
+        looked_at = list(CHECKS[check]())
+        print(f"{check}: {len(looked_at)} looked at")
+        faults = list(filter(None, looked_at))
         count = len(faults)
         for path, *texts in ALTERED[check]:
-            seen, altered[path] = [], texts
-            CHECKS[check](seen)
-            faults += [] if len(seen) > count else [f"{check}: not seen in {path}: {' > '.join(texts)}"]
+            altered[path] = texts
+            if len(list(filter(None, CHECKS[check]()))) <= count:
+                faults.append(f"{check}: not seen in {path}: {' > '.join(texts)}")
             altered.clear()
+        if len(looked_at) < LEAST[check]:
+            faults.append(f"{check}: there were {LEAST[check]}")
         for fault in faults:
             print(fault, file=sys.stderr)
             status = 1
