@@ -34,19 +34,22 @@ with ldvbi.Stream(path, system, int(black), int(white), recover=True) as side:
 END_OF_PYTHON
 draws_sides
 
-# The answerers, as `asks` takes them
-in_c() {
-    if [ "$3" = stops ]; then lists ./stops_c $2 < "$1.tbc"; else finds ./seek_c "$1.tbc" $2 $3; fi
+# The answerers, as `asks` takes them: the examples in a language, the players, `ldvbi-side`, and ldvbi_seek
+searches() {
+    case "$1 $4" in
+        'python stops') lists python3 stops.py "$2.tbc" $3 ;;
+        python*) finds python3 "$top/examples/seek.py" "$2.tbc" $3 $4 ;;
+        *' stops') lists ./stops_$1 $3 < "$2.tbc" ;;
+        *) finds ./seek_$1 "$2.tbc" $3 $4 ;;
+    esac
 }
-in_cpp() {
-    if [ "$3" = stops ]; then lists ./stops_cpp $2 < "$1.tbc"; else finds ./seek_cpp "$1.tbc" $2 $3; fi
-}
-in_python() {
-    if [ "$3" = stops ]; then
-        lists python3 stops.py "$1.tbc" $2
-    else
-        finds python3 "$top/examples/seek.py" "$1.tbc" $2 $3
-    fi
+# A player prints the picture that it was asked for.
+plays() {
+    player=./player_$1
+    [ "$1" != python ] || player="python3 $top/examples/player.py"
+    status=0
+    bounded $player "$2.tbc" $3 search "$4" < empty > out 2> err || status=$?
+    [ "$status" != 0 ] || sed -n "s/^search: \(field [0-9]*\) picture $4\$/\1/p" out > answer
 }
 by_side() {
     set -- "$1.tbc" $2
@@ -60,28 +63,11 @@ by_side() {
 by_call() {
     finds ./call "$1.tbc" $2 $3
 }
-# plays PLAYER SIDE ON QUESTION: of a player, which prints the picture that it was asked for
-plays() {
-    status=0
-    bounded $1 "$2.tbc" $3 search "$4" < empty > out 2> err || status=$?
-    [ "$status" != 0 ] || sed -n "s/^search: \(field [0-9]*\) picture $4\$/\1/p" out > answer
-}
-plays_c() {
-    plays ./player_c "$@"
-}
-plays_cpp() {
-    plays ./player_cpp "$@"
-}
-plays_python() {
-    plays "python3 $top/examples/player.py" "$@"
-}
 
-asks c in_c
-asks c++ in_cpp
-asks python in_python
+for pair in c:c c++:cpp python:python; do
+    asks ${pair%:*} "searches ${pair#*:}"
+    asks player "plays ${pair#*:}" '[0-9]*'
+done
 asks side by_side
 asks call by_call '[0-9:]*[.]*[0-9]*'
-for player in c cpp python; do
-    asks player plays_$player '[0-9]*'
-done
 finish

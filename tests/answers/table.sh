@@ -1,12 +1,6 @@
 # shellcheck shell=sh disable=SC2034,SC2086,SC2154
 # What the tests of the table answers.txt share. They read this in after tests/helpers.sh and library_helpers.sh.
 
-# draw_side NAME RATE OPTIONS: draws a side of sides.words, with so many pictures a second
-draw_side() {
-    awk -v side="$1" -v rate="$2" -f "$tests/answers/words.awk" "$tests/answers/sides.words" |
-        bounded "$program" draw $3 -
-}
-
 # draws_sides: draws the side NAME.tbc of each row of sides.txt
 draws_sides() {
     grep -v '^#' "$here/sides.txt" > sides
@@ -14,18 +8,26 @@ draws_sides() {
         options=$ntsc
         rate=30
         [ "$system" = NTSC ] || { options=$pal; rate=25; }
+        words=$top/examples/$side.words
         case $side in
-            side) bounded sh "$top/examples/side.sh" "$program" ;;
-            cav | clv) output_of draw $options "$top/examples/$side.words" > "$side.tbc" ;;
-            *) draw_side $side $rate "$options" > "$side.tbc" ;;
+            side) bounded sh "$top/examples/side.sh" "$program"; continue ;;
+            cav | clv) ;;
+            *)
+                words=side.words
+                sed -n "s/^$side|//p" "$here/sides.words" | PYTHONPATH=$top/python:$tests/python python3 -Bc '
+import sys
+from compact import rows
+print(*rows(sys.stdin.read(), int(sys.argv[1])), sep="\n")' $rate > $words
+                ;;
         esac
+        output_of draw $options "$words" > "$side.tbc"
     done < sides
 }
 
 # asks NAME ANSWERER [PATTERN]: of each row of the table, checks what a program answers that is NAME in its last column.
-# ANSWERER is a function that is called with the side, its system and levels, and the question, which is in `question`,
-# too: it leaves an answer in the file `answer`, or none there, and the status in `status`. With a pattern those rows
-# are asked whose question it matches as a whole.
+# ANSWERER is a function, with words or without, that is called with the side, its system and levels, and the question,
+# which is in `question`, too: it leaves an answer in the file `answer`, or none there, and the status in `status`. With a
+# pattern those rows are asked whose question it matches as a whole.
 asks() {
     sed '/^#/d; s/ *| */|/g' "$here/answers.txt" > rows
     while IFS='|' read -r side question answer silent; do
@@ -33,7 +35,7 @@ asks() {
         on_side=$on_cav
         [ "$(awk -v side="$side" '$1 == side { print $2 }' sides)" = NTSC ] || on_side=$on_clv
         : > answer
-        "$2" "$side" "$on_side" "$question"
+        $2 "$side" "$on_side" "$question"
         check "$2: $side, $question" is_answered "$1" "$answer" "$silent"
     done < rows
 }

@@ -96,13 +96,6 @@ class Stretches(unittest.TestCase):
             found = list(range_rows(together(one, other, system=system)))
             self.assertEqual(", ".join("%s %s %d-%d" % (span(row, 0, 1), *row[2:]) for row in found), wanted, one)
 
-    def test_what_each_lacks(self):
-        found = together("1..40 -61:62", "1..40 -41:46")
-        self.assertEqual(found["lacks"], [
-            {"capture": "a", "first": 31, "last": 31, "count": 1, "in": ["b"]},
-            {"capture": "b", "first": 21, "last": 23, "count": 3, "in": ["a"]}])
-        self.assertEqual((found["numbers"], found["missing"]), ({"count": 40, "least": 1, "greatest": 40}, []))
-
     def test_the_clock(self):
         """A capture that is too short to decide what the clock leaves out goes by the other one."""
         for one, other in ((SOME, SOME), (SOME + " -401:8990", SOME), (SOME, SOME + " -401:8990")):

@@ -6,14 +6,12 @@ import itertools
 import mmap
 import os
 import pathlib
-import subprocess
-import sys
 from unittest import mock
 
 import ldvbi
 from cases import InFolder, reason
 from ldvbi_side.side import side_of_tbc
-from streams import NTSC, PAL, PROGRAM, pictures, write_stream
+from streams import NTSC, PAL, pictures, write_stream
 
 COUNT = 2 * ldvbi.BLOCK + 3  # two blocks and a part of one
 
@@ -100,15 +98,6 @@ class Large(Streams):
                 self.assertEqual(side[count - 2].first.cause, ldvbi.Cause.blank)
                 shown = [number for number, field in enumerate(side, 1) if field.second.word]
                 self.assertEqual(shown, [count])
-
-    def test_its_document(self):
-        with self.far(NTSC, 8982):
-            words = [self.path, "--system", "NTSC", "--black", "16384", "--white", "51200"]
-            commands = [sys.executable, "-m", "ldvbi_side", "--document"], [PROGRAM, "extract"]
-            found, wanted = (subprocess.run(command + words, stdout=subprocess.PIPE, stderr=subprocess.DEVNULL,
-                                            check=False) for command in commands)
-            self.assertEqual((found.returncode, found.stdout), (3, wanted.stdout))
-            self.assertEqual(wanted.stdout.count(b"seqNo"), 8983)
 
 
 class Refused(Streams):
