@@ -2,7 +2,7 @@
 
 import unittest
 
-from compact import check, made, of_member, rows
+from compact import check, made, rows
 from discs import answer
 
 
@@ -19,12 +19,6 @@ class Cav(unittest.TestCase):
     of PAL there is none | f1..60 | pace video
     one picture | NTSC 1 | pace video
     """)
-
-    def test_sides_of_no_field_one_and_around_a_block_of_the_library(self):
-        for count in (0, 1, 2, 1024, 1025):
-            found = answer(rows("1..600")[:count])
-            self.assertEqual((found["fields"], found["numbers"]["count"]), (count, (count + 1) // 2))
-            self.assertEqual(found["missing"] + found["doubtful"], [])
 
     def test_film_has_a_picture_of_3_fields_in_ten_at_least(self):
         for every, pace in ((10, "film"), (11, "video"), (15, "video")):

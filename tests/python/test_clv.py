@@ -2,8 +2,7 @@
 
 import unittest
 
-from compact import check, of_member, rows
-from discs import answer
+from compact import check
 
 
 class Clv(unittest.TestCase):
@@ -18,13 +17,6 @@ class Clv(unittest.TestCase):
     with the minute before | -/@0:09/- s0.7/-/- | numbers 1 0:09:00.07 to 0:09:00.07
     with both of them | -/@0:08/- s0.7/-/- -/@0:09/- | numbers 1 0:09:00.07 to 0:09:00.07
     """)
-
-    def test_where_the_minute_stands(self):
-        """On line 17, on both lines, on line 18; in the field behind, and in the field before."""
-        for pair in ("s7.%d/@0:09/- -/M/M", "s7.%d/@0:09/@0:09 -/M/M", "s7.%d/M/@0:09 -/M/M", "s7.%d/M/M -/@0:09/@0:09",
-                     "-/@0:09/@0:09 s7.%d/M/M"):
-            check(self, "%s | %s | numbers 20 0:09:07.00 to 0:09:07.19 | no doubtful" % (
-                pair, " ".join(pair % number for number in range(20))))
 
     def test_a_turn_of_minutes_whose_neighbours_differ(self):
         """The time stands on the second field of its picture, or on the first, and its minute was read in the other

@@ -3,7 +3,7 @@
 import ldvbi
 from cases import InFolder
 from compact import check, made, of_member
-from discs import plain, second, side
+from discs import plain, second
 from ldvbi_side.command.map import map_rows
 from ldvbi_side.judge.answer import analyse
 from ldvbi_side.seek import seek, wanted_of

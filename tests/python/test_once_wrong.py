@@ -6,13 +6,10 @@ import sys
 import unittest
 
 from compact import check, made, rows
-from discs import BLANK, answer, picture, plain
+from discs import answer, picture, plain
 from ldvbi_side.judge.answer import analyse
 from ldvbi_side.seek import seek, text_of, wanted_of
 
-# of each picture from 1000 on what was read of its two fields: both lines, one of them, or none
-READ = ("bb .b b. .. bo .. .. oo oo .o bo oo b. o. .o o. o. ob o. .. oo bo o. oo b. o. .. .o o. o. .o bb .. oo b."
-        " .. .. .b").split()
 # A disc that has its seconds on each fifth picture alone
 SPARSE = "t0..199 3:400/10.16=- 5:400/10.16=- 7:400/10.16=- 9:400/10.16=-"
 # A wheel is turned: 44 is passed over
@@ -22,12 +19,6 @@ TURNED = "1..40 %s 50 49 48 48 50 51 52..90" % " ".join(map(str, WHEEL))
 
 class Read(unittest.TestCase):
     """What was read, and what is due."""
-
-    def test_worn_lines_of_numbers_on_both_fields(self):
-        forms = {"b": "-/#{0}/#{0}", "o": "-/-/#{0}", ".": "B"}
-        side = " ".join(forms[read].format(1000 + place) for place, pair in enumerate(READ) for read in pair)
-        check(self, "worn | %s | pace both | no doubtful lost stills breaks | numbers 30 1000 to 1037 | unread 1003@7, "
-              "1005@11, 1006@13, 1019@39, 1026@53, 1032@65, 1035@71, 1036@73" % side)
 
     def test_minutes_behind_a_skip(self):
         """Of the times behind a skip one has its minute, in its field or in the next one."""

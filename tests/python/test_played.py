@@ -3,7 +3,6 @@
 import unittest
 
 from compact import check, made
-from ldvbi_side.command.summary import summary
 from ldvbi_side.seek import seek, wanted_of
 
 
@@ -96,13 +95,3 @@ class Speeds(unittest.TestCase):
         for behind, is_stretch in ((26, False), (60, True)):
             found = made("1..19 %s %d..%d" % (weak, behind, behind + 19))
             self.assertEqual(bool(found["speeds"]), is_stretch, behind)
-
-
-class Summaries(unittest.TestCase):
-    def test_it_has_both_in_a_line(self):
-        for side, line in (
-                ("1..20", []), ("1..20 ~11", ["swapped fields: 1 (picture 6 in field 11 or 12), other speeds: none"]),
-                ("0..90 89..70 71..110",
-                 ["swapped fields: none, other speeds: 1 (-1 numbers a picture in fields 181 to 221)"])):
-            lines = summary(made(side), None)
-            self.assertEqual([text for text in lines if text.startswith("swapped")], line)

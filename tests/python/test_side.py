@@ -68,9 +68,6 @@ class Seeking(unittest.TestCase):
 # Rows of sides: field, frame, format, picture, chapter, time, stop, doubtful, programme status, users' codes, unknown.
 # Minutes stand in the fields that say them, pictures in both fields that have them.
 FIELD_ROWS = (
-    ("L B 1..4 5=S/S/#2 7=-/#3/#79999 9=8DC0A1/-/-", """1|1|neither  3|2|cav|1  4|2|neither||0  5|3|cav|2|||stop
-        6|3|neither||0  7|4|cav|3||||picture 79999 on line 18, pass 1: lines  8|4|neither||0
-        9|5|neither||||||cx on 0A1  10|5|neither||0"""),
     ("8BAFFF/#1/#1 -/88FFFB/F00E81* 87D00A/#2/- A00000/-/- B -/8DC000/80D000 8DC0A1/-/-", """
         1|1|cav|1|||||cx off FFF  2|1|neither||||||||88FFFB on line 17; F00E81 on line 18  3|2|cav|2||||||7 00A
         4|2|neither||||||||A00000 on line 16
@@ -153,7 +150,10 @@ SUMMARIES = (
     ("NTSC f1..30", "whole: yes\nsystem: NTSC, CAV, film (2 and 3 fields a picture)"),
     ("NTSC t0..1 t3..4", """system: NTSC, CLV\ntimes: 4, from 0:00:00.00 to 0:00:00.04\nlost: none
         unread: none, undecided: 1 (time 0:00:00.02 after field 3)"""),
-    ("NTSC t0..5999!400%1001", "skipped by the disc itself: 6"))
+    ("NTSC t0..5999!400%1001", "skipped by the disc itself: 6"),
+    ("1..20 ~11", "swapped fields: 1 (picture 6 in field 11 or 12), other speeds: none"),
+    ("0..90 89..70 71..110",
+     "swapped fields: none, other speeds: 1 (-1 numbers a picture in fields 181 to 221)"))
 
 
 class Summaries(unittest.TestCase):

@@ -5,7 +5,7 @@ import unittest
 from compact import check, made, said_of
 from discs import plain
 from ldvbi_side.judge.answer import analyse
-from ldvbi_side.judge.whole import counted_by, reasons_of, whole_of
+from ldvbi_side.judge.whole import counted_by, reasons_of
 
 
 class Whole(unittest.TestCase):
@@ -112,37 +112,29 @@ class Whole(unittest.TestCase):
 
 
 class Judged(unittest.TestCase):
-    """The library's judge, in whose place a function stands here."""
+    """The library's judge, in whose place a function stands here. It isn't asked of minutes, nor where there are no
+    numbers."""
 
-    def judged(self, side, theirs):
-        calls = []
+    # Sides, what the judge answers, and how many fields both have, either alone has, and in how many they differ, and
+    # the first of these; what is asked for, and what is said
+    ROWS = (
+        ("1..10", {1: 1, 3: 2, 5: 4, 9: 5, 11: 7, 2: 9}, (3, 1, 5, 2, {"field": 5, "judge": 4, "package": 3}),
+         ("pictures", "video"), "can't tell: the library's judge has another number in 2 fields"),
+        ("1..10", {1: 1, 2: 9}, (1, 1, 9, 0, None), ("pictures", "video"), "yes"),
+        ("NTSC t0..8", {1: 0, 3: 31}, (1, 0, 7, 1, {"field": 3, "judge": "0:00:01.01", "package": "0:00:00.01"}),
+         ("times", "video"), "can't tell: the library's judge has another number in 1 field"),
+        ("NTSC f1..39", {}, (0, 0, 39, 0, None), ("pictures", "film"), "yes"),
+        ("b1..8", {1: 1, 2: 1}, (2, 0, 14, 0, None), ("pictures", "video"), "yes"),
+        ("m9x9", {}, None, None, "no: begins at 0:09, ends at 0:09"),
+        ("B", {}, None, None, "can't tell: no picture number and no time"))
 
-        def judge(*asked_for):
-            calls.append(asked_for)
-            return theirs
-        known = analyse(made(side, plain)._replace(judge=judge))
-        return known["judged"], said_of(known), calls
-
-    def test_counts(self):
-        counts, text, calls = self.judged("1..10", {1: 1, 3: 2, 5: 4, 9: 5, 11: 7, 2: 9})
-        self.assertEqual(counts, {"both": 3, "judgeAlone": 1, "packageAlone": 5, "differ": 2,
-                                  "first": {"field": 5, "judge": 4, "package": 3}})
-        self.assertEqual((text, calls), ("can't tell: the library's judge has another number in 2 fields",
-                                         [("pictures", "video")]))
-        counts, text, _ = self.judged("1..10", {1: 1, 2: 9})
-        self.assertEqual(counts, {"both": 1, "judgeAlone": 1, "packageAlone": 9, "differ": 0, "first": None})
-        self.assertEqual(text, "yes")
-
-    def test_what_is_asked(self):
-        """Nothing of minutes, nor where there are no numbers."""
-        counts, _, calls = self.judged("NTSC t0..8", {1: 0, 3: 31})
-        self.assertEqual(calls, [("times", "video")])
-        self.assertEqual(counts["first"], {"field": 3, "judge": "0:00:01.01", "package": "0:00:00.01"})
-        self.assertEqual(self.judged("NTSC f1..39", {})[2], [("pictures", "film")])
-        counts, _, calls = self.judged("b1..8", {1: 1, 2: 1})
-        self.assertEqual((counts["both"], counts["packageAlone"], calls), (2, 14, [("pictures", "video")]))
-        for side in ("m9x9", "B", ""):
-            self.assertEqual(self.judged(side, {})[::2], (None, []))
+    def test_rows(self):
+        for side, theirs, counts, asked, said in self.ROWS:
+            calls = []
+            known = analyse(made(side, plain)._replace(judge=lambda *words: calls.append(words) or theirs))
+            self.assertEqual(known["judged"], counts and dict(zip(
+                ("both", "judgeAlone", "packageAlone", "differ", "first"), counts)), side)
+            self.assertEqual((calls, said_of(known)), ([asked] if asked else [], said), side)
         self.assertIsNone(made("1..30")["judged"])
 
 
@@ -168,8 +160,3 @@ class Order(unittest.TestCase):
                          ["undecided", "ends", "order", "judged", "line", "doubtful"])
         known["leadIn"] = []
         self.assertEqual([one["why"] for one in reasons_of(known, True)][7:9], ["lead-in", "lead-out"])
-
-    def test_what_is_lacking_outweighs_what_is_not_known(self):
-        no, unknown = {"whole": "no"}, {"whole": "can't tell"}
-        self.assertEqual([whole_of(reasons) for reasons in ([], [unknown], [no, unknown], [no])],
-                         ["yes", "can't tell", "no", "no"])

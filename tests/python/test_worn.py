@@ -80,18 +80,15 @@ class Pages(Runs):
         """It is drawn behind a bad line that has one, and the columns that differ are marked."""
         write_stream(self.named("side.tbc"), NTSC, [[0, worn_line(0xF12345, NTSC, 9, 11), 0],
                                                    [line_with(0, NTSC, [(3, 30, True)]), 0, 0]])
-        folds = self.page().split("<summary>field ")[1:]
+        page, without = ((self.printed("side.tbc LEVELS --html page.html" + more), self.read("page.html").decode())[1]
+                         for more in ("", " --no-recover"))
+        folds = page.split("<summary>field ")[1:]
         self.assertEqual([fold.partition(":")[0] for fold in folds], ["1, line 17", "2, line 16"])
         self.assertEqual([fold.count('<span class="recovered">recovered: F12345</span>') for fold in folds], [1, 0])
         self.assertIn("; the row of F12345 from column 150 on is 11.0 columns away<", folds[0])
         self.assertEqual(folds[0].count('class="marked"'), 11)
         self.assertIn(">no word: change 3 ", folds[1])
-        self.assertNotIn("the row of", folds[1])
-        self.assertNotIn("the row of", self.page(" --no-recover"))
-
-    def page(self, options=""):
-        self.printed("side.tbc LEVELS --html page.html" + options)
-        return self.read("page.html").decode()
+        self.assertNotIn("the row of", folds[1] + without)
 
 
 class Documents(Runs):
@@ -102,13 +99,13 @@ class Documents(Runs):
         write_stream(self.named("side.tbc"), NTSC, [[0, worn_line(0xF12345, NTSC, 9, 11), 0], [0x82CFFF, 0, 0xF00002],
                                                    [0, 0, worn_line(0xF54321, NTSC, 9, 13)]])
 
-    def test_as_extract_writes_it(self):
+    def test_with_and_without_recovered_words(self):
+        """Without them it is as `extract` writes it; with them it says what the stream does."""
+        extracted = self.extracted("side.tbc")
         for more in ("", " --no-recover"):
-            self.assertEqual(self.printed("side.tbc LEVELS --document" + more), self.extracted("side.tbc"))
-
-    def test_with_recovered_words(self):
-        plain, found = (self.printed("side.tbc LEVELS --document" + more).decode().split("\n")
-                        for more in ("", " --recovered"))
+            self.assertEqual(self.printed("side.tbc LEVELS --document" + more), extracted)
+        plain, found = (text.decode().split("\n") for text in (
+            extracted, self.printed("side.tbc LEVELS --document --recovered")))
         self.assertEqual(found[0], plain[0].replace('"version":2', '"version":3'))
         self.assertEqual(found[1], plain[1].replace("[0,0,0]", "[0,%d,0]" % 0xF12345, 1).replace(
             '"vbiPass":[0,0,0]}', '"vbiPass":[0,3,0],"vbiNear":[null,{"word":%d,"distance":1100,"rival":1800},null]}'
@@ -117,12 +114,10 @@ class Documents(Runs):
             self.assertEqual(found[row], '],"vbiNear":[null,null,null]}'.join(plain[row].rsplit("]}", 1)))
         self.assertEqual(found[4:], plain[4:])
         self.assertIn(',"vbiCause":["blank","change ', found[1])
-
-    def test_it_says_the_same(self):
         self.printed("side.tbc LEVELS --document --recovered --svg side.svg -o again.json")
-        found = json.loads(self.printed("side.tbc LEVELS --json"))
-        found["judged"] = None  # a document is not judged by the library
-        self.assertEqual(json.loads(self.printed("again.json --json")), found)
+        known = json.loads(self.printed("side.tbc LEVELS --json"))
+        # a document is not judged by the library
+        self.assertEqual(json.loads(self.printed("again.json --json")), dict(known, judged=None))
 
     def test_a_cut_field_and_refused(self):
         write_stream(self.named("side.tbc"), NTSC, [], 7)
