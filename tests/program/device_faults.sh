@@ -89,7 +89,6 @@ for command in extract show; do
         ending $command $fields $((at % field)) > ended.out
         faults three.tbc $command $ntsc << END
 $at error||$begun|$((lines + 1)) 1|$((1 + fields)) 0
-$at error 1||$begun|$((lines + 1)) 1|$((1 + fields)) 0
 $at interrupt||$begun|$((lines + 17)) 17|$((1 + fields)) 0
 $at interrupt 16||0|$command.whole||$((whole + 16)) 16|5 0
 $at 1 1||0|$command.whole||$((whole + (at < 1435980 && (at + 1) % line != 0))) 1|5 0
@@ -112,9 +111,7 @@ for command in extract show; do
         begun="1|$command.whole:$at|write failed after $at bytes|$((texts < 4 ? 263 * texts : 790)) 0"
         faults three.tbc $command $ntsc << END
 |$at error|$begun|$asked 1
-|$at error 1|$begun|$asked 1
 |$at end|$begun|$asked 1
-|$at end 1|$begun|$asked 1
 |$at interrupt|$begun|$((asked + 16)) 17
 |$at interrupt 16|0|$command.whole||790 0|$((5 + parted + 16)) 16
 |$at 1 1|0|$command.whole||790 0|$((5 + parted + more)) 1

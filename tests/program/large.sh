@@ -15,48 +15,34 @@
 # 8,980 fields have 4,298,366,800 bytes; 4 GiB are 4,294,967,296
 echo '82CFFF|F12345|F12345' | signal NTSC 1 | ntsc_samples > drawn.tbc
 dd if=/dev/null of=large.tbc bs=478660 seek=8980 2> dd.log
-cat drawn.tbc >> large.tbc
-head -c 1000 drawn.tbc >> large.tbc
+head -c 1000 drawn.tbc | cat drawn.tbc - >> large.tbc
 check 'the input has more than 4 GiB' [ "$(wc -c < large.tbc)" = 4298846460 ]
 
 {
     echo 'system NTSC 910x263 black 16384 white 51200'
-    awk 'BEGIN {
-        for (field = 1; field <= 8980; field++)
-            printf "field %d neither\n16 none blank\n17 none blank\n18 none blank\n", field
-    }'
+    seq 8980 | sed 's/.*/field & neither\n16 none blank\n17 none blank\n18 none blank/'
     printf 'field 8981 cav\n16 82CFFF picture stop\n17 F12345 picture 12345\n18 F12345 picture 12345\n'
     echo 'fields 8981 cut field 8982 bytes 1000'
 } > large.txt
+{ document_head NTSC 910 263 16384 51200; seq 8980 | sed "s/.*/$(blank_record '&'),/"; } > records
+head -c -2 records > large.begun
 {
-    document_head NTSC 910 263 16384 51200
-    awk -v record="$(blank_record NUMBER)" 'BEGIN {
-        for (field = 1; field <= 8980; field++) {
-            blank = record
-            sub("NUMBER", field, blank)
-            printf "%s%s", field == 1 ? "" : ",\n", blank
-        }
-    }'
-} > large.begun
-{
-    cat large.begun
-    printf ',\n'
+    cat records
     record 8981 8572927,15803205,15803205 '"word","word","word"' 1,1,1
     cut_field '{"seqNo":8982,"bytes":1000}'
 } > large.json
 
-run show $ntsc large.tbc
-judge 'the report of a file' 3 large.txt ''
 run_with large.tbc extract $ntsc
 judge 'the document of standard input' 3 large.json ''
+judge_rows << END
+the report of a file|show $ntsc large.tbc|3|large.txt|
+metadata|line $ntsc --meta large.tbc drawn.tbc|1|empty|metadata too large
+END
 faulty_with large.tbc '0 4298366805 error' 1 extract $ntsc
 stands 'reads fail behind 4 GiB' 1 large.begun 'ldvbi: read failed in field 8981 at byte 5' '2361742 1' '8981 0'
 
-run line $ntsc --meta large.tbc drawn.tbc
-judge 'metadata' 1 empty 'ldvbi: metadata too large'
-
 # As much is drawn
-{ awk 'BEGIN { for (row = 1; row <= 8980; row++) print "- - -" }'; echo '82CFFF F12345 F12345'; } > words
+{ seq 8980 | sed 's/.*/- - -/'; echo '82CFFF F12345 F12345'; } > words
 output_of draw $ntsc words | tail -c +4298366801 > rest
 check 'the last field that is drawn' cmp rest drawn.tbc
 status=0

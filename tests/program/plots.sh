@@ -137,10 +137,10 @@ check 'where a word of PAL begins and ends' [ "$(wc -l < ends)" = 1 ]
 while IFS='|' read -r system description words title digits marked; do
     lined $system "$description"
     plotted $options $words
-    found=$(sed -n '1p; 2p; 5,6p' found | paste -s -d '|')
+    pattern="0|$title*|$digits|$marked|outside"
     # shellcheck disable=SC2254
-    case "$status|$found" in "0|"$title*"|"$digits"|"$marked"|outside") holds=yes ;; *) holds= ;; esac
-    check "$system: $description${words:+, $words}" [ "$holds" ]
+    case "$status|$(sed -n '1,2p; 5,6p' found | paste -s -d '|')" in $pattern) fits=yes ;; *) fits= ;; esac
+    check "$system: $description${words:+, $words}" [ "$fits" ]
 done << 'END'
 NTSC|82CFFF||82CFFF, by the samples as they are (pass 1)|82CFFF|0 marked
 NTSC|82CFFF @170-171L||82CFFF, by the smoothed levels (pass 2)|82CFFF|2 marked 170 171

@@ -9,14 +9,11 @@ SYSTEMS = {"NTSC": (1, 910, 263), "PAL": (2, 1135, 313)}
 def drawn_line(choose, width, half, black, white):
     """A line that shows a word, as a list of samples."""
     levels = [black] * (choose.choice([150, 151, 149, 40, 0]) + choose.randrange(3))
-    level = False
-    for i in range(24):
-        bit = i == 0 or choose.random() < 0.5
-        for high in ((not bit), bit):
-            level = high
+    for place in range(24):
+        bit = place == 0 or choose.random() < 0.5
+        for high in (not bit, bit):
             levels += [white if high else black] * (half + choose.choice([0, 0, 0, 0, 1, -1]))
-    levels += [black] * width
-    return levels[:width]
+    return (levels + [black] * width)[:width]
 
 
 def damage(choose, line, black, white):
@@ -45,9 +42,8 @@ def random_line(choose, system, black, white):
             line += [choose.choice([black, white])] * choose.choice([1, 2, 3, 11, 14, 18, 28, 29, 36, 60, 300])
         line = line[:width]
     else:
-        return choose.randbytes(2 * width) if hasattr(choose, "randbytes") else bytes(
-            choose.randrange(256) for _ in range(2 * width))
-    return b"".join(sample.to_bytes(2, "little") for sample in line)
+        return choose.getrandbits(16 * width).to_bytes(2 * width, "little")
+    return struct.pack(f"<{width}H", *line)
 
 
 def worn_line(choose, system, black, white):

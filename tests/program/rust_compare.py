@@ -185,11 +185,14 @@ def compare_programs(what, commands, choose, count):
 
 class At:
     """A place in what a call writes, behind so many bytes."""
+
     def __init__(self, count):
         self.bytes = count
 
 
 number, size = ctypes.c_uint32, ctypes.c_size_t
+SIZES = ("ldvbi_line_samples", "ldvbi_line_bytes", "ldvbi_lines", "ldvbi_field_bytes")
+LONG = (*SIZES, "ldvbi_first_of")
 
 
 def decimal(value):
@@ -321,10 +324,6 @@ def compare_library(paths, choose, count):
         yield from compare_lines(call, choose, libraries[0].ldvbi_draw_line)
         yield from compare_words_alone(call, choose)
         yield from compare_judges(call, choose)
-
-
-SIZES = ("ldvbi_line_samples", "ldvbi_line_bytes", "ldvbi_lines", "ldvbi_field_bytes")
-LONG = (*SIZES, "ldvbi_first_of")
 
 
 def main(what, proved, other, count, seed, *runner):

@@ -5,7 +5,7 @@
 # usage: sh tests/program/rust_crate.sh PROGRAM
 # runs: rust
 # fails where: rust/hand/Cargo.toml|s/^version = .*/version = "0.0.9"/
-# shellcheck disable=SC2086,SC2317
+# shellcheck disable=SC2059,SC2086,SC2317
 
 # shellcheck source=tests/helpers.sh
 . "$(dirname "$0")/../helpers.sh"
@@ -121,18 +121,10 @@ check 'the example project is built' quiet cargo build --quiet
 player=$CARGO_TARGET_DIR/debug/player
 cd "$work" || exit 1
 
-# plays STATUS TEXT WORD..: whether the player ends with this status, says nothing, and writes this text
-plays() {
-    wanted=$1
-    printf '%s\n' "$2" > played
-    shift 2
-    status=0
-    bounded "$player" "$@" < empty > out 2> err || status=$?
-    ended "$wanted" played empty
-}
 # What it answers of drawn sides is tried by tests/answers/rust_answers.sh; here what it plays, and what it refuses.
 bounded sh "$top/examples/side.sh" "$program" || exit 1
-bounded "$program" draw $ntsc - > twice.tbc << 'END'
+head -c 100 side.tbc > cut.tbc
+cat > twice.words << 'END'
 - F00001 F00001
 - 800DDD 800DDD
 - F00002 F00002
@@ -143,29 +135,26 @@ bounded "$program" draw $ntsc - > twice.tbc << 'END'
 82CFFF 82CFFF 800DDD
 - F00005 F00005
 END
+output_of draw $ntsc twice.words > twice.tbc
 on='NTSC 16384 51200'
-check 'the player: searches and stops' plays 0 'search: field 65 picture 30
-play: field 97 picture 46
-search: field 21 picture 7
-play: field 33 picture 17
-chapter: field 10' side.tbc $on search 30 play search 7 play chapter 0
-check 'the player: each picture once' plays 1 'play: field 5 picture 3
-play: field 7 picture 4
-play: not found' twice.tbc $on play play play
-head -c 100 side.tbc > cut.tbc
-while IFS='|' read -r words said; do
-    said_line "player: $said"
+usage='usage: player FILE SYSTEM BLACK WHITE search PLACE, chapter N, play ..'
+while IFS='|' read -r ended words played said; do
+    printf "$played" > wanted_text
+    said_line "${said:+player: $said}"
     status=0
     bounded "$player" $words < empty > out 2> err || status=$?
-    check "the player refuses: $words" ended 2 empty wanted
+    check "the player: $words" ended $ended wanted_text wanted
 done << END
-|usage: player FILE SYSTEM BLACK WHITE search PLACE, chapter N, play ..
-side.tbc $on search|usage: player FILE SYSTEM BLACK WHITE search PLACE, chapter N, play ..
-side.tbc SECAM 16384 51200 play|system is neither NTSC nor PAL
-side.tbc NTSC 51200 16384 play|black level is not below white level
-side.tbc $on search 1:2|neither a picture nor a time: 1:2
-side.tbc $on stop|no such command: stop
-cut.tbc $on play|a field has 478660 bytes, and these are 100
+0|side.tbc $on search 30 play search 7 play chapter 0|search: field 65 picture 30\nplay: field 97 picture 46\n\
+search: field 21 picture 7\nplay: field 33 picture 17\nchapter: field 10\n|
+1|twice.tbc $on play play play|play: field 5 picture 3\nplay: field 7 picture 4\nplay: not found\n|
+2|||$usage
+2|side.tbc $on search||$usage
+2|side.tbc SECAM 16384 51200 play||system is neither NTSC nor PAL
+2|side.tbc NTSC 51200 16384 play||black level is not below white level
+2|side.tbc $on search 1:2||neither a picture nor a time: 1:2
+2|side.tbc $on stop||no such command: stop
+2|cut.tbc $on play||a field has 478660 bytes, and these are 100
 END
 # The pipe is closed before the player writes.
 { sleep 1; "$player" side.tbc $on search 30 play 2> err; echo $? > piped; } | :

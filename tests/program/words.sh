@@ -94,8 +94,7 @@ END
 # its own options.
 # shellcheck disable=SC2317
 helped() {
-    options=options.txt
-    [ "$1" = "${1%-short}" ] || options=options-short.txt
+    case $1 in *-short) options='options-short.txt' ;; *) options='options.txt' ;; esac
     sed -e "/^@options\$/{r $here/help/$options" -e 'd;}' "$here/help/$1.txt" > wanted
     if [ "${DIFFERENCES:-}" ]; then
         words_of wanted > wanted_words
