@@ -13,27 +13,19 @@ import unittest
 
 import ldvbi
 from cases import InFolder, reason
+from ldvbi.samples import Samples, _Buffer
 from streams import NTSC, TOP, line_with
 
 WORD = (ldvbi.Cause.word, 1, 0, 0xF12345)
 
 
-class Buffer(ctypes.Structure):
-    """Py_buffer of CPython's C interface."""
-    _fields_ = [("address", ctypes.c_void_p), ("owner", ctypes.py_object), ("length", ctypes.c_ssize_t),
-                ("item", ctypes.c_ssize_t), ("readonly", ctypes.c_int), ("dimensions", ctypes.c_int),
-                ("format", ctypes.c_char_p), ("shape", ctypes.POINTER(ctypes.c_ssize_t)),
-                ("strides", ctypes.POINTER(ctypes.c_ssize_t)), ("suboffsets", ctypes.c_void_p),
-                ("internal", ctypes.c_void_p)]
-
-
 def by_columns(memory):
     """A memoryview of two rows of samples in Fortran's order, as numpy makes them."""
-    sizes = ctypes.c_ssize_t * 2
-    buffer = Buffer(address=ctypes.addressof(memory), length=ctypes.sizeof(memory), item=2, dimensions=2, format=b"H",
-                    shape=sizes(2, 455), strides=sizes(2, 4))
+    shape, strides = ((ctypes.c_ssize_t * 2)(*sizes) for sizes in ((2, 455), (2, 4)))
+    buffer = _Buffer(address=ctypes.addressof(memory), length=ctypes.sizeof(memory), item=2, dimensions=2, format=b"H",
+                     shape=ctypes.addressof(shape), strides=ctypes.addressof(strides))
     make = ctypes.pythonapi.PyMemoryView_FromBuffer
-    make.argtypes, make.restype = [ctypes.POINTER(Buffer)], ctypes.py_object
+    make.argtypes, make.restype = [ctypes.POINTER(_Buffer)], ctypes.py_object
     return make(ctypes.byref(buffer))
 
 
@@ -83,7 +75,13 @@ class Kinds(unittest.TestCase):
             for call in asked:
                 self.assertEqual(reason(call, source, *NTSC), "samples are " + text, (call, type(source)))
 
-    def test_a_buffer_is_given_back(self):
+    def test_a_buffer_is_held(self):
+        """As long as it has to be, and it is given back then."""
+        line = bytearray(self.line)
+        with Samples(line) as memory:
+            self.assertRaises(BufferError, line.append, 0)
+        line.append(0)
+        self.assertEqual(memory.length, 1820)  # it is there still, and holds nothing any more
         line = bytearray(self.line)
         ldvbi.read_line(line, *NTSC)
         line.append(0)  # a BufferError while somebody holds its bytes

@@ -19,10 +19,15 @@ class Tables(Scans):
 
     def test_twelve_sides(self):
         self.add_twelve()
-        self.check_csv(*self.scan("--csv -j 1 --html one a b"))
-        pages = self.check_json(*self.scan("--json -j 4 --html four b a"))
         # those that have a page aren't read again
-        self.check_text(*self.scan("--html four a b"))
+        found = [self.scan(words) for words in ("--csv -j 1 --html one a b", "--json -j 4 --html four b a",
+                                                "--html four a b")]
+        self.assertEqual([(status, said) for status, _, said in found], [(2, "")] * 3)
+        head, *rows = csv.reader(found[0][1].splitlines())
+        self.assertEqual((head, [row[0] for row in rows]), (HEAD, list(ROWS)))
+        self.check_rows(rows)
+        pages = self.check_json(json.loads(found[1][1]), rows)
+        self.check_text(found[2][1], rows)
         names = [os.path.basename(page) for page in pages.values() if page] + ["index.html"]
         self.assertEqual(len(names), 10)  # of twelve sides three have a fault; and the index
         for folder in ("one", "four"):
@@ -31,51 +36,38 @@ class Tables(Scans):
             self.assertEqual(self.read("one/" + name), self.read("four/" + name), name)
         self.check_index(self.text("four/index.html"), pages)
 
-    def check_rows(self, rows, nothing=""):
-        """The cells of each side; `nothing` stands for what can't be said, but not for a missing why."""
-        self.assertEqual([row[0] for row in rows], list(ROWS))
+    def check_rows(self, rows):
         for name, *found, why in rows:
-            *wanted, begin = ROWS[name]
+            *wanted, begin = [cell.strip("-") for cell in ROWS[name]]
             with self.subTest(name):
-                self.assertEqual(found, [nothing if cell == "-" else cell for cell in wanted])
-                self.assertEqual(why == "", begin == "-")
+                self.assertEqual((found, why == ""), (wanted, begin == ""))
                 if name == "a/joined.tbc":  # where the losses come first that the joint looks like
                     self.assertIn(begin, why)
                 else:
-                    self.assertTrue(why.startswith(begin.strip("-")), why)
+                    self.assertTrue(why.startswith(begin), why)
                     self.assertNotIn("two sides joined", why)
 
-    def check_csv(self, status, text, said):
-        self.assertEqual((status, said), (2, ""))
-        head, *rows = csv.reader(text.splitlines())
-        self.assertEqual(head, HEAD)
-        self.check_rows(rows)
-
-    def check_json(self, status, text, said):
-        """The answer is the page of each side."""
-        known = json.loads(text)
-        self.assertEqual((status, said, known["version"], len(known)), (2, "", 1, 2))
-        sides = {one["side"]: one for one in known["sides"]}
-        self.check_rows([[
-            name, "fault" if one["whole"] is None else one["whole"],
+    def check_json(self, known, rows):
+        """These rows as JSON. The answer is the page of each side."""
+        self.assertEqual((known["version"], len(known)), (1, 2))
+        self.assertEqual([[
+            one["side"], "fault" if one["whole"] is None else one["whole"],
             *("" if one[column] is None else str(one[column]) for column in HEAD[2:-1]),
-            "; ".join(one["reasons"]) if one["fault"] is None else one["fault"]] for name, one in sides.items()])
-        self.assertEqual(dict(sides["a/lost.tbc"], page=None), {
+            "; ".join(one["reasons"]) if one["fault"] is None else one["fault"]] for one in known["sides"]], rows)
+        lost = known["sides"][list(ROWS).index("a/lost.tbc")]
+        self.assertEqual(dict(lost, page=None), {
             "side": "a/lost.tbc", "whole": "no", "lost": 2, "unread": 0, "format": "cav", "from": 1, "to": 30,
             "fields": 56, "reasons": ["4 fields lost", "2 pictures lost"], "fault": None, "page": None})
-        return {name: one["page"] for name, one in sides.items()}
+        return {one["side"]: one["page"] for one in known["sides"]}
 
-    def check_text(self, status, text, said):
-        """The table in columns, of which those behind the first two are written to the right."""
-        self.assertEqual((status, said), (2, ""))
+    def check_text(self, text, rows):
+        """These rows in columns, of which those behind the first two are written to the right."""
         head, *lines = text.splitlines()
         self.assertEqual(
             head, "side                whole         lost  unread   format        from          to   fields  why")
-        ends = [18, 30, 38, 46, 55, 67, 79, 88]  # of the columns but the last one, which begins two columns on
-        self.check_rows([[line[first:last].strip() for first, last in zip([0, *ends], [*ends, None])]
-                         for line in lines], "-")
-        self.assertEqual(lines[6], "b/minutes.vbi.json  yes              0       0      clv        0:00        0:02"
-                         "     9000")
+        form = "%-18s  %-10s  %6s  %6s  %7s  %10s  %10s  %7s  "
+        self.assertEqual(lines, [(form % tuple(cell or "-" for cell in cells) + why).rstrip()
+                                 for *cells, why in rows])
 
     def check_index(self, index, pages):
         """What links the pages, or says why there is none; `index_of` has the rest."""
@@ -129,10 +121,6 @@ class Pages(Scans):
         self.assertEqual((status, said), (0, ""))
         return json.loads(text)["sides"][0]["page"]
 
-    def set_time(self, time, *names):
-        for name in names:
-            os.utime(self.named(name), ns=(time, time))
-
     def time_of(self, name):
         return os.stat(self.named(name)).st_mtime_ns
 
@@ -142,7 +130,8 @@ class Pages(Scans):
         page = self.page()
         before = self.time_of("side.tbc")
         self.add("side.tbc", "1..3 6..8")
-        self.set_time(before, "side.tbc", "side.tbc.json")
+        for name in ("side.tbc", "side.tbc.json"):
+            os.utime(self.named(name), ns=(before, before))
         for words, wanted in (("", YES), ("--again", NO), ("", NO)):
             self.assertEqual(self.row("--html pages side.tbc " + words), wanted)
         self.assertIn("from 1 to 8", self.text(page))
@@ -158,7 +147,7 @@ class Pages(Scans):
                 self.write(page, "%s<p>" % self.text(page))
                 self.assertEqual(self.page(), page)
                 self.assertNotEqual(self.read(page), whole)  # it isn't written again
-                self.set_time(self.time_of(page), name)
+                os.utime(self.named(name), ns=(self.time_of(page), self.time_of(page)))
                 self.assertEqual(self.page(), page)
                 self.assertEqual(self.read(page), whole)
 
