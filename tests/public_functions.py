@@ -20,11 +20,7 @@ from wrong_bodies import FOLDER, Edit, functions, read  # noqa: E402
 # Texts, characters and comments, which name nothing
 SILENT = re.compile(r'"(?:\\.|[^"\\])*"|\'(?:\\.|[^\'\\])\'|//[^\n]*', re.S)
 CONSTANT = re.compile(r"^ *(?:pub(?:\([^)]*\))? )?(?:const|static) (\w{2,}):.*?;$", re.M | re.S)
-
-
-@functools.lru_cache(maxsize=None)
-def text_of(path):
-    return read(path)
+text_of = functools.lru_cache(maxsize=None)(read)
 
 
 class Item:

@@ -7,27 +7,19 @@
 set -eu
 
 missing=
-for pair in "${CC:-cc}:gcc libc6-dev" "${CXX:-c++}:g++" nm:binutils python3:python3 jq:jq prove:perl \
-    pkg-config:pkg-config; do
+# A command, and behind a colon the packages that have it, where these have another name
+for pair in "${CC:-cc}:gcc libc6-dev" "${CXX:-c++}:g++" nm:binutils python3 jq prove:perl pkg-config cmake git less \
+    mandoc mypy parallel pv zsh ${1:+rustc cargo rustfmt cargo-clippy:rust-clippy}; do
     command -v "${pair%%:*}" > /dev/null || missing="$missing ${pair#*:}"
 done
-for tool in cmake git less mandoc mypy parallel pv zsh; do
-    command -v $tool > /dev/null || missing="$missing $tool"
-done
-# A command of docs/RECIPES.md is run by the system's Python, whose packages are Debian's.
-/usr/bin/python3 -c 'import jsonschema' 2> /dev/null || missing="$missing python3-jsonschema"
-# The wheel is tried by that Python, too, and its coverage records which lines run.
-for pair in coverage:coverage ensurepip:venv setuptools:setuptools wheel:wheel; do
+# The system's Python, whose packages are Debian's, runs a command of docs/RECIPES.md, and the wheel is tried by it; its
+# coverage records which lines run.
+for pair in jsonschema coverage ensurepip:venv setuptools wheel; do
     /usr/bin/python3 -c "import ${pair%:*}" 2> /dev/null || missing="$missing python3-${pair#*:}"
 done
-if [ "${1:-}" ]; then
-    command -v cargo > /dev/null || missing="$missing rustc cargo"
-    command -v rustfmt > /dev/null || missing="$missing rustfmt"
-    command -v cargo-clippy > /dev/null || missing="$missing rust-clippy"
-    for crate in arrayvec byteorder clap itoa libc serde-json thiserror; do
-        [ -e /usr/share/doc/librust-$crate-dev ] || missing="$missing librust-$crate-dev"
-    done
-fi
+for crate in ${1:+arrayvec byteorder clap itoa libc serde-json thiserror}; do
+    [ -e "/usr/share/doc/librust-$crate-dev" ] || missing="$missing librust-$crate-dev"
+done
 [ -n "$missing" ] || exit 0
 if [ "${1:-}" != install ]; then
     echo "tests: missing on this machine, as Debian's packages:$missing (make setup installs them)" >&2
