@@ -187,18 +187,16 @@ done
 
 # The examples of the manual pages: the last line that the one of ldvbi prints is of the drawn field; ldvbi-side has a
 # side that is whole
-sides page
-page ldvbi page
+page ldvbi trial
 check 'the words of the drawn field of the manual page' [ "$(tail -n 1 out)" = '[8572927,15803205,15803205]' ]
-sides side_page
-mkdir side_page/captures
+mkdir trial/captures
 seq -f 'F%05g' 16 | sed 's/.*/- & &\n- - -/' > whole.words
-output_of draw $ntsc whole.words > side_page/side.tbc
+output_of draw $ntsc whole.words > trial/side.tbc
 for name in side first second captures/side; do
-    output_of extract $ntsc side_page/side.tbc > side_page/$name.vbi.json
+    output_of extract $ntsc trial/side.tbc > trial/$name.vbi.json
 done
-page ldvbi-side side_page
-ls side_page/side.svg side_page/both.html side_page/pages/index.html > out 2> err
+page ldvbi-side trial
+ls trial/side.svg trial/both.html trial/pages/index.html > out 2> err
 check 'what its examples write' [ ! -s err ]
 
 # The examples of the help texts; one of them has a disc of PAL

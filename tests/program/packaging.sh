@@ -55,9 +55,10 @@ below() {
         libldvbi.so.1 pkgconfig/ldvbi.pc
 } | sort > files_of_both
 # Files of others, whose names begin as ours do, in each folder that has files of ours
-printf '%s\n' bin/ldvbi-other include/ldvbi-other.h lib/libldvbi-other.a lib/libldvbi.so.0 \
-    lib/pkgconfig/ldvbi-other.pc share/bash-completion/completions/ldvbi-other share/doc/ldvbi-other/README.md share/ldvbi-other/plot_line.py \
-    share/man/man1/ldvbi-other.1 share/zsh/site-functions/_ldvbi-other > others
+printf '%s\n' bin/ldvbi-other include/ldvbi-other.h lib/cmake/ldvbi-other/ldvbi-other.cmake lib/libldvbi-other.a \
+    lib/libldvbi.so.0 lib/pkgconfig/ldvbi-other.pc share/bash-completion/completions/ldvbi-other \
+    share/doc/ldvbi-other/README.md share/ldvbi-other/plot_line.py share/man/man1/ldvbi-other.1 \
+    share/zsh/site-functions/_ldvbi-other > others
 # are_for_all FOLDER: whether all can read what is installed there, and run what is to be run
 are_for_all() {
     (cd "$1" && find . ! -type l -printf '%m %y %p\n') |
@@ -71,6 +72,7 @@ installs() {
     shift 3
     mkdir -p "$folder"
     (cd "$folder" && xargs dirname < "$work/others" | xargs mkdir -p && xargs touch < "$work/others")
+    find "$folder" | sort > before
     made install "$@"
     check "$name: make install" [ $status = 0 ]
     below "$folder" | comm -23 - others > found
@@ -81,9 +83,8 @@ installs() {
     check "$name: ldvbi-side finds its module" [ "$status $(head -c 18 out)" = '0 usage: ldvbi-side ' ]
     made uninstall "$@"
     check "$name: make uninstall" [ $status = 0 ]
-    below "$folder" > found
-    check "$name: what is left is not ours" cmp found others
-    check "$name: no folder of ours is left" [ -z "$(find "$folder" -path '*share/*' -name ldvbi)" ]
+    find "$folder" | sort > found
+    check "$name: what is left is not ours" cmp found before
 }
 made uninstall PREFIX="$work/nothing/usr"
 check 'make uninstall where nothing of ours is' [ $status = 0 ]

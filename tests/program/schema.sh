@@ -94,12 +94,9 @@ places() {
 .videoParameters.fieldHeight $4..$4
 .videoParameters.black16bIre 0..65534
 .videoParameters.white16bIre 1..65535
-.fields[].seqNo 1..1000000
-.fields[].vbi.vbiData 3 items
-.fields[].vbiCause 3 items
-.fields[].vbiPass 3 items
+*.seqNo 1..1000000
+.fields[].vbi.vbiData .fields[].vbiCause .fields[].vbiPass 3 items
 .cutField null
-.cutField.seqNo 1..1000000
 .cutField.bytes 1..$(($5 - 1))
 END
     shift 5
