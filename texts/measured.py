@@ -27,6 +27,7 @@ def cut(path: str, mark: str) -> str:
 
 
 # The tables by their marks, and who measured them
-TABLES = {"lines": "peers", "dropouts": "peers", "worn": "worn_sides"}
+TABLES = {"lines": "peers", "dropouts": "peers", "worn": "worn_sides", "kinds": "kinds", "plays": "plays",
+          "judged": "judged", "chapters": "judged_chapters"}
 PARTS = {PAGE: {mark: ("docs/measured/%s.txt" % name, functools.partial(cut, "docs/measured/%s.txt" % name, mark))
                 for mark, name in TABLES.items()}}

@@ -2,10 +2,11 @@
 """Tables of docs/MEASURED.md that have the library's judge beside the package: both on simulated sides. Whatever they
 say of a field is held against the truth, and where the judge promises to be right, it has to be.
 
-usage: judged.py FROM TO [--kind KIND]... [--show N]     the seeds FROM to TO - 1
+usage: judged.py FROM TO [--kind KIND]... [--played N] [--show N] [--into FILE]     the seeds FROM to TO - 1
 
-Without --kind each seed has a kind of KINDS; --kind `each` is each kind of PLAYED. --show prints the first N answers
-that are wrong. The status is 1 where one of them stands where the promise speaks."""
+Without --kind each seed has a kind of KINDS; --kind `each` is each kind of PLAYED, of which --played adds N sides each.
+--show prints the first N answers that are wrong, --into writes the rows of docs/MEASURED.md. The status is 1 where one
+of them stands where the promise speaks."""
 
 import functools
 import sys
@@ -17,7 +18,7 @@ from judged_truth import JudgedTruth, packed_of
 from ldvbi_side.judge.answer import analyse
 from measure import fields_of
 from simulate import simulated
-from simulated_runs import parser, totals_of
+from simulated_runs import parser, totals_of, write_rows
 from truth import number_of
 
 FINDERS = ("judge", "package", "lines")
@@ -178,13 +179,28 @@ def print_table(totals):
         print("%s, pace %s: %s" % (kind, how, ", ".join(told)))
 
 
+def rows_of(counts):
+    """The cells of the rows of docs/MEASURED.md."""
+    both, by = FINDERS[:2], "%s by the %s"
+    yield ("right numbers believed", *("%d of %d" % (
+        counts["right by both"] + counts["right by the %s alone" % finder], counts["right"]) for finder in both), "")
+    yield ("wrong numbers believed", *(counts[by % ("wrong", finder)] for finder in both), "")
+    yield ("due, right; wrong", *("%d; %d" % (counts[by % ("due", finder) + ", right"],
+                                              counts[by % ("due", finder) + ", wrong"]) for finder in both), "")
+    for asked, name in zip(ASKED, ("sought, found; another field", "misread ones sought, found; another field")):
+        yield (name, *("%d of %d; %d" % (counts[by % (asked + ", found", finder)], counts[asked],
+                                         counts[by % (asked + ", wrong", finder)]) for finder in FINDERS))
+
+
 def main():
     def parts_of(seed, asked, tell):
         kind, found = judged(seed, asked, tell)
         return [(kind, how, counts) for how, counts in found.items()]
 
-    totals = totals_of(parser().parse_args(), parts_of)
+    options = parser().parse_args()
+    totals = totals_of(options, parts_of)
     print_table(totals)
+    write_rows(options, "| On all sides | The judge | The package | Lines |", rows_of(totals["all", "given"]))
     return int(any(count for counts in totals.values() for name, count in counts.items()
                    if name.endswith("where promised")))
 

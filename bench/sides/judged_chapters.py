@@ -2,10 +2,9 @@
 """The table of docs/MEASURED.md that has the library's judge of chapters beside the package: both on simulated sides.
 Whatever they say of a field is held against the truth, and where the judge promises something, it has to be so.
 
-usage: judged_chapters.py FROM TO [--kind KIND]... [--show N]     the seeds FROM to TO - 1
+usage: judged_chapters.py FROM TO [--kind KIND]... [--played N] [--show N] [--into FILE]     as of judged.py
 
-Without --kind each seed has a kind of KINDS; --kind `each` is each kind of PLAYED. --show prints the first N answers
-that are wrong. The status is 1 where one of them breaks the promise."""
+The status is 1 where one answer breaks the promise."""
 
 import sys
 from collections import Counter
@@ -17,7 +16,7 @@ from judged_truth import ENOUGH, REACH, packed_of
 from ldvbi_side.judge.answer import analyse
 from measure import fields_of
 from simulate import simulated
-from simulated_runs import parser, totals_of
+from simulated_runs import parser, totals_of, write_rows
 from truth import said_by
 
 NAMES = ("sides", "fields", "right",
@@ -130,9 +129,20 @@ def print_table(totals):
         print("%s: %s" % (kind, ", ".join("%s %d" % (name, counts[name]) for name in NAMES)))
 
 
+def rows_of(counts):
+    """The cells of the rows of docs/MEASURED.md."""
+    for row, right, wrong, there in (("right ones believed in their fields; wrong ones", "right", "wrong", "right"),
+                                     ("listed; of no disc", "listed", "listed of no disc", "chapters")):
+        yield (row, *("%d of %d; %d" % (counts["%s by the %s" % (right, finder)], counts[there],
+                                        counts["%s by the %s" % (wrong, finder)]) for finder in FINDERS[:2]),
+               "-; %d" % counts[wrong + " by the lines"])
+
+
 def main():
-    totals = totals_of(parser().parse_args(), lambda *asked: [judged(*asked)])
+    options = parser().parse_args()
+    totals = totals_of(options, lambda *asked: [judged(*asked)])
     print_table(totals)
+    write_rows(options, "| Chapters | The judge | The package | Lines |", rows_of(totals["all",]))
     return int(any(counts["broken promises"] for counts in totals.values()))
 
 

@@ -2,10 +2,10 @@
 """The table of docs/MEASURED.md: simulated sides, analysed, and the answers beside the truth. What the seeds 2000 to
 2349 gave is in docs/measured/sides.txt.
 
-usage: measure.py FROM TO [--kind KIND]... [--parity] [--show N]     the seeds FROM to TO - 1
+usage: measure.py FROM TO [--kind KIND]... [--parity] [--show N] [--into FILE]     the seeds FROM to TO - 1
 
 Without --kind each seed has a kind of KINDS; --kind `each` is each kind of PLAYED. --parity hands over isFirstField of
-each field, too; --show prints the first N differences."""
+each field, too; --show prints the first N differences, --into writes the rows of docs/MEASURED.md."""
 
 import operator
 import time
@@ -15,13 +15,20 @@ from judged_truth import judge_of
 from ldvbi_side.judge.answer import analyse
 from ldvbi_side.judge.readings import Fields
 from simulate import simulated
-from simulated_runs import parser, totals_of
+from simulated_runs import parser, totals_of, write_rows
 from sound import faults_of
 from truth import Truth
 
 SHARES = ("wrong", "right", "wrong chapters", "right chapters", "numbers", "due", "lost", "lost places", "backs",
           "unread numbers", "lost numbers", "unread fields", "swaps", "speeds")
 EXACT = ("missing", "left out", "first fields", "stops", "chapter table", "whole", "reasons")
+# What of a kind has a row of its own, and the words of its row
+OF_KIND = {"worn": ("unread numbers in their field", "due"), "swapped": ("pairs named", "swaps"),
+           "speeds": ("stretches named", "speeds"), "losses": ("places with lost fields named", "lost places"),
+           **{kind: ("jumps back and stills", "backs") for kind in ("restarts", "turned", "loops")}}
+HEAD = "| %s |" % " | ".join((
+    "Kind", "First fields exact", "Missing exact (but for the clock's inside a loss)", "Numbers in their field",
+    "Right ones set aside", "Lost fields named, right (but for the clock's)", "Just the right reasons", "Of the kind"))
 
 
 def fields_of(side, parity=False):
@@ -66,11 +73,24 @@ def print_table(totals):
               "%(left out but for hidden)d, lost %(lost and hidden)d more" % counts)
 
 
+def row_of(kind, counts):
+    """The cells of a kind's row in docs/MEASURED.md."""
+    first, missing, reasons = ("%d of %d" % (counts[name], counts["sides"])
+                               for name in ("first fields", "missing", "reasons"))
+    said, own = OF_KIND.get(kind, ("", "lost"))
+    numbers, right, lost, own = ("%d of %d" % (counts[name + " found"], counts[name])
+                                 for name in ("numbers", "right", "lost", own))
+    return ("`%s`" % kind, first, "%s (%d)" % (missing, counts["missing but for hidden"]), numbers, right, "%s (%d)" % (
+        lost, counts["lost found"] + counts["lost and hidden"]), reasons, "%s: %s" % (said, own) if said else "")
+
+
 def main():
     asked = parser()
     asked.add_argument("--parity", action="store_true")
     options = asked.parse_args()
-    print_table(totals_of(options, lambda seed, kind, tell: [measured(seed, kind, options.parity, tell)]))
+    totals = totals_of(options, lambda seed, kind, tell: [measured(seed, kind, options.parity, tell)])
+    print_table(totals)
+    write_rows(options, HEAD, (row_of(kind, counts) for (kind,), counts in totals.items() if kind != "all"))
 
 
 if __name__ == "__main__":

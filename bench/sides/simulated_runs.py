@@ -1,18 +1,24 @@
 """Runs over simulated sides by hand: which sides are asked for, and what is counted of all of them."""
 
 import argparse
+import os
+import re
+import sys
 from collections import Counter, defaultdict
 
 from simulate import KINDS, PLAYED
 
 
 def parser():
-    """What a run is asked for: the seeds from `begin` to `end` - 1, the kinds, and how many texts are shown."""
+    """What a run is asked for: the seeds from `begin` to `end` - 1, the kinds, how many sides of each kind of PLAYED
+    besides, how many texts are shown, and the file that gets the rows of docs/MEASURED.md."""
     found = argparse.ArgumentParser()
     found.add_argument("begin", type=int)
     found.add_argument("end", type=int)
     found.add_argument("--kind", choices=KINDS + tuple(PLAYED) + ("each",), action="append")
+    found.add_argument("--played", type=int, default=0)
     found.add_argument("--show", type=int, default=0)
+    found.add_argument("--into")
     return found
 
 
@@ -21,11 +27,24 @@ def totals_of(options, parts_of):
     and what it may call with a text; of the side it returns tuples of its kind, of names, if there are any, and of
     counts. The totals have all of these but the counts as their key."""
     totals, told = defaultdict(Counter), []
-    for asked in PLAYED if options.kind == ["each"] else options.kind or [None]:
-        for seed in range(options.begin, options.end):
+    kinds = PLAYED if options.kind == ["each"] else options.kind or [None]
+    runs = [(asked, options.begin, options.end) for asked in kinds] + [(asked, 0, options.played) for asked in PLAYED]
+    for asked, begin, end in runs:
+        for seed in range(begin, end):
             for kind, *names, counts in parts_of(seed, asked, told.append):
                 for key in (kind, "all"):
                     totals[(key, *names)].update(counts)
     for text in told[:options.show]:
         print(text)
     return totals
+
+
+def write_rows(options, head, rows):
+    """Writes a table of docs/MEASURED.md, if that is asked for: what was run, its head, and the cells of each row."""
+    if options.into:
+        with open(options.into, "w", encoding="ascii") as file:
+            print(os.path.basename(sys.argv[0]), *sys.argv[1:], file=file)
+            print("", head, re.sub("[^|]+", "---", head), sep="\n", file=file)
+            for row in rows:
+                cells = re.sub(r"\d+", lambda one: format(int(one[0]), ","), " | ".join(map(str, row)))
+                print("| %s |" % cells, file=file)
