@@ -100,11 +100,11 @@ ran / env FAULT=3 "$work/tree/.ci/run"
 check '.ci/run fails where that does' [ "$status" = 3 ]
 
 # tests/tools.sh where no tool is there, and where all are but one; the system's Python is one that has no module
-packages='gcc libc6-dev g++ binutils python3 jq perl pkg-config cmake git less mandoc mypy parallel pv
-zsh python3-jsonschema python3-coverage python3-venv python3-setuptools python3-wheel'
-packages=$(echo $packages)
-for_rust='rustc cargo rustfmt rust-clippy librust-arrayvec-dev librust-byteorder-dev librust-clap-dev librust-itoa-dev'
-for_rust="$for_rust librust-libc-dev librust-serde-json-dev librust-thiserror-dev"
+tools='gcc libc6-dev g++ binutils python3 jq perl pkg-config cmake git less mandoc mypy parallel pv zsh'
+modules='python3-jsonschema python3-coverage python3-venv python3-setuptools python3-wheel'
+crates='librust-arrayvec-dev librust-byteorder-dev librust-clap-dev librust-itoa-dev librust-libc-dev'
+crates="$crates librust-serde-json-dev librust-thiserror-dev"
+all="$tools rustc cargo rustfmt rust-clippy $modules $crates"
 sed "s,/usr/bin/python3,$work/no_module,; s,/usr/share/doc,$work/none," "$top/tests/tools.sh" > tools.sh
 stub no_module 'exit 1'
 mkdir none alone
@@ -116,24 +116,24 @@ tools() {
 }
 missing="tests: missing on this machine, as Debian's packages:"
 tools ''
-judge 'the tools that the scripts need' 1 empty "$missing $packages (make setup installs them)"
+judge 'the tools that the scripts need' 1 empty "$missing $tools $modules (make setup installs them)"
 tools rust
-judge 'the tools that the gate needs' 1 empty "$missing $packages $for_rust (make setup installs them)"
+judge 'the tools that the gate needs' 1 empty "$missing $all (make setup installs them)"
 stub alone/apt-get 'echo "apt-get $*"; exit ${FAULT:-0}'
 stub alone/id 'echo ${USER_NUMBER:-0}'
 stub alone/sudo 'echo sudo; "$@"'
-printf '%s\n' "installing: $packages $for_rust" 'apt-get update' "apt-get install -y $packages $for_rust" > wanted_text
+printf '%s\n' "installing: $all" 'apt-get update' "apt-get install -y $all" > wanted_text
 tools install
 judge 'setup as root' 0 wanted_text ''
 USER_NUMBER=1000 FAULT=1
 export USER_NUMBER FAULT
 tools install
 check 'setup by sudo, which fails where the packages do' [ "$status $(grep -c '^sudo$' out)" = '1 1' ]
-for tool in cc c++ nm python3 jq prove pkg-config cmake git less mandoc mypy parallel pv zsh cargo rustfmt \
+for tool in cc c++ nm python3 jq prove pkg-config cmake git less mandoc mypy parallel pv zsh rustc cargo rustfmt \
     cargo-clippy; do
     stub alone/$tool 'exit 0'
 done
-(cd none && mkdir ${for_rust#*rust-clippy})
+(cd none && mkdir $crates)
 stub no_module 'exit 0'
 for word in '' rust install; do
     tools $word
