@@ -134,14 +134,11 @@ class Copies(Databases):
 
 class FirstFields(Databases):
     def test_they_are_read(self):
-        self.make()
-        self.assertEqual(read_metadata(self.path)[2:], (12, [False, True] * 6))
-        self.make("UPDATE field_record SET is_first_field = NULL WHERE field_id = 5")
-        self.assertEqual(read_metadata(self.path)[2:], (12, None))
-
-    def test_in_the_order_of_the_fields(self):
-        self.make("UPDATE field_record SET field_id = 9 - field_id", count=4)
-        self.assertEqual(read_metadata(self.path)[2:], (4, [True, False] * 2))
+        """In the order of the fields, where each has one."""
+        for change, wanted in (("disk_loc = 0", [False, True] * 2), ("field_id = 9 - field_id", [True, False] * 2),
+                               ("is_first_field = NULL WHERE field_id = 2", None)):
+            self.make("UPDATE field_record SET " + change, count=4)
+            self.assertEqual(read_metadata(self.path)[2:], (4, wanted))
 
     def test_which_table_has_them(self):
         """One alone, whatever its name is; else the count is that of the table capture."""
