@@ -142,6 +142,7 @@ class Lost(unittest.TestCase):
     outside | t0..29 t20..21 t140..169 | showings x60
     one time | t0..29 t292 t1490..1519 | showings x61
     between two searches | t0..29 Bx300 t200..201 Bx300 t500..529 | showings x62 | no doubtful
+    behind a search | t0..29 Bx500 t205 t1490..1519 | showings x60 | doubtful x1
     """)
         for number in (31, 35, 55, 1485, 1479, 1464):
             check(self, "%d | t0..29 t%d t1490..1519 | showings x60" % (number, number))
