@@ -45,14 +45,6 @@ def pictures(numbers):
     return rows
 
 
-def disc(count=40, **changed):
-    """The fields of pictures from 1 on, with other rows for some: `f5` is field 5."""
-    rows = pictures(range(1, count + 1))
-    for field, row in changed.items():
-        rows[int(field[1:]) - 1] = row
-    return rows
-
-
 def film(numbers, odd=1):
     """The same of film: pictures with an odd number have 3 fields, or, with `odd` 0, those with an even one."""
     rows = []

@@ -5,8 +5,8 @@ import unittest
 import xml.etree.ElementTree as xml
 
 from cases import reason
-from compact import rows, span
-from discs import BLANK, answer, disc, joined, picture, side
+from compact import made, rows, span
+from discs import BLANK, answer, joined, picture, side
 from ldvbi_side.command.join import joined_text, range_rows
 from ldvbi_side.draw.bars import COLOURS, bars_of
 from ldvbi_side.draw.together import page_of_joined
@@ -71,14 +71,14 @@ class Taken(unittest.TestCase):
             self.assertEqual([row[0] for row in found["taken"] if row[1] == "b"], list(numbers), (one, other))
 
     def test_a_confirmed_number_is_between_those_that_are_read_and_due(self):
-        due, near = side(disc(f7="- - -")), side(disc(f7="- - -"))
+        due, near = made("1..40 7=B", side), made("1..40 7=B", side)
         near.answer.update(confirmed=[7], unread=[])
         near.answer["showings"].append([4, 7, 7])
         self.assertEqual(taken(join_sides(due, near), 4), ["b", 7, 4, "near"])
-        self.assertEqual(taken(join_sides(due, near, side(disc(f7="- - F00004*"))), 4), ["c", 7, 4, "read"])
+        self.assertEqual(taken(join_sides(due, near, made("1..40 7=-/-/#4*", side)), 4), ["c", 7, 4, "read"])
 
     def test_frames_of_a_capture_that_begins_with_a_second_field(self):
-        found = join_sides(side(disc()[1:], first=[place % 2 == 1 for place in range(79)]), side(disc(10)))
+        found = join_sides(made("PAL/1 1..40 -1", side), made("1..10", side))
         self.assertEqual([taken(found, 1), taken(found, 2)], [["b", 1, 1, "read"], ["a", 2, 1, "read"]])
 
 
@@ -198,10 +198,10 @@ class Disagreements(unittest.TestCase):
 
 class Refused(unittest.TestCase):
     def test_systems_and_formats(self):
-        cav, clv = side(disc()), side(rows("t0..29"))
+        cav, clv = made("1..40", side), made("t0..29", side)
         for text, sides in (
                 ("a has pictures of PAL, b has times of PAL: two discs?", (cav, clv)),
-                ("a has pictures of PAL, c has pictures of NTSC: two discs?", (cav, cav, side(disc(), "NTSC"))),
+                ("a has pictures of PAL, c has pictures of NTSC: two discs?", (cav, cav, made("NTSC 1..40", side))),
                 ("b has no numbers to join", (cav, side(rows("B")))), ("a has no numbers to join", (side([]), cav))):
             self.assertEqual(reason(join_sides, *sides), text)
 
@@ -263,6 +263,6 @@ class Page(unittest.TestCase):
                      "<p>disagreements of two captures: 0</p>"):
             self.assertIn(text, page)
         self.assertEqual(page.count("<details"), 3)
-        page = page_of_joined(join([capture_of(side(disc()), name) for name in ("<a>.tbc", "b & c.tbc")]), [])
+        page = page_of_joined(join([capture_of(made("1..40", side), name) for name in ("<a>.tbc", "b & c.tbc")]), [])
         self.assertIn("<h1>&lt;a&gt;.tbc, b &amp; c.tbc</h1>", page)
         self.assertNotIn("<a>", page)

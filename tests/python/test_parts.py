@@ -2,8 +2,7 @@
 
 import unittest
 
-from compact import check, of_member, rows
-from discs import STOP, answer
+from compact import check, made
 
 # Chapters 2 and 3, of ten pictures each, and chapters 0 to 2
 TWO = "1..20 2:20/2=-/c2/c2 22:40/2=-/c3/c3"
@@ -18,20 +17,20 @@ class Parts(unittest.TestCase):
     read once behind one that never was | 1..30 2:60/2=B 2:18/2=-/-/c1 56=-/-/c3 | chapters 1@2-18, 3@56 | no doubtful
     a code of a disc without chapters | 1..200 2:400/2=B 8=-/c33/- | no chapters | doubtful 8/17 33 chapter
     """ % (THREE, TWO))
-        found = answer(rows(THREE))["chapters"]
-        self.assertEqual(found[:2], [
+        self.assertEqual(made(THREE)["chapters"][:2], [
             {"chapter": 0, "field": 2, "last": 20, "after": None, "number": 1, "frame": 1},
             {"chapter": 1, "field": 22, "last": 40, "after": 20, "number": 11, "frame": 11}])
-        self.assertEqual(answer(rows("t0..29"))["chapters"][0]["number"], "0:00:00.00")
+        self.assertEqual(made("t0..29")["chapters"][0]["number"], "0:00:00.00")
         for wrong in (0, 1, 4, 7, 79):
-            found = answer(rows(TWO + " 30=-/c%d/c%d" % (wrong, wrong)))
-            self.assertEqual(of_member(found, "chapters"), "2@2-20, 3@22-40", wrong)
-            self.assertEqual(of_member(found, "doubtful"), "30/17 {0} chapter, 30/18 {0} chapter".format(wrong))
-        found = answer(rows(THREE) + rows(THREE)[20:])  # at a jump any may follow
-        self.assertEqual([[one["chapter"] for one in found["chapters"]], found["doubtful"]], [[0, 1, 2, 1, 2], []])
+            check(self, "{1} | {0} 30=-/c{1}/c{1} | chapters 2@2-20, 3@22-40 | doubtful 30/17 {1} chapter, 30/18 {1} "
+                  "chapter".format(TWO, wrong))
         beside = " ".join("-/#%d/c%d" % (number, number // 10) if number % 2 else "S/S/c%d" % (number // 10)
-                          for number in range(1, 41))  # a chapter beside a picture, or beside a stop
-        self.assertEqual([one["chapter"] for one in answer(rows(beside))["chapters"]], [0, 1, 2, 3, 4])
+                          for number in range(1, 41))
+        check(self, """
+    at a jump any may follow | %s 11..30 62:80/2=-/c1/c1 82:100/2=-/c2/c2 | no doubtful
+        | chapters 0@2-20, 1@22-40, 2@42-60, 1@62-80, 2@82-100
+    beside a picture, or beside a stop | %s | chapters 0@1-9, 1@10-19, 2@20-29, 3@30-39, 4@40
+    """ % (THREE, beside))
 
     def test_stops(self):
         """Picture n stands in field 2n - 1. A word of pass 2 or 3 on one line isn't enough."""
@@ -42,22 +41,20 @@ class Parts(unittest.TestCase):
         | stops 5@10, 6@12, 7@14, 8@16
         | stray 2/16 picture stop unsure, 4/17 picture stop unsure, 6/16 picture stop unsure, 6/18 picture stop unsure
     of a picture that is due | 1..10 9=S/?/? | stops 5@9
-    without numbers | B S/-/- | stops None@2 | format cav
+    without numbers | B S/-/- | format cav
     """)
-        found = answer(rows("1..10 5=S/S/#3 7=S/-/#4 16=S^/S*/S 2=S*/-/- 4=-/S^/-"))
+        found = made("1..10 5=S/S/#3 7=S/-/#4 16=S^/S*/S 2=S*/-/- 4=-/S^/-")
         self.assertEqual(found["stops"], [{"field": 5, "frame": 3, "number": 3, "lines": [16, 17]},
                                           {"field": 7, "frame": 4, "number": 4, "lines": [16]},
                                           {"field": 16, "frame": 8, "number": 8, "lines": [16, 17, 18]}])
         self.assertEqual([one["pass"] for one in found["stray"]], [2, 3])
-        self.assertEqual(answer(["- - -", STOP + " - -"])["stops"],
-                         [{"field": 2, "frame": 1, "number": None, "lines": [16]}])
+        self.assertEqual(made("B S/-/-")["stops"], [{"field": 2, "frame": 1, "number": None, "lines": [16]}])
 
     def test_in_each_field_of_its_picture(self):
         """Film has 3 fields of a picture with an odd number; the number itself is on the first one alone."""
         for side, numbers in (("f1..40", (1, 1, 1, 2, 2, 3, 3, 3, 4, 4)), ("1..40", (1, 1, 2, 2, 3, 3))):
             for field, number in enumerate(numbers, 1):
-                found = answer(rows("%s %d.16=S" % (side, field)), "NTSC")
-                self.assertEqual([one["number"] for one in found["stops"]], [number], field)
+                check(self, "{0} {1} | NTSC {0} {1}.16=S | stops {2}@{1}".format(side, field, number))
 
     def test_ends(self):
         """A hundred fields without the code are the most within one stretch, counted from one of these to the next. Two
@@ -90,11 +87,11 @@ class Parts(unittest.TestCase):
         for side, wanted in (
                 ("-/#1/#1* ?/!/~ S/S*/?", [[1, 0, 0, 1, 0, 1, 0], [1, 1, 0, 0, 0, 0, 1], [0, 1, 0, 0, 1, 1, 0]]),
                 ("-/#1^/#1 ?/!/#2^ -/S*/#3^", [[0, 0, 0, 2, 0, 1, 0], [0, 1, 1, 0, 0, 0, 1], [1, 0, 2, 0, 0, 0, 0]])):
-            lines = answer(rows(side))["lines"]
+            lines = made(side)["lines"]
             self.assertEqual([list(lines), list(lines["16"])], [["16", "17", "18"], [
                 "pass1", "pass2", "near", "blank", "unfinished", "change", "hold"]])
             self.assertEqual([list(one.values()) for one in lines.values()], wanted)
-        ntsc, pal = (answer(rows("-/#1/#1 ?/!/~"), system)["badLines"] for system in ("NTSC", "PAL"))
+        ntsc, pal = (made(system + " -/#1/#1 ?/!/~")["badLines"] for system in ("NTSC", "PAL"))
         # field 2 begins at byte 263 * 1820, line 16 of it 15 lines of 1,820 bytes later; PAL has 313 lines of 2,270
         self.assertEqual(ntsc, [
             {"field": 2, "line": 16, "cause": "change 170", "column": 170, "offset": 505960, "bytes": 1820},
@@ -115,13 +112,11 @@ class Parts(unittest.TestCase):
     as many blank ones | -/?/-x9 | levels blank..
     one less | -/?/-x9 ? | levels bad..
     3 of 4 | B ? | levels blank..
+    3 of 80 lines | -/#0/! -/!/! -/#1/! -/!/! -/#2/! -/!/! -/!/!x34 | levels bad..
+    4 of them | -/#0/! -/!/! -/#1/! -/!/! -/#2/! -/!/! -/#3/! -/!/! -/!/!x32 | levels
     damage | ?x20 -/!/!x20 Bx20 1..10 | levels
     no field |  | levels
     recovered words | %s | levels bad 0 78 0 20/18
     and words | %s 40..42 | levels
     """ % (recovered, recovered))
-        self.assertIsNone(answer(rows("Bx10"))["levels"]["tried"])
-        for words, shows in ((3, "bad"), (4, None)):  # on 80 lines
-            levels = answer(rows(" ".join("-/#%d/! -/!/!" % number for number in range(words))) + ["- ! !"] * (
-                40 - 2 * words))["levels"]
-            self.assertEqual(levels and levels["shows"], shows)
+        self.assertIsNone(made("Bx10")["levels"]["tried"])
