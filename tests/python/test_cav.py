@@ -41,6 +41,7 @@ class Cav(unittest.TestCase):
         69=-/#75/? | missing 31-35 unread | doubtful 61/17 71 neighbours, 63/17 72 neighbours, 65/17 73 neighbours,
         67/17 74 neighbours, 69/17 75 neighbours
     line 18 without words | 1..100 1:200.18=? | count 100 | no missing | levels
+    line 17 of film | NTSC f1..400 1:1000.17=! | pace film | count 400 | no missing lost breaks doubtful
     """)
         one = made("1..600 799=79999")["doubtful"][0]
         self.assertEqual((one["before"], one["after"]), ({"field": 797, "number": 399}, {"field": 801, "number": 401}))

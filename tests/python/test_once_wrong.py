@@ -8,7 +8,6 @@ import unittest
 from compact import check, made, rows
 from discs import answer, picture, plain
 from ldvbi_side.judge.answer import analyse
-from ldvbi_side.seek import seek, text_of, wanted_of
 
 # A disc that has its seconds on each fifth picture alone
 SPARSE = "t0..199 3:400/10.16=- 5:400/10.16=- 7:400/10.16=- 9:400/10.16=-"
@@ -48,11 +47,6 @@ class Read(unittest.TestCase):
     in one field | -/M/#1 | format cav
     other codes of both | S/-/- 8AE000/-/- | format cav
     """)
-        found = made("1..20 9=-/#17/#17* 17=?")
-        self.assertEqual([text_of(seek(found, wanted_of(text))) for text in ("5", "9")], [
-            "field 9, frame 5, by the numbers around it: another number was read there: 17",
-            "field 17, frame 9, by the numbers around it: no number was read there"])
-        self.assertIsNone(seek(made("1..30 19=C"), wanted_of("10")))
 
     def test_sparse(self):
         """Something was seen on line 16 of a picture, say, or the fields of pictures 54 to 63 are lost."""
@@ -197,7 +191,6 @@ class Turned(unittest.TestCase):
             self.assertEqual([one for one in made(side)["unread"] if "F" in rows(side)[one["field"] - 1]], [], side)
         found = made("1..42 42 42 43 43 45 48..79")
         self.assertEqual({one["why"] for one in found["missing"]} - {"lost", "undecided"}, set())
-        self.assertIsNone(seek(found, wanted_of("47")))
 
     def test_all_that_was_shown_is_believed(self):
         """Also one that no two around it leave room for; but a number far off, and one near number alone, are wrong. In
