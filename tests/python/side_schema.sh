@@ -64,13 +64,10 @@ WORDS
 printf '12345' >> worn.tbc
 told worn.tbc $ntsc --document --recovered
 cp out documents/ntsc.json
-while read -r name change; do
-    bounded jq "$change" documents/ntsc.json < empty > "documents/$name.json"
-done << 'END'
-pal .videoParameters += {system: "PAL", fieldWidth: 1135, fieldHeight: 313}
-none .fields[1].vbiNear[1] |= {word: 0, distance: 0, rival: 0}
-word .fields[1].vbiCause[1] = "word"
-END
+bounded jq '.videoParameters += {system: "PAL", fieldWidth: 1135, fieldHeight: 313}' documents/ntsc.json < empty \
+    > documents/pal.json
+bounded jq '.fields[1].vbiNear[1] |= {word: 0, distance: 0, rival: 0}' documents/ntsc.json < empty > documents/none.json
+bounded jq '.fields[1].vbiCause[1] = "word"' documents/ntsc.json < empty > documents/word.json
 says valid recovered 4 documents
 check 'recovered: there are some' [ "$(bounded jq -c '[.fields[].vbiPass]' documents/ntsc.json < empty)" = '[[1,2,0],[0,3,3]]' ]
 refuses recovered documents/ntsc.json << 'END'

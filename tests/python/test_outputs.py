@@ -2,7 +2,6 @@
 
 import os
 import stat
-import threading
 from unittest import mock
 
 from cases import InFolder, reason
@@ -80,12 +79,10 @@ class WholeFiles(InFolder):
         self.assertEqual(self.read("target"), b"new")
         os.unlink(self.path)
         os.mkfifo(self.path)
-        texts = []
-        reader = threading.Thread(target=lambda: texts.append(self.text()))
-        reader.start()
+        pipe = os.open(self.path, os.O_RDWR)  # so that nobody waits for the other end
+        self.addCleanup(os.close, pipe)
         self.written()
-        reader.join()
-        self.assertEqual(texts, ["new"])
+        self.assertEqual(os.read(pipe, 99), b"new")
         self.assertTrue(stat.S_ISFIFO(os.stat(self.path).st_mode))
 
     def test_no_place_for_it(self):

@@ -96,16 +96,11 @@ class Statuses(Scans):
             status, text, said = self.run_words(words)
             self.assertEqual((status, text, said[:24]), (2, "", "usage: ldvbi-side scan ["), words)
 
-    def test_what_is_to_be_noted_has_its_side(self):
-        self.metadata("side.tbc.json", black16bIre=16383.5)
-        self.assertEqual(self.scan("--csv side.tbc"), (
-            0, "%s\n%s\n" % (",".join(HEAD), YES), "ldvbi-side: side.tbc: black16bIre is 16383.5, rounded to 16384\n"))
-
     def test_the_script(self):
-        """The processes of a scan read in the file by which the command was started."""
-        script = os.path.join(TOP, "python", "ldvbi-side")
-        self.assertEqual(self.run_words("scan --csv side.tbc", command=[script]),
-                         (0, "%s\n%s\n" % (",".join(HEAD), YES), ""))
+        """The processes of a scan read in the file by which the command was started; what is noted has its side."""
+        self.metadata("side.tbc.json", black16bIre=16383.5)
+        self.assertEqual(self.run_words("scan --csv side.tbc", command=[os.path.join(TOP, "python", "ldvbi-side")]), (
+            0, "%s\n%s\n" % (",".join(HEAD), YES), "ldvbi-side: side.tbc: black16bIre is 16383.5, rounded to 16384\n"))
 
     def test_names_that_are_no_text(self):
         name = os.fsdecode(b"side \xff\n.tbc")

@@ -35,8 +35,7 @@ def command_of(process):
 
 def until(found):
     """What a function finds, as soon as that is something."""
-    end = time.monotonic() + DEADLINE
-    while time.monotonic() < end:
+    for _ in range(200 * DEADLINE):
         one = found()
         if one:
             return one
@@ -125,20 +124,19 @@ class Ends(Scans):
         """A page with drawings of many lines."""
         worn = line_with(0xF00001, NTSC, [(430, 441, False)])
         self.add("1.tbc", [[worn, worn, worn]] * 80)
-        for to_whom, number, status, text in (
-                (os.killpg, signal.SIGINT, 130, ""), (os.killpg, signal.SIGHUP, 129, ""),
-                (os.kill, signal.SIGTERM, 143, ""),
-                (None, signal.SIGKILL, 2, "1.tbc,fault,,,,,,,its process was ended by SIGKILL\n")):
+        for stop, status, text in (
+                (lambda one: os.killpg(one, signal.SIGINT), 130, b""),
+                (lambda one: os.killpg(one, signal.SIGHUP), 129, b""),
+                (lambda one: os.kill(one, signal.SIGTERM), 143, b""),
+                (lambda one: os.kill(children(one)[0], signal.SIGKILL), 2,
+                 b"1.tbc,fault,,,,,,,its process was ended by SIGKILL\n")):
             with self.subTest(status):
                 process, _ = self.scanning("--csv --html pages 1.tbc", 1, start_new_session=True)
                 until(lambda: os.path.exists(self.named("pages")) and os.listdir(self.named("pages")))
                 names = os.listdir(self.named("pages"))
                 self.assertTrue(names[0].endswith(".part"), names)
-                if to_whom:
-                    to_whom(process.pid, number)
-                else:
-                    os.kill(children(process.pid)[0], number)
-                self.ended(process, status, text.encode())
+                stop(process.pid)
+                self.ended(process, status, text)
                 self.assertEqual(os.listdir(self.named("pages")), ["index.html"] if text else [])
 
     def test_no_reader(self):
