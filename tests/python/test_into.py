@@ -12,7 +12,6 @@ from ldvbi_side.into.field import place_of_words
 from ldvbi_side.into.text import Places
 
 WORDS = (8572927, 0, 15803205)
-COMPACT, SPACED = (",", ":"), (", ", ": ")
 
 
 # Fields, and what becomes of them: WORDS is a list of the words, and WORDS, has spaces in it. The numbers alone are
@@ -67,10 +66,6 @@ def copied(text, words, piece=1 << 18):
     return len(places), new.getvalue()
 
 
-def some_words(choose, count):
-    return [tuple(choose.choice([0, choose.randrange(0x800000, 0x1000000)]) for _ in range(3)) for _ in range(count)]
-
-
 class Fields(unittest.TestCase):
     def test_where_they_go(self):
         for row in FORMS.strip().split("\n"):
@@ -92,27 +87,6 @@ class Fields(unittest.TestCase):
 
 
 class Documents(unittest.TestCase):
-    def test_as_the_module_json_writes_it_anew(self):
-        """In each style that is json's own, a copy is what json makes of the parsed document with the words in it.
-        Fields are as ld-decode has them, with or without words, or with some of them."""
-        choose = random.Random(48)
-        for separators in (COMPACT, SPACED) * 10:
-            fields = [{"diskLoc": choose.random() * 1e5, "seqNo": number, "isFirstField": number % 2 == 1,
-                       "note": choose.choice(["", "ü", '"vbi":{', "\\", "}"]), "dropOuts": {"endx": [7] * (number % 5)},
-                       **choose.choice(({}, {"vbi": {"vbiData": [0, 0, 0]}}, {"vbi": {}},
-                                        {"vbi": {"note": "kept", "vbiData": [-1, 2, 3], "a": 1e-7}})),
-                       "medianBurstIRE": choose.choice([1.0, 17.25, 1e22, None])} for number in range(1, 21)]
-            members = [("fields", fields), ("videoParameters", {"sampleRate": 14318181.8, "system": "NTSC"})]
-            document = dict(choose.sample(members, 2))
-            is_ascii = choose.random() < 0.5
-            text = json.dumps(document, separators=separators, ensure_ascii=is_ascii)
-            words = some_words(choose, 20)
-            for field, three in zip(fields, words):
-                field["vbi"] = {**field.get("vbi", {}), "vbiData": list(three)}
-            wanted = json.dumps(document, separators=separators, ensure_ascii=is_ascii)
-            for piece in (1, 7, 100, 1 << 18):
-                self.assertEqual(copied(text, words, piece), (20, wanted))
-
     def test_all_else_is_the_same(self):
         """White space of any kind, and numbers that are written in another way: what isn't a word stays."""
         choose = random.Random(49)
@@ -127,7 +101,7 @@ class Documents(unittest.TestCase):
                               ("vbi", members(("a", "?"), ("vbiData", "[~%d~,~%d~,~%d~]")))) for number in range(1, 6)]
             text = members(("fields", "[%s]" % ",".join(fields)), ("z", "?"))
             text = re.sub("[?~]", lambda mark: choose.choice(parts[mark[0]]), text)
-            words = some_words(choose, 5)
+            words = [tuple(choose.choice([0, choose.randrange(0x800000, 0x1000000)]) for _ in range(3)) for _ in range(5)]
             piece = choose.choice([1, 10, 1 << 18])
             old = text.replace("%d", choose.choice(["0", "-1", "1.5"]))
             with self.subTest((piece, text)):
