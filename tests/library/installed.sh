@@ -17,10 +17,7 @@
 . "$here/library_helpers.sh"
 
 unset LD_LIBRARY_PATH LDVBI_LIBRARY PYTHONPATH PKG_CONFIG_PATH
-PYTHONDONTWRITEBYTECODE=1
-PIP_NO_INDEX=1
-PIP_DISABLE_PIP_VERSION_CHECK=1
-export PYTHONDONTWRITEBYTECODE PIP_NO_INDEX PIP_DISABLE_PIP_VERSION_CHECK
+export PYTHONDONTWRITEBYTECODE=1 PIP_NO_INDEX=1 PIP_DISABLE_PIP_VERSION_CHECK=1
 
 # makes WORD..: `make` without the toolchain, in a folder that has what the repository has
 makes() {
@@ -149,18 +146,18 @@ check 'it is the same' cmp wheels/$wheel again/$wheel
     printf "ldvbi-$version.dist-info/%s\n" METADATA RECORD WHEEL entry_points.txt
 } | sort > files
 cat > listed.py << 'END_OF_PYTHON'
-import base64, csv, hashlib, io, sys, zipfile
+import base64, hashlib, sys, zipfile
 with zipfile.ZipFile(sys.argv[1]) as wheel:
-    record = [name for name in wheel.namelist() if name.endswith("/RECORD")][0]
-    for name, digest, size in csv.reader(io.StringIO(wheel.read(record).decode())):
-        data = wheel.read(name)
-        found = base64.urlsafe_b64encode(hashlib.sha256(data).digest()).decode().rstrip("=")
-        is_right = [digest, size] == (["", ""] if name == record else ["sha256=" + found, str(len(data))])
-        print(name if is_right else name + " is another")
+    for name in wheel.namelist():
+        digest = base64.urlsafe_b64encode(hashlib.sha256(wheel.read(name)).digest()).decode().rstrip("=")
+        print(name + (",," if name.endswith("/RECORD") else ",sha256=%s,%d" % (digest, len(wheel.read(name)))))
+    wheel.extractall("wheel")
 END_OF_PYTHON
 does python3 listed.py wheels/$wheel
-sort out > found
-check 'its record has each file, with its hash' cmp found files
+sort out > wanted
+check 'it has these files' [ "$(cut -d , -f 1 wanted)" = "$(cat files)" ]
+sort wheel/ldvbi-*.dist-info/RECORD > found
+check 'its record has each file, with its hash' cmp found wanted
 
 # Installed and used
 check 'a folder for Python' does /usr/bin/python3 -m venv venv
@@ -197,11 +194,8 @@ check 'nothing of it is left' [ -z "$(find venv -name '*ldvbi*')" ]
 # The tags of libraries that need more, each built here: what they are, the tag before the processor, and their options
 mkdir libraries tools
 echo 'int nothing;' > nothing.c
-printf '#include <stdio.h>\nint put(void) { return puts("."); }\n' > put.c
-cat > new.c << 'END_OF_C'
-#include <pthread.h>
-int begin(pthread_t *thread, void *(*run)(void *)) { return pthread_create(thread, 0, run, 0); }
-END_OF_C
+echo 'int puts(const char *); int put(void) { return puts("."); }' > put.c
+echo 'int pthread_create(void *, void *, void *, void *); int make(void) { return pthread_create(0, 0, 0, 0); }' > new.c
 bounded $cc -shared -fPIC -o libraries/libother.so nothing.c
 while IFS='|' read -r what tag options; do
     rm -rf tagged
@@ -232,7 +226,6 @@ about() {
     cat "$1"/ldvbi-*.dist-info/entry_points.txt
     sed -n '/^$/q; /^\(Name\|Version\|Summary\|Requires.*\|Description.*\): /p' "$1"/ldvbi-*.dist-info/METADATA | sort
 }
-python3 -m zipfile -e "wheels/$wheel" wheel
 about wheel > found
 about "$(echo source/lib/python3*/site-packages)" > wanted
 check 'the wheel says of itself what pip makes of pyproject.toml' cmp found wanted

@@ -3,6 +3,7 @@ time, and compares what it answers with what stands there.
 
 usage: judged.py"""
 
+import functools
 import os
 import re
 import struct
@@ -19,8 +20,7 @@ LINE, SEEN, NUMBER, STATE = (struct.Struct("<" + members) for members in ("BBHI"
 BLANK = LINE.pack(1, 0, 0, 0)
 READINGS, ROOM, FOUND, PACE = (Guarded(size) for size in (24 * MOST, SEEN.size * MOST, NUMBER.size * MOST, STATE.size))
 LETTERS = {"c": "801DDD", "i": "88FFFF", "o": "80EEEE", "s": "82CFFF", "m": "87FFFF", "t": "F0DD09", "p": "F12345"}
-FIELDS = re.compile(r"(\w*)(?:\.\.(\d+))?([=~^]*)(?:/(\w+)([~^]?))?(?:\*(\d+))?")
-ANSWERS = re.compile(r"(\(?)(\d+)(?:\.\.(\d+))?\)?(\??)(?:\*(\d+))?")
+PARTS = re.compile(r"(\(?)(\w*)(?:\.\.(\d+))?\)?([=~^?]*)(?:/(\w+)([~^]?))?(?:\*(\d+))?")
 
 judge = call("judge", "NNNPSPSPS")
 judge_field = call("judge_field", "NNNPSSP")
@@ -42,7 +42,8 @@ def tables():
             kind, *settings = line[2:].split()
             found.append((kind, settings, []))
         elif line and line[0] != "#":
-            found[-1][2].extend([column.strip() for column in row.split("|")] for row in expanded(line))
+            rows = [map(str.strip, row.split("|")) for row in expanded(line)]
+            found[-1][2].extend((text, text if wanted == "=" else wanted) for text, wanted in rows)
     return found
 
 
@@ -76,33 +77,32 @@ def field_of(items, marks, counted, rate):
     return b"".join(lines)
 
 
-def side_of(text, counted, rate):
-    """The readings of each field."""
-    fields = []
+def spread(text, of_part, nothing):
+    """What stands in each field of a text."""
+    found = []
     for part in text.split():
         if part[0] == ".":
-            fields += [3 * BLANK] * int(part[1:] or 1)
+            found += [nothing] * int(part[1:] or 1)
             continue
-        first, last, marks, other, marked, count = FIELDS.fullmatch(part).groups("")
+        due, first, last, marks, other, marked, count = PARTS.fullmatch(part).groups("")
         for item in map(str, range(int(first), int(last) + 1)) if last else [first]:
-            fields += [field_of((item, other), (marks, marked), counted, rate)] * int(count or 1) + [3 * BLANK]
-        fields.pop()
-    return fields
+            found += [of_part((item, other), (due + marks, marked))] * int(count or 1) + [nothing]
+        found.pop()
+    return found
+
+
+def side_of(text, counted, rate):
+    """The readings of each field."""
+    return spread(text, lambda items, marks: field_of(items, marks, counted, rate), 3 * BLANK)
+
+
+def answer_of(items, marks):
+    return int(items[0]), DUE if "(" in marks[0] else DOUBTFUL if "?" in marks[0] else BELIEVED
 
 
 def answers_of(text):
     """The number and the state of each field."""
-    answers = []
-    for part in text.split():
-        if part[0] == ".":
-            answers += [(0, NOTHING)] * int(part[1:] or 1)
-            continue
-        due, first, last, doubtful, count = ANSWERS.fullmatch(part).groups("")
-        state = DUE if due else DOUBTFUL if doubtful else BELIEVED
-        for number in range(int(first), int(last or first) + 1):
-            answers += [(number, state)] * int(count or 1) + [(0, NOTHING)]
-        answers.pop()
-    return answers
+    return spread(text, answer_of, (0, NOTHING))
 
 
 # ---- The judging
@@ -150,10 +150,6 @@ def test_numbers(setting, text, wanted, is_found=False):
     compare((setting, text, "alone"), [answered_alone((*asked, pace), fields[begin:begin + PART], field - begin)
                                        for field, begin in enumerate(begins)], wanted)
     expect(not is_found or pace_of(asked, fields) == pace, setting, text, "has another pace")
-
-
-def test_found(setting, text, wanted):
-    test_numbers(setting, text, wanted, True)
 
 
 def test_chapters(counted, text, wanted):
@@ -214,7 +210,9 @@ def test_first_of():
 
 
 def main():
-    tests = {"numbers": test_numbers, "found": test_found, "chapters": test_chapters, "shown": test_shown}
+    tests = {"numbers": test_numbers, "found": functools.partial(test_numbers, is_found=True),
+             "chapters": test_chapters, "shown": test_shown}
+    expect(sum(len(rows) for _, _, rows in tables()) == 284, "judged.txt has more rows, or fewer")
     for kind, settings, rows in tables():
         if kind == "stops":
             test_stops(rows)

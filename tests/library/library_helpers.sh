@@ -21,8 +21,7 @@ prints() {
     wanted_status=$1
     printf '%s\n' "$2" > wanted
     shift 2
-    status=0
-    bounded "$@" < empty > out 2> err || status=$?
+    does "$@" || :
     [ "$status" = "$wanted_status" ] && cmp -s out wanted
 }
 
@@ -58,9 +57,7 @@ discs() {
 refuses() {
     printf '%s\n' "$1" > wanted
     shift
-    status=0
-    bounded "$@" < empty > out 2> err || status=$?
-    [ "$status" = 2 ] && [ ! -s out ] && cmp -s err wanted
+    ! does "$@" && [ "$status" = 2 ] && [ ! -s out ] && cmp -s err wanted
 }
 
 # is_a_line_of NAME: whether what was said is one line, which begins with this name and a colon
