@@ -13,6 +13,7 @@ from discs import chapter, minutes, picture, second
 from ldvbi import Counted, Pace, State, System
 
 NOTHING, BELIEVED, DOUBTFUL, DUE = State
+ALL = {"=": BELIEVED, "?": DOUBTFUL}  # answers of each number of a side
 RATES = {"NTSC": 30, "PAL": 25}
 REACH, PART, MOST = 24, 97, 2000
 BEFORE = (0xAA, 0x00, 0xFF, 0x01)  # what the bytes of arrays are before a call
@@ -42,8 +43,7 @@ def tables():
             kind, *settings = line[2:].split()
             found.append((kind, settings, []))
         elif line and line[0] != "#":
-            rows = [map(str.strip, row.split("|")) for row in expanded(line)]
-            found[-1][2].extend((text, text if wanted == "=" else wanted) for text, wanted in rows)
+            found[-1][2].extend([column.strip() for column in row.split("|")] for row in expanded(line))
     return found
 
 
@@ -96,13 +96,12 @@ def side_of(text, counted, rate):
     return spread(text, lambda items, marks: field_of(items, marks, counted, rate), 3 * BLANK)
 
 
-def answer_of(items, marks):
-    return int(items[0]), DUE if "(" in marks[0] else DOUBTFUL if "?" in marks[0] else BELIEVED
-
-
-def answers_of(text):
+def answers_of(text, side):
     """The number and the state of each field."""
-    return spread(text, answer_of, (0, NOTHING))
+    def answer_of(items, marks):
+        state = ALL.get(text) or (DUE if "(" in marks[0] else DOUBTFUL if "?" in marks[0] else BELIEVED)
+        return int(items[0] or items[1]), state
+    return spread(side if text in ALL else text, answer_of, (0, NOTHING))
 
 
 # ---- The judging
@@ -142,7 +141,7 @@ def test_numbers(setting, text, wanted, is_found=False):
     """A side as a whole, and each field by the part around it that its answer depends on."""
     system, counted, pace = setting.split(":")
     asked, pace = (System[system], Counted[counted]), Pace[pace]
-    fields, wanted = side_of(text, counted, RATES[system]), answers_of(wanted)
+    fields, wanted = side_of(text, counted, RATES[system]), answers_of(wanted, text)
     for judged_at in (pace, Pace.find) if is_found else (pace, ):
         for before in BEFORE:
             compare((setting, text), answered(judge, (*asked, judged_at), fields, before)[0], wanted)
@@ -154,7 +153,8 @@ def test_numbers(setting, text, wanted, is_found=False):
 
 def test_chapters(counted, text, wanted):
     for before in BEFORE:
-        compare((counted, text), answered(judge_chapters, (), side_of(text, counted, 0), before)[0], answers_of(wanted))
+        answers = answered(judge_chapters, (), side_of(text, counted, 0), before)[0]
+        compare((counted, text), answers, answers_of(wanted, text))
 
 
 def lines_of(text, cause=0, column=0):
