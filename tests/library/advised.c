@@ -8,32 +8,28 @@
 #include <stdlib.h>
 #include <sys/mman.h>
 
+typedef uint32_t Recover(uint32_t, uint32_t, uint32_t, const void *, size_t, LdvbiFieldReadings *, size_t);
+typedef int Advise(void *, size_t, int);
+
 static const char *mapped;
 
-static void say(const char *what, size_t from, size_t number) {
-    const char *name = getenv("ADVISED");
-    FILE *file = name == NULL ? NULL : fopen(name, "a");
-    if (file == NULL) return;
-    fprintf(file, "%s %zu %zu\n", what, from, number);
+static void say(const char *what, const void *from, size_t number) {
+    FILE *file = fopen(getenv("ADVISED"), "a");
+    if (file == NULL) exit(2);
+    fprintf(file, "%s %zu %zu\n", what, (size_t)((const char *)from - mapped), number);
     fclose(file);
 }
 
 /* A program speaks of the whole mapping before it asks for parts of it. */
 int madvise(void *address, size_t length, int advice) {
-    int (*next)(void *, size_t, int) = (int (*)(void *, size_t, int))dlsym(RTLD_NEXT, "madvise");
     if (advice == MADV_RANDOM) mapped = address;
-    if (advice == MADV_WILLNEED) {
-        size_t from = (size_t)((const char *)address - mapped);
-        say("asks", from, from + length);
-    }
-    return next(address, length, advice);
+    if (advice == MADV_WILLNEED) say("asks", address, (size_t)((const char *)address - mapped) + length);
+    return ((Advise *)dlsym(RTLD_NEXT, "madvise"))(address, length, advice);
 }
 
 uint32_t ldvbi_recover_fields(uint32_t system, uint32_t black, uint32_t white, const void *samples, size_t length,
                               LdvbiFieldReadings *readings, size_t count) {
-    uint32_t (*next)(uint32_t, uint32_t, uint32_t, const void *, size_t, LdvbiFieldReadings *, size_t) =
-        (uint32_t(*)(uint32_t, uint32_t, uint32_t, const void *, size_t, LdvbiFieldReadings *, size_t))dlsym(
-            RTLD_NEXT, "ldvbi_recover_fields");
-    if (count > 0) say("reads", (size_t)((const char *)samples - mapped), count);
+    Recover *next = (Recover *)dlsym(RTLD_NEXT, "ldvbi_recover_fields");
+    if (count > 0) say("reads", samples, count);
     return next(system, black, white, samples, length, readings, count);
 }

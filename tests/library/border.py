@@ -8,7 +8,13 @@ import sys
 
 LIBRARY = ctypes.CDLL(os.environ["LDVBI_LIBRARY"])
 _SYSTEM = ctypes.CDLL(None, use_errno=True)
+# What calls take: N is a number of 32 bits, S a size, P a pointer. They answer with a number, some with a size.
 _TYPES = {"N": ctypes.c_uint32, "S": ctypes.c_size_t, "P": ctypes.c_void_p}
+_SIZES = ("line_samples", "line_bytes", "lines", "field_bytes", "first_of")
+_CALLS = dict.fromkeys(("read_line", "read_rows", "read_field", "nearest", "recover_rows"), "NNNPSP")
+_CALLS.update(dict.fromkeys(_SIZES, "N"), first_of="PSN", read_fields="NNNPSPS", recover_fields="NNNPSPS",
+              draw_line="NNNNPS", classify="NP", format="NNNP", judge="NNNPSPSPS", judge_field="NNNPSSP",
+              judge_chapters="PSPSPS", judge_stops="PSPS", find_pace="NNPSPSP", seek="NNNNNPSNP")
 _wrong = []
 
 
@@ -25,11 +31,11 @@ def finish():
     sys.exit(bool(_wrong))
 
 
-def call(name, types, answer="N"):
-    """A call of the library: N is a number of 32 bits, S a size, P a pointer."""
+def call(name):
+    """A call of the library."""
     function = getattr(LIBRARY, "ldvbi_" + name)
-    function.argtypes = [_TYPES[one] for one in types]
-    function.restype = _TYPES[answer]
+    function.argtypes = [_TYPES[one] for one in _CALLS[name]]
+    function.restype = _TYPES["S" if name in _SIZES else "N"]
     return function
 
 

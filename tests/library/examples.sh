@@ -108,13 +108,13 @@ for part in 4_32760 4_478659 5_1 8_32760 8_478659 0_1; do
     head -c $((478660 * ${part%_*} + ${part#*_})) stops.tbc > stops_$part.tbc
 done
 
-# What examples are asked: their status, what they write, the side, the words, which ; parts, and what is said. In place
-# of @ stand the side's system and levels.
+# What examples are asked: their status, what they write, sides, words, both parted by ;, and what is said. In place of
+# @ stand the side's system and levels.
 cut='the last field is cut: field'
 few='of this side is supported by those around it, so this is what the lines say'
 is_a_picture='neither a picture from 0 to 79999, a time as 0:59:29.07, nor a chapter from 0 to 79'
-awk -F '|' -v OFS='|' '{ count = split($5, words, ";"); for (i = 1; i <= count; i++) { $5 = words[i]; print } }' \
-    > rows << END
+awk -F '|' -v OFS='|' '{ split($4, sides, ";"); count = split($5, words, ";")
+    for (i in sides) for (j = 1; j <= count; j++) print $1, $2, $3, sides[i], words[j], $6 }' > rows << END
 $seek|0|field 5|stops|@ 3|
 $seek|0|field 7|stops|@ 4|
 $seek|1|not found|stops|@ chapter 3|
@@ -141,13 +141,10 @@ $seek|2||cav|@ xyz;@ 3x;@ -3;@ 80000;@ 4294967299|$is_a_picture
 $seek|2||cav|@ 0:00:60.00;@ 0:100:00.00;@ 0:00:00.100;@ 10:00:00.00;@ 0:00:00;@ 0:00:00.00.00|$is_a_picture
 $seek|2||cav|@ chapter 80;@ chapter -1;@ chapter 3x;@ chapter 256;@ chapter 4294967299|$is_a_picture
 $seek|2||cav|@ chapter 0:00:00.00|$is_a_picture
-$seek|2||nowhere|@ 3|*
 $seek|2||empty|NTSC 51200 16384 3|*
-$seek|2||folder|@ 3|*
-$seek|2||null|@ 3|*
+$seek|2||nowhere;folder;null|@ 3|*
 stops_cpp|0|field 7 picture 3;field 8;2 stops|cav|@|
-stops_cpp|0|0 stops|clv|@|
-stops_cpp|0|0 stops|empty|@|
+stops_cpp|0|0 stops|clv;empty|@|
 stops_cpp|0|field 5 picture 3;field 8;field 9 picture 5;3 stops|stops|@|
 stops_cpp|0|field 1;field 2 picture 3;2 stops|differ|@|
 stops_cpp|0|field 5 picture 3;field 6;field 9 picture 5;field 10;4 stops|once|@|
@@ -186,9 +183,7 @@ $player|2||cav|@|usage
 $player|2||cav|NTSC 51200 16384 search 3;SECAM 16384 51200 search 3;pal 16384 51200 search 3|*
 $player|2||cav|NTSC 16384 81920 search 3;NTSC 16384 xyz search 3;NTSC 16384 4294967297 search 3|*
 $player|2||cav|NTSC 16384 99999999999999999999 search 3;@ search 3x;@ search;@ stop|*
-$player|2||nowhere|@ play|*
-$player|2||empty|@ play|*
-$player|2||folder|@ play|*
+$player|2||nowhere;empty;folder|@ play|*
 END
 while IFS='|' read -r examples ended text side words said; do
     on=$on_cav

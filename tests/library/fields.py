@@ -8,11 +8,8 @@ import ctypes
 import mmap
 import os
 
-from border import Guarded, call, expect, finish
-from lines import BLANK, READING, TELEVISIONS, drawn
-
-FIELDS = 3
-ANSWER = Guarded(FIELDS * 3 * READING.size)
+from border import Guarded, expect, finish
+from lines import BLANK, FIELDS, READING, TELEVISIONS, answered, drawn
 
 
 def word_of(field, row):
@@ -29,7 +26,7 @@ class Stream:
         edge = at * self.field + (18 if is_end else 15) * self.row
         self.begin = self.memory.end - self.memory.pages + mmap.PAGESIZE - edge % mmap.PAGESIZE
         for field in range(FIELDS):
-            rows = b"".join(drawn(tv, word_of(field, row), tv.edges()).tobytes() for row in range(3))
+            rows = b"".join(drawn(tv, word_of(field, row)).tobytes() for row in range(3))
             ctypes.memmove(self.rows(field), rows, len(rows))
         self.memory.close()
         for field in fields:
@@ -50,12 +47,9 @@ def is_deadly(address):
 
 def are_read(tv, name, address, length, places, *count):
     """The call answers with the words that these rows of fields show."""
-    answer = ANSWER.put(b"\xAA" * READING.size * len(places))
-    status = call(name, "NNNPSP" + "S" * len(count))(*tv[:3], address, length, answer, *count)
-    words = [word_of(*place) for place in places]
-    wanted = [(0, 1, 0, word) if word else (BLANK, 0, 0, 0) for word in words]
-    found = list(READING.iter_unpack(ANSWER.get(READING.size * len(places))))
-    expect((status, found) == (0, wanted), name, tv.system, places, status, found)
+    found = list(READING.iter_unpack(answered(name, tv, address, length, READING.size * len(places), *count)))
+    wanted = [(0, 1, 0, word) if word else (BLANK, 0, 0, 0) for word in (word_of(*place) for place in places)]
+    expect(found == wanted, name, tv.system, places, found)
 
 
 def test_field(tv, at, is_end):

@@ -173,20 +173,13 @@ check 'it runs without the program' does env PATH="$work/venv/bin:/usr/bin:/bin"
 check 'it has drawn the line' grep -q '^<svg' line.svg
 # Without the program the module reads the line: the same picture of each cause and pass
 plot=$(echo venv/lib/python3*/site-packages)/ldvbi_side/contrib/plot_line.py
-while read -r description; do
+for description in 82CFFF '82CFFF @170-171L' L910 'L900 H10' '82CFFF @170-174L' 'L164 H746'; do
     echo "$description" | signal NTSC 0 | ntsc_samples > shown.raw
     does python3 "$top/contrib/plot_line.py" --program "$program" $ntsc shown.raw
     cp out wanted.svg
     does env PATH="$work/venv/bin:/usr/bin:/bin" python3 "$plot" $ntsc shown.raw
     check "the picture of $description by the module" sh -c 'grep -q "^<svg" out && cmp out wanted.svg'
-done << 'END_OF_LINES'
-82CFFF
-82CFFF @170-171L
-L910
-L900 H10
-82CFFF @170-174L
-L164 H746
-END_OF_LINES
+done
 check 'the manual page comes with it' cmp venv/share/man/man1/ldvbi-side.1 "$top/share/man/ldvbi-side.1"
 check 'pip takes it away' does venv/bin/pip uninstall -q -y ldvbi
 check 'nothing of it is left' [ -z "$(find venv -name '*ldvbi*')" ]

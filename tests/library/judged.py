@@ -19,16 +19,9 @@ REACH, PART, MOST = 24, 97, 2000
 BEFORE = (0xAA, 0x00, 0xFF, 0x01)  # what the bytes of arrays are before a call
 LINE, SEEN, NUMBER, STATE = (struct.Struct("<" + members) for members in ("BBHI", "5I", "2I", "I"))
 BLANK = LINE.pack(1, 0, 0, 0)
-READINGS, ROOM, FOUND, PACE = (Guarded(size) for size in (24 * MOST, SEEN.size * MOST, NUMBER.size * MOST, STATE.size))
+READINGS, ROOM, FOUND = (Guarded(size * MOST) for size in (3 * LINE.size, SEEN.size, NUMBER.size))
 LETTERS = {"c": "801DDD", "i": "88FFFF", "o": "80EEEE", "s": "82CFFF", "m": "87FFFF", "t": "F0DD09", "p": "F12345"}
 PARTS = re.compile(r"(\(?)(\w*)(?:\.\.(\d+))?\)?([=~^?]*)(?:/(\w+)([~^]?))?(?:\*(\d+))?")
-
-judge = call("judge", "NNNPSPSPS")
-judge_field = call("judge_field", "NNNPSSP")
-judge_chapters = call("judge_chapters", "PSPSPS")
-judge_stops = call("judge_stops", "PSPS")
-find_pace = call("find_pace", "NNPSPSP")
-first_of = call("first_of", "PSN", "S")
 
 
 # ---- Sides and answers from text
@@ -106,29 +99,23 @@ def answers_of(text, side):
 
 # ---- The judging
 
-def answered(judging, asked, fields, before, answer=NUMBER, has_room=True):
-    """What is answered of each field, and what was seen. What is read stays as it is."""
+def answered(name, asked, fields, before, answer=NUMBER):
+    """What is answered, which may be of each field, and what was seen. What is read stays as it is."""
     count, read = len(fields), b"".join(fields)
-    room = (ROOM.put(bytes([before]) * SEEN.size * count), count) if has_room else ()
-    found = FOUND.put(bytes([before]) * answer.size * count)
-    expect(judging(*asked, READINGS.put(read), count, *room, found, count) == 0, asked, "refused")
-    expect(READINGS.get(len(read)) == read, asked, "has changed what it read")
-    return list(answer.iter_unpack(FOUND.get(answer.size * count))), ROOM.get(SEEN.size * count)
+    length = 1 if name == "find_pace" else count
+    room = () if name == "judge_stops" else (ROOM.put(bytes([before]) * SEEN.size * count), count)
+    found = [FOUND.put(bytes([before]) * answer.size * length)] + [count] * (name != "find_pace")
+    expect(call(name)(*asked, READINGS.put(read), count, *room, *found) == 0, name, asked, "refused")
+    expect(READINGS.get(len(read)) == read, name, asked, "has changed what it read")
+    return list(answer.iter_unpack(FOUND.get(answer.size * length))), ROOM.get(SEEN.size * count)
 
 
 def answered_alone(asked, part, field):
     """What is answered of one field of these."""
-    expect(judge_field(*asked, READINGS.put(b"".join(part)), len(part), field, FOUND.put(bytes(NUMBER.size))) == 0,
-           asked, "refused a field")
+    number = FOUND.put(bytes(NUMBER.size))
+    status = call("judge_field")(*asked, READINGS.put(b"".join(part)), len(part), field, number)
+    expect(status == 0, asked, "refused a field")
     return NUMBER.unpack(FOUND.get(NUMBER.size))
-
-
-def pace_of(asked, fields):
-    count, read = len(fields), b"".join(fields)
-    room, pace = ROOM.put(bytes(SEEN.size * count)), PACE.put(bytes(STATE.size))
-    expect(find_pace(*asked, READINGS.put(read), count, room, count, pace) == 0, asked, "refused")
-    expect(READINGS.get(len(read)) == read, asked, "has changed what it read")
-    return STATE.unpack(PACE.get(STATE.size))[0]
 
 
 def compare(where, answers, wanted):
@@ -144,16 +131,17 @@ def test_numbers(setting, text, wanted, is_found=False):
     fields, wanted = side_of(text, counted, RATES[system]), answers_of(wanted, text)
     for judged_at in (pace, Pace.find) if is_found else (pace, ):
         for before in BEFORE:
-            compare((setting, text), answered(judge, (*asked, judged_at), fields, before)[0], wanted)
+            compare((setting, text), answered("judge", (*asked, judged_at), fields, before)[0], wanted)
     begins = [max(field - 2 * REACH, 0) for field in range(len(fields))]
     compare((setting, text, "alone"), [answered_alone((*asked, pace), fields[begin:begin + PART], field - begin)
                                        for field, begin in enumerate(begins)], wanted)
-    expect(not is_found or pace_of(asked, fields) == pace, setting, text, "has another pace")
+    if is_found:
+        compare((setting, text, "pace"), answered("find_pace", asked, fields, 0xAA, STATE)[0], [(pace, )])
 
 
 def test_chapters(counted, text, wanted):
     for before in BEFORE:
-        answers = answered(judge_chapters, (), side_of(text, counted, 0), before)[0]
+        answers = answered("judge_chapters", (), side_of(text, counted, 0), before)[0]
         compare((counted, text), answers, answers_of(wanted, text))
 
 
@@ -170,11 +158,11 @@ def test_shown(setting, text, wanted):
     first, other, *instead = wanted.replace("-", "0*0").split()
     lines = [tuple(map(int, line.split("*"))) for line in (first, other)]
     number = next(((number, DOUBTFUL) for number, weight in lines if weight), (0, NOTHING))
-    judging, asked = judge_chapters, ()
+    name, asked = "judge_chapters", ()
     if counted != "chapters":
-        judging, asked = judge, (System[system], Counted[counted], Pace.video)
+        name, asked = "judge", (System[system], Counted[counted], Pace.video)
     for place, cause in enumerate((0, 1, 2, 3, 4, 5, 255)):
-        answers, seen = answered(judging, asked, [lines_of(text, cause, 1000 * place)], 0xAA)
+        answers, seen = answered(name, asked, [lines_of(text, cause, 1000 * place)], 0xAA)
         compare((setting, text), answers, [number])
         expect(seen == SEEN.pack(*lines[0], *lines[1], len(instead)), setting, text, "shows", SEEN.unpack(seen))
 
@@ -183,20 +171,15 @@ def test_stops(rows):
     """Each field alone, and all of them as a side."""
     for part in [[row] for row in rows] + [rows]:
         for before in BEFORE:
-            answers = answered(judge_stops, (), [lines_of(text) for text, _ in part], before, STATE, False)[0]
+            answers = answered("judge_stops", (), [lines_of(text) for text, _ in part], before, STATE)[0]
             compare(("stops", part), answers, [(State[state], ) for _, state in part])
 
 
-# ---- What one field needs on either side, and the first of some numbers
-
-def test_part(text, numbers):
-    """Without the last field of what it depends on field 10 is answered otherwise."""
-    fields = side_of(text, "pictures", 30)
-    compare((text, "cut"), [answered_alone((1, 1, 1), fields[:count], 10) for count in (58, 59)], numbers)
-
+# ---- The first of some numbers
 
 def test_first_of():
     """Of the first so many answers, which end where no page follows; of none nothing is read."""
+    first_of = call("first_of")
     some = [(0, NOTHING), (7, NOTHING), (7, DOUBTFUL), (5, BELIEVED), (7, 4), (7, 257), (7, DUE), (7, BELIEVED),
             (5, DUE), (2 ** 32 - 1, BELIEVED)]
     zeros = [(0, NOTHING), (0, DOUBTFUL), (0, BELIEVED), (0, DUE)]
@@ -219,8 +202,9 @@ def main():
         for setting in settings:
             for row in rows:
                 tests[kind](setting, *row)
-    # What a capture that goes on may change, as judged.txt has it
-    test_part("100..104 .23 116 . 117= .23 129=", [(0, NOTHING), (105, DUE)])
+    # What a capture that goes on may change, as judged.txt has it: without field 58 field 10 is answered otherwise.
+    fields = side_of("100..104 .23 116 . 117= .23 129=", "pictures", 30)
+    compare(("part", ), [answered_alone((1, 1, 1), fields[:end], 10) for end in (58, 59)], [(0, NOTHING), (105, DUE)])
     test_first_of()
     finish()
 

@@ -44,9 +44,3 @@ static uint8_t *guarded(size_t size)
     memset(begin, 0xAA, pages);
     return begin + pages - size;
 }
-
-static void put_sample(uint8_t *line, size_t column, uint32_t sample)
-{
-    line[2 * column] = (uint8_t)(sample & 0xFF);
-    line[2 * column + 1] = (uint8_t)(sample >> 8);
-}

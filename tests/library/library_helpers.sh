@@ -27,10 +27,7 @@ prints() {
 
 # with_python: has Python find the package, and the library that is tested
 with_python() {
-    LDVBI_LIBRARY=$built/libldvbi.so.1
-    PYTHONPATH=$top/python
-    PYTHONDONTWRITEBYTECODE=1
-    export LDVBI_LIBRARY PYTHONPATH PYTHONDONTWRITEBYTECODE
+    export LDVBI_LIBRARY="$built/libldvbi.so.1" PYTHONPATH="$top/python" PYTHONDONTWRITEBYTECODE=1
 }
 
 # header_version: the version of ldvbi.h
@@ -47,10 +44,8 @@ program_in_readme() {
 
 # discs: makes cav.tbc and clv.tbc of the words in examples/
 discs() {
-    run draw $ntsc "$top/examples/cav.words"
-    cp out cav.tbc
-    run draw $pal "$top/examples/clv.words"
-    cp out clv.tbc
+    output_of draw $ntsc "$top/examples/cav.words" > cav.tbc
+    output_of draw $pal "$top/examples/clv.words" > clv.tbc
 }
 
 # refuses TEXT COMMAND..: checks that a command ends with status 2, and writes this line to standard error alone

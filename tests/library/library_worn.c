@@ -1,76 +1,73 @@
 /* Recovers the words of worn lines by the library for C, and holds them against the recorded ones: words with damage of
    each kind, of which so many have to be recovered, and no wrong one; and signals that are no words, of which none may
-   be said to be one. The tables below name what is left. The lines are made here, the same in each run.
+   be said to be one. The table below names what is left. The lines are made here, the same in each run.
    usage: library_worn [FIELDS]     so many fields of each kind, of three lines each, and their counts are printed */
-#include "library.h"
 #include "worn.h"
 
 /* Of each kind, where none are asked for: 20,000 lines in all. */
 enum { FIELDS = 75 };
 
-/* Of 1000 words so many have to be the nearest ones of their lines, and so many to be recovered; of 100,000 lines so
-   many may say a wrong word. Dropouts and bursts that turn a half cell over make another word the nearest one. */
+/* Words that are worn, or a signal that is no word. Of 1000 words at least so many have to be the nearest ones of their
+   lines, and so many to be recovered; of 100,000 lines so many may say a wrong word. Dropouts and bursts that turn a
+   half cell over make another word the nearest one. */
 typedef struct {
     Wear wear;
-    int near, recovered, wrong;
-} WornKind;
+    Kind signal;
+    int least[2], wrong;
+} Row;
 
-static const WornKind worn_kinds[] = {
-    {{.name = "as drawn"}, 1000, 1000, 0},
-    {{.name = "noise 20 %", .noise = 0.2}, 1000, 1000, 0},
-    {{.name = "noise 30 %", .noise = 0.3}, 1000, 1000, 0},
-    {{.name = "noise 50 %", .noise = 0.5}, 1000, 850, 0},
-    {{.name = "noise 60 %", .noise = 0.6}, 990, 650, 0},
-    {{.name = "noise 70 %", .noise = 0.7}, 970, 400, 0},
-    {{.name = "noise 50 %, smeared", .noise = 0.5, .smeared = 5}, 990, 950, 0},
-    {{.name = "edges off by 2", .moved = 2}, 1000, 999, 0},
-    {{.name = "edges off by 3", .moved = 3}, 1000, 980, 0},
-    {{.name = "edges off by 4", .moved = 4}, 990, 880, 0},
-    {{.name = "a dropout of noise", .dropouts = 1, .shortest = 10, .longest = 24}, 990, 880, 0},
-    {{.name = "a black dropout", .dropouts = 1, .shortest = 10, .longest = 24, .filling = OF_BLACK}, 900, 680, 40},
-    {{.name = "3 short dropouts", .dropouts = 3, .shortest = 5, .longest = 10, .filling = OF_ANY}, 970, 900, 40},
-    {{.name = "3 dropouts", .dropouts = 3, .shortest = 10, .longest = 30, .filling = OF_ANY}, 700, 330, 1200},
-    {{.name = "noise 30 %, a dropout", .noise = 0.3, .dropouts = 1, .shortest = 10, .longest = 20}, 990, 780, 0},
-    {{.name = "a burst of noise", .burst = 60}, 880, 470, 120},
-    {{.name = "played", .noise = 0.2, .is_played = 1}, 1000, 999, 0},
-    {{.name = "played, noise 40 %", .noise = 0.4, .is_played = 1}, 980, 750, 0},
-    {{.name = "played, a dropout", .noise = 0.2, .dropouts = 1, .shortest = 8, .longest = 24, .filling = OF_ANY,
-      .is_played = 1}, 880, 700, 40},
-    {{.name = "played, a long dropout", .noise = 0.2, .dropouts = 1, .shortest = 8, .longest = 50, .filling = OF_ANY,
-      .is_played = 1}, 680, 400, 150},
-};
-
-typedef struct {
-    Kind kind;
-    int said; /* of 100,000 lines so many may say a word */
-} OtherKind;
-
-static const OtherKind other_kinds[] = {
-    {{.name = "blank, noise 20 %", .noise = 0.2}, 0},
-    {{.name = "blank, noise 50 %", .noise = 0.5}, 0},
-    {{.name = "blank, noise 90 %", .noise = 0.9}, 0},
-    {{.name = "blank, noise 200 %", .noise = 2}, 0},
-    {{"white", WHITE, 0.05, 0, 0, 0, 0}, 0},
-    {{"a ramp", RAMP, 0.05, 0, 0, 0, 0}, 0},
-    {{"even noise", EVEN_NOISE, 0, 0, 0, 0, 0}, 0},
-    {{"fine video", VIDEO, 0.05, 0, 3, 0, 3}, 0},
-    {{"video of 11 columns", VIDEO, 0.05, 0, 11, 0, 11}, 10},
-    {{"video of 31 columns", VIDEO, 0.05, 0, 31, 0, 31}, 10},
-    {{"video of 11 columns, noise", VIDEO, 0.5, 0, 11, 0, 11}, 0},
-    {{"steps", STEPS, 0.05, 0, 0, 0, 0}, 0},
-    {{"teletext", BITS, 0.05, 0, 360, 0.66, 3}, 0},
-    {{"teletext, noise", BITS, 0.5, 0, 360, 0.66, 3}, 0},
-    {{"captions", CAPTIONS, 0.05, 0.5035, 19, 0.5, 0}, 0},
-    {{"captions, noise", CAPTIONS, 0.5, 0.5035, 19, 0.5, 0}, 0},
-    {{"time code", BITS, 0.05, 1.79, 90, 1, 3}, 0},
-    {{"time code, noise", BITS, 0.5, 1.79, 90, 1, 3}, 5},
-    {{"bits of 1 MHz", BITS, 0.05, 1, 52, 1, 0}, 20},
-    {{"40 biphase bits of 2 MHz", BIPHASE, 0.05, 0, 40, 0, 0}, 0},
-    {{"20 biphase bits", BIPHASE, 0.05, 0, 20, 1, 0}, 0},
-    {{"26 biphase bits", BIPHASE, 0.05, 0, 26, 1, 0}, 0},
-    {{"26 biphase bits, noise", BIPHASE, 0.5, 0, 26, 1, 0}, 1500},
-    {{"a sine of 0.5 MHz", SINE, 0.05, 0.5, 0, 0, 0}, 0},
-    {{"a sine of 0.1 to 1.6 MHz", SINE, 0.05, 0, 0, 0, 0}, 1500},
+static const Row table[] = {
+    {.wear = {.name = "as drawn"}, .least = {1000, 1000}},
+    {.wear = {.name = "noise 20 %", .noise = 0.2}, .least = {1000, 1000}},
+    {.wear = {.name = "noise 30 %", .noise = 0.3}, .least = {1000, 1000}},
+    {.wear = {.name = "noise 50 %", .noise = 0.5}, .least = {1000, 850}},
+    {.wear = {.name = "noise 60 %", .noise = 0.6}, .least = {990, 650}},
+    {.wear = {.name = "noise 70 %", .noise = 0.7}, .least = {970, 400}},
+    {.wear = {.name = "noise 50 %, smeared", .noise = 0.5, .smeared = 5}, .least = {990, 950}},
+    {.wear = {.name = "edges off by 2", .moved = 2}, .least = {1000, 999}},
+    {.wear = {.name = "edges off by 3", .moved = 3}, .least = {1000, 980}},
+    {.wear = {.name = "edges off by 4", .moved = 4}, .least = {990, 880}},
+    {.wear = {.name = "a dropout of noise", .dropouts = 1, .shortest = 10, .longest = 24}, .least = {990, 880}},
+    {.wear = {.name = "a black dropout", .dropouts = 1, .shortest = 10, .longest = 24, .filling = OF_BLACK},
+     .least = {900, 680}, .wrong = 40},
+    {.wear = {.name = "3 short dropouts", .dropouts = 3, .shortest = 5, .longest = 10, .filling = OF_ANY},
+     .least = {970, 900}, .wrong = 40},
+    {.wear = {.name = "3 dropouts", .dropouts = 3, .shortest = 10, .longest = 30, .filling = OF_ANY},
+     .least = {700, 330}, .wrong = 1200},
+    {.wear = {.name = "noise 30 %, a dropout", .noise = 0.3, .dropouts = 1, .shortest = 10, .longest = 20},
+     .least = {990, 780}},
+    {.wear = {.name = "a burst of noise", .burst = 60}, .least = {880, 470}, .wrong = 120},
+    {.wear = {.name = "played", .noise = 0.2, .is_played = 1}, .least = {1000, 999}},
+    {.wear = {.name = "played, noise 40 %", .noise = 0.4, .is_played = 1}, .least = {980, 750}},
+    {.wear = {.name = "played, a dropout", .noise = 0.2, .dropouts = 1, .shortest = 8, .longest = 24,
+              .filling = OF_ANY, .is_played = 1}, .least = {880, 700}, .wrong = 40},
+    {.wear = {.name = "played, a long dropout", .noise = 0.2, .dropouts = 1, .shortest = 8, .longest = 50,
+              .filling = OF_ANY, .is_played = 1}, .least = {680, 400}, .wrong = 150},
+    {.signal = {.name = "blank, noise 20 %", .noise = 0.2}},
+    {.signal = {.name = "blank, noise 50 %", .noise = 0.5}},
+    {.signal = {.name = "blank, noise 90 %", .noise = 0.9}},
+    {.signal = {.name = "blank, noise 200 %", .noise = 2}},
+    {.signal = {"white", WHITE, 0.05, 0, 0, 0, 0}},
+    {.signal = {"a ramp", RAMP, 0.05, 0, 0, 0, 0}},
+    {.signal = {"even noise", EVEN_NOISE, 0, 0, 0, 0, 0}},
+    {.signal = {"fine video", VIDEO, 0.05, 0, 3, 0, 3}},
+    {.signal = {"video of 11 columns", VIDEO, 0.05, 0, 11, 0, 11}, .wrong = 10},
+    {.signal = {"video of 31 columns", VIDEO, 0.05, 0, 31, 0, 31}, .wrong = 10},
+    {.signal = {"video of 11 columns, noise", VIDEO, 0.5, 0, 11, 0, 11}},
+    {.signal = {"steps", STEPS, 0.05, 0, 0, 0, 0}},
+    {.signal = {"teletext", BITS, 0.05, 0, 360, 0.66, 3}},
+    {.signal = {"teletext, noise", BITS, 0.5, 0, 360, 0.66, 3}},
+    {.signal = {"captions", CAPTIONS, 0.05, 0.5035, 19, 0.5, 0}},
+    {.signal = {"captions, noise", CAPTIONS, 0.5, 0.5035, 19, 0.5, 0}},
+    {.signal = {"time code", BITS, 0.05, 1.79, 90, 1, 3}},
+    {.signal = {"time code, noise", BITS, 0.5, 1.79, 90, 1, 3}, .wrong = 5},
+    {.signal = {"bits of 1 MHz", BITS, 0.05, 1, 52, 1, 0}, .wrong = 20},
+    {.signal = {"40 biphase bits of 2 MHz", BIPHASE, 0.05, 0, 40, 0, 0}},
+    {.signal = {"20 biphase bits", BIPHASE, 0.05, 0, 20, 1, 0}},
+    {.signal = {"26 biphase bits", BIPHASE, 0.05, 0, 26, 1, 0}},
+    {.signal = {"26 biphase bits, noise", BIPHASE, 0.5, 0, 26, 1, 0}, .wrong = 1500},
+    {.signal = {"a sine of 0.5 MHz", SINE, 0.05, 0.5, 0, 0, 0}},
+    {.signal = {"a sine of 0.1 to 1.6 MHz", SINE, 0.05, 0, 0, 0, 0}, .wrong = 1500},
 };
 
 /* Lines, those with a word, that are rightly and wrongly read, whose nearest word is right, that are recovered. */
@@ -80,21 +77,17 @@ typedef struct {
 
 /* ---- Lines of a field */
 
-static uint32_t digits(uint32_t count)
-{
-    uint32_t number = 0;
-
-    for (uint32_t i = 0; i < count; i++)
-        number = 16 * number + below(10);
-    return number;
-}
-
 /* A code that may stand on the line, or any word. */
 static uint32_t word_on(size_t row)
 {
     if (below(2) == 0)
         return 0x800000 | below(0x800000);
-    return row == 0 ? 0x80D000 | below(8) << 16 | below(4096) : 0xF00000 | below(8) << 16 | digits(4);
+    if (row == 0)
+        return 0x80D000 | below(8) << 16 | below(4096);
+    uint32_t word = 0xF0 | below(8);
+    for (int digit = 0; digit < 4; digit++)
+        word = 16 * word + below(10);
+    return word;
 }
 
 /* Lines 17 and 18 have one word in half of the fields, as most discs have, else two, or line 18 has none. */
@@ -148,38 +141,35 @@ static void count_field(const Television *tv, const uint8_t *rows, const uint32_
     }
 }
 
-/* ---- All of them */
-
 /* How many of these lines may be wrong where so many of 100,000 may: one more, as few lines have one by chance. */
 static int64_t allowed(int lines, int of_100000)
 {
     return of_100000 == 0 ? 0 : 1 + (int64_t)lines * of_100000 / 100000;
 }
 
-/* So many fields of one kind: of worn words, or of the signal that is no word. */
-static void test_kind(const Television *tv, const WornKind *worn, const OtherKind *other, int fields, int is_shown)
+static void test_row(const Television *tv, const Row *row, int fields, int is_shown)
 {
     uint8_t *rows = guarded(3 * 2 * tv->samples);
+    int is_worn = row->wear.name != NULL;
     Counts c = {0, 0, 0, 0, 0, 0, 0};
 
     for (int i = 0; i < fields; i++) {
         uint32_t words[3] = {0, 0, 0};
 
-        if (worn != NULL)
-            draw_words(tv, &worn->wear, words, rows);
+        if (is_worn)
+            draw_words(tv, &row->wear, words, rows);
         else
-            draw_signals(tv, &other->kind, rows);
+            draw_signals(tv, &row->signal, rows);
         count_field(tv, rows, words, &c);
     }
     int64_t words = c.words;
-    int is_wrong = c.recovered_wrong > allowed(c.lines, worn != NULL ? worn->wrong : other->said)
-        || (worn != NULL && (words == 0 || 1000 * (int64_t)c.near < words * worn->near
-                             || 1000 * (int64_t)c.recovered < words * worn->recovered));
+    int is_wrong = (words != 0) != is_worn || 1000 * (int64_t)c.near < words * row->least[0]
+        || 1000 * (int64_t)c.recovered < words * row->least[1] || c.recovered_wrong > allowed(c.lines, row->wrong);
 
     wrong += is_wrong;
     if (is_shown || is_wrong)
         fprintf(is_shown ? stdout : stderr, "%-26s %-4s %6d lines, %6d words: read %6d, wrong %3d; nearest %6d; "
-                "recovered %6d, wrong %3d%s\n", worn != NULL ? worn->wear.name : other->kind.name,
+                "recovered %6d, wrong %3d%s\n", is_worn ? row->wear.name : row->signal.name,
                 tv->system == LDVBI_PAL ? "PAL" : "NTSC", c.lines, c.words, c.read, c.read_wrong, c.near, c.recovered,
                 c.recovered_wrong, is_wrong ? " !" : "");
 }
@@ -187,18 +177,12 @@ static void test_kind(const Television *tv, const WornKind *worn, const OtherKin
 int main(int count, char **arguments)
 {
     int fields = count > 1 ? atoi(arguments[1]) : FIELDS;
-    size_t worn = sizeof worn_kinds / sizeof *worn_kinds, others = sizeof other_kinds / sizeof *other_kinds;
 
-    for (size_t i = 0; i < 2 * (worn + others); i++) {
-        const Television *tv = &televisions[i % 2];
-        size_t kind = i / 2;
-
-        begin_numbers(1000 * tv->system + (kind < worn ? kind : 100 + kind - worn));
-        if (kind < worn)
-            test_kind(tv, &worn_kinds[kind], NULL, fields, count > 1);
-        else
-            test_kind(tv, NULL, &other_kinds[kind - worn], fields, count > 1);
-    }
+    for (size_t i = 0; i < sizeof table / sizeof *table; i++)
+        for (const Television *tv = televisions; tv < televisions + 2; tv++) {
+            begin_numbers(1000 * tv->system + i + (table[i].wear.name != NULL ? 0 : 80));
+            test_row(tv, &table[i], fields, count > 1);
+        }
     printf("%d wrong\n", wrong);
     return wrong != 0;
 }

@@ -7,58 +7,50 @@ usage: lines.py"""
 import random
 import struct
 from array import array
-from typing import NamedTuple
+from collections import namedtuple
 
 from border import Guarded, call, expect, finish
 
 READING, NEAR = struct.Struct("<BBHI"), struct.Struct("<IIQQQ")
-BLANK, FIELDS, WORDS, MOST_LINES = 1, 2, 500, 28
+BLANK, FIELDS, WORDS, MOST_LINES = 1, 3, 500, 28
 SAMPLES, ANSWER, ROOM = map(Guarded, (FIELDS * 313 * 2270, FIELDS * 3 * READING.size, 2270))
 chance = random.Random(60856)
 
 
-class Television(NamedTuple):
-    system: int
-    black: int
-    white: int
-    samples: int
-    lines: int
-    start: int  # the column of a drawn word
-    rate: int  # samples of a microsecond, which is a half cell, times `over`
-    over: int
-
-    def edges(self, start=None, off=0):
-        return edges_of((self.start if start is None else start) * self.over, self.rate, self.over, off)
+# Words are drawn from column start / over on, with half cells of one microsecond: rate / over samples
+Television = namedtuple("Television", "system black white samples lines over start rate")
+TELEVISIONS = NTSC, PAL = (Television(1, 16384, 51200, 910, 263, 22, 22 * 150, 315),
+                           Television(2, 16384, 54016, 1135, 313, 40000, 40000 * 190, 709379))
 
 
-TELEVISIONS = NTSC, PAL = (Television(1, 16384, 51200, 910, 263, 150, 315, 22),
-                           Television(2, 16384, 54016, 1135, 313, 190, 709379, 40000))
-
-
-def edges_of(start, rate, over, off):
+def edges_of(tv, off=0):
     """The columns between which the 48 half cells lie, those behind the first up to so many early or late."""
-    return [(start + half * rate) // over + (chance.randint(-off, off) if half else 0) for half in range(49)]
+    return [(tv.start + half * tv.rate) // tv.over + (chance.randint(-off, off) if half else 0) for half in range(49)]
 
 
-def drawn(tv, word, edges, samples=None):
+def drawn(tv, word, off=0):
     """A line that shows the word, or a blank one for 0: a one is low and then high, a zero is high and then low."""
-    line = array("H", [tv.black]) * (samples or tv.samples)
+    line, edges = array("H", [tv.black]) * tv.samples, edges_of(tv, off)
     for half, (begin, end) in enumerate(zip(edges, edges[1:])):
         if word and (word >> (23 - half // 2) & 1) == half % 2:
             line[begin:end] = array("H", [tv.white]) * (end - begin)
     return line
 
 
-def answered(name, tv, samples, size, *count):
-    """What a call writes, of so many bytes."""
-    length = 2 * len(samples)
-    expect(call(name, "NNNPSP" + "S" * len(count))(*tv[:3], SAMPLES.put(samples.tobytes()), length,
-                                                   ANSWER.put(b"\xAA" * size), *count) == 0, name, length)
+def answered(name, tv, address, length, size, *count):
+    """What a call writes that reads these bytes: so many."""
+    answer = ANSWER.put(b"\xAA" * size)
+    status = call(name)(*tv[:3], address, length, answer, *count)
+    expect(status == 0, name, tv.system, length, "has the status", status)
     return ANSWER.get(size)
 
 
+def answered_of(name, tv, samples, size, *count):
+    return answered(name, tv, SAMPLES.put(samples.tobytes()), 2 * len(samples), size, *count)
+
+
 def read(tv, line):
-    return READING.unpack(answered("read_line", tv, line, READING.size))
+    return READING.unpack(answered_of("read_line", tv, line, READING.size))
 
 
 def some_words(count=WORDS):
@@ -70,8 +62,8 @@ def some_words(count=WORDS):
 
 def test_words(tv):
     """Each word as the library draws it, and as it reads it. A word is put together from its cells."""
-    edges, draw_line = tv.edges(), call("draw_line", "NNNNPS")
-    blank, zeros, ones = (drawn(tv, bits, edges).tobytes() for bits in (0, 1 << 24, 0xFFFFFF))
+    edges, draw_line = edges_of(tv), call("draw_line")
+    blank, zeros, ones = (drawn(tv, bits).tobytes() for bits in (0, 1 << 24, 0xFFFFFF))
     cells = [(zeros[2 * begin:2 * end], ones[2 * begin:2 * end]) for begin, end in zip(edges[::2], edges[2::2])]
     for word in (0, *some_words(20000)):
         shown = b"".join(cell[word >> (23 - place) & 1] for place, cell in enumerate(cells))
@@ -86,16 +78,16 @@ def test_causes():
     """Lines of NTSC whose samples are white from one column to before another; and a word, of whose first high half
     cell two columns are black: the smoothed levels show it still."""
     for begin, end, wanted in ((900, 910, (2, 0, 0, 0)), (14, 34, (3, 0, 34, 0)), (164, 910, (4, 0, 200, 0))):
-        line = drawn(NTSC, 0, NTSC.edges())
+        line = drawn(NTSC, 0)
         line[begin:end] = array("H", [NTSC.white]) * (end - begin)
         expect(read(NTSC, line) == wanted, "white from", begin, "to", end, read(NTSC, line))
-    line = drawn(NTSC, 0x82CFFF, NTSC.edges())
+    line = drawn(NTSC, 0x82CFFF)
     line[170:172] = array("H", [NTSC.black] * 2)
     expect(read(NTSC, line) == (0, 2, 0, 0x82CFFF), "smoothed", read(NTSC, line))
 
 
 def test_sizes():
-    calls = [call(name, "N", "S") for name in ("line_samples", "line_bytes", "lines", "field_bytes")]
+    calls = [call(name) for name in ("line_samples", "line_bytes", "lines", "field_bytes")]
     for number in (*range(258), 65535, 65536, 1 << 31, (1 << 32) - 1):
         tv = {tv.system: tv for tv in TELEVISIONS}.get(number)
         wanted = [tv.samples, 2 * tv.samples, tv.lines, 2 * tv.samples * tv.lines] if tv else [0] * 4
@@ -113,24 +105,23 @@ RATES = (
     (JITTERED, None, 0, 1, WORDS, WORDS), ((12000, 17000), None, 0, 1, 0, WORDS // 10),
     ((17700, ), 9, 0, 0, WORDS, WORDS), ((17700, ), 9.5, 0, 0, WORDS, WORDS), ((17700, ), 10.4, 0, 0, WORDS, WORDS),
     ((17700, ), 9, 10, 0, 0, 0), ((17700, ), 9.5, 10, 0, 0, 0), ((17700, ), 10.4, 10, 0, 0, 0))
-EIGHT_BITS = NTSC._replace(black=257 * 60, white=257 * 200)
 
 
-def at_rate(kilohertz, word, off=0):
-    """A line of 8-bit samples, times 257, behind which there is black. Its word begins at 10.5 microseconds."""
-    return drawn(EIGHT_BITS, word, edges_of(10500 * kilohertz, 1000 * kilohertz, 10 ** 6, off), 4000)
+def at_rate(kilohertz):
+    """Lines of 8-bit samples, times 257, behind which there is black. Their words begin at 10.5 microseconds."""
+    return Television(1, 257 * 60, 257 * 200, 4000, 263, 10 ** 6, 10500 * kilohertz, 1000 * kilohertz)
 
 
 def test_rate(kilohertz, begin, left_out, off, least, most):
     """Whole lines of NTSC or of PAL that are longer than a line of NTSC here are read from 10 microseconds on."""
-    found = 0
+    found, tv = 0, at_rate(kilohertz)
     for place, word in enumerate(some_words()):
         samples, first = int((64 if place % 2 else 572 / 9) * kilohertz / 1000), int((begin or 0) * kilohertz / 1000)
         if begin is None and samples > NTSC.samples:
             left_out = 10
         expect(begin is None or samples - first > NTSC.samples, kilohertz, begin, "has too few samples")
         first += int(left_out * kilohertz / 1000)
-        found += read(EIGHT_BITS, at_rate(kilohertz, word, off)[first:first + NTSC.samples]) == (0, 1, 0, word)
+        found += read(tv, drawn(tv, word, off)[first:first + NTSC.samples]) == (0, 1, 0, word)
     expect(least <= found <= most, kilohertz, "kHz from", begin, left_out, off, "off:", found)
 
 
@@ -139,14 +130,14 @@ def test_rates():
         for kilohertz in rates:
             test_rate(kilohertz, *more)
     # At 13.5 MHz the half cells of a PAL disc, too, are too short for PAL.
-    line = at_rate(13500, 0xF12345)
-    expect(read(EIGHT_BITS, line[:910]) == (0, 1, 0, 0xF12345), "13.5 MHz as NTSC")
-    cause, _, _, word = read(EIGHT_BITS._replace(system=PAL.system), line[:1135])
+    tv = at_rate(13500)
+    expect(read(tv, drawn(tv, 0xF12345)[:910]) == (0, 1, 0, 0xF12345), "13.5 MHz as NTSC")
+    cause, _, _, word = read(tv._replace(system=PAL.system), drawn(tv, 0xF12345)[:1135])
     expect(cause != 0 and word == 0, "13.5 MHz as PAL")
     # At the rates of ld-decode, with changes a sample early or late
     for tv in TELEVISIONS:
         for word in some_words():
-            expect(read(tv, drawn(tv, word, tv.edges(off=1))) == (0, 1, 0, word), tv.system, hex(word))
+            expect(read(tv, drawn(tv, word, 1)) == (0, 1, 0, word), tv.system, hex(word))
 
 
 # ---- The nearest word, off by what is counted on paper, in columns, each of which costs white - black
@@ -159,19 +150,19 @@ NEARS = ((NTSC, 224, 28, 14, 14, 24 * 14, 15 * 15 + 9 * 14), (PAL, 285, 35, 17, 
 
 
 def near(tv, samples):
-    return NEAR.unpack(answered("nearest", tv, samples, NEAR.size))
+    return NEAR.unpack(answered_of("nearest", tv, samples, NEAR.size))
 
 
 def test_near(tv, starts, cell, shorter, longer, fewest, most):
     column = tv.white - tv.black
     # Another word differs by one cell, a longer one by one half cell.
     for start in range(starts):
-        found = near(tv, drawn(tv, 0xF12345, tv.edges(start)))
+        found = near(tv, drawn(tv._replace(start=start * tv.over), 0xF12345))
         expect(found == (0xF12345, start, 0, cell * column, shorter * column), tv.system, start, found)
     # Lines of one word, of which the first is off by 700 in all, in its high byte and its low one, and the last by 1;
     # black lines, of which the row of no word is nearest; and white ones, whose sums are greatest. Several words have
     # the most high columns.
-    one, blank = drawn(tv, 0x82CFFF, tv.edges()), array("H", [tv.black]) * tv.samples
+    one, blank = drawn(tv, 0x82CFFF), drawn(tv, 0)
     first, last = one[:], one[:]
     first[0] += 612
     first[-1] -= 88
@@ -180,7 +171,7 @@ def test_near(tv, starts, cell, shorter, longer, fewest, most):
         lines, off = first + one * (count - 1), 700
         if count == MOST_LINES:
             lines, off = first + one * (count - 2) + last, 701
-        wanted = 0x82CFFF, tv.start, off, count * cell * column + off, count * shorter * column + off
+        wanted = 0x82CFFF, tv.start // tv.over, off, count * cell * column + off, count * shorter * column + off
         expect(near(tv, lines) == wanted, tv.system, count, "lines")
         expect(near(tv, blank * count) == (0, 0, 0, count * fewest * column, 0), tv.system, count, "black lines")
     found = near(tv._replace(black=0, white=65535), array("H", [65535]) * tv.samples * MOST_LINES)
@@ -208,9 +199,9 @@ WORN = (
 
 def worn_rows(tv, words, turned):
     """Lines 16, 17 and 18. Half of the columns that are turned over lie in the middle of either half cell."""
-    rows, edges = array("H"), tv.edges()
+    rows, edges = array("H"), edges_of(tv)
     for row, (word, columns) in enumerate(zip(words, turned)):
-        line = drawn(tv, word, edges)
+        line = drawn(tv, word)
         for place in range(columns and columns + (3 if tv is PAL else 0)):
             column = edges[2 * (5 + 4 * row) + place % 2] + 4 + place // 2
             line[column] = tv.black + tv.white - line[column]
@@ -227,14 +218,14 @@ def are_recovered(tv, worn, packed):
 
 
 def test_worn(tv):
-    """Each row alone, and each two that follow each other as the fields of a stream."""
+    """Each row alone, and each three that follow each other as the fields of a stream."""
     for row in WORN:
-        are_recovered(tv, [row], answered("recover_rows", tv, worn_rows(tv, *row[:2]), 24))
+        are_recovered(tv, [row], answered_of("recover_rows", tv, worn_rows(tv, *row[:2]), 24))
     before, behind = (array("H", b"\xAA" * 2 * tv.samples * lines) for lines in (15, tv.lines - 18))
     for first in range(0, len(WORN), FIELDS):
         fields = WORN[first:first + FIELDS]
         stream = sum((before + worn_rows(tv, *row[:2]) + behind for row in fields), array("H"))
-        are_recovered(tv, fields, answered("recover_fields", tv, stream, 24 * FIELDS, FIELDS))
+        are_recovered(tv, fields, answered_of("recover_fields", tv, stream, 24 * FIELDS, FIELDS))
 
 
 def main():

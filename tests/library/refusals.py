@@ -28,7 +28,6 @@ def at(memory, size):
 
 # ---- Calls that take a system, levels and samples
 
-_draw_line = call("draw_line", "NNNNPS")
 # How many lines a call takes (None: a field), and what stands behind its answer: a count of fields, or a word to draw,
 # which is none here, as that is refused last of all
 CALLS = {"read_line": (1, ()), "read_rows": (3, ()), "read_field": (None, ()), "read_fields": (None, (1, )),
@@ -39,10 +38,8 @@ def has_status(name, asked, length, status, more=()):
     """The call has this status, and has written nothing but where that is DONE."""
     samples = at(OPEN if status == DONE else CLOSED, length)
     answer = ANSWER.put(b"\x55" * NEAR)
-    if name == "draw_line":
-        found = _draw_line(*asked, *more, samples, length)
-    else:
-        found = call(name, "NNNPSP" + "S" * len(more))(*asked, samples, length, answer, *more)
+    words = (*more, samples, length) if name == "draw_line" else (samples, length, answer, *more)
+    found = call(name)(*asked, *words)
     expect(found == status and (status == DONE or ANSWER.get(NEAR) == b"\x55" * NEAR), name, asked, length, more, found)
 
 
@@ -69,7 +66,7 @@ def test_lengths(system):
         for length, count in ((field, 0), (field, 2), (field, MOST_BYTES), (0, 1), (0, MOST_BYTES // field + 1),
                               (field - 1, 0)):
             has_status(name, asked, length, BAD_LENGTH, (count, ))
-        expect(call(name, "NNNPSPS")(*asked, None, 0, None, 0) == DONE, name, "of no field")
+        expect(call(name)(*asked, None, 0, None, 0) == DONE, name, "of no field")
     for length in (28 * line + 1, 29 * line, MOST_BYTES):
         has_status("nearest", asked, length, BAD_LENGTH)
     for name in ("read_rows", "recover_rows"):
@@ -81,7 +78,7 @@ def test_lengths(system):
 # ---- Codes and formats. What each word says, tests/python/test_classes.py compares.
 
 def test_words():
-    classify, format_of = call("classify", "NP"), call("format", "NNNP")
+    classify, format_of = call("classify"), call("format")
     for word in (0, 1, 256, 257, 65535, 65536, 0x7FFFFF, 0x1000000, 0x80000000, MOST):
         answer = ANSWER.put(b"\x55" * 12)
         expect(classify(word, answer) == BAD_WORD and ANSWER.get(12) == b"\x55" * 12, "classify", hex(word))
@@ -96,13 +93,6 @@ def test_words():
 
 
 # ---- Calls that judge
-
-judge = call("judge", "NNNPSPSPS")
-judge_field = call("judge_field", "NNNPSSP")
-judge_chapters = call("judge_chapters", "PSPSPS")
-judge_stops = call("judge_stops", "PSPS")
-find_pace = call("find_pace", "NNPSPSP")
-seek = call("seek", "NNNNNPSNP")
 
 # The system, what is counted and the pace, and the lengths of the three arrays. The status is that of what is tested
 # first: the system, the lengths, what is counted, the pace.
@@ -120,13 +110,13 @@ def test_judged(asked, lengths, status):
     before = SEEN.put(b"\xAA" * 4 * SIGHTINGS), NUMBERS.put(b"\xAA" * 32), ANSWER.put(b"\x55" * NEAR)
     read, seen = (at(OPEN, READINGS * count), count), (at(SEEN, SIGHTINGS * seen_count), seen_count)
     numbers = at(NUMBERS, 8 * number_count), number_count
-    found = {judge(*asked, *read, *seen, *numbers)}
+    found = {call("judge")(*asked, *read, *seen, *numbers)}
     if count == number_count and status not in (DONE, BAD_PACE):
-        found.add(find_pace(*asked[:2], *read, *seen, before[2]))
+        found.add(call("find_pace")(*asked[:2], *read, *seen, before[2]))
     if status == BAD_LENGTH:
-        found.add(judge_chapters(*read, *seen, *numbers))
+        found.add(call("judge_chapters")(*read, *seen, *numbers))
     if count != seen_count:
-        expect(judge_stops(*read, *seen) == BAD_LENGTH, "judge_stops", lengths)
+        expect(call("judge_stops")(*read, *seen) == BAD_LENGTH, "judge_stops", lengths)
     is_kept = SEEN.get(80) == b"\xAA" * 80 and NUMBERS.get(32) == b"\xAA" * 32 and ANSWER.get(NEAR) == b"\x55" * NEAR
     expect(found == {status} and is_kept, asked, lengths, found)
 
@@ -141,12 +131,12 @@ def test_numbers(bad):
             ((PAL, bad, bad), 5, 5, BAD_LENGTH), ((PAL, bad, bad), 5, MOST_BYTES, BAD_LENGTH),
             ((PAL, bad, bad), PART + 1, 5, BAD_LENGTH), ((PAL, bad, bad), PART, PART - 1, BAD_COUNTED),
             ((PAL, TIMES, bad), 5, 4, BAD_PACE)):
-        found = judge_field(*asked, OPEN.end - READINGS * count, count, field, answer)
+        found = call("judge_field")(*asked, OPEN.end - READINGS * count, count, field, answer)
         expect(found == status, "judge_field", asked, count, field, found)
     for asked, status in (((bad, 5, 5, bad, bad), BAD_SYSTEM), ((PAL, 5, 5, bad, bad), BAD_LEVELS),
                           ((PAL, 5, 65536, bad, bad), BAD_LEVELS), ((PAL, 5, 6, bad, bad), BAD_COUNTED),
                           ((PAL, 5, 6, TIMES, bad), BAD_PACE)):
-        found = seek(*asked, None, 0, 7, answer)
+        found = call("seek")(*asked, None, 0, 7, answer)
         expect(found == status, "seek", asked, found)
     expect(ANSWER.get(NEAR) == b"\x55" * NEAR, bad, "is refused, and something is written")
 
@@ -154,14 +144,15 @@ def test_numbers(bad):
 def test_nothing():
     """What is answered of a side without fields, and of readings without a word."""
     seen, video = SEEN.put(b"\xAA" * 3 * SIGHTINGS), b"\1\0\0\0"
-    expect(judge_chapters(None, 0, None, 0, None, 0) == DONE == judge_stops(None, 0, None, 0), "of none")
-    for asking, words, wanted in (
-            (find_pace, (PAL, TIMES, None, 0, None, 0), video),
-            (find_pace, (NTSC, PICTURES, at(OPEN, 2 * READINGS), 2, seen, 2), video),
-            (judge_field, (PAL, TIMES, FILM, at(OPEN, PART * READINGS), PART, PART - 1), bytes(8)),
-            (seek, (PAL, 5, 6, TIMES, FIND_PACE, None, 0, 7), bytes(24))):
+    expect(call("judge_chapters")(None, 0, None, 0, None, 0) == DONE, "chapters of none")
+    expect(call("judge_stops")(None, 0, None, 0) == DONE, "stops of none")
+    for name, words, wanted in (
+            ("find_pace", (PAL, TIMES, None, 0, None, 0), video),
+            ("find_pace", (NTSC, PICTURES, at(OPEN, 2 * READINGS), 2, seen, 2), video),
+            ("judge_field", (PAL, TIMES, FILM, at(OPEN, PART * READINGS), PART, PART - 1), bytes(8)),
+            ("seek", (PAL, 5, 6, TIMES, FIND_PACE, None, 0, 7), bytes(24))):
         answer = ANSWER.put(b"\x55" * len(wanted))
-        expect(asking(*words, answer) == DONE and ANSWER.get(len(wanted)) == wanted, asking.__name__, words)
+        expect(call(name)(*words, answer) == DONE and ANSWER.get(len(wanted)) == wanted, name, words)
     expect(SEEN.get(3 * SIGHTINGS) == bytes(2 * SIGHTINGS) + b"\xAA" * SIGHTINGS, "what was seen in two fields")
 
 

@@ -1,6 +1,7 @@
 /* Worn lines with their truth: words that are drawn and then damaged sample by sample, and words as a player plays
    them; and signals that are no words, as stand on lines 16, 17 and 18 of other discs and tapes. A sample is a number
    here, 0 for black and 1 for white, until the whole line is made. */
+#include "library.h"
 #include <math.h>
 
 enum { WIDEST = 1135, HALVES = 48, TAPS = 20 };
@@ -53,6 +54,37 @@ static double normally(void)
     return (double)sum / 65536;
 }
 
+/* ---- Words of picture numbers, times and chapters */
+
+/* What is judged beside LDVBI_PICTURES and LDVBI_TIMES */
+enum { CHAPTERS = 3 };
+
+/* The last so many decimal digits of a number, four bits each. */
+static uint32_t digits_of(uint32_t number, int count)
+{
+    return count == 0 ? 0 : digits_of(number / 10, count - 1) << 4 | number % 10;
+}
+
+/* The word of line 16 that belongs to a time, of seconds and the picture in its second. */
+static uint32_t seconds_word(uint32_t system, uint32_t number)
+{
+    uint32_t rate = system == LDVBI_NTSC ? 30 : 25, seconds = number / rate % 60;
+
+    return 0x8AE000 + (seconds / 10 << 16) + (seconds % 10 << 8) + digits_of(number % rate, 2);
+}
+
+/* The word of line 17 or 18: a picture's number, a chapter, or the hours and minutes of a time. */
+static uint32_t number_word(uint32_t system, uint32_t counted, uint32_t number)
+{
+    uint32_t minutes = number / (system == LDVBI_NTSC ? 30 : 25) / 60;
+
+    if (counted == LDVBI_PICTURES)
+        return 0xF00000 | digits_of(number, 5);
+    if (counted == CHAPTERS)
+        return 0x800DDD | digits_of(number, 2) << 12;
+    return 0xF0DD00 | minutes / 60 << 16 | digits_of(minutes % 60, 2);
+}
+
 /* ---- Damage */
 
 enum Filling { OF_NOISE, OF_BLACK, OF_WHITE, OF_ANY };
@@ -80,6 +112,12 @@ static size_t word_columns(const Television *tv)
     return HALVES * tv->numerator / tv->denominator;
 }
 
+static void hold(const Television *tv, double from, double to, double level, double *line)
+{
+    for (size_t column = (size_t)from; column < (size_t)to && column < tv->samples; column++)
+        line[column] = level;
+}
+
 /* The word's levels from this column on, with edges that are moved by up to so many columns. */
 static void draw_word(const Television *tv, uint32_t word, size_t start, int moved, double *line)
 {
@@ -93,13 +131,11 @@ static void draw_word(const Television *tv, uint32_t word, size_t start, int mov
         if (next == level)
             continue;
         end += (size_t)between(-moved, moved);
-        for (size_t column = begin; column < end; column++)
-            line[column] = level;
+        hold(tv, (double)begin, (double)end, level, line);
         begin = end;
         level = next;
     }
-    for (size_t column = begin; column < tv->samples; column++)
-        line[column] = 0;
+    hold(tv, (double)begin, (double)tv->samples, 0, line);
 }
 
 static void smear(const Television *tv, int columns, double *line)
@@ -144,8 +180,7 @@ static void put_sync(const Television *tv, double *line)
     double microsecond = samples_of_microsecond(tv);
     size_t begin = (size_t)(5.3 * microsecond), end = (size_t)(7.8 * microsecond);
 
-    for (size_t column = 0; column < (size_t)(4.7 * microsecond); column++)
-        line[column] = -0.4;
+    hold(tv, 0, 4.7 * microsecond, -0.4, line);
     for (size_t column = begin; column < end; column++)
         line[column] = cycle[column % 4];
 }
@@ -183,9 +218,11 @@ static void add_burst(const Television *tv, int columns, size_t start, double *l
 static void put_line(const Television *tv, const double *line, uint8_t *bytes)
 {
     for (size_t column = 0; column < tv->samples; column++) {
-        double sample = (double)tv->black + line[column] * (double)(tv->white - tv->black);
+        double level = (double)tv->black + line[column] * (double)(tv->white - tv->black);
+        uint32_t sample = level < 0 ? 0 : level > 65535 ? 65535 : (uint32_t)level;
 
-        put_sample(bytes, column, sample < 0 ? 0 : sample > 65535 ? 65535 : (uint32_t)sample);
+        bytes[2 * column] = (uint8_t)(sample & 0xFF);
+        bytes[2 * column + 1] = (uint8_t)(sample >> 8);
     }
 }
 
@@ -226,12 +263,6 @@ typedef struct {
     double level; /* of bits, or microseconds of a half cell of biphase bits (0: any from 0.45 to 0.55) */
     int smeared;  /* as of Wear */
 } Kind;
-
-static void hold(const Television *tv, double from, double to, double level, double *line)
-{
-    for (size_t column = (size_t)from; column < (size_t)to && column < tv->samples; column++)
-        line[column] = level;
-}
 
 /* Bits of so many columns, each held at its level: some of which the first sixteen come by turns, captions behind three
    start bits, of which the last is high, or those of biphase, which change in their middle. */
