@@ -73,8 +73,6 @@ class Metadata(Runs):
                "or another file's metadata?\n"
         known = json.loads(self.printed("side.tbc", "--json", said=text % "side.tbc"))
         self.assertEqual((known["metadataFields"], known["frameBegin"]), (14, 1))
-        self.assertIn({"why": "metadata", "whole": "no", "text": "12 fields of 14 that the metadata has"},
-                      known["reasons"])
         self.assertEqual(self.printed("side.vbi.json --meta side.tbc.json --seek 3", said=text % "side.vbi.json"),
                          b"field 4, frame 2\n")
         self.write("side.tbc", self.read("side.tbc") + b"x" * 7)
@@ -108,18 +106,13 @@ class Judged(Runs):
         wanted = {"both": 29, "judgeAlone": 0, "packageAlone": 0, "differ": 0, "first": None}
         for more in ("", " --no-recover"):
             self.assertEqual(json.loads(self.printed("side.tbc LEVELS --json" + more))["judged"], wanted)
-        text = b"\njudged by the library, too: 29 fields alike, 0 believed by it alone, 0 here alone, 0 differ\n"
-        self.assertIn(text, self.printed("side.tbc LEVELS --summary"))
         self.write("side.vbi.json", self.extracted("side.tbc"))
         self.assertIsNone(json.loads(self.printed("side.vbi.json --json"))["judged"])
-        self.assertNotIn(b"judged by the library", self.printed("side.vbi.json --summary"))
 
     def test_a_library_without_a_judge(self):
         write_stream(self.named("side.tbc"), NTSC, words_of("1..30"))
-        setup = self.named("side.tbc"), ldvbi.System.NTSC, 16384, 51200
-        self.assertEqual(side_of_tbc(*setup, recover=False).answer["judged"]["both"], 30)
         with mock.patch("ldvbi_side.side.judge", side_effect=OSError("too old")):
-            answer = side_of_tbc(*setup, recover=False).answer
+            answer = side_of_tbc(self.named("side.tbc"), ldvbi.System.NTSC, 16384, 51200, recover=False).answer
         self.assertEqual((answer["judged"], answer["whole"], answer["numbers"]["count"]), (None, "yes", 30))
 
 

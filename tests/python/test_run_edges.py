@@ -197,11 +197,9 @@ class Names(Runs):
         status, text, said = self.run_command(self.NAME, "--html", "page.html", "--svg", "side.svg", "--summary")
         self.assertEqual((status, said), (
             1, "ldvbi-side: s\\udcff\\x1b[31m\\ufffe<&>.tbc: black16bIre is 16383.5, rounded to 16384\n"))
-        page = self.text("page.html")
-        for one in (text.decode(), page):
-            self.assertTrue(one.replace("\n", "").isprintable())
-        self.assertIn("<title>s\ufffd\ufffd[31m\ufffd&lt;&amp;&gt;.tbc</title>", page)
-        self.assertIn("s\ufffd\ufffd[31m\ufffd&lt;&amp;&gt;.tbc, field 13, line 17", page)
+        self.assertTrue(text.decode().replace("\n", "").isprintable())
+        # the title of a drawing, as a page has it
+        self.assertIn("s\ufffd\ufffd[31m\ufffd&lt;&amp;&gt;.tbc, field 13, line 17", self.text("page.html"))
         title = next(xml.fromstring(self.read("side.svg")).iter("{http://www.w3.org/2000/svg}text"))
         # shown, and under the pointer
         self.assertEqual("".join(title.itertext()), 2 * "s\ufffd\ufffd[31m\ufffd<&>.tbc")

@@ -12,20 +12,13 @@ from scanned import Scans
 from streams import TOP
 
 SIDES = ("whole.tbc", "lost.tbc", "dark.tbc", "cut.tbc")
-# Of each option its words behind the name of a side, and its statuses for these sides. Picture 12 is lost in lost.tbc,
+# Of each option, as it stands behind the name of a side, its statuses for these sides. Picture 12 is lost in lost.tbc,
 # nothing is in dark.tbc, and behind all pictures of cut.tbc a part of one more field.
-OPTIONS = {
-    "no option": ("", (0, 1, 4, 1)), "--summary": ("--summary", (0, 1, 4, 1)), "--seek": ("--seek 12", (0, 1, 1, 0)),
-    "--csv": ("--csv", (0, 0, 0, 3)), "--json": ("--json", (0, 0, 0, 3)), "--bad-lines": ("--bad-lines", (0, 0, 0, 3)),
-    "--document": ("--document", (0, 0, 0, 3)), "--svg": ("--svg side.svg", (0, 0, 0, 3)),
-    "--html": ("--html side.html", (0, 0, 0, 3)), "--map": ("--map side.map", (0, 0, 0, 3)),
-    "--into": ("--into copy.json", (0, 0, 0, 3)),
-}
+OPTIONS = {"": (0, 1, 4, 1), "--summary": (0, 1, 4, 1), "--seek 12": (0, 1, 1, 0), **dict.fromkeys((
+    "--csv", "--json", "--bad-lines", "--document", "--svg side.svg", "--html side.html", "--map side.map",
+    "--into copy.json"), (0, 0, 0, 3))}
 # The same of commands, in front of the name of a side; a side without numbers can't be compared.
-COMMANDS = {
-    "scan": ("scan ", (0, 1, 4, 1)), "join": ("join whole.tbc ", (0, 0, 2, 3)),
-    "compare": ("compare whole.tbc ", (0, 0, 2, 3)),
-}
+COMMANDS = {"scan": (0, 1, 4, 1), "join whole.tbc": (0, 0, 2, 3), "compare whole.tbc": (0, 0, 2, 3)}
 PRINTED = ("index", "--help", "--version")
 # What goes with options, and has no status of its own
 WITH_OTHERS = {"--meta", "--system", "--black", "--white", "--no-recover", "--recovered", "--strict", "--output"}
@@ -46,12 +39,12 @@ class Statuses(Scans):
             self.assertEqual((found, said.count("\n")), (status, int(status in (2, 3))), said)
 
     def test_each_option_and_command(self):
-        for words, statuses in OPTIONS.values():
+        for words, statuses in OPTIONS.items():
             for side, status in zip((*SIDES, "absent.tbc"), (*statuses, 2)):
                 self.check(status, "%s %s" % (side, words))
-        for words, statuses in COMMANDS.values():
+        for words, statuses in COMMANDS.items():
             for side, status in zip(SIDES, statuses):
-                self.check(status, words + side)
+                self.check(status, "%s %s" % (words, side))
         for words in ("join whole.tbc absent", "compare whole.tbc absent", "index out absent"):
             self.check(2, words)
 
@@ -80,7 +73,8 @@ class Statuses(Scans):
         self.assertEqual(rows[0], ["Of", "0", "1", "3", "4"])
         found = {name.strip("`"): {int(status) for status, cell in zip(rows[0][1:], cells) if cell}
                  for names, *cells in rows[2:] for name in names.split(", ")}
-        wanted = {name: set(statuses) - {2} for name, (_, statuses) in [*OPTIONS.items(), *COMMANDS.items()]}
+        wanted = {(words.split() or ["no option"])[0]: set(statuses) - {2}
+                  for words, statuses in [*OPTIONS.items(), *COMMANDS.items()]}
         self.assertEqual(found, {**wanted, **dict.fromkeys(PRINTED, {0})})
         options = {name for action in parser_of_side("ldvbi-side")._actions for name in action.option_strings
                    if name.startswith("--")}
