@@ -13,6 +13,7 @@ from judged_truth import JudgedTruth
 from ldvbi import Counted, Number, Pace, State
 from ldvbi_side.judge.answer import analyse
 from simulate import KINDS, PLAYED
+from test_simulated import Sides
 
 # of each kind of PLAYED how many pictures two sides have
 PICTURES = {"skips": None, "worn": 300, "swapped": 200, "speeds": 1000, "joined": 150, "losses": 600, "restarts": 150,
@@ -22,7 +23,7 @@ PICTURES = {"skips": None, "worn": 300, "swapped": 200, "speeds": 1000, "joined"
 JUDGED = [kind for kind in PLAYED if kind not in ("minutes", "turned")]
 
 
-class Beside(unittest.TestCase):
+class Beside(Sides):
     """Two sides of each kind of KINDS, and of each of JUDGED."""
 
     @classmethod
@@ -52,25 +53,17 @@ class Beside(unittest.TestCase):
             for name in ("right by both", "promised", "seeks, found by the judge"):
                 self.assertGreater(counts[name], 0, (kind, name))
 
-    def test_numbers(self):
+    def test_numbers_and_seeks(self):
         """Both believe nearly all that is right. What the package alone believes are times of which few have their
-        minute, and numbers at another speed."""
-        counts = self.totals["given"]
-        self.assertGreater(counts["right by both"], 20100)
+        minute, and numbers at another speed. No seek by the judge answers a field of another number, and many by the
+        lines alone do."""
+        self.within(self.totals["given"], """
+            right by both: 20101..; due by the judge, right: 801..; wrong by the judge: 0; due by the judge, wrong: 0;
+            seeks: 22001..; seeks, wrong by the lines: 11..; seeks, wrong by the judge: 0; seeks of misread ones: 61..;
+            seeks of misread ones, wrong by the lines: 31..; seeks of misread ones, wrong by the judge: 0;
+            seeks, found by the judge - seeks, found by the lines: 1..""")
         usual = sum((one for kind, one in self.kinds.items() if kind not in ("skips", "speeds")), Counter())
-        self.assertGreaterEqual(usual["right by both"], usual["right"] - 50)
-        self.assertGreater(counts["due by the judge, right"], 800)
-        for name in ("wrong by the judge", "due by the judge, wrong"):
-            self.assertEqual(counts[name], 0, self.told)
-
-    def test_seeks(self):
-        """No seek by the judge answers a field of another number, and many by the lines alone do."""
-        counts = self.totals["given"]
-        for asked, least, least_wrong in (("seeks", 22000, 10), ("seeks of misread ones", 60, 30)):
-            self.assertGreater(counts[asked], least)
-            self.assertGreater(counts[asked + ", wrong by the lines"], least_wrong)
-            self.assertEqual(counts[asked + ", wrong by the judge"], 0, self.told)
-        self.assertGreater(counts["seeks, found by the judge"], counts["seeks, found by the lines"])
+        self.within(usual, "right - right by both: ..50")
 
 
 def truth_of(text, numbers, pace=Pace.video):

@@ -38,14 +38,11 @@ SOUGHT = (
 
 class Collector(unittest.TestCase):
     def test_it_runs_behind_an_analysis_where_it_ran_before(self):
-        self.assertTrue(gc.isenabled())
-        try:
-            for is_enabled, set_so in ((True, gc.enable), (False, gc.disable)):
-                set_so()
-                made("1 2")
-                self.assertEqual(gc.isenabled(), is_enabled)
-        finally:
-            gc.enable()
+        self.addCleanup(gc.enable)
+        for is_enabled, set_so in ((True, gc.enable), (False, gc.disable)):
+            set_so()
+            made("1 2")
+            self.assertEqual(gc.isenabled(), is_enabled)
 
 
 class Seeking(unittest.TestCase):

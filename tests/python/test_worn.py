@@ -35,9 +35,8 @@ class Noise(Runs):
             [noisy(rng, word, setup, noise) if word else 0 for word in words] for _, words, _ in rows])
         return [(number, words) for number, words, _ in rows]
 
-    def answer(self, kind, *options):
-        words = zip(("--system", "--black", "--white"), map(str, SETUPS[kind]))
-        return json.loads(self.printed("side.tbc", *(word for pair in words for word in pair), "--json", *options))
+    def answer(self, kind, more=""):
+        return json.loads(self.printed("side.tbc --system %s --black %d --white %d --json%s" % (*SETUPS[kind], more)))
 
     def test_noise_of_half(self):
         """Noise of half of the way from black to white: each number stands in the field that has it."""
@@ -54,7 +53,7 @@ class Noise(Runs):
                 self.assertEqual((found["missing"], found["doubtful"]), ([], []))
                 rates = list(found["lines"].values())
                 self.assertEqual([one["pass1"] + one["pass2"] + one["near"] for one in rates[1:]], words[1:])
-                self.assertEqual(self.answer(kind, "--no-recover")["showings"], [])
+                self.assertEqual(self.answer(kind, " --no-recover")["showings"], [])
 
     def test_noise_as_great_as_white(self):
         """Many words aren't recovered then, but the numbers around leave no other than the nearest one."""
@@ -71,7 +70,7 @@ class Noise(Runs):
         """Nothing is recovered, and nothing else changes."""
         self.drawn("cav-ntsc", 0)
         found = self.answer("cav-ntsc")
-        self.assertEqual(found, self.answer("cav-ntsc", "--no-recover"))
+        self.assertEqual(found, self.answer("cav-ntsc", " --no-recover"))
         self.assertEqual([rates["near"] for rates in found["lines"].values()], [0, 0, 0])
 
 
