@@ -1,7 +1,5 @@
-"""Judging chapters and picture stops: states; and on a few simulated sides the promise that is made of a believed
-chapter, and that the tool which measures this sees it broken. The expected values are worked out by hand from what
-include/ldvbi.h says: a code of pass 1 weighs 2, one of pass 2 or 3 weighs 1, and 10 is enough; of stops line 16 or 17
-in pass 1 is enough, or both."""
+"""Judging chapters and picture stops, of which tests/library/judged.txt has more rows; on a few simulated sides the
+promise that is made of a believed chapter, and that the tool which measures this sees it broken."""
 
 import random
 import unittest
@@ -20,35 +18,12 @@ from test_judged import PICTURES
 NOTHING = Number(None, State.nothing)
 
 
-# Sides with chapters, and the states of the fields that show one: believed, or doubtful. Each has its chapter on line
-# 17 alone, but in one row; 24 fields on either side count.
-STATES = (
-    ("B -/c7/-x5 -/c48/- B -/c7/-", "bbbbbdb"), ("-/c0/-x5", "bbbbb"), ("-/c0/-x4 -/c0*/-", "ddddd"),
-    ("-/c0/-x4 -/c0^/-", "ddddd"), ("-/c0/-x4 -/c0*/- -/c0^/-", "bbbbbb"), ("-/c79/c79x2", "dd"),
-    ("-/c79/c79x2 -/c79/-", "bbb"), ("-/c3/-x4 Bx20 -/c3/-", "bbbbb"), ("-/c3/-x4 Bx21 -/c3/-", "dbbbd"),
-    # what speaks against a chapter
-    ("-/c3/-x5 -/c4/-x5", "b" * 10), ("-/c4/-x5 -/c3/-x5", "d" * 10), ("-/c4/-x5 -/c3/-x4 -/c3*/-", "bbbbbddddd"),
-    # what is none
-    ("Bx9", ""), ("Lx9", ""), ("c7/S/-x9", ""), ("-/#7/@0:07x9", ""))
-
-
-def answers(text):
-    return ldvbi.judge_chapters(made(text, side).readings)
-
-
 class Chapters(unittest.TestCase):
     def test_states(self):
-        for text, wanted in STATES:
-            found = [one for one in answers(text) if one != NOTHING]
-            self.assertEqual("".join(one.state.name[0] for one in found), wanted, text)
-        self.assertEqual(answers(STATES[0][0]), [NOTHING] + [(7, State.believed)] * 5 + [(48, State.doubtful), NOTHING]
+        known = ldvbi.judge_chapters(made("B -/c7/-x5 -/c48/- B -/c7/-", side).readings)
+        self.assertEqual(known, [NOTHING] + [(7, State.believed)] * 5 + [(48, State.doubtful), NOTHING]
                          + [(7, State.believed)])
-        two = "-/c3/-x5 -/c3/c4 -/c4/-x5"  # two chapters of a field
-        self.assertEqual([answers(two)[5], answers(two + " -/c4/-")[5]], [(3, State.doubtful), (4, State.believed)])
-
-    def test_the_first_field_of_a_chapter(self):
-        known = answers("-/c19/- B -/c2/-x9 B -/c3/-x9")
-        self.assertEqual([ldvbi.first_of(known, number) for number in (2, 3, 19, 4)], [2, 12, None, None])
+        self.assertEqual([ldvbi.first_of(known, number) for number in (7, 48)], [1, None])
 
 
 def truth_of(text, misread=()):
@@ -95,20 +70,13 @@ class Beside(unittest.TestCase):
         self.assertEqual((chapter_in(0x812DDD), chapter_in(0xF00012), chapter_in(0)), (12, None, None))
 
 
-# Fields, and whether a stop is believed there, doubtful, or there is none
-STOPS = {"b": "S/S/- S/-/- -/S/- S*/S*/- S*/S^/- S^/S^/- S/S^/-", "d": "S*/-/- -/S*/- S^/-/- -/S^/- S*/-/S",
-         "n": "B -/-/S 87FFFF/88FFFF/82CFFE"}
-
-
 def stops_of(text):
     return "".join(state.name[0] for state in ldvbi.judge_stops(made(text, side).readings))
 
 
 class Stops(unittest.TestCase):
-    def test_lines_and_passes(self):
-        for letter, fields in STOPS.items():
-            for field in fields.split():
-                self.assertEqual(stops_of("B " + field), "n" + letter, field)
+    def test_states(self):
+        self.assertEqual(stops_of("B S/S/- S*/-/- -/-/S -/S/-"), "nbdnb")
 
     def test_the_same_stops_of_the_package(self):
         chance = random.Random(82)
