@@ -1,7 +1,5 @@
-"""The nearest word and recovered words of drawn lines, some samples of which were changed by hand: what they are off by
-is counted on paper."""
+"""The nearest word and recovered words of drawn lines: what they are off by is counted on paper."""
 
-import struct
 import unittest
 
 import ldvbi
@@ -9,39 +7,21 @@ from cases import InFolder, reason
 from streams import NTSC, PAL, line_with, worn_line, write_stream
 
 # Of each setup the columns in which words that differ in one bit differ, the columns of the first half cell, those of a
-# word that are high at least, the column from which on words are drawn, and that in the middle of the second cell.
-SIZES = ((NTSC, 28, 14, 24 * 14, 150, 192), (PAL, 35, 17, 12 * 17 + 12 * 18, 190, 243))
-
-
-def changed(line, changes):
-    """The line, to some of whose samples something was added."""
-    samples = list(struct.unpack("<%dH" % (len(line) // 2), line))
-    for column, added in changes:
-        samples[column] += added
-    return struct.pack("<%dH" % len(samples), *samples)
+# word that are high at least, and the column from which on words are drawn
+SIZES = ((NTSC, 28, 14, 24 * 14, 150), (PAL, 35, 17, 12 * 17 + 12 * 18, 190))
 
 
 class Nearest(unittest.TestCase):
     def test_drawn_lines(self):
-        """A row of another word differs in a cell of each line, one with a cell more in a half cell of each. Noise that
-        is off by 612, 88 and 1 on two lines adds that to each row. Of blank lines the row of none is nearest, and then
-        one of the words that are high least. The second cell of a worn line is a zero: high, then low from a column on;
-        five of its low columns are high, as in the row that has a one there."""
-        for setup, cell, half, fewest, start, low in SIZES:
+        """A row of another word differs in a cell of each line, one with a cell more in a half cell of each. Of blank
+        lines the row of none is nearest, and then one of the words that are high least. More rows has
+        tests/library/lines.py."""
+        for setup, cell, half, fewest, start in SIZES:
             column = setup[2] - setup[1]
-            for count in (1, 2, 28):
-                near = ldvbi.nearest(count * line_with(0xF12345, setup), *setup)
-                self.assertIsInstance(near, ldvbi.Near)
-                self.assertEqual(near, (0xF12345, start, 0, count * cell * column, count * half * column))
-            line = line_with(0x82CFFF, setup)
-            lines = changed(line, [(0, 612), (900, -88)]) + changed(line, [(7, 1)])
-            self.assertEqual(ldvbi.nearest(lines, *setup), (0x82CFFF, start, 701, 2 * cell * column + 701,
-                                                            2 * half * column + 701))
+            near = ldvbi.nearest(2 * line_with(0xF12345, setup, [(0, 0, True)]), *setup)
+            self.assertIsInstance(near, ldvbi.Near)
+            self.assertEqual(near, (0xF12345, start, 2 * column, (2 * cell + 2) * column, (2 * half + 2) * column))
             self.assertEqual(ldvbi.nearest(2 * line_with(0, setup), *setup), (None, 0, 0, 2 * fewest * column, 0))
-            line = line_with(0x88FFFF, setup, [(low + 4, low + 8, True)])
-            self.assertEqual(ldvbi.read_line(line, *setup).word, 0)
-            near, wide = ldvbi.nearest(line, *setup), 29 if setup == NTSC else 35
-            self.assertEqual((near.word, near.distance, near.rival), (0x88FFFF, 5 * column, (wide - 5) * column))
 
 
 SHOWN = ldvbi.Cause.word
