@@ -7,7 +7,6 @@ import unittest
 from cases import in_database, reason
 from command_runs import NO_METADATA, Runs
 from ldvbi_side.command.faults import naming
-from streams import NTSC, write_stream
 
 SETTINGS = "give --meta, or --system, --black and --white"
 HALF = "--system NTSC --black 16384"
@@ -33,7 +32,6 @@ class Messages(Runs):
             self.write(name, b"")
         self.each(
             ("absent.tbc: No such file or directory", "absent.tbc"),
-            ("absent.vbi.json: No such file or directory", "absent.vbi.json --json"),
             (NO_METADATA, "side.tbc"), (NO_METADATA, "side.tbc --json " + HALF),
             ("my sides/one.tbc: no one.tbc.json or one.tbc.db beside it; " + SETTINGS, "'my sides/one.tbc'"),
             ("side: no metadata is looked for beside a name that doesn't end with .tbc; " + SETTINGS, "side"),
@@ -85,17 +83,13 @@ class Messages(Runs):
         self.each((ABSENT, "join side.tbc side.vbi.json --html absent/out"), (ABSENT, "index absent/out page.html"),
                   ("side.tbc has 12 whole fields, and side.tbc.json has 0", "side.tbc --into out"))
 
-    def test_pages_and_captures(self):
+    def test_pages(self):
         none = " is no page that --html wrote"
         self.each_file(
             "page.html", "index index.html page.html", (none, b"<title>\xff\xfe</title>"),
             (none, b'<meta name="ldvbi-side" content="[]">'), (none, b'<meta name="ldvbi-side">'),
             (" is a page of another version: write it again", b'<meta name="ldvbi-side" content="{}">'))
-        write_stream(self.named("dark.tbc"), NTSC, [[0, 0, 0]])
-        self.metadata("dark.tbc.json")
-        self.each(("absent.html: No such file or directory", "index index.html absent.html"),
-                  ("dark.tbc has no numbers to compare", "compare side.vbi.json dark.tbc"),
-                  ("dark.tbc has no numbers to join", "join side.vbi.json dark.tbc"))
+        self.refused("absent.html: No such file or directory", "index index.html absent.html")
 
 
 class Naming(unittest.TestCase):
