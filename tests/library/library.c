@@ -46,12 +46,16 @@ static void test_layout(void)
     LdvbiCode code = {.kind = FIRST, .first = SECOND, .second = THIRD};
     LdvbiSighting line_17 = {.number = FIRST, .weight = SECOND}, line_18 = {.number = THIRD, .weight = FOURTH};
     LdvbiSightings seen = {.line_17 = line_17, .line_18 = line_18, .instead = FIFTH};
-    LdvbiNumber number = {.number = FIRST, .state = SECOND};
+    LdvbiNear near = {.word = FIRST, .start = SECOND, .distance = 0x100F0E0D0C0B0A09, .rival = 0x1817161514131211,
+                      .longer = 0x201F1E1D1C1B1A19};
+    LdvbiNumber number = {.number = THIRD, .state = FOURTH};
+    LdvbiSought sought = {.field = 0x0807060504030201, .number = number, .pace = FIFTH, .looked = 0x18171615};
 
     has_bytes(&reading, sizeof reading, 8);
     has_bytes(&code, sizeof code, 12);
     has_bytes(&seen, sizeof seen, 20);
-    has_bytes(&number, sizeof number, 8);
+    has_bytes(&near, sizeof near, 32);
+    has_bytes(&sought, sizeof sought, 24);
     CHECK(sizeof(LdvbiFieldReadings) == 24 && offsetof(LdvbiFieldReadings, lines[2]) == 16);
 }
 

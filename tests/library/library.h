@@ -29,8 +29,6 @@ static int wrong;
         }                                                                \
     } while (0)
 
-/* ---- Memory */
-
 /* This many bytes, all 0xAA, with no page behind the last. */
 static uint8_t *guarded(size_t size)
 {

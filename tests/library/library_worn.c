@@ -75,8 +75,6 @@ typedef struct {
     int lines, words, read, read_wrong, near, recovered, recovered_wrong;
 } Counts;
 
-/* ---- Lines of a field */
-
 /* A code that may stand on the line, or any word. */
 static uint32_t word_on(size_t row)
 {
