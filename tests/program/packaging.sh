@@ -188,7 +188,7 @@ fi
 rm -rf tree/rust/crate tree/rust/ldvbi tree/rust/libldvbi.*
 
 cp "$program" tree/ldvbi
-touch tree/crates.txt
+touch -d @1300000000 tree/ldvbi
 made dist
 check 'no archive of a program older than its source' [ ! -e tree/dist/$release-x86_64-linux.tar.gz ]
 made install PREFIX="$work/usr"

@@ -12,44 +12,35 @@
 "${CC:-cc}" -shared -fPIC -O2 -Wall -o refuse.so "$here/refuse.c" -ldl || exit 1
 echo 'ldvbi: out of memory' > wanting
 
-# What each of these runs has at least. They have 50 to 150 allocations; how many it is changes with the program.
-least=40
-
 # each NAME FILE WORD..: checks the program's answers on these words, with this file on standard input, where each of
-# its allocations is refused in turn
+# its allocations is refused in turn. These runs have 50 to 150 of them; how many it is changes with the program.
 each() {
     name=$1
     input=$2
     shift 2
     run_with "$input" "$@"
     whole=$status
-    mv out whole.out
-    mv err whole.err
+    cp out whole.out
+    cp err whole.err
     : > wrong
-    number=1
-    while refused_at $number "$@" && [ ! -e endless ]; do
+    number=0
+    : > mark
+    while [ -e mark ] && [ ! -e endless ]; do
         { ended "$whole" whole.out whole.err || { ended 1 empty wanting && cmp -s rest "$input"; }; } ||
             echo "allocation $number refused: status $status" >> wrong
         number=$((number + 1))
+        rm -f mark
+        status=0
+        {
+            bounded env REFUSE_AT="$number" REFUSE_MARK="$work/mark" LD_PRELOAD="$work/refuse.so" \
+                "$program" "$@" > out 2> err || status=$?
+            cat > rest
+        } < "$input"
     done
     cp wrong err
     echo "$script: $name: $((number - 1)) allocations, each refused in turn"
     check "$name: no wrong answer" [ ! -s wrong ]
-    check "$name: at least $least allocations" [ $number -gt $least ]
-}
-
-# refused_at NUMBER WORD..: runs the program, and answers whether it came to the allocation with this number
-refused_at() {
-    refused=$1
-    shift
-    rm -f mark
-    status=0
-    {
-        bounded env REFUSE_AT="$refused" REFUSE_MARK="$work/mark" LD_PRELOAD="$work/refuse.so" \
-            "$program" "$@" > out 2> err || status=$?
-        cat > rest
-    } < "$input"
-    [ -e mark ]
+    check "$name: at least 40 allocations" [ $number -gt 40 ]
 }
 
 # metadata with these samples of black and white
