@@ -87,18 +87,6 @@ def more_lost(one):
     next(entry for entry in one["missing"] if entry["why"] == "lost")["count"] += 10
 
 
-def none_lost(one):
-    assert [entry["fields"] for entry in one["lost"]] == [1000]
-    one["lost"].clear()
-
-
-def unread(one):
-    """Numbers that a player passed over while nothing was seen."""
-    entry, = one["missing"]
-    assert [entry["first"], entry["last"], entry["why"]] == [30, 33, "undecided"]
-    entry["why"] = "unread"
-
-
 def aside(one):
     """A picture between two stills."""
     around = [{"field": 100, "number": 30}, {"field": 102, "number": 32}]
@@ -150,7 +138,8 @@ ROWS = (
     ("1..29 19=-/#70000/#70000*", none_read, "a number was read in field 19"),
     ("NTSC f1..29 23:30=B 26=-/#70000/#70000*", none_read, "a number was read in field 26"),
     ("t1000..1029 19.16=s0.17", none_read, "a number was read in field 19"),
-    ("1..29 Bx40 34..59", unread, "number 31 is unread, and nothing was seen there"),
+    # numbers that a player passed over while nothing was seen
+    ("1..29 Bx40 34..59", other("missing", why="unread"), "number 31 is unread, and nothing was seen there"),
     # times on each second picture
     ("t1000..1059 3:120/4.16=-", more("unread", number="0:00:40.01", field=3, read=None),
      "number 1001 is unread, and the disc hasn't got it"),
@@ -158,7 +147,7 @@ ROWS = (
      "the pace is both, and 1 numbers stand on two fields"),
     ("1..29 -/#30/#30x42 -/#31/#31 -/#32/#32x41 B 33..59", aside,
      "field 101 has a picture between two stills, and it is doubtful"),
-    (SHORT, none_lost, "minute 2 has 2000 fields, and none is lost"),
+    (SHORT, emptied("lost"), "minute 2 has 2000 fields, and none is lost"),
     # two sides may be joined there: that is another law's
     (SHORT + " 5101=O", None, None))
 
