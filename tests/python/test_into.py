@@ -101,7 +101,8 @@ class Documents(unittest.TestCase):
                               ("vbi", members(("a", "?"), ("vbiData", "[~%d~,~%d~,~%d~]")))) for number in range(1, 6)]
             text = members(("fields", "[%s]" % ",".join(fields)), ("z", "?"))
             text = re.sub("[?~]", lambda mark: choose.choice(parts[mark[0]]), text)
-            words = [tuple(choose.choice([0, choose.randrange(0x800000, 0x1000000)]) for _ in range(3)) for _ in range(5)]
+            words = [tuple(choose.choice([0, choose.randrange(0x800000, 0x1000000)]) for _ in range(3))
+                     for _ in range(5)]
             piece = choose.choice([1, 10, 1 << 18])
             old = text.replace("%d", choose.choice(["0", "-1", "1.5"]))
             with self.subTest((piece, text)):
