@@ -66,13 +66,6 @@ class Noise(Runs):
                 self.assertGreater(len(found["confirmed"]), 3)
                 self.assertEqual((found["missing"], found["unread"]), ([], []))
 
-    def test_clean_lines(self):
-        """Nothing is recovered, and nothing else changes."""
-        self.drawn("cav-ntsc", 0)
-        found = self.answer("cav-ntsc")
-        self.assertEqual(found, self.answer("cav-ntsc", " --no-recover"))
-        self.assertEqual([rates["near"] for rates in found["lines"].values()], [0, 0, 0])
-
 
 class Pages(Runs):
     def test_the_row_of_the_nearest_word(self):
