@@ -34,6 +34,7 @@ _PACKED_NUMBER = struct.Struct("=II")  # LdvbiNumber
 _PACKED_STATE = struct.Struct("=I")
 _SIGHTINGS_BYTES = 20  # of LdvbiSightings
 _STATES = dict(enumerate(State))
+_NOTHING = Number(None, State.nothing)  # half of the fields have it
 PART = 97  # the most fields on which the answer of one depends: 48 before it, and 48 behind it
 
 
@@ -101,7 +102,7 @@ def _judged(readings: Any, call: Callable[..., int]) -> List[Number]:
     seen = ctypes.create_string_buffer(_SIGHTINGS_BYTES * count)
     numbers = ctypes.create_string_buffer(_PACKED_NUMBER.size * count)
     check(call(packed, count, seen, count, numbers, count))
-    return [_number_of(number, state) for number, state in _PACKED_NUMBER.iter_unpack(numbers)]
+    return [_number_of(number, state) if state else _NOTHING for number, state in _PACKED_NUMBER.iter_unpack(numbers)]
 
 
 def _number_of(number, state):

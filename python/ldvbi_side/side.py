@@ -129,8 +129,9 @@ def _judge_of(readings: PackedFields, system: System) -> Optional[Judge]:
         judge((), system)
     except OSError:
         return None
-    return lambda counted, pace: {field: one.number for field, one in enumerate(
-        judge(readings.data, system, counted, pace), 1) if one.state == State.believed and one.number is not None}
+    believed = State.believed
+    return lambda counted, pace: {field: number for field, (number, state) in enumerate(
+        judge(readings.data, system, counted, pace), 1) if state == believed and number is not None}
 
 
 def _with_causes(readings: PackedFields, stream: Stream) -> PackedFields:
