@@ -130,19 +130,30 @@ def line_from(numbers: Numbers, reading: Reading, is_before: bool) -> Line:
 
 
 def _lines_between(numbers, before, after):
-    """The line on which the numbers go on from a reading, and the one on which they come to another."""
-    one, other = stretch_at(numbers.speeds, before.field), stretch_at(numbers.speeds, after.field)
+    """The line on which the numbers go on from a reading, and the one on which they come to another; None where neither
+    of these is in a stretch."""
+    speeds = numbers.speeds
+    place = bisect.bisect(speeds, (after.field, math.inf)) - 1
+    if place < 0 or speeds[place].last < before.field:
+        return None  # as most are
+    if speeds[place].first <= before.field and after.field <= speeds[place].last:
+        return speeds[place].line, speeds[place].line
+    one, other = stretch_at(speeds, before.field), stretch_at(speeds, after.field)
     if one and other and one.line[:2] == other.line[:2]:  # fields may be lost in between
         return one.line, other.line
-    return line_from(numbers, before, True), line_from(numbers, after, False)
+    return (line_from(numbers, before, True), line_from(numbers, after, False)) if one or other else None
 
 
 def off_at_speed(numbers: Numbers, before: Reading, after: Reading) -> Optional[int]:
     """The fields that are too many (or, negative, too few) between two readings at one other speed, or 0 where the
     speed changes between them in a picture in which both lines have the same number; None of all others."""
-    if stretch_at(numbers.speeds, before.field) is None and stretch_at(numbers.speeds, after.field) is None:
-        return None
-    line, other = _lines_between(numbers, before, after)
+    lines = _lines_between(numbers, before, after)
+    return None if lines is None else _off_on_lines(numbers, lines, before, after)
+
+
+def _off_on_lines(numbers, lines, before, after):
+    """The same for two readings on these lines."""
+    line, other = lines
     if line.is_normal() and other.is_normal() or not line.has(before) or not other.has(after):
         return None
     if line.step != other.step or line.fields != other.fields:
@@ -161,9 +172,10 @@ def off_at_speed(numbers: Numbers, before: Reading, after: Reading) -> Optional[
 def passed_between(numbers: Numbers, before: Reading, after: Reading) -> Optional[List[Tuple[int, int]]]:
     """The numbers that are due between two readings that fit at another speed, each with its field; None where they
     don't."""
-    if off_at_speed(numbers, before, after) != 0:
+    lines = _lines_between(numbers, before, after)
+    if lines is None or _off_on_lines(numbers, lines, before, after) != 0:
         return None
-    line, other = _lines_between(numbers, before, after)
+    line, other = lines
     turn = meeting(line, other, before, after)
     if turn is None:
         return []

@@ -45,8 +45,9 @@ def with_rest_between(numbers: Numbers, readings: List[Reading]) -> Numbers:
     more: List[Reading] = []
     for place, ones in _between(numbers, readings).items():
         before, after = numbers.believed[place - 1:place + 1]
-        row = chain([one for one in ones if before.number < one.number < after.number], numbers.pace)
-        if row and numbers.off(before, after) != 0 and not any(map(numbers.off, row, row[1:])):
+        inside = [one for one in ones if before.number < one.number < after.number]
+        row = chain(inside, numbers.pace) if inside and numbers.off(before, after) != 0 else []
+        if row and not any(map(numbers.off, row, row[1:])):
             more += row if len(row) > 1 or _is_another(numbers, before, row[0], after) else []
     return numbers.believing(sorted(numbers.believed + more, key=lambda one: one.field)) if more else numbers
 

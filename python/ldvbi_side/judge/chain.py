@@ -16,12 +16,13 @@ best chain of all before them, so a better one may be missed. Among noise each r
 are no more than LOOKS for each of all so far, and some to begin with. When these are used up, the chain is drawn anew
 without the readings that none near them nearly fits (`_near_another`); when they are again, a reading asks the best
 chain of all behind NEAR. `go_on` and `_situation` are there for speed: most readings go on from the one before, or
-stand to those before as others did. All that a price depends on has to be in the keys of `_situation` and of `columns`,
-or else one case gets the answer of another.
+stand to those before as others did. All that a price depends on has to be in the keys of `_situation`, of `columns` and of
+`gains`, or else one case gets the answer of another.
 
 What words weigh is in readings.py, what fits and what breaks cost in paces.py. A change of these, or of the choice
 here, changes docs/SIDES.md: rules 2 to 8, and what was measured."""
 
+import itertools
 import operator
 from typing import List
 
@@ -58,20 +59,23 @@ def chains_of(readings: List[Reading], pace: AnyPace) -> "_Chains":
 def _near_another(readings, pace):
     """Those of these readings that have another one within reach which has the same number, or fits with FIT fields
     too many or too few, or little more. Between two that are further off a reading costs more than it weighs."""
-    kept = set()
+    kept = bytearray(len(readings))
     for places in pace.places(readings):
-        last = {}
-        for index, place in enumerate(places):
-            for near in (place - 1, place, place + 1):
-                if index - last.get(near, NONE) <= REACH:
-                    kept |= {index, last[near]}
-            last[place] = index
-    last = {}
-    for index, one in enumerate(readings):
-        if index - last.get(one.number, NONE) <= REACH:
-            kept |= {index, last[one.number]}
-        last[one.number] = index
-    return [readings[index] for index in sorted(kept)]
+        _keep_near(kept, places, (0, -1, 1))
+    _keep_near(kept, [one.number for one in readings], (0,))
+    return list(itertools.compress(readings, kept))
+
+
+def _keep_near(kept, places, steps):
+    """Marks the readings in places that are one of these steps from each other, within reach."""
+    last = {}  # of each place its last reading, without those that are out of reach
+    for index, place in enumerate(places):
+        for step in steps:
+            if place + step in last:
+                kept[index] = kept[last[place + step]] = True
+        last[place] = index
+        if index >= REACH and last[places[index - REACH]] == index - REACH:
+            del last[places[index - REACH]]
 
 
 class _Chains:
@@ -85,7 +89,8 @@ class _Chains:
         self.values, self.less, self.origins = [], [], []
         self.last_of = {}  # of each number its last reading
         self.looks, self.left = 0, MOST_LOOKS  # at earlier readings: so many so far, and so many that may follow
-        self.columns, self.known = {}, {}
+        self.columns, self.gains, self.known = {}, {}, {}
+        self.fields, self.numbers = [one.field for one in readings], [one.number for one in readings]
         self.tops, self.top_at = [], []  # of all readings up to each the best value, and its reading
 
     def take_in(self, index, is_tried):
@@ -129,7 +134,8 @@ class _Chains:
         if found is None:
             best, origin, joined = self._best_before(index)
             top = max(best)
-            less = tuple([max(worth - top, NEVER) for worth in best])
+            # a state that no price can bring back is like one that no chain has
+            less = tuple([worth - top if worth > top - SURE else NEVER for worth in best])
             found = top - self.values[-1] if index else top, less, tuple(origin)
             if key and joined <= 2:
                 if len(self.known) == MOST_PRICES:
@@ -182,38 +188,41 @@ class _Chains:
         if index - REACH <= same < index - joined:  # a still may be worth as much, and goes on for nothing
             join(same, index, best, origin, enough)
             joined += 1
-        self.looks += joined
-        self.left = min(self.left + LOOKS, MOST_LOOKS) - min(joined, self.left + LOOKS)
+        self._spend(joined)
         return best, origin, joined
+
+    def _spend(self, joined):
+        """Counts so many looks at earlier readings, and how many may follow."""
+        self.looks += joined
+        left = self.left + LOOKS
+        self.left = (left if left < MOST_LOOKS else MOST_LOOKS) - joined if joined < left else 0
 
     def _join(self, before, index, best, origin, enough):
         """Goes on to a reading from the chains that end with an earlier one, where that is better. Returns what the
         best chains are worth in each variant, `enough` so far: a still is never worse than the same value without."""
-        other, reading, value = self.readings[before], self.readings[index], self.values[before]
-        apart, step = reading.field - other.field, reading.number - other.number
+        number, value = self.numbers[before], self.values[before]
+        apart, step = self.fields[index] - self.fields[before], self.numbers[index] - number
         if not apart:
             return enough
-        columns = self.columns.get((apart, step, other.number % self.pace.period))
-        if columns is None:
-            if step and value - price(self.pace.least_off(apart, other.number, step)) <= enough:
+        key = apart, step, number % self.pace.period, self.less[before]
+        gains = self.gains.get(key)
+        if gains is None:
+            if step and value - price(self.pace.least_off(apart, number, step)) <= enough:
                 return enough  # no state can get better
-            columns = self._add_columns(apart, other.number, step)
-        is_better, less = False, self.less[before]
-        for state, least, column in columns:
-            if value - least > best[state]:
-                worths = list(map(operator.sub, less, column))
-                worth = max(worths)
-                if value + worth > best[state]:  # of equals the one with more readings
-                    best[state], origin[state], is_better = value + worth, (index - before, worths.index(worth)), True
+            gains = self._add_gains(key)
+        is_better = False
+        for state, gain, source in gains:
+            if value + gain > best[state]:  # of equals the one with more readings
+                best[state], origin[state], is_better = value + gain, (index - before, source), True
         return min(map(max, best[::2], best[1::2])) if is_better else enough
 
     def _join_one(self, before, index, best, origin, enough):
         """The same at a pace with one variant."""
-        other, reading, value = self.readings[before], self.readings[index], self.values[before]
-        apart = reading.field - other.field
+        number, value = self.numbers[before], self.values[before]
+        apart = self.fields[index] - self.fields[before]
         if not apart:
             return enough
-        off = self.pace.off(apart, other.number, reading.number - other.number)
+        off = self.pace.off(apart, number, self.numbers[index] - number)
         moving, still = self.less[before]
         if off is None:
             worth = value + max(moving - price(apart), still)
@@ -225,9 +234,22 @@ class _Chains:
                 best[0], origin[0] = worth, (index - before, int(moving < 0))
         return max(best)
 
-    def _add_columns(self, apart, number, step):
+    def _add_gains(self, key):
+        """What is gained, or lost, by going on by so many fields and numbers from a number whose states are worth so
+        much less than its best: of each state that can be reached the most, and from which state."""
+        apart, step, number, less = key
+        columns = self.columns.get(key[:3]) or self._add_columns(apart, step, number)
+        gains = []
+        for state, column in columns:
+            worths = list(map(operator.sub, less, column))
+            gains.append((state, max(worths), worths.index(max(worths))))
+        if len(self.gains) == MOST_PRICES:
+            self.gains.clear()
+        return self.gains.setdefault(key, gains)
+
+    def _add_columns(self, apart, step, number):
         """What it costs to go on from this number by so many fields and numbers: of each state that can be reached the
-        least price, and the price from each state."""
+        price from each state."""
         off, change, columns = self.pace.off, self.pace.change, []
         for w in range(self.states // 2):
             moving, still = [], []  # what it costs to get there, from each state
@@ -240,11 +262,10 @@ class _Chains:
                     cost = price(amiss) + turn
                     moving += cost, cost if step else -NEVER
                     still += -NEVER, -NEVER if step else cost
-            columns += [(state, min(costs), costs) for state, costs in ((2 * w, moving), (2 * w + 1, still))
-                        if min(costs) < -NEVER]
+            columns += [(state, costs) for state, costs in ((2 * w, moving), (2 * w + 1, still)) if min(costs) < -NEVER]
         if len(self.columns) == MOST_PRICES:
             self.columns.clear()
-        return self.columns.setdefault((apart, step, number % self.pace.period), columns)
+        return self.columns.setdefault((apart, step, number), columns)
 
     def best(self):
         """The readings of the best chain of all by their places, each with its variant."""
@@ -266,49 +287,49 @@ class _VideoChains(_Chains):
 
     def __init__(self, readings, pace):
         super().__init__(readings, pace)
-        self.fields, self.numbers = [one.field for one in readings], [one.number for one in readings]
         self.places = [field - 2 * number for field, number in zip(self.fields, self.numbers)]
 
     def add(self, index):
-        field, number, place = self.fields[index], self.numbers[index], self.places[index]
         fields, numbers, places, values, tops = self.fields, self.numbers, self.places, self.values, self.tops
-        moving, still, origins, enough = 0, NEVER, [None, None], 0
+        field, number, place = fields[index], numbers[index], places[index]
+        moving, still, enough, moving_from, still_from = 0, NEVER, 0, None, None
         limit = index - (REACH if self.left >= REACH else NEAR)
         before, joined = index - 1, 0
         while before >= 0:
             value = values[before]
             if value > enough:
-                off = place - places[before]
-                worth = value - 1 - off.bit_length() if off else value
                 if numbers[before] == number:
-                    still = self._stay(before, index, still, origins)
-                    enough = max(enough, still)
-                elif worth > moving and fields[before] != field:
-                    moving, origins[0] = worth, (index - before, int(self.less[before][0] < 0))
-                    enough = max(enough, moving)
+                    worth, state = self._stay(before, field)
+                    if worth > still:
+                        still, still_from = worth, (index - before, state)
+                else:
+                    off = place - places[before]
+                    worth = value - 1 - off.bit_length() if off else value
+                    if worth > moving and fields[before] != field:
+                        moving, moving_from = worth, (index - before, int(self.less[before][0] < 0))
+                enough = still if still > moving else moving
             joined += 1
             if before == 0 or tops[before - 1] <= enough:
                 break
             before = before - 1 if before > limit else self.top_at[before - 1] if before == limit else -1
         same = self.last_of.get(number, NONE)
         if index - REACH <= same < index - joined:
-            still = self._stay(same, index, still, origins)
+            worth, state = self._stay(same, field)
+            if worth > still:
+                still, still_from = worth, (index - same, state)
             joined += 1
-        self.looks += joined
-        self.left = min(self.left + LOOKS, MOST_LOOKS) - min(joined, self.left + LOOKS)
-        top = max(moving, still)
-        self._keep(index, top, _MOVING if still == NEVER else (moving - top, still - top), tuple(origins))
+        self._spend(joined)
+        top = still if still > moving else moving
+        self._keep(index, top, _MOVING if still == NEVER else (moving - top, still - top), (moving_from, still_from))
 
-    def _stay(self, before, index, still, origins):
-        """What a still is worth that an earlier reading with the same number begins or goes on with, or what it was
-        worth where that is more."""
-        apart, (moving, other) = self.fields[index] - self.fields[before], self.less[before]
-        moving -= price(apart)
-        worth = self.values[before] + max(moving, other)
-        if not apart or worth <= still:
-            return still
-        origins[1] = index - before, int(moving < other)
-        return worth
+    def _stay(self, before, field):
+        """What a still is worth in this field that an earlier reading with the same number begins or goes on with, and
+        in which state that reading was."""
+        apart, (moving, still) = field - self.fields[before], self.less[before]
+        if not apart:
+            return NEVER, 0
+        moving -= 1 + apart.bit_length()
+        return (self.values[before] + still, 1) if moving < still else (self.values[before] + moving, 0)
 
 
 def _without_ties(readings, found, pace):

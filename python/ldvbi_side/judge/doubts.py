@@ -2,7 +2,7 @@
 in the form of the answer."""
 
 import bisect
-from typing import Any, Collection, Dict, List, Mapping, NamedTuple, Optional, Tuple
+from typing import Any, Collection, Dict, Iterable, List, Mapping, NamedTuple, Optional, Tuple
 
 from ldvbi import Kind
 from ldvbi.codes import LINES, name_of
@@ -29,39 +29,54 @@ class Beside(NamedTuple):
     after: Optional[Answer] = None
 
 
-class AllBeside(Dict[int, Beside]):
+class AllBeside:
     """What is beside the fields of a side: between two believed readings the same, which is kept by their place."""
 
     def __init__(self, numbers: Numbers) -> None:
-        super().__init__()
         self.numbers = numbers
+        self.found: Dict[int, Beside] = {}
+        self.known: Dict[int, Optional[Answer]] = {-1: None, len(numbers.fields): None}  # believed readings by place
 
-    def at(self, field: int) -> Beside:
-        """What is beside a field."""
+    def at(self, field: int, is_conflict: bool = False) -> Beside:
+        """What is beside a field, and why a number of it is set aside: because there is another one, or else by the
+        numbers around."""
         fields = self.numbers.fields
         place = bisect.bisect_left(fields, field)
-        key = 2 * place + (place < len(fields) and fields[place] == field)
-        found = self.get(key)
+        is_believed = place < len(fields) and fields[place] == field
+        key = 4 * place + 2 * is_believed + is_conflict
+        found = self.found.get(key)
         if found is None:
-            around, text_of = self.numbers.around(field), self.numbers.unit.text_of
-            found = self[key] = Beside(self.numbers.why(around), *(
-                one and {"field": one.field, "number": text_of(one.number)} for one in around))
+            before, after = self._reading(place - 1), self._reading(place + is_believed)
+            why = "lines" if is_conflict else self.numbers.why(self.numbers.around(field))
+            found = self.found[key] = Beside(why, before, after)
         return found
+
+    def _reading(self, place: int) -> Optional[Answer]:
+        """The believed reading of this place as the answer has it."""
+        if place not in self.known:
+            one = self.numbers.believed[place]
+            self.known[place] = {"field": one.field, "number": self.numbers.unit.text_of(one.number)}
+        return self.known[place]
 
 
 def doubts_of(codes: Codes, kind: Kind, field: int, lines: Lines, text: Any, beside: Beside) -> List[Answer]:
     """The words of these lines, which are of this kind, and whose number is this text, by name."""
     words, passes, name = codes.fields.words[field - 1], codes.fields.passes[field - 1], name_of(kind)
     why, before, after = beside
-    return [{"field": field, "line": line, "word": "%06X" % words[line - LINES[0]], "kind": name,
-             "pass": passes[line - LINES[0]], "why": why, "number": text, "before": before, "after": after}
-            for line in lines]
+    found = []
+    for line in lines:
+        found.append({"field": field, "line": line, "word": "%06X" % words[line - 16], "kind": name,
+                      "pass": passes[line - 16], "why": why, "number": text, "before": before, "after": after})
+    return found
 
 
-def conflict_of(field: int, said: Mapping[Any, Lines], taken: Any) -> Answer:
+def conflict_of(field: int, said: Iterable[Tuple[Any, Lines]], taken: Any) -> Answer:
     """A field whose lines 17 and 18 have these numbers, each with its lines, of which one was taken, or none."""
-    lines = {line: text for text, ones in said.items() for line in ones}
-    return {"field": field, "line17": lines.get(17), "line18": lines.get(18), "taken": taken}
+    lines = dict.fromkeys(LINES)
+    for text, ones in said:
+        for line in ones:
+            lines[line] = text
+    return {"field": field, "line17": lines[17], "line18": lines[18], "taken": taken}
 
 
 def read_in(doubtful: List[Answer], fields: Collection[int]) -> Dict[int, Any]:
@@ -88,7 +103,7 @@ def chapters_aside(codes: Codes, readings: List[Reading],
         said.setdefault(reading.field, {})[chapter] = reading.lines
         if taken.get(reading.field) != chapter:
             doubtful += doubts_of(codes, Kind.chapter, reading.field, reading.lines, chapter, Beside("chapter"))
-    return doubtful, [conflict_of(field, ones, taken.get(field)) for field, ones in said.items() if len(ones) > 1]
+    return doubtful, [conflict_of(field, ones.items(), taken.get(field)) for field, ones in said.items() if len(ones) > 1]
 
 
 def numbers_aside(codes: Codes, numbers: Numbers, readings: List[Reading]) -> Doubts:
@@ -97,23 +112,27 @@ def numbers_aside(codes: Codes, numbers: Numbers, readings: List[Reading]) -> Do
     taken = {reading.field: reading.number for reading in numbers.believed}
     doubtful: List[Answer] = []
     conflicts: List[Answer] = []
-    said: Dict[int, List[Reading]] = {}
-    aside = {reading.field for reading in readings if taken.get(reading.field) != reading.number}
-    for reading in readings:
-        if reading.field in aside:
-            said.setdefault(reading.field, []).append(reading)
     kind, all_beside = Kind.picture if numbers.unit.name == "picture" else Kind.time, AllBeside(numbers)
-    for field, ones in said.items():
-        beside, right = all_beside.at(field), taken.get(field)
+    for field, ones in _aside(readings, taken).items():
+        right, texts = taken.get(field), [text_of(number) for number, _ in ones]
+        beside = all_beside.at(field, len(ones) > 1)
+        for (number, lines), text in zip(ones, texts):
+            if right != number:
+                doubtful += doubts_of(codes, kind, field, lines, text, beside)
         if len(ones) > 1:
-            beside = Beside("lines", *beside[1:])
-        for one in ones:
-            if right != one.number:
-                doubtful += doubts_of(codes, kind, field, one.lines, text_of(one.number), beside)
-        if len(ones) > 1:
-            conflicts.append(conflict_of(field, {text_of(one.number): one.lines for one in ones},
+            conflicts.append(conflict_of(field, zip(texts, [lines for _, lines in ones]),
                                          None if right is None else text_of(right)))
     return Doubts(doubtful, conflicts, [])
+
+
+def _aside(readings, taken):
+    """Of each field with a number that isn't taken all its numbers, each with its lines."""
+    aside = {field for field, number, *_ in readings if taken.get(field) != number}
+    said = {}
+    for field, number, _, lines, _ in readings:
+        if field in aside:
+            said.setdefault(field, []).append((number, lines))
+    return said
 
 
 def second_rows(numbers: Numbers, readings: List[Reading]) -> List[Answer]:

@@ -21,6 +21,7 @@ def missing_of(places: Places, fields: Fields) -> Tuple[List[Answer], List[Answe
     numbers = sorted(firsts)
     gaps = [(one, other) for one, other in zip(numbers, numbers[1:]) if other - one > 1]
     passed, unread = _passed_over(places, fields), {number for number, _ in places.due} | places.without_field
+    known = unread.union(places.unshown, places.open, places.clock.judged, places.clock.open)
     missing: List[List[Any]] = []
     left_out: List[List[Any]] = []
     for one, other in gaps:
@@ -30,7 +31,7 @@ def missing_of(places: Places, fields: Fields) -> Tuple[List[Answer], List[Answe
                 missing.append([one + 1, other - 1, "lost", ends])
             continue
         for number in range(one + 1, other):
-            why = _why(places, number, unread, passed)
+            why = _why(places, number, unread, passed) if number in known else passed.why(number)
             if why == "unshown":
                 continue
             stretches = left_out if why == "clock" else missing
@@ -86,14 +87,15 @@ class PassedOver:
         for one in passed:
             for why, first, last in one.parts():
                 spans[why].append((first, last))
-        self._ends = {why: _merged(ones) for why, ones in spans.items()}
+        ends = [(why, _merged(ones)) for why, ones in spans.items()]
+        # from each of these to the next one all numbers have one reason
+        self._begins = sorted({begin for _, ones in ends for begin in ones})
+        self._whys = ["lost"] + [next((why for why, ones in ends if bisect.bisect(ones, begin) % 2), "lost")
+                                 for begin in self._begins]
 
     def why(self, number: int) -> str:
         """A number that is between those of two sides alone isn't one of either."""
-        for why, ends in self._ends.items():
-            if bisect.bisect(ends, number) % 2:
-                return why
-        return "lost"
+        return self._whys[bisect.bisect(self._begins, number)]
 
 
 def _merged(spans):

@@ -37,7 +37,7 @@ def with_loops(numbers: Numbers, readings: List[Reading]) -> Numbers:
             found += rounds if len(rounds) >= ROUNDS else []
             rounds = []
         between = readings[bisect.bisect(fields, before.field):bisect.bisect_left(fields, after.field)]
-        ones = {one.field: one for one in _that_go_on(numbers.pace, before, between, after)}
+        ones = {one.field: one for one in _that_go_on(numbers.pace, before, between, after)} if between else {}
         rounds += [list(ones.values())] if ones else []
         last = after
     found += rounds if len(rounds) >= ROUNDS else []
@@ -50,11 +50,11 @@ def with_turned(numbers: Numbers, readings: List[Reading]) -> Numbers:
     breaks that are as near. The chain passes over them where two others fit by chance."""
     assert isinstance(numbers.pace, Pace)  # of pictures
     taken, near, breaks = set(numbers.fields), [], []
-    for one in readings:
+    for one in readings if taken else ():
         if one.field not in taken:
             place = bisect.bisect(numbers.fields, one.field)
             around = numbers.believed[max(place - 1, 0):place + 1]
-            if around and all(map(_is_near, around, (one, one))) and (
+            if _is_near(around[0], one) and _is_near(around[-1], one) and (
                     one.weight >= WEIGHTS[1] or any(other.number == one.number for other in around)):
                 near.append(one)
     is_still = False
@@ -182,21 +182,24 @@ def _loose(numbers, readings):
 
 def _lines(loose, is_both):
     """The lines on which enough of these readings are, each with its readings."""
-    found = []
-    for step in STEPS if len(loose) >= LEAST else ():
-        for phase in (0, 1):
-            # where both fields of a picture have its number, it begins with an odd one or with an even one
-            near = loose if is_both else [one for one in loose if one.field % 2 == phase]
-            for ones in _groups(near, step, phase):
+    found, rows = [], []
+    for phase in (0, 1) if len(loose) >= LEAST else ():
+        # where both fields of a picture have its number, it begins with an odd one or with an even one
+        near = loose if is_both else [one for one in loose if one.field % 2 == phase]
+        rows.append((phase, near, [(one.number, (one.field - phase) // 2) for one in near]))
+    for step in STEPS:
+        for phase, near, places in rows:
+            for ones in _groups(near, [number - step * picture for number, picture in places]):
                 begin = ones[0].field - (ones[0].field - phase) % 2
                 found.append((Line(step, 2, begin, ones[0].number), ones))
     return found
 
 
-def _groups(readings, step, phase):
-    """The readings that are on a line with this step, in groups that are large enough."""
-    keys = [one.number - step * ((one.field - phase) // 2) for one in readings]
-    often = {key for key, count in Counter(keys).items() if count >= LEAST}
+def _groups(readings, keys):
+    """The readings that are on a line, as those with the same key are, in groups that are large enough."""
+    counts = Counter(keys)
+    is_often = max(counts.values(), default=0) >= LEAST
+    often = {key for key, count in counts.items() if count >= LEAST} if is_often else ()
     last, groups = {}, []
     for one, key in zip(readings, keys) if often else ():
         if key not in often:
@@ -282,9 +285,12 @@ def _off_by_one(numbers, aside):
     believed = numbers.believed
     threes = [(before, one, after) for before, one, after in zip(believed, believed[1:], believed[2:])
               if one.field - before.field != 2 * (one.number - before.number)]
-    threes += [(before, one, after) for one in aside for before, after in [numbers.around(one.field)]]
+    for one in aside if believed else ():
+        place = bisect.bisect(numbers.fields, one.field)  # of no believed one
+        if 0 < place < len(believed) and believed[place - 1].number < one.number < believed[place].number:
+            threes.append((believed[place - 1], one, believed[place]))
     for before, one, after in threes:
-        if before and after and before.number < one.number < after.number and before.variant == after.variant and (
+        if before.number < one.number < after.number and before.variant == after.variant and (
                 numbers.fit((before, after))):
             due = before.field + numbers.pace.between(before.number, one.number - before.number, 0, after.variant)
             if abs(due - one.field) == 1:

@@ -1,7 +1,8 @@
 """What numbers count, how far apart on the disc two of them stand, in fields, and what it costs where a capture has
 more or fewer. Numbers that are alike modulo a pace's `period` stand in the same way."""
 
-from collections import Counter
+import functools
+import operator
 from typing import Any, List, NamedTuple, Optional, Union
 
 from .readings import Reading
@@ -26,6 +27,7 @@ class Unit(NamedTuple):
         return minute_text(number) if self.name == "minute" else number
 
 
+@functools.lru_cache(maxsize=1 << 10)
 def minute_text(minutes: int) -> str:
     """Minutes from the disc's start as hours and minutes."""
     return "%d:%02d" % divmod(minutes, 60)
@@ -139,9 +141,10 @@ def pace_of(readings: List[Reading], may_be_film: bool) -> Pace:
     """The numbers stand on both fields where a tenth of the steps from reading to reading is to the same number in the
     next field: of a worn disc few pictures are read in both. Such steps in a row are one, since that is a field which
     was frozen. A disc that may be film is one where at least one picture in ten has 3 fields."""
-    each = [(other.field - one.field, other.number - one.number) for one, other in zip(readings, readings[1:])]
-    steps = Counter(each)
-    in_a_row = sum(one == other == (1, 0) for one, other in zip(each, each[1:]))
-    if 10 * (steps[1, 0] - in_a_row) > len(readings):
+    fields, numbers = [one.field for one in readings], [one.number for one in readings]
+    each = list(zip(map(operator.sub, fields[1:], fields), map(operator.sub, numbers[1:], numbers)))
+    same, two, three = map(each.count, ((1, 0), (2, 1), (3, 1)))
+    in_a_row = sum(one == other == (1, 0) for one, other in zip(each, each[1:])) if same else 0
+    if 10 * (same - in_a_row) > len(readings):
         return Pace("both")
-    return Pace("film" if may_be_film and FILM * steps[3, 1] >= max(steps[2, 1] + steps[3, 1], 1) else "video")
+    return Pace("film" if may_be_film and FILM * three >= max(two + three, 1) else "video")

@@ -91,7 +91,7 @@ def _joined(step):
 
 def _step(numbers, before, after, may_leave_out):
     is_second = _is_second(before, after)
-    if numbers.speeds and not is_second and passed_between(numbers, before, after) is not None:
+    if numbers.speeds and not is_second and off_at_speed(numbers, before, after) == 0:
         return _Step(before, after, "speed")
     if before.number == after.number:
         kind = numbers.pace.kind

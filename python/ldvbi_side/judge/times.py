@@ -3,10 +3,10 @@
 minutes that are read in a run say together which one it is."""
 
 import bisect
-from typing import Any, Callable, Dict, Iterator, List, NamedTuple, Optional, Set, Tuple
+from typing import Callable, Dict, List, NamedTuple, Optional, Set, Tuple
 
 from ldvbi import Kind
-from .believed import Around, Line, Numbers, no_numbers, numbers_of_readings
+from .believed import Line, Numbers, no_numbers, numbers_of_readings
 from .between import with_rest_between
 from .chain import chain
 from .doubts import AllBeside, Beside, Doubts, conflict_of, doubts_of, numbers_aside, second_rows
@@ -42,16 +42,16 @@ class _Times(NamedTuple):
             near = field
             if field not in self.minutes:
                 near = field + 1 if field + 1 in self.minutes else field - 1
+            most = WEIGHTS[passes[field - 1][0]]
             for value, lines in self.minutes.get(near, {}).items():
                 # a number that is joined of two is as sure as the less sure one
-                weight = min(self.codes.weight(near, lines), WEIGHTS[passes[field - 1][0]])
+                weight = min(self.codes.weight(near, lines), most)
                 joined = known.setdefault(lines, (16,) + lines) if near == field else (16,)
                 readings.append(Reading(field, value * self.whole + part, weight, joined))
         return readings
 
-    def nearest(self, near: Reading, field: int) -> int:
-        """The time with this field's second and picture that is nearest to the one due by that reading."""
-        due = near.number + (field - near.field) // 2
+    def nearest(self, due: int, field: int) -> int:
+        """The time with this field's second and picture that is nearest to the one that is due."""
         half = self.whole // 2
         return due + (self.parts[field] - due + half) % self.whole - half
 
@@ -134,19 +134,16 @@ def _completions(times, numbers, readings):
     more = []
     for field in wanted:
         run = runs.of_field[field]
-        found = {number for number, lost in _carried_over(times, numbers.around(field), field)
-                 if not run.votes or lost <= CARRIED * times.rate} | run.said_at(field)
+        found = run.said_at(field)
+        for near in numbers.around(field) if taken else ():
+            if near:
+                due = near.number + (field - near.field) // 2
+                number = times.nearest(due, field)
+                if not run.votes or abs(number - due) <= CARRIED * times.rate:
+                    found.add(number)
         more += [Reading(field, number, times.completed_weight(field, number), (16,)) for number in sorted(found)
                  if number >= 0 and (field, number) not in said]
     return more
-
-
-def _carried_over(times, around, field):
-    """The times nearest to those due by these readings, and how many pictures each is off."""
-    for near in around:
-        if near:
-            number = times.nearest(near, field)
-            yield number, abs(number - near.number - (field - near.field) // 2)
 
 
 class Run:
@@ -173,8 +170,8 @@ class Run:
     def said_at(self, field: int) -> Set[int]:
         """The numbers that a field of the run has by most of the minutes read in it: none where none was read, and more
         than one where as many say another."""
-        most = max(self.votes.values(), default=0)
-        return {minute * self.whole + self.count_at(field) for minute, weight in self.votes.items() if weight == most}
+        most, count = max(self.votes.values(), default=0), self.count_at(field)
+        return {minute * self.whole + count for minute, weight in self.votes.items() if weight == most}
 
 
 class Runs:
@@ -187,23 +184,22 @@ class Runs:
         self.of_field: Dict[int, Run] = {}
         run: Optional[Run] = None
         other: Optional[Run] = None  # the two that were seen last
-        for field in sorted(parts):
-            if run is None or not run.fits(field, parts[field]):
+        for field, part in sorted(parts.items()):
+            if run is None or not run.fits(field, part):
                 run, other = other, run
-            if run is None or not run.fits(field, parts[field]):
-                run = Run(field, parts[field], whole)
+                if run is None or not run.fits(field, part):
+                    run = Run(field, part, whole)
             run.last = field
             self.of_field[field] = run
         fields = sorted(self.of_field)
         for field, said in minutes.items():
-            for run in self._runs_at(field, fields):
+            run = self.of_field.get(field)
+            for one in [run] if run else self._runs_at(field, fields):
                 for minute, lines in said.items():
-                    run.vote(field, minute, weight_of(field, lines))
+                    one.vote(field, minute, weight_of(field, lines))
 
     def _runs_at(self, field: int, fields: List[int]) -> List[Run]:
-        """The run of a field: its own, or that of the fields on both sides, or of the one beside it."""
-        if field in self.of_field:
-            return [self.of_field[field]]
+        """The run of a field that has none of its own: that of the fields on both sides, or of the one beside it."""
         place = bisect.bisect(fields, field)
         around = [self.of_field[near] for near in fields[max(place - 1, 0):place + 1]]
         if len(around) == 2 and around[0] is around[1]:
@@ -216,33 +212,34 @@ class Runs:
 def _times_aside(times, numbers):
     """The minutes and the seconds that aren't believed, each for itself by name, and the fields whose lines differ."""
     taken = {reading.field: reading.number for reading in numbers.believed}
-    doubtful, conflicts, beside = [], [], AllBeside(numbers)
+    doubtful, conflicts, all_beside = [], [], AllBeside(numbers)
     for field in sorted(times.parts.keys() | times.minutes.keys()):
         said, number = times.minutes.get(field, {}), taken.get(field)
         if number is not None and (not said or len(said) == 1 and number // times.whole in said):
             continue
-        doubtful += _field_aside(times, numbers, field, said, number, beside.at(field))
+        doubtful += _field_aside(times, numbers, field, said, number, all_beside)
         if len(said) > 1:
             right = None if number is None else number // times.whole
-            conflicts.append(conflict_of(field, {minute_text(value): lines for value, lines in said.items()},
+            conflicts.append(conflict_of(field, [(minute_text(value), lines) for value, lines in said.items()],
                                          minute_text(right) if right in said else None))
     return doubtful, conflicts
 
 
-def _field_aside(times, numbers, field, said, number, beside):
+def _field_aside(times, numbers, field, said, number, all_beside):
     """What a field says beside its number, or, where it has none, beside those that may be due there."""
-    doubtful = []
-    if number is None:
+    doubtful, fits = [], set()
+    if number is not None:
+        fits.add(number // times.whole)
+    else:
         if field in times.parts:
             text = "%02d.%02d" % divmod(times.parts[field], times.rate)
-            doubtful += doubts_of(times.codes, Kind.clv_picture, field, (16,), text, beside)
-        # a field between two pictures may belong to either
-        due = [near.number + (field - near.field) // 2 for near in numbers.around(field) if near] if said else []
-        fits = {(one + near) // times.whole for one in due for near in (-1, 0, 1)}
-    else:
-        fits = {number // times.whole}
-    if len(said) > 1:
-        beside = beside._replace(why="lines")
-    for value in said.keys() - fits:
-        doubtful += doubts_of(times.codes, Kind.time, field, said[value], minute_text(value), beside)
+            doubtful += doubts_of(times.codes, Kind.clv_picture, field, (16,), text, all_beside.at(field))
+        for near in numbers.around(field) if said else ():
+            if near:  # a field between two pictures may belong to either
+                due = near.number + (field - near.field) // 2
+                fits.update(((due - 1) // times.whole, due // times.whole, (due + 1) // times.whole))
+    beside = all_beside.at(field, len(said) > 1) if said else None
+    for value, lines in said.items():
+        if value not in fits:
+            doubtful += doubts_of(times.codes, Kind.time, field, lines, minute_text(value), beside)
     return doubtful
