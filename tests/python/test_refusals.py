@@ -27,6 +27,7 @@ class Refusals(unittest.TestCase):
                 (ldvbi.line_bytes, (3,), NO_SYSTEM), (ldvbi.field_bytes, ("SECAM",), NO_SYSTEM),
                 (ldvbi.field_bytes, (257,), NO_SYSTEM),
                 (ldvbi.draw_line, ("F12345", *NTSC), "word is not a whole number"),
+                (ldvbi.classify, (0x7FFFFF,), "number is no code word"),
                 (ldvbi.read_line, (b"", 3, 2, 2), NO_SYSTEM), (ldvbi.read_line, (b"", "NTSC", 2, 2), NOT_BELOW),
                 (ldvbi.draw_line, (5, "NTSC", 2, 2), NOT_BELOW)):
             with self.subTest((call.__name__, words[1:])):
