@@ -252,6 +252,6 @@ class Written(unittest.TestCase):
         inner = b'{"version":2,"videoParameters":{},"fields":[],"x":' + data[:-1] + b"}"
         for other in (inner, data.replace(b"\n", b"\r\n"), b" " + data, data + b" ", data.replace(b":", b": "),
                       written(count=0), data.replace(b'"seqNo":2', b'"seqNo":02'), data.replace(b":2,", b":4,", 1),
-                      data.replace(b'"seqNo":2', b'"seqNo":4')):
+                      data.replace(b'"seqNo":2', b'"seqNo":4'), data.replace(b"[0,0,0]", b"[0,0,8388608]", 1)):
             self.assertNotEqual(other, data)
             self.assertEqual(outcome(read_document, other), outcome(_as_json, other))
