@@ -169,13 +169,9 @@ def _off_on_lines(numbers, lines, before, after):
     return after.field - before.field - after.variant + before.variant - 2 * pictures
 
 
-def passed_between(numbers: Numbers, before: Reading, after: Reading) -> Optional[List[Tuple[int, int]]]:
-    """The numbers that are due between two readings that fit at another speed, each with its field; None where they
-    don't."""
-    lines = _lines_between(numbers, before, after)
-    if lines is None or _off_on_lines(numbers, lines, before, after) != 0:
-        return None
-    line, other = lines
+def passed_between(numbers: Numbers, before: Reading, after: Reading) -> List[Tuple[int, int]]:
+    """The numbers that are due between two readings that fit at another speed, each with its field."""
+    line, other = _lines_between(numbers, before, after)
     turn = meeting(line, other, before, after)
     if turn is None:
         return []
