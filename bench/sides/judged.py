@@ -182,13 +182,13 @@ def print_table(totals):
 def rows_of(counts):
     """The cells of the rows of docs/MEASURED.md."""
     both, by = FINDERS[:2], "%s by the %s"
-    yield ("right numbers believed", *("%d of %d" % (
+    yield ("right numbers believed", *("%d/%d" % (
         counts["right by both"] + counts["right by the %s alone" % finder], counts["right"]) for finder in both), "")
     yield ("wrong numbers believed", *(counts[by % ("wrong", finder)] for finder in both), "")
     yield ("due, right; wrong", *("%d; %d" % (counts[by % ("due", finder) + ", right"],
                                               counts[by % ("due", finder) + ", wrong"]) for finder in both), "")
     for asked, name in zip(ASKED, ("sought, found; another field", "misread ones sought, found; another field")):
-        yield (name, *("%d of %d; %d" % (counts[by % (asked + ", found", finder)], counts[asked],
+        yield (name, *("%d/%d; %d" % (counts[by % (asked + ", found", finder)], counts[asked],
                                          counts[by % (asked + ", wrong", finder)]) for finder in FINDERS))
 
 

@@ -133,7 +133,7 @@ def rows_of(counts):
     """The cells of the rows of docs/MEASURED.md."""
     for row, right, wrong, there in (("right ones believed in their fields; wrong ones", "right", "wrong", "right"),
                                      ("listed; of no disc", "listed", "listed of no disc", "chapters")):
-        yield (row, *("%d of %d; %d" % (counts["%s by the %s" % (right, finder)], counts[there],
+        yield (row, *("%d/%d; %d" % (counts["%s by the %s" % (right, finder)], counts[there],
                                         counts["%s by the %s" % (wrong, finder)]) for finder in FINDERS[:2]),
                "-; %d" % counts[wrong + " by the lines"])
 

@@ -75,10 +75,10 @@ def print_table(totals):
 
 def row_of(kind, counts):
     """The cells of a kind's row in docs/MEASURED.md."""
-    first, missing, reasons = ("%d of %d" % (counts[name], counts["sides"])
+    first, missing, reasons = ("%d/%d" % (counts[name], counts["sides"])
                                for name in ("first fields", "missing", "reasons"))
     said, own = OF_KIND.get(kind, ("", "lost"))
-    numbers, right, lost, own = ("%d of %d" % (counts[name + " found"], counts[name])
+    numbers, right, lost, own = ("%d/%d" % (counts[name + " found"], counts[name])
                                  for name in ("numbers", "right", "lost", own))
     return ("`%s`" % kind, first, "%s (%d)" % (missing, counts["missing but for hidden"]), numbers, right, "%s (%d)" % (
         lost, counts["lost found"] + counts["lost and hidden"]), reasons, "%s: %s" % (said, own) if said else "")
