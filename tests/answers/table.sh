@@ -1,6 +1,15 @@
 # shellcheck shell=sh disable=SC2034,SC2086,SC2154
 # What the tests of the table answers.txt share. They read this in after tests/helpers.sh and library_helpers.sh.
 
+# draw_side NAME RATE OPTIONS: prints the side that this row of sides.words means
+draw_side() {
+    sed -n "s/^$1|//p" "$tests/answers/sides.words" | PYTHONPATH=$top/python:$tests/python python3 -Bc '
+import sys
+from compact import rows
+print(*rows(sys.stdin.read(), int(sys.argv[1])), sep="\n")' $2 > side.words
+    output_of draw $3 side.words
+}
+
 # draws_sides: draws the side NAME.tbc of each row of sides.txt
 draws_sides() {
     grep -v '^#' "$here/sides.txt" > sides
@@ -8,19 +17,11 @@ draws_sides() {
         options=$ntsc
         rate=30
         [ "$system" = NTSC ] || { options=$pal; rate=25; }
-        words=$top/examples/$side.words
         case $side in
-            side) bounded sh "$top/examples/side.sh" "$program"; continue ;;
-            cav | clv) ;;
-            *)
-                words=side.words
-                sed -n "s/^$side|//p" "$here/sides.words" | PYTHONPATH=$top/python:$tests/python python3 -Bc '
-import sys
-from compact import rows
-print(*rows(sys.stdin.read(), int(sys.argv[1])), sep="\n")' $rate > $words
-                ;;
+            side) bounded sh "$top/examples/side.sh" "$program" ;;
+            cav | clv) output_of draw $options "$top/examples/$side.words" > "$side.tbc" ;;
+            *) draw_side $side $rate "$options" > "$side.tbc" ;;
         esac
-        output_of draw $options "$words" > "$side.tbc"
     done < sides
 }
 
