@@ -13,8 +13,9 @@
 mkdir tree tools
 (
     cd "$top" &&
-        tar --exclude=.git --exclude=out --exclude=./ldvbi --exclude='./libldvbi.*' --exclude=./dist \
-            --exclude='./rust/crate*' --exclude=./rust/ldvbi --exclude='./rust/libldvbi.*' --exclude='./rust/*-*-*' -cf - .
+        tar --exclude=.git --exclude=out --exclude=__pycache__ --exclude=./ldvbi --exclude='./libldvbi.*' \
+            --exclude=./dist --exclude='./rust/crate*' --exclude=./rust/ldvbi --exclude='./rust/libldvbi.*' \
+            --exclude='./rust/*-*-*' -cf - .
 ) | tar -xf - -C tree
 for tool in sh make install rm mkdir find cp touch git tar gzip sha256sum uname ln sed chmod; do
     ln -s "$(command -v $tool)" tools/$tool
