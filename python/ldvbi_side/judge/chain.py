@@ -16,8 +16,8 @@ best chain of all before them, so a better one may be missed. Among noise each r
 are no more than LOOKS for each of all so far, and some to begin with. When these are used up, the chain is drawn anew
 without the readings that none near them nearly fits (`_near_another`); when they are again, a reading asks the best
 chain of all behind NEAR. `go_on` and `_situation` are there for speed: most readings go on from the one before, or
-stand to those before as others did. All that a price depends on has to be in the keys of `_situation`, of `columns` and of
-`gains`, or else one case gets the answer of another.
+stand to those before as others did. All that a price depends on has to be in the keys of `_situation`, of `columns` and
+of `gains`, or else one case gets the answer of another.
 
 What words weigh is in readings.py, what fits and what breaks cost in paces.py. A change of these, or of the choice
 here, changes docs/SIDES.md: rules 2 to 8, and what was measured."""

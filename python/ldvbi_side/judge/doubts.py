@@ -103,7 +103,8 @@ def chapters_aside(codes: Codes, readings: List[Reading],
         said.setdefault(reading.field, {})[chapter] = reading.lines
         if taken.get(reading.field) != chapter:
             doubtful += doubts_of(codes, Kind.chapter, reading.field, reading.lines, chapter, Beside("chapter"))
-    return doubtful, [conflict_of(field, ones.items(), taken.get(field)) for field, ones in said.items() if len(ones) > 1]
+    return doubtful, [conflict_of(field, ones.items(), taken.get(field))
+                      for field, ones in said.items() if len(ones) > 1]
 
 
 def numbers_aside(codes: Codes, numbers: Numbers, readings: List[Reading]) -> Doubts:
