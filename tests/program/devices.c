@@ -1,11 +1,11 @@
 /* Makes the reads and the writes of a program that it is loaded before (LD_PRELOAD) fail. The environment says which:
 
-     DEVICE_READ="DESCRIPTOR FAULT, FAULT, .."     reads of this descriptor
-     DEVICE_WRITE="DESCRIPTOR FAULT, FAULT, .."    writes of this one
+     DEVICE_READ="DESCRIPTOR BYTE KIND TIMES"     reads of this descriptor
+     DEVICE_WRITE="DESCRIPTOR BYTE KIND TIMES"    writes of this one
 
-   A FAULT is "BYTE KIND TIMES". Where BYTE bytes have moved in all, the next TIMES calls (all, where it is left out)
-   answer at once an error (KIND is `error`), an interruption (`interrupt`) or 0 (`end`); or they move at most so many
-   bytes (KIND is a number). A call before that is cut at BYTE. The faults stand in the order of their bytes.
+   Where BYTE bytes have moved in all, the next TIMES calls (all, where it is left out) answer at once an error (KIND is
+   `error`), an interruption (`interrupt`) or 0 (`end`); or they move at most so many bytes (KIND is a number). A call
+   before that is cut at BYTE. Behind DESCRIPTOR all may be left out.
 
    In the end two lines, of the reads and of the writes, go to the file that DEVICE_RECORD names: how often the device
    was asked in all, how many of these calls had a fault, and how often it was asked after an error or an answer of 0.
@@ -21,55 +21,37 @@
 
 struct device {
     int descriptor;
-    const char *faults; /* those still to come */
-    char kind[16];      /* of the fault at hand, */
-    size_t at;          /* the byte from which it is given, */
-    unsigned long left; /* and how often it still is: 0 where there is none */
+    size_t at; /* the byte from which the fault is given, */
+    char kind[16];
+    unsigned long left; /* and how often it still is */
     size_t moved;
-    unsigned long asked;
-    unsigned long given;
-    unsigned long again;
+    unsigned long asked, given, again;
     int is_over;
 };
 
 static struct device input, output;
 
-/* Takes up the next fault, where there is one. */
-static void next_fault(struct device *device)
-{
-    int items = sscanf(device->faults, "%zu %15[a-z0-9] %lu", &device->at, device->kind, &device->left);
-
-    if (items == 2)
-        device->left = ULONG_MAX;
-    else if (items != 3)
-        device->left = 0;
-    device->faults += strcspn(device->faults, ",");
-    device->faults += *device->faults == ',';
-}
-
 /* How many bytes a call for `size` may move; or -1, with the number of the error in errno. */
 static ssize_t allow(struct device *device, size_t size)
 {
+    size_t most = device->at - device->moved;
+
     device->asked++;
     device->again += device->is_over;
     if (device->left == 0)
-        next_fault(device);
-    if (device->left == 0)
         return size;
-    if (device->moved < device->at)
-        return size < device->at - device->moved ? size : device->at - device->moved;
-    device->left--;
-    device->given++;
-    if (strcmp(device->kind, "end") == 0)
-        return 0;
-    if (strcmp(device->kind, "error") == 0 || strcmp(device->kind, "interrupt") == 0) {
-        errno = device->kind[0] == 'e' ? EIO : EINTR;
-        return -1;
+    if (device->moved >= device->at) {
+        device->left--;
+        device->given++;
+        errno = strcmp(device->kind, "error") == 0 ? EIO : strcmp(device->kind, "interrupt") == 0 ? EINTR : 0;
+        if (errno != 0)
+            return -1;
+        most = strtoul(device->kind, NULL, 10); /* 0 of `end` */
     }
-    return size < strtoul(device->kind, NULL, 10) ? size : strtoul(device->kind, NULL, 10);
+    return size < most ? size : most;
 }
 
-/* Calls the function of this name behind this one. Of the device's descriptor it moves no more than the faults allow. */
+/* Calls the function of this name behind this one. Of the device's descriptor it moves no more than its fault allows. */
 static ssize_t move(struct device *device, const char *name, int descriptor, void *bytes, size_t size)
 {
     ssize_t (*real)(int, void *, size_t) = (ssize_t (*)(int, void *, size_t))dlsym(RTLD_NEXT, name);
@@ -99,10 +81,11 @@ ssize_t write(int descriptor, const void *bytes, size_t size)
 
 static void begin(struct device *device, const char *plan)
 {
-    char *faults = "";
+    int items = sscanf(plan ? plan : "-1", "%d %zu %15[a-z0-9] %lu", &device->descriptor, &device->at, device->kind,
+                       &device->left);
 
-    device->descriptor = plan == NULL ? -1 : strtol(plan, &faults, 10);
-    device->faults = faults;
+    if (items == 3)
+        device->left = ULONG_MAX;
 }
 
 __attribute__((constructor)) static void begin_both(void)

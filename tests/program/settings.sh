@@ -8,102 +8,71 @@
 # shellcheck source=tests/helpers.sh
 . "$(dirname "$0")/../helpers.sh"
 
-commands='line extract show draw'
 cp "$stored/stdin" line.raw
 printf '{"a":NaN}' > nan.json
 
 # The order of what can be wrong: the words, the metadata file, the input file, the metadata, the settings. A run that
-# is refused takes nothing of its input.
+# is refused takes nothing of its input. All commands are refused by the same lines of the program.
 equal='--system NTSC --black 5 --white 5'
 cat > refusal << 'END'
 error: invalid value '65536' for '--black <N>': 65536 is not in 0..=65535
 
 For more information, try '--help'.
 END
-for what in Width:911 Height:264; do
-    printf '{"videoParameters":{"field%s":%s}}' "${what%:*}" "${what#*:}" > "${what%:*}.json"
-done
-for command in $commands; do
-    run $command --meta absent.json --black 65536 absent.raw
-    check_refusal "$command: words before files" ended 2 empty refusal
-    judge_rows << END
-$command: the metadata file before the input file|$command $levels --meta absent.json absent.raw|1|empty|cannot read metadata
-$command: the metadata file before the levels|$command $equal --meta . line.raw|1|empty|cannot read metadata
-$command: the input file before the levels|$command $equal absent.raw|1|empty|cannot open input
-$command: the input file before the metadata|$command $levels --meta nan.json absent.raw|1|empty|cannot open input
-$command: no system, and a folder as input|$command --black 8224 --white 16448 .|1|empty|no system given
-$command: another width|$command $levels --meta Width.json line.raw|1|empty|field width differs
-$command: another height|$command $levels --meta Height.json line.raw|1|empty|field height differs
+run line --meta absent.json --black 65536 absent.raw
+check_refusal 'words before files' ended 2 empty refusal
+judge_rows << END
+the metadata file before the input file|line $levels --meta absent.json absent.raw|1|empty|cannot read metadata
+the metadata file before the levels|extract $equal --meta . line.raw|1|empty|cannot read metadata
+the input file before the levels|show $equal absent.raw|1|empty|cannot open input
+the input file before the metadata|draw $levels --meta nan.json absent.raw|1|empty|cannot open input
+no system, and a folder as input|line --black 8224 --white 16448 .|1|empty|no system given
 END
-    while IFS='|' read -r words said; do
-        run_leaving line.raw $command $words
-        judge "$command: $said" 1 empty "ldvbi: $said"
-        check "$command: $said, the input" cmp rest line.raw
-    done << END
-$levels --meta nan.json|metadata is not JSON
-$equal --max-fields 0|black level is not below white level
-$levels --max-fields 0|max fields is not from 1 to 1000000
+while IFS='|' read -r words said; do
+    run_leaving line.raw $words
+    judge "$words" 1 empty "ldvbi: $said"
+    check "$words: the input is left" cmp rest line.raw
+done << END
+line $levels --meta nan.json|metadata is not JSON
+extract $equal --max-fields 0|black level is not below white level
+show $levels --max-fields 0|max fields is not from 1 to 1000000
+draw $levels --max-fields 1000001|max fields is not from 1 to 1000000
 END
-done
 
 # Metadata: each row has a document, or what videoParameters hold; options; and what `line` says of the stored line.
 # That is 82CFFF where the settings are those of the stored run, blank where black and white are far apart, and that it
-# is too short where the settings are those of PAL.
-all="$levels --max-fields 1"
+# is too short where the settings are those of PAL. What else is refused, and in which order, is tested in the crate of
+# the settings; which texts are JSON also in rust_compare.sh. JSON has no byte order mark, and isn't UTF-16.
 while IFS='|' read -r document options answer; do
     case $document in '"'*) document="{\"videoParameters\":{$document},\"fields\":[]}" ;; esac
-    printf '%s' "$document" > row.json
+    printf '%b' "$document" > row.json
     run line --meta row.json $options line.raw
     case $answer in
         82CFFF | blank) echo "$answer" > answer; judge "$document $options" 0 answer '' ;;
         *) judge "$document $options" 1 empty "ldvbi: $answer" ;;
     esac
 done << END
-|$all|metadata is not JSON
-[]|$all|metadata has no videoParameters
+|$levels|metadata is not JSON
+\0357\0273\0277{"videoParameters":{}}|$levels|metadata is not JSON
+\0377\0376{\0000}\0000|$levels|metadata is not JSON
+{"videoParameters":{},"fields":[1e999]}|$levels|metadata is not JSON
 {"videoParameters":3}||metadata has no videoParameters
 {"videoParameters":{}}||no system given
-{"videoParameters":{},"fields":[1e999]}|$all|metadata is not JSON
 "system":null,"isSourcePal":true||unknown system
-"system":"NTSC","isSourcePal":"no"||unknown system
-"system":"NTSC","isSourcePal":"no"|--system NTSC|no black level given
 "system":"NTSC","isSourcePal":true||system and isSourcePal disagree
+"system":"NTSC","isSourcePal":"no"|--system NTSC|no black level given
 "system":"PAL","black16bIre":65536||black level is not a whole number from 0 to 65535
-"system":"NTSC","black16bIre":8224.0||black level is not a whole number from 0 to 65535
-"system":"NTSC","black16bIre":8224.0,"white16bIre":16448|--black 8224|82CFFF
-"system":"NTSC","black16bIre":8224,"white16bIre":16448|--white 8224|black level is not below white level
-"system":"NTSC","black16bIre":8224,"white16bIre":16448|--black 0 --white 65535|blank
-"system":"PAL","black16bIre":8224,"white16bIre":16448|--system NTSC|82CFFF
-"system":"NTSC","isSourcePal":true,"black16bIre":8224,"white16bIre":16448|--system NTSC|82CFFF
 "system":"PAL","black16bIre":8224||no white level given
 "system":"PAL","black16bIre":8224,"white16bIre":"x"||white level is not a whole number from 0 to 65535
+"system":"NTSC","black16bIre":8224,"white16bIre":16448|--white 8224|black level is not below white level
+"system":"NTSC","black16bIre":8224,"white16bIre":16448|--black 0 --white 65535|blank
+"system":"NTSC","black16bIre":8224.0,"white16bIre":16448|--black 8224|82CFFF
+"system":"PAL","black16bIre":8224,"white16bIre":16448|--system NTSC --max-fields 1000000|82CFFF
 "isSourcePal":true,"black16bIre":8224,"white16bIre":16448||short line: 1820 of 2270 bytes
 "isSourcePal":false,"black16bIre":8224,"white16bIre":16448||82CFFF
-"isSourcePal":true,"black16bIre":8224,"white16bIre":16448,"fieldWidth":910||field width differs
-"isSourcePal":true,"black16bIre":8224,"white16bIre":16448,"fieldHeight":312||field height differs
-"system":"NTSC","black16bIre":8224,"white16bIre":16448|--max-fields 1000000|82CFFF
-"system":"NTSC","black16bIre":8224,"white16bIre":16448|--max-fields 1000001|max fields is not from 1 to 1000000
-"fieldWidth":910,"fieldHeight":263|$all|82CFFF
-"fieldWidth":910.0|$all|field width differs
-END
-
-# What the JSON library doesn't read: a byte order mark, UTF-16, and wrong JSON of each kind, where memory isn't wanted:
-# short, and a mebibyte long by this byte between its two parts
-while IFS='|' read -r head fill tail; do
-    for length in 0 1048576; do
-        # shellcheck disable=SC2059
-        { printf "$head"; head -c $length /dev/zero | tr '\000' "${fill:- }"; printf "$tail"; } > odd.json
-        run line $levels --meta odd.json line.raw
-        judge "metadata of $head and $tail, $length bytes between" 1 empty 'ldvbi: metadata is not JSON'
-    done
-done << 'END'
-\357\273\277{"videoParameters":{}}||
-\377\376{\000}\000||
-x|x|
-"|a|
-'|a|'
-]|\040|
-{"a":|\040|NaN}
+"fieldWidth":910,"fieldHeight":263|$levels|82CFFF
+"fieldWidth":910.0|$levels|field width differs
+"fieldHeight":264|$levels|field height differs
 END
 
 # Brackets that open so often, and then close; and as many bytes as are allowed, which take no room on a disk, or one more
