@@ -56,7 +56,7 @@ for command in line extract show draw; do
 done
 
 # What a line shows, by its reading: of samples that are spaces, of high ones midway between black and white, or one
-# above, and of those of the usual levels
+# above, and of those of the usual levels. That the reading is right is proved, and tested at its limits in the crates.
 printf '%1820s' '' > spaces.raw
 echo 82CFFF | signal NTSC 0 > line.text
 tr 'zLyH' '\000\100\000\204' < line.text > midway.raw
@@ -75,26 +75,13 @@ while IFS='|' read -r system description answer; do
     echo "$answer" > answer
     judge "$system: $description" 0 answer ''
 done << 'END'
-NTSC|FFFFFF/11/48|FFFFFF
-NTSC|FFFFFF/11/47 H18|FFFFFF
-NTSC|FFFFFF/11/47 H19|hold 535
-NTSC|L14 H21|change 35
-NTSC|L14 H14|hold 46
-NTSC|L7 H11 FFFFFF/11/46|change 7
-NTSC|L382 FFFFFF/11/48 @100-100H|change 101
 NTSC|-|blank
-NTSC|H1|change 0
-NTSC|L164 H746|hold 200
 NTSC|L383 FFFFFE/11/47|unfinished
 NTSC|82CFFF @170-172L|82CFFF
 NTSC|82CFFF @170-173L|change 170
-NTSC|82CFFF @0-0H|82CFFF
 NTSC|L873 H37|hold 909
 PAL|8AE012|8AE012
 PAL|L207 H928|hold 251
-PAL|L10 FFFFFF/13/48|change 36
-PAL|FFFFFF/14/47 H22|FFFFFF
-PAL|FFFFFF/14/47 H23|hold 680
 END
 
 # How near lines are that are read as different words, as docs/FORMATS.md has it. The last two cells of 800000 are as

@@ -2,8 +2,8 @@
 # Runs the built program on a few words that it refuses, on each kind of path, and on words that ask for help.
 # usage: sh tests/program/words.sh PROGRAM
 # runs: everywhere rust
-# fails where: tests/program/help/draw-short.txt|s/Turns rows/Turns words/
-# shellcheck disable=SC2086
+# fails where: tests/program/help/ldvbi.txt|s/Turns rows/Turns words/
+# shellcheck disable=SC2086,SC2317
 
 # shellcheck source=tests/helpers.sh
 . "$(dirname "$0")/../helpers.sh"
@@ -14,13 +14,12 @@ printf '{"videoParameters":{"system":"NTSC","black16bIre":8224,"white16bIre":164
 more="For more information, try '--help'."
 
 # is_refused_first LINE: whether the last run wrote nothing, ended with status 2, and said a text with this first line
-# shellcheck disable=SC2317
 is_refused_first() {
     is_refused && [ "$(head -n 1 err)" = "error: $1" ] && [ "$(tail -n 1 err)" = "$more" ]
 }
 
-# Words that are refused, of each command a few, and no more than one of each text: what else is refused, and how, is
-# tested where the words are read (crates/vbi_cli_tests)
+# Words that are refused, a few of each kind: what else is refused, and how, is tested where the words are read
+# (crates/vbi_cli_tests), and of other words it is compared by rust_compare.sh
 cat > refusal << END
 error: 'ldvbi' requires a subcommand but one was not provided
   [subcommands: line, extract, show, draw, help]
@@ -31,29 +30,23 @@ $more
 END
 run
 check_refusal 'no command' ended 2 empty refusal
-{
-    for word in lines l lin ext extr sh sho dr dra hel Line EXTRACT; do
-        printf "%s|unrecognized subcommand '$word'\n" "$word $levels line.raw" "help $word"
-    done
-    for word in --hel --he --vers -v -H '-?' "--system NTSC line line.raw"; do
-        echo "$word|unexpected argument '${word%% *}' found"
-    done
-    for command in line extract show draw; do
-        echo "$command --system ntsc line.raw|invalid value 'ntsc' for '--system <NAME>'"
-        # One of each kind: other words that name no option are refused in the crate's tests
-        for word in line.raw --met -m --version; do
-            echo "$command $levels line.raw $word|unexpected argument '$word' found"
-        done
-    done
-} > refusals
 while IFS='|' read -r words line; do
     run $words
     check_refusal "$words" is_refused_first "$line"
-done < refusals
-for command in line extract show draw; do
-    run $command $levels "$(printf '\377')"
-    judge "$command: a word that is not text" 2 empty 'ldvbi: arguments are not UTF-8'
-done
+done << END
+lin $levels line.raw|unrecognized subcommand 'lin'
+EXTRACT $levels line.raw|unrecognized subcommand 'EXTRACT'
+help lines|unrecognized subcommand 'lines'
+--vers|unexpected argument '--vers' found
+-v|unexpected argument '-v' found
+--system NTSC line line.raw|unexpected argument '--system' found
+line --system ntsc line.raw|invalid value 'ntsc' for '--system <NAME>'
+extract $levels line.raw line.raw|unexpected argument 'line.raw' found
+show $levels line.raw --met|unexpected argument '--met' found
+draw $levels line.raw --version|unexpected argument '--version' found
+END
+run line $levels "$(printf '\377')"
+judge 'a word that is not text' 2 empty 'ldvbi: arguments are not UTF-8'
 
 # Paths: an input that is a dash alone is standard input, and every other word is a path. What is there when the row is
 # run (a file, and its name), the answer, and the words as a shell has them: 82CFFF, or what is said.
@@ -73,29 +66,34 @@ while IFS='|' read -r there answer words; do
 done << END
 videos.json -|82CFFF|--meta -
 videos.json -|82CFFF|$levels -
-videos.json -|82CFFF|$levels -- -
 videos.json -|short line: 76 of 1820 bytes|$levels ./-
 line.raw line.raw |82CFFF|$levels 'line.raw '
 |cannot open input|$levels 'line.raw '
-|cannot open input|$levels ' line.raw'
 width.json width.json |field width differs|$levels --meta 'width.json ' line.raw
-width.json width.json |field width differs|$levels '--meta=width.json ' line.raw
 |cannot read metadata|$levels --meta 'width.json ' line.raw
-|cannot read metadata|$levels --meta -
 |cannot read metadata|$levels --meta '' line.raw
 |cannot open input|$levels ''
 line.raw --black|82CFFF|$levels -- --black
-|cannot open input|$levels -- --white
 |cannot open input|$levels line.raw/line.raw
 END
 
-# helped NAME: whether the last run printed the help of this file, whose line `@options` stands for what all commands
-# have. Of the Rust program, whose clap may be of any version, the words have to be the same, but for what clap says of
-# its own options.
-# shellcheck disable=SC2317
+# help_of NAME: the help of this file, whose line `@options` stands for what all commands have. The short help of a
+# command is its line in that of the program, and then the same from the usage on, with the input in one line.
+help_of() {
+    of=${1%-short}
+    short=${1#"$of"}
+    case $1 in
+        ldvbi* | "$of") cat "$here/help/$1.txt" ;;
+        *)
+            sed -n "s/^  $of  *//p" "$here/help/ldvbi.txt"
+            sed -n '/^$/,$p' "$here/help/$of.txt" | sed '/^  \[INPUT\]$/{N;s/\n */  /;}'
+            ;;
+    esac | sed -e "/^@options\$/{r $here/help/options$short.txt" -e 'd;}'
+}
+# helped NAME: whether the last run printed this help. Of the Rust program, whose clap may be of any version, the words
+# have to be the same, but for what clap says of its own options.
 helped() {
-    case $1 in *-short) options='options-short.txt' ;; *) options='options.txt' ;; esac
-    sed -e "/^@options\$/{r $here/help/$options" -e 'd;}' "$here/help/$1.txt" > wanted
+    help_of "$1" > wanted
     if [ "${DIFFERENCES:-}" ]; then
         words_of wanted > wanted_words
         words_of out > words
@@ -104,7 +102,6 @@ helped() {
         ended 0 wanted empty
     fi
 }
-# shellcheck disable=SC2317
 words_of() {
     tr -s ' \n' ' ' < "$1" | sed -E 's/Print (help|version)( information)?( \((see|use) [^()]*\))?//g'
 }
