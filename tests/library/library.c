@@ -1,12 +1,10 @@
-/* Calls the library for C as its header has it: its version, the layout of the structs, texts, threads, and a file that
-   is cut meanwhile. */
+/* Calls the library for C as its header has it: its version, the layout of the structs, texts, threads, and a file
+   that is cut meanwhile. */
 #include "library.h"
 #include <pthread.h>
 #include <setjmp.h>
 #include <signal.h>
 #include <unistd.h>
-
-enum { READ = 20000, THREADS = 4 };
 
 /* ---- Versions and numbers */
 
@@ -98,37 +96,31 @@ static void are_texts(const char *(*text_of)(uint32_t), const char *const *texts
     }
 }
 
-/* ---- Threads over the same line */
+/* ---- Threads that each read a line of their own, over and over: a word is 0 then where one reading wasn't that word */
 
-static uint8_t *shared;
-
-/* The word that a line of NTSC shows, or 0. */
-static uint32_t word_of(const uint8_t *line)
+static void *read_often(void *word)
 {
-    LdvbiReading reading = {9, 9, 9, 9};
+    uint32_t *shown = word, drawn = *shown;
+    uint8_t line[1820];
+    LdvbiReading reading;
 
-    CHECK(ldvbi_read_line(LDVBI_NTSC, 16384, 51200, line, 1820, &reading) == LDVBI_DONE);
-    return reading.word;
-}
-
-static void *read_shared(void *missed)
-{
-    for (int i = 0; i < READ; i++)
-        *(long *)missed += word_of(shared) != 0xF12345;
+    CHECK(ldvbi_draw_line(LDVBI_NTSC, 16384, 51200, drawn, line, sizeof line) == LDVBI_DONE);
+    for (int i = 0; i < 20000; i++)
+        if (ldvbi_read_line(LDVBI_NTSC, 16384, 51200, line, sizeof line, &reading) || reading.word != drawn)
+            *shown = 0;
     return NULL;
 }
 
 static void test_threads(void)
 {
+    enum { THREADS = 4 };
+    uint32_t words[THREADS] = {0xF12345, 0x82CFFF, 0x800000, 0xFFFFFF};
     pthread_t threads[THREADS];
-    long missed[THREADS] = {0};
 
-    shared = guarded(1820);
-    CHECK(ldvbi_draw_line(LDVBI_NTSC, 16384, 51200, 0xF12345, shared, 1820) == LDVBI_DONE);
     for (int i = 0; i < THREADS; i++)
-        CHECK(pthread_create(&threads[i], NULL, read_shared, &missed[i]) == 0);
+        CHECK(pthread_create(&threads[i], NULL, read_often, &words[i]) == 0);
     for (int i = 0; i < THREADS; i++)
-        CHECK(pthread_join(threads[i], NULL) == 0 && missed[i] == 0);
+        CHECK(pthread_join(threads[i], NULL) == 0 && words[i] != 0);
 }
 
 /* ---- A file that is cut off while it is mapped */
@@ -146,18 +138,17 @@ static void test_cut_file(void)
     size_t field = ldvbi_field_bytes(LDVBI_NTSC);
     FILE *file = tmpfile();
     LdvbiFieldReadings readings;
-    volatile int has_returned = 0;
+    volatile int returned = 0;
 
-    CHECK(file != NULL && ftruncate(fileno(file), (off_t)field) == 0);
-    uint8_t *mapped = mmap(NULL, field, PROT_READ, MAP_SHARED, fileno(file), 0);
+    CHECK(file != NULL && ftruncate(fileno(file), (off_t)field) == 0 && signal(SIGBUS, leave) != SIG_ERR);
+    uint8_t *mapped = mmap(NULL, field, PROT_READ | PROT_WRITE, MAP_SHARED, fileno(file), 0);
     CHECK(mapped != MAP_FAILED);
-    CHECK(ldvbi_read_field(LDVBI_NTSC, 1, 2, mapped, field, &readings) == LDVBI_DONE);
-    CHECK(ftruncate(fileno(file), 0) == 0);
-    CHECK(signal(SIGBUS, leave) != SIG_ERR);
-    if (sigsetjmp(before, 1) == 0)
-        has_returned = ldvbi_read_field(LDVBI_NTSC, 1, 2, mapped, field, &readings) + 1;
-    CHECK(has_returned == 0);
-    CHECK(word_of(shared) == 0xF12345);
+    for (int is_cut = 1; is_cut >= 0; is_cut--) {
+        CHECK(ftruncate(fileno(file), is_cut ? 0 : (off_t)field) == 0);
+        if (sigsetjmp(before, 1) == 0)
+            returned += ldvbi_read_field(LDVBI_NTSC, 1, 2, mapped, field, &readings) == LDVBI_DONE;
+        CHECK(returned == !is_cut);
+    }
     fclose(file);
 }
 

@@ -43,14 +43,14 @@ PYTHONPATH=$PYTHONPATH:$tests/python
 for part in lines fields refusals judged; do
     check "the tests of $part" prints 0 '0 wrong' python3 "$here/$part.py"
 done
-tests_in_c() {
-    check "the tests of $1 are built" does $cc -std=c99 $strict -Wno-unused-function $2 -I"$top/include" -o "$1" \
-        "$here/$1.c" "$built/libldvbi.a" -lpthread -lm
-    check "the tests of $1${2:+ with $2}" prints 0 '0 wrong' "./$1"
-}
-tests_in_c library -fsanitize=address,undefined
-tests_in_c library -fsanitize=thread
-tests_in_c library_worn ''
+while read -r name sanitizers; do
+    check "the tests of $name are built" does $cc -std=c99 $strict -Wno-unused-function $sanitizers -I"$top/include" \
+        -o "$name" "$here/$name.c" "$built/libldvbi.a" -lpthread -lm
+    check "the tests of $name" prints 0 '0 wrong' "./$name"
+done << 'END'
+library -fsanitize=address,undefined
+library_worn
+END
 
 # The readings of the package: drawn discs, a cut one, and a field with each cause and pass
 discs
