@@ -53,13 +53,9 @@ def shortened(value, table, place=""):
     return value
 
 
-def is_in(value, values):
-    """Whether the value is one of these, as JSON has it: true isn't 1."""
-    return json.dumps(value) in map(json.dumps, values)
-
-
 def values_of(words):
-    """Returns the values that these words of a row allow, and those that have to be refused there."""
+    """Yields the values that these words of a row allow and those that have to be refused there, each with whether it
+    is allowed. As JSON has it, true isn't 1."""
     allowed, refused = [], list(WRONG)
     for word in words:
         ends = re.fullmatch(r"([0-9]+)\.\.([0-9]*)", word)
@@ -70,7 +66,24 @@ def values_of(words):
             text = word.lstrip("!")
             value = json.loads(text) if re.fullmatch(r'null|true|false|\[\]|[0-9]+|".*"', text) else text
             (refused if word.startswith("!") else allowed).append(value)
-    return allowed, [value for value in refused if not is_in(value, allowed)]
+    yield from ((value, True) for value in allowed)
+    yield from ((value, False) for value in refused if json.dumps(value) not in map(json.dumps, allowed))
+
+
+def others(value, words):
+    """Yields what is put in place of a value whose row has these words, and whether it may stand there: of an object
+    each member is taken away, and one added; of a list an item is, and one more added where it has to have so many."""
+    if isinstance(value, dict):
+        yield from (({other: value[other] for other in value if other != name}, False) for name in value)
+        yield dict(value, more=0), False
+    elif isinstance(value, list):
+        is_fixed = has_fixed_items(words)
+        if value:
+            yield value[:-1], not is_fixed
+        if is_fixed:
+            yield value + value[-1:], False
+        words = [] if is_fixed else ["[]"]
+    yield from values_of(words)
 
 
 class Places:
@@ -81,11 +94,16 @@ class Places:
         self.table, self.unused = table, set(table)
         self.tried, self.faults, self.count = set(), [], 0
 
-    def row_of(self, place):
-        """Returns the words of a place's row, or of the row of its last name; None without either."""
+    def row_of(self, place, value):
+        """Returns the words of a place's row, or of the row of its last name; none of an object or list without."""
         row = place if place in self.table else "*" + place[place.rfind("."):]
         self.unused.discard(row)
-        return self.table.get(row)
+        words = self.table.get(row, [])
+        if row not in self.table and not isinstance(value, (dict, list)):
+            self.faults.append(place + " has no row")
+        if has_fixed_items(words) and len(value) != int(words[0]):
+            self.faults.append("%s has %d items" % (place, len(value)))
+        return words
 
     def expect(self, document, is_valid, place, what):
         """Counts a document, and keeps a fault where the schema says otherwise of it."""
@@ -104,51 +122,17 @@ class Places:
 
     def look_at(self, document, value, path=(), place=""):
         """Tries this place of a document, at which the value stands, and all below it."""
-        is_new = (place, type(value)) not in self.tried
-        self.tried.add((place, type(value)))
-        if is_new:
-            self.replace(document, path, place, value)
+        if (place, type(value)) not in self.tried:
+            self.tried.add((place, type(value)))
+            for other, is_valid in others(value, self.row_of(place, value)):
+                self.put(document, path, other, is_valid, place)
         if isinstance(value, dict):
-            if is_new:
-                self.change_members(document, path, place, value)
             for name in value:
                 self.look_at(document, value[name], path + (name,), "%s.%s" % (place, name))
         elif isinstance(value, list):
             has_places = has_fixed_items(self.table.get(place, []))
             for index, item in enumerate(value):
                 self.look_at(document, item, path + (index,), "%s[%s]" % (place, index if has_places else ""))
-
-    def replace(self, document, path, place, value):
-        """Puts other values in place of this one."""
-        words = self.row_of(place)
-        if words is None:
-            words = []
-            if not isinstance(value, (dict, list)):
-                self.faults.append(place + " has no row")
-        if isinstance(value, list):
-            is_fixed = has_fixed_items(words)
-            self.change_items(document, path, place, value, int(words[0]) if is_fixed else None)
-            words = [] if is_fixed else ["[]"]
-        allowed, refused = values_of(words)
-        for one in allowed:
-            self.put(document, path, one, True, place)
-        for one in refused:
-            self.put(document, path, one, False, place)
-
-    def change_items(self, document, path, place, items, count):
-        """Takes an item from a list, and adds one where it has to have so many."""
-        if items:
-            self.put(document, path, items[:-1], count is None, place)
-        if count is not None:
-            if len(items) != count:
-                self.faults.append("%s has %d items" % (place, len(items)))
-            self.put(document, path, items + items[-1:], False, place)
-
-    def change_members(self, document, path, place, value):
-        """Takes each member from an object, and adds one."""
-        changes = [{other: value[other] for other in value if other != name} for name in value]
-        for change in changes + [dict(value, more=0)]:
-            self.put(document, path, change, False, place)
 
 
 def main():
