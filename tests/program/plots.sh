@@ -145,7 +145,6 @@ done << 'END'
 NTSC|82CFFF||82CFFF, by the samples as they are (pass 1)|82CFFF|0 marked
 NTSC|82CFFF @170-171L||82CFFF, by the smoothed levels (pass 2)|82CFFF|2 marked 170 171
 NTSC|82CFFF @0-0H||82CFFF, by the smoothed levels (pass 2)|82CFFF|1 marked 0
-NTSC|82CFFF @226-228H||82CFFF, by the smoothed levels (pass 2)|82CFFF|3 marked 226 227 228
 NTSC|FFFFFF/11/48||FFFFFF, by the samples|FFFFFF|0 marked
 NTSC|FFFFFF/18/48||FFFFFF, by the samples|FFFFFF|0 marked
 NTSC|AAAAAA/18/48||AAAAAA, by the samples|AAAAAA|0 marked
@@ -153,8 +152,6 @@ NTSC|L382 FFFFFE/11/47||FFFFFE, by the samples|FFFFFE|0 marked
 NTSC|L382 FFFFFF/11/48||FFFFFF, by the samples|FFFFFF|0 marked
 NTSC|FFFFFF/11/47 H18||FFFFFF, by the samples|FFFFFF|0 marked
 NTSC|82CFFF @170-174L||no word: change 170||1 marked 170
-NTSC|L164 H746||no word: hold 200||1 marked 200
-NTSC|H1||no word: change 0||1 marked 0
 NTSC|L873 H37||no word: hold 909||1 marked 909
 NTSC|-||no word: blank||0 marked
 NTSC|L900 H10||no word: unfinished||0 marked
@@ -163,12 +160,10 @@ PAL|8AE012 @50-52H||8AE012, by the smoothed levels (pass 2)|8AE012|3 marked 50 5
 PAL|FFFFFF/14/48||FFFFFF, by the samples|FFFFFF|0 marked
 PAL|800000/22/48||800000, by the samples|800000|0 marked
 PAL|L207 H928||no word: hold 251||1 marked 251
-NTSC|82CFFF|--near 82CFFF@150|82CFFF; the row of 82CFFF from column 150 on is 0.0 columns away|82CFFF|0 marked
 NTSC|82CFFF|--near 82CFFF@151|82CFFF; the row of 82CFFF from column 151 on is 42.0 columns away|82CFFF|42 marked *
 NTSC|82CFFF|--near 82CFFE@150|82CFFF; the row of 82CFFE from column 150 on is 29.0 columns away|82CFFE|29 marked *
 NTSC|82CFFF @170-174L|--near 82CFFF@150|no word: change 170; the row of 82CFFF from column 150 on is 5.0 columns away|82CFFF|5 marked *
 NTSC|82CFFF|--near 82CFFF@223||*|*
-NTSC|82CFFF|--first 300 --last 400||*|0 marked
 NTSC|82CFFF|--last 10||*|0 marked
 NTSC|82CFFF|--first 909||*|0 marked
 NTSC|82CFFF|--first 837||*|0 marked
@@ -177,8 +172,6 @@ NTSC|82CFFF @170-171L|--first 171 --last 300||*|1 marked *
 NTSC|82CFFF @170-171L|--first 172 --last 300||*|0 marked
 NTSC|82CFFF @170-171L|--last 169||*|0 marked
 NTSC|82CFFF @170-174L|--first 170 --last 170||*|1 marked *
-NTSC|82CFFF @170-174L|--first 171||*|0 marked
-NTSC|82CFFF @170-174L|--last 169||*|0 marked
 NTSC|L164 H746|--last 200||*|1 marked *
 NTSC|L164 H746|--first 201||*|0 marked
 END
@@ -204,18 +197,10 @@ while IFS='|' read -r system WORD description ended; do
     [ $ended = 0 ] || echo "plot_line: these samples don't show $WORD" > wanted
     check "$system: $(echo "$description" | cut -c 1-24) as $WORD" [ "$status $(cmp err wanted)" = "$ended " ]
 done << END
-NTSC|FFFFFF|FFFFFF/8/48|1
 NTSC|FFFFFF|FFFFFF/10/48|1
-NTSC|FFFFFF|FFFFFF/11/48|0
-NTSC|FFFFFF|FFFFFF/18/48|0
 NTSC|AAAAAA|AAAAAA/10/48|1
-NTSC|AAAAAA|AAAAAA/11/48|0
-NTSC|AAAAAA|AAAAAA/18/48|0
 PAL|FFFFFF|FFFFFF/13/48|1
-PAL|FFFFFF|FFFFFF/14/48|0
-PAL|FFFFFF|FFFFFF/22/48|0
 PAL|AAAAAA|AAAAAA/13/48|1
-PAL|AAAAAA|AAAAAA/14/48|0
 PAL|AAAAAA|AAAAAA/22/48|0
 NTSC|800000|L111 H22 L18 H11$(rest 11)|0
 NTSC|800000|L111 H22 L19 H11$(rest 11)|1
