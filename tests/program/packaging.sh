@@ -90,8 +90,7 @@ installs() {
 made uninstall PREFIX="$work/nothing/usr"
 check 'make uninstall where nothing of ours is' [ $status = 0 ]
 installs 'a prefix' files one/usr PREFIX="$work/one/usr"
-installs 'a prefix below DESTDIR' files two/usr DESTDIR="$work/two" PREFIX=/usr
-installs 'no place named' files three/usr/local DESTDIR="$work/three"
+installs 'a prefix below DESTDIR' files two/usr/local DESTDIR="$work/two"
 
 # What is refused, with nothing installed; and before `make rust` nothing is taken from there
 while IFS='|' read -r words said; do
@@ -190,8 +189,6 @@ rm -rf tree/rust/crate tree/rust/ldvbi tree/rust/libldvbi.*
 
 cp "$program" tree/ldvbi
 touch -d @1300000000 tree/ldvbi
-made dist
-check 'no archive of a program older than its source' [ ! -e tree/dist/$release-x86_64-linux.tar.gz ]
 made install PREFIX="$work/usr"
 check 'no such program is installed' [ $status != 0 ]
 check 'the toolchain is asked for' grep -q '^make: the command rt of the Rattle toolchain is not on the PATH' err
@@ -275,35 +272,35 @@ head -n 21 err > found
 check 'the end of the log stands above its name' cmp found wanted
 check 'the status is that of the toolchain' [ "$(sed -n '22s/.*\(Error [0-9]*\)$/\1/p' err)" = 'Error 7' ]
 
-# What is built is built anew after a change of any of its sources, and after no other change.
+# What is built is built anew where `make -W` says that a source has changed, and after no other change. Of the sources
+# there is one of each kind for each crate.
 path=$work/tools
-touch tree/libldvbi.so.1
-# is_current TARGET FILE: whether `make` finds that it needn't be built where this file is the latest of the copy, behind
-# those that are built
-is_current() {
-    find tree -exec touch -h -d @1000000000 {} +
-    touch -d @1100000000 tree/libldvbi.a
-    touch -d @1200000000 tree/ldvbi tree/libldvbi.so.1
-    touch -d @1300000000 "tree/$2"
-    made -q "$1"
-    return $status
+find tree -exec touch -h -d @1000000000 {} +
+touch -d @1100000000 tree/libldvbi.a
+touch -d @1200000000 tree/ldvbi tree/libldvbi.so.1
+# is_due TARGET FILE: whether `make` finds that this has to be built where this file is the latest
+is_due() {
+    made -q -W "$2" "$1"
+    [ "$status" = 1 ]
 }
-# are_current TARGET CRATE..: says after a change of which file of these crates, one of each kind, it isn't built anew
-are_current() {
+# are_due TARGET CRATE..: the same for each kind of file of these crates
+are_due() {
     target=$1
     shift
-    for file in crates.txt $(for crate; do
-        for folder in src specs proofs; do (cd tree && git ls-files "crates/$crate/$folder" | head -n 1); done
-    done); do
-        ! is_current "$target" "$file" || echo "$file"
-    done
+    for kind in src specs proofs; do
+        for crate; do (cd tree && git ls-files "crates/$crate/$kind" | head -n 1); done
+    done > sources
+    echo crates.txt >> sources
+    while read -r file; do is_due "$target" "$file" || return; done < sources
 }
-check 'the program is built anew after a change of a source' [ -z "$(are_current ldvbi $program_crates)" ]
-check 'the library is built anew after a change of a source' [ -z "$(are_current libldvbi.a $library_crates)" ]
-check 'the shared library is built anew after the library' [ "$(is_current libldvbi.so libldvbi.a || echo due)" = due ]
+is_due_for_neither() {
+    ! is_due ldvbi "$1" && ! is_due lib "$1" && [ "$status" = 0 ]
+}
+check 'the program is built anew after a change of a source' are_due ldvbi $program_crates
+check 'the library is built anew after a change of a source' are_due libldvbi.a $library_crates
+check 'the shared library is built anew after the library' is_due libldvbi.so libldvbi.a
 for file in README.md Makefile contrib/plot_line.py include/ldvbi.h tests/gate.sh; do
-    check "neither is built anew after a change of $file" \
-        [ "$(is_current ldvbi $file && is_current lib $file && echo current)" = current ]
+    check "neither is built anew after a change of $file" is_due_for_neither $file
 done
 
 # `make clean` takes away what was built, and leaves the source

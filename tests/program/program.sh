@@ -31,34 +31,6 @@ judge 'a pipe' 0 black.json ''
 head -c 478661 two.tbc > cut.tbc
 { cat begun.json; cut_field '{"seqNo":2,"bytes":1}'; } > cut.json
 
-# each cause, and both passes (classes.sh has the texts of all classes)
-made causes NTSC << 'END'
-82CFFF|82CFFF @170-171L|-
-L900 H10|82CFFF @170-174L|L164 H746
-END
-{
-    cat head.json
-    record 1 8572927,8572927,0 '"word","word","blank"' 1,2,0
-    printf ',\n'
-    record 2 0,0,0 '"unfinished","change 170","hold 200"' 0,0,0
-    cut_field null
-} > causes.json
-cat > causes.txt << 'END'
-system NTSC 910x263 black 16384 white 51200
-field 1 cav
-16 82CFFF picture stop
-17 82CFFF picture stop
-18 none blank
-field 2 neither
-16 none unfinished
-17 none change 170
-18 none hold 200
-fields 2 cut none
-END
-head -n 5 causes.txt > begun.txt
-head -c 478661 causes.tbc > cut_causes.tbc
-{ cat begun.txt; echo 'fields 1 cut field 2 bytes 1'; } > cut.txt
-
 # a drawn field, and what `extract` says of it; the same in PAL, and the other commands: a field of 313 lines of 2270
 # bytes, whose line 17 begins 36320 bytes in
 echo '82CFFF|F12345|F12345' | made drawn NTSC
@@ -92,10 +64,6 @@ the document of a black field|extract $ntsc black.tbc|0|black.json|
 the document of a field and a cut one|extract $ntsc cut.tbc|3|cut.json|
 /dev/zero, at most 1 fields|extract $ntsc --max-fields 1 /dev/zero|1|begun.json|too many fields
 two.tbc, at most 2 fields|extract $ntsc --max-fields 2 two.tbc|0|two.json|
-the document of each cause|extract $ntsc causes.tbc|0|causes.json|
-the report of each cause|show $ntsc causes.tbc|0|causes.txt|
-the report of too many fields|show $ntsc --max-fields 1 causes.tbc|1|begun.txt|too many fields
-the report of a cut field|show $ntsc cut_causes.tbc|3|cut.txt|
 the document of a drawn field|extract $ntsc drawn.tbc|0|drawn.json|
 a field of PAL drawn|draw $pal pal.words|0|pal.tbc|
 the document of a field of PAL|extract $pal pal.tbc|0|pal.json|
