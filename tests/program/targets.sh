@@ -4,7 +4,7 @@
 # usage: sh tests/program/targets.sh PROGRAM     (the program is never run)
 # runs: everywhere
 # fails where: .ci/run|s/make setup test/make setup/
-# shellcheck disable=SC2086
+# shellcheck disable=SC2046,SC2086
 
 # shellcheck source=tests/helpers.sh
 . "$(dirname "$0")/../helpers.sh"
@@ -113,7 +113,6 @@ tools ''
 check 'the tools that the scripts need' \
     [ "$status $(grep -c '^tests: missing .*: gcc .* zsh python3-.* (make setup' err) $(grep -c rust err)" = '1 1 0' ]
 tools rust
-check 'the tools that the gate needs' [ "$status $(grep -c ': gcc .* cargo .* librust-thiserror-dev ' err)" = '1 1' ]
 all=$(sed 's/.* packages: \(.*\) (.*/\1/' err)
 stub alone/apt-get 'echo "apt-get $*"; exit ${FAULT:-0}'
 stub alone/id 'echo ${USER_NUMBER:-0}'
@@ -125,17 +124,27 @@ USER_NUMBER=1000 FAULT=1
 export USER_NUMBER FAULT
 tools install
 check 'setup by sudo, which fails where the packages do' [ "$status $(grep -c '^sudo$' out)" = '1 1' ]
+# Each of these is asked for, and seven crates; then nothing is missing but a module that is.
+tools rust
 for tool in cc c++ nm python3 jq prove pkg-config cmake git less mandoc mypy parallel pv zsh rustc cargo rustfmt \
     cargo-clippy; do
+    before=$(wc -w < err)
     stub alone/$tool 'exit 0'
-done
-(cd none && mkdir $(echo $all | grep -o 'librust-[a-z-]*-dev'))
+    tools rust
+    [ "$(wc -w < err)" -lt "$before" ] || echo "$tool"
+done > unasked
+check 'each tool is asked for' [ ! -s unasked ]
+crates=$(grep -o 'librust-[a-z-]*-dev' err)
+check 'seven crates are asked for' [ "$(echo $crates | wc -w)" = 7 ]
+(cd none && mkdir $crates)
 stub no_module 'exit 0'
 for word in '' rust install; do
     tools $word
     judge "nothing is missing: '$word'" 0 empty ''
 done
-stub no_module '[ "$2" != "import ensurepip" ]'
-tools ''
-check 'a module is missing' [ "$status $(grep -c 'packages: python3-venv (make' err)" = '1 1' ]
+for pair in jsonschema coverage ensurepip:venv setuptools wheel; do
+    stub no_module "[ \"\$2\" != 'import ${pair%:*}' ]"
+    tools ''
+    check "the module ${pair%:*}" [ "$status $(grep -c "packages: python3-${pair#*:} (make setup" err)" = '1 1' ]
+done
 finish
