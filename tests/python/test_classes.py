@@ -1,11 +1,11 @@
 """The classes of words in Python: rows of each pattern and its edges, what words say and where each kind of code stands
-(IEC 60857 and 60856), and each word beside the library."""
+(IEC 60857 and 60856), and words beside the library."""
 
 import ctypes
+import itertools
 import os
 import re
 import struct
-import sys
 import unittest
 
 from cases import reason
@@ -13,8 +13,6 @@ from compact import cells_of
 from ldvbi.classes import Code, Format, Kind, classify, format_of
 from ldvbi.codes import STANDARD_LINES, code, code_of, codes_by_kind, name_of, value_of
 from streams import TOP
-
-BLOCK = 4096  # words that are compared at once
 
 # Patterns of docs/FORMATS.md: words in each, with the numbers read off their digits; of other words those next to one
 ROWS = """
@@ -96,20 +94,21 @@ class Classes(unittest.TestCase):
             if value != 0:
                 self.assertEqual([reason(format_of, value, 0, 0), reason(format_of, 0, value, 0)], [text] * 2)
 
-    def test_each_word_beside_the_library(self):
+    def test_words_beside_the_library(self):
+        """All that begin with 8 or F, as those of each class do, and of the others those whose digits are at the edges
+        of classes."""
         call = ctypes.CDLL(os.environ["LDVBI_LIBRARY"]).ldvbi_classify
         call.argtypes = ctypes.c_uint32, ctypes.c_void_p
-        codes = (ctypes.c_uint32 * (3 * BLOCK))()
-        places = range(ctypes.addressof(codes), ctypes.addressof(codes) + 12 * BLOCK, 12)
-        # Where the lines that run are recorded, these calls would take minutes, and show no new line.
-        self.addCleanup(sys.settrace, sys.gettrace())
-        sys.settrace(None)
+        edges = [int("".join(digits), 16) for digits in itertools.product("0789ACDEF", repeat=5)]
         greatest = {}
-        for begin in range(0x800000, 0x1000000, BLOCK):
-            words = range(begin, begin + BLOCK)
-            self.assertFalse(any(map(call, words, places)))
+        for words in (range(0x800000, 0x900000), range(0xF00000, 0x1000000),
+                      *([first << 20 | rest for rest in edges] for first in range(9, 15))):
+            codes = (ctypes.c_uint32 * (3 * len(words)))()
+            self.assertFalse(any(map(call, words, itertools.count(ctypes.addressof(codes), 12))))
             wanted = list(struct.iter_unpack("=III", codes))
-            self.assertEqual(list(map(classify, words)), wanted)
+            wrong = ("%06X: %s" % (word, known) for word, known, one in zip(words, map(classify, words), wanted)
+                     if known != one)
+            self.assertIsNone(next(wrong, None))
             for kind, *numbers in set(wanted):
                 greatest[kind] = list(map(max, greatest.get(kind, numbers), numbers))
         ranges = ranges_of_header()

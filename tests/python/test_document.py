@@ -1,6 +1,7 @@
 """Documents as they are and broken ones, each by one change of a sound one. Those that stand as they are written are
 taken apart by a pattern: what comes of one is what its JSON says, and so is the fault of one that is changed."""
 
+import itertools
 import json
 import random
 import unittest
@@ -63,13 +64,11 @@ class Sound(unittest.TestCase):
             [("blank",) * 3, ("unfinished", "change 0", "hold 909"), ("blank", "word", "word"), ("blank",) * 3],
             {"seqNo": 5, "bytes": 85360}))
         self.assertEqual(side.levels, Levels(16384, 51200))
-        self.assertEqual([line.column for line in side.readings[1]], [0, 0, 909])
-        self.assertEqual([line.cause for line in side.readings[1]], [Cause.unfinished, Cause.change, Cause.hold])
         words = side_of_document(text_of(changed("fields.2.vbi.vbiData", [0, 0x800000, 0xFFFFFF])))
         self.assertEqual([line.word for line in words.readings[2]], [0, 0x800000, 0xFFFFFF])  # the least, the greatest
 
     def test_each_system(self):
-        """Columns are those of 1 to 4 digits that a line has, and no other; a cut is less than a field; no field."""
+        """Columns are those of 1 to 4 digits that a line has, and no other; a cut is less than a field."""
         for system, width, height in (("NTSC", 910, 263), ("PAL", 1135, 313)):
             most = 2 * width * height - 1
             whole = document()
@@ -86,9 +85,6 @@ class Sound(unittest.TestCase):
             self.assertRegex(refusal(whole), "bytes is not from 1 to %d$" % most)
             whole["fields"][0]["vbiCause"][1] = "hold %d" % width
             self.assertRegex(refusal(whole), "no cause")
-            whole.update(fields=[], cutField=None)
-            side = side_of_document(text_of(whole))
-            self.assertEqual([side.readings, side.cut], [[], None])
 
     def test_what_is_taken_for_a_document(self):
         self.assertTrue(is_document("a.json", b""))
@@ -98,7 +94,7 @@ class Sound(unittest.TestCase):
 
 LEVELS = "black16bIre and white16bIre are not two samples, black below white"
 NO_FIT = "field 3: word, cause and pass of a line don't fit: "
-# Why documents are refused that have one of these values at a place, or nothing
+# Why documents are refused that have one of these values at a place, or nothing; VALUE is that in JSON
 BROKEN = (
     ("not a document of version 2 or 3", "version", 1, 4, True, 2.0, GONE),
     ("videoParameters has no system", "videoParameters", GONE),
@@ -121,19 +117,10 @@ BROKEN = (
     ("field 3: vbiData is no list of three", "fields.2.vbi.vbiData", [0, 0]),
     ("field 3: vbiCause is no list of three", "fields.2.vbiCause", "word"),
     ("field 3: vbiPass is no list of three", "fields.2.vbiPass", [0, 1, 2, 0]),
-    ("field 3: 8388607 is no word", "fields.2.vbi.vbiData.1", 8388607),
-    ("field 3: 16777216 is no word", "fields.2.vbi.vbiData.1", 16777216),
-    ('field 3: "F00001" is no word', "fields.2.vbi.vbiData.1", "F00001"),
-    ("field 3: 15728641.5 is no word", "fields.2.vbi.vbiData.1", 15728641.5),
-    ("field 3: 15728641.0 is no word", "fields.2.vbi.vbiData.1", 15728641.0),
-    ("field 3: false is no word", "fields.2.vbi.vbiData.0", False),
-    ('field 3: "noise" is no cause', "fields.2.vbiCause.0", "noise"),
-    ('field 3: "hold 910" is no cause', "fields.2.vbiCause.0", "hold 910"),
-    ('field 3: "change 07" is no cause', "fields.2.vbiCause.0", "change 07"),
-    ("field 3: null is no cause", "fields.2.vbiCause.0", None),
-    ("field 3: [] is no cause", "fields.2.vbiCause.0", []),
-    ("field 3: 3 is no pass", "fields.2.vbiPass.1", 3),
-    ("field 3: true is no pass", "fields.2.vbiPass.1", True),
+    ("field 3: VALUE is no word", "fields.2.vbi.vbiData.1", 8388607, 16777216, "F00001", 15728641.5, 15728641.0),
+    ("field 3: VALUE is no word", "fields.2.vbi.vbiData.0", False),
+    ("field 3: VALUE is no cause", "fields.2.vbiCause.0", "noise", "hold 910", "change 07", None, []),
+    ("field 3: VALUE is no pass", "fields.2.vbiPass.1", 3, True),
     (NO_FIT + "15728641, blank, 1", "fields.2.vbiCause.1", "blank"),
     (NO_FIT + "15728641, word, 0", "fields.2.vbiPass.1", 0),
     (NO_FIT + "0, word, 0", "fields.2.vbiCause.0", "word"),
@@ -150,16 +137,16 @@ class Broken(unittest.TestCase):
         for text, path, *values in BROKEN:
             for value in values:
                 with self.subTest((path, value)):
-                    self.assertEqual(refusal(changed(path, value)), text)
+                    wanted = text if value is GONE else text.replace("VALUE", json.dumps(value))
+                    self.assertEqual(refusal(changed(path, value)), wanted)
 
     def test_the_cut_field_of_an_empty_side(self):
         """It is the first one, of which true isn't the number; one byte of it is enough."""
-        whole = dict(document(), fields=[], cutField={"seqNo": 1, "bytes": 1})
-        side = side_of_document(text_of(whole))
-        self.assertEqual((side.readings, side.cut), ([], (1, 1)))
-        self.assertEqual(side.answer["fields"], 0)
-        whole["cutField"]["seqNo"] = True
-        self.assertEqual(refusal(whole), "cutField: seqNo is not 1")
+        side = side_of_document(text_of(dict(document(), fields=[], cutField={"seqNo": 1, "bytes": 1})))
+        self.assertEqual((side.readings, side.cut, side.answer["fields"]), ([], (1, 1), 0))
+        self.assertIsNone(side_of_document(text_of(dict(document(), fields=[], cutField=None))).cut)
+        self.assertEqual(refusal(dict(document(), fields=[], cutField={"seqNo": True, "bytes": 1})),
+                         "cutField: seqNo is not 1")
 
     def test_recovered_words(self):
         """A document of version 3 has them with the causes of their lines, and one of version 2 hasn't got them."""
@@ -201,10 +188,7 @@ def written(version=2, count=3, cut=None, system=ldvbi.System.NTSC):
 
 def outcome(read, data):
     """What is read of a document, or the text of its fault."""
-    try:
-        return read(data)
-    except ValueError as error:
-        return str(error)
+    return reason(read, data) or read(data)
 
 
 class Written(unittest.TestCase):
@@ -214,13 +198,12 @@ class Written(unittest.TestCase):
             return read_document(data)
 
     def test_as_its_json(self):
-        for system in ldvbi.System:
-            for version in (2, 3):
-                for count, cut in ((3, None), (2500, Cut(2501, 17))):
-                    data = written(version, count, cut, system)
-                    found = self.by_pattern(data)
-                    self.assertEqual(found, _as_json(data))
-                    self.assertEqual([len(found.readings), found.cut, found.system], [count, cut, system])
+        sizes = (3, None), (2500, Cut(2501, 17))
+        for system, version, (count, cut) in itertools.product(ldvbi.System, (2, 3), sizes):
+            data = written(version, count, cut, system)
+            found = self.by_pattern(data)
+            self.assertEqual(found, _as_json(data))
+            self.assertEqual([len(found.readings), found.cut, found.system], [count, cut, system])
 
     def test_each_part(self):
         readings = self.by_pattern(written(3)).readings

@@ -6,7 +6,7 @@ import xml.etree.ElementTree as xml
 
 from cases import reason
 from compact import made, rows, span
-from discs import BLANK, answer, joined, picture, side
+from discs import joined, side
 from ldvbi_side.command.join import joined_text, range_rows
 from ldvbi_side.draw.bars import COLOURS, bars_of
 from ldvbi_side.draw.together import page_of_joined
@@ -142,6 +142,8 @@ ROWS = (
     ("1..100", DETOUR, "PAL", "detour: b 151-170@101-140, a 51-70@101-140", None),
     (SOME, "t0..9", "NTSC", "clock: a 0:00:00.07@13-15, b 0:00:00.07@15-16",
      "time 0:00:00.07 skipped by the disc itself in fields 13 to 15 of a, and shown in fields 15 to 16 of b"),
+    (SOME, "t0..1499", "NTSC",
+     "clock: a 0:00:00.07@13-15, b 0:00:00.07@15-16; clock: a 0:00:33.17@2011-2013, b 0:00:33.17@2015-2016", None),
     (CUT, "f1..120", "NTSC", "distance: a 64-120@157-285, b 64-120@159-300",
      "pictures 64 to 120 in fields 157 to 285 of a and fields 159 to 300 of b, further from those before them in one "
      "than in the other"),
@@ -149,7 +151,11 @@ ROWS = (
     # a skip, a way back; and what one capture says of itself: a still, a loss, swapped fields, another speed
     ("1..50 31..100", "1..100", "PAL", "", None), ("1..50 71..100", "1..100", "PAL", "", None),
     ("1..20 21x6 22..100", "1..100", "PAL", "", None), ("1..100 -41", "1..100", "PAL", "", None),
-    ("1..100 ~41", "1..100", "PAL", "", None), ("1..30 32..69/2 69..100", "1..100", "PAL", "", None))
+    ("1..100 ~41", "1..100", "PAL", "", None), ("1..30 32..69/2 69..100", "1..100", "PAL", "", None),
+    # a stretch further on in steps of three, and backwards, between two jumps that take as many fields as on the disc
+    ("1..50 151..210/3 71..100", "1..100", "PAL", "", None), ("1..50 170..151 71..100", "1..100", "PAL", "", None),
+    # of the first picture, and of those from 41 on, each capture reads another one of both fields
+    ("b1..80 2=B 82:160/4=B 83:160/4=B", "b1..80 1=B 81:160/4=B 84:160/4=B", "PAL", "", None))
 
 
 class Disagreements(unittest.TestCase):
@@ -167,59 +173,31 @@ class Disagreements(unittest.TestCase):
                 if not wanted:
                     self.assertEqual(self.texts(together(other, one, system=system)), [])
 
-    def test_the_clock_beside_many_times(self):
-        self.assertEqual(self.texts(together(SOME, "t0..1499", system="NTSC"))[0],
-                         "clock: a 0:00:00.07@13-15, b 0:00:00.07@15-16")
-
-    def test_fields_of_one_picture_are_no_distance(self):
-        """Both fields have the number, and each capture reads another one of the two."""
-        one, other = [], []
-        for number in range(1, 81):
-            row = "- %s %s" % (picture(number), picture(number))
-            pair = [row, row] if number <= 40 else [row, BLANK] if number % 2 else [BLANK, row]
-            one, other = one + pair, other + pair[::-1]
-        found = joined(one, other)
-        self.assertEqual((len(found["taken"]), found["disagreements"]), (80, []))
-
     def test_numbers_of_a_detour_are_taken_elsewhere(self):
         found = together(DETOUR, "1..100", "121..180")
         self.assertEqual([one["source"] for one in found["ranges"]], ["a", "b", "a", "c"])
         self.assertEqual(taken(found, 151), ["c", 61, 31, "read"])
 
-    def test_another_speed_between_two_jumps_is_none(self):
-        """From picture 50 to 71 as many fields pass as on the disc. In between a stretch further on is played in steps
-        of three, and backwards; the capture says so itself."""
-        for stretch, step in (("151..210/3", "3"), ("170..151", "-1")):
-            one = "1..50 %s 71..100" % stretch
-            self.assertEqual(answer(rows(one))["speeds"], [{"first": 101, "last": 139, "numbers": step}])
-            for pair in ((one, "1..100"), ("1..100", one)):
-                self.assertEqual(self.texts(together(*pair)), [])
+
+# Why sides aren't joined. Of chapters nothing is refused where as many numbers are alike, of fewer than ten numbers,
+# and of others.
+CHAPTERS = "1..40 2:30/2=-/c1/c1 32:80/2=-/c2/c2"
+REFUSED = (
+    ("a has pictures of PAL, b has times of PAL: two discs?", "1..40", "t0..29"),
+    ("a has pictures of PAL, c has pictures of NTSC: two discs?", "1..40", "1..40", "NTSC 1..40"),
+    ("b has no numbers to join", "1..40", "B"), ("a has no numbers to join", "", "1..40"),
+    ("a and b differ in the chapter of 25 of 40 numbers (at 16 it is 2 and 3): two discs?",
+     CHAPTERS, "1..40 2:30/2=-/c1/c1 32:80/2=-/c3/c3"),
+    (None, CHAPTERS, "1..40 2:30/2=-/c1/c1 32:40/2=-/c2/c2 42:80/2=-/c3/c3"),
+    (None, CHAPTERS, "32..59 2:56/2=-/c5/c5"), (None, CHAPTERS, "50..89 2:80/2=-/c5/c5"),
+    ("a and b differ in the programme status of 40 of 40 numbers (at 0:00:00.00 it is 8BA000 and 8DC0A1): two discs?",
+     "t0..39", "t0..39 2:80/2.16=8DC0A1"), (None, "t0..39", "t0..39 2:40/2.16=8DC0A1"))
 
 
 class Refused(unittest.TestCase):
-    def test_systems_and_formats(self):
-        cav, clv = made("1..40", side), made("t0..29", side)
-        for text, sides in (
-                ("a has pictures of PAL, b has times of PAL: two discs?", (cav, clv)),
-                ("a has pictures of PAL, c has pictures of NTSC: two discs?", (cav, cav, made("NTSC 1..40", side))),
-                ("b has no numbers to join", (cav, side(rows("B")))), ("a has no numbers to join", (side([]), cav))):
-            self.assertEqual(reason(join_sides, *sides), text)
-
-    def test_chapters(self):
-        """Of as many numbers alike, of fewer than ten, and of other numbers nothing is refused."""
-        one = side(rows("1..40 2:30/2=-/c1/c1 32:80/2=-/c2/c2"))
-        for other, text in (("1..40 2:30/2=-/c1/c1 32:80/2=-/c3/c3",
-                             "a and b differ in the chapter of 25 of 40 numbers (at 16 it is 2 and 3): two discs?"),
-                            ("1..40 2:30/2=-/c1/c1 32:40/2=-/c2/c2 42:80/2=-/c3/c3", None),
-                            ("32..59 2:56/2=-/c5/c5", None), ("50..89 2:80/2=-/c5/c5", None)):
-            self.assertEqual(reason(join_sides, one, side(rows(other))), text)
-
-    def test_programme_status(self):
-        text = "a and b differ in the programme status of 40 of 40 numbers (at 0:00:00.00 it is 8BA000 and " \
-               "8DC0A1): two discs?"
-        for last, wanted in ((80, text), (40, None)):
-            other = side(rows("t0..39 2:%d/2.16=8DC0A1" % last))
-            self.assertEqual(reason(join_sides, side(rows("t0..39")), other), wanted)
+    def test_rows(self):
+        for text, *sides in REFUSED:
+            self.assertEqual(reason(join_sides, *(made(one, side) for one in sides)), text, sides)
 
 
 class Page(unittest.TestCase):

@@ -7,7 +7,8 @@ import shutil
 from unittest import mock
 
 import ldvbi
-from command_runs import IN_PLACE, Runs
+from calls import Calls
+from command_runs import IN_PLACE
 from compact import words_of
 from ldvbi_side.side import side_of_tbc
 from streams import NTSC, PAL, pictures, write_stream
@@ -16,7 +17,7 @@ NO_LIBRARY = "ldvbi-side: no library to read samples with (/absent: cannot open 
              "directory): `make lib` or `make rust` builds it, LDVBI_LIBRARY names its file\n"
 
 
-class WithoutLibrary(Runs):
+class WithoutLibrary(Calls):
     def test_of_documents_all_else_is_the_same(self):
         absent = dict(os.environ, LDVBI_LIBRARY="/absent")
         for words in ("--csv", "--json", "--seek 3", "--svg svg", "--summary"):
@@ -31,7 +32,7 @@ class WithoutLibrary(Runs):
             self.assertEqual(self.run_command("side.tbc LEVELS" + words, env=absent), (2, b"", NO_LIBRARY))
 
 
-class Documents(Runs):
+class Documents(Calls):
     def test_the_same_as_the_program(self):
         self.assertEqual(self.printed("side.tbc LEVELS --document"), self.document)
         write_stream(self.named("pal.tbc"), PAL, pictures(70), 12)
@@ -49,7 +50,7 @@ class Documents(Runs):
             self.assertEqual(self.run_command("side.tbc LEVELS " + words)[:2], (2, b""), words)
 
 
-class Metadata(Runs):
+class Metadata(Calls):
     """The metadata beside the TBC file, which is taken where options leave something open."""
 
     def test_it_is_taken(self):
@@ -98,7 +99,7 @@ class Metadata(Runs):
         self.assertEqual(self.run_command("compare side.vbi.json")[0], 2)
 
 
-class Judged(Runs):
+class Judged(Calls):
     """The library's judge beside the package, of TBC files, where the library has one; not of documents."""
 
     def test_a_misread_number(self):
@@ -116,7 +117,7 @@ class Judged(Runs):
         self.assertEqual((answer["judged"], answer["whole"], answer["numbers"]["count"]), (None, "yes", 30))
 
 
-class Files(Runs):
+class Files(Calls):
     def test_outputs_into_a_file(self):
         for words, status, option in (("--document", 0, "-o"), ("--csv", 0, "--output"), ("", 1, "-o"),
                                       ("--seek 99", 1, "--output")):

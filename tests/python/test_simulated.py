@@ -77,12 +77,14 @@ class Played(Sides):
     # the reasons why they aren't whole
     EXACT = {"skips": (None, 2, 2, 3), "worn": (300, 3, 3, 3), "swapped": (200, 3, 3, 2), "speeds": (1100, 3, 3, 2),
              "joined": (150, 3, 3, 3), "losses": (600, 1, 1, 3), "restarts": (150, 3, 3, 3)}
+    # The truth of two discs whose numbers are far apart takes long.
+    SEEDS = {"joined": (0, 2, 3), "sides": (0, 3, 5)}
 
     @classmethod
     def setUpClass(cls):
         cls.totals, cls.told = {kind: Counter() for kind in PLAYED}, []
         for kind, (count, *_) in cls.EXACT.items():
-            for seed in range(3):
+            for seed in cls.SEEDS.get(kind, range(3)):
                 cls.totals[kind].update(measured(seed, kind, tell=cls.told.append, count=count,
                                                  sound=kind != "minutes" or seed == 0)[1])
         cls.all = sum(cls.totals.values(), Counter())
@@ -96,8 +98,8 @@ class Played(Sides):
 
     def test_counts(self):
         self.within(self.all, """
-            wrong: 72; wrong found: 72; right: 23001..; right found: ..10; numbers: 13701..;
-            numbers - numbers found: ..1; due: 841..; due - due found: ..1; unread numbers: 801..;
+            wrong: 71; wrong found: 71; right: 23001..; right found: ..10; numbers: 13701..;
+            numbers - numbers found: ..1; due: 801..; due - due found: ..1; unread numbers: 781..;
             unread numbers - unread numbers found: ..1; lost places: 96; lost places - lost places found: 0;
             backs: 27; backs - backs found: 0; swaps: 4; swaps found: 3..; speeds: 3; speeds found: 3""")
         for kind in ("skips", "losses", "worn", "restarts"):
