@@ -55,7 +55,7 @@ ends_proofs() {
     sed -n 's/^\(test .*\) \.\.\. ok$/\1/p' "$work/log" >> "$work/ran"
 }
 
-# compared COMMAND..: whether a command succeeds that compares what was run; what is gone or new is no fault until the end
+# compared COMMAND..: whether a command succeeds that compares what was run. What is gone or new is no fault as yet.
 compared() {
     "$@" || [ $? = 3 ]
 }

@@ -51,6 +51,19 @@ failed_with() {
     return "$1"
 }
 
+# does COMMAND..: whether a command succeeds, with nothing on standard input; it leaves what it wrote in `out` and `err`
+does() {
+    status=0
+    bounded "$@" < "$work/empty" > out 2> err || status=$?
+    [ "$status" = 0 ]
+}
+
+# stub PATH [BODY]: makes a program for the shell, with this body or with that on standard input
+stub() {
+    { echo '#!/bin/sh'; if [ "${2:-}" ]; then printf '%s\n' "$2"; else cat; fi; } > "$1"
+    chmod +x "$1"
+}
+
 # run WORD..: the program, with nothing on standard input. It would take the rows of the loop that it stands in.
 run() {
     run_with empty "$@"
@@ -164,8 +177,8 @@ judge() {
     check "$1" ended "$2" "$3" wanted
 }
 
-# judge_rows: runs the program with the words of each row of a table, and judges that; a row is NAME|WORDS|STATUS|OUT|ERR,
-# whose ERR stands behind `ldvbi: `
+# judge_rows: runs the program with the words of each row of a table, and judges that. A row is
+# NAME|WORDS|STATUS|OUT|ERR, whose ERR stands behind `ldvbi: `.
 judge_rows() {
     while IFS='|' read -r row_name words ended wanted_out said; do
         # shellcheck disable=SC2086

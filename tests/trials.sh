@@ -64,10 +64,6 @@ mkdir -p gate/tests gate/crates/words/must-fail gate/.ci stubs
 cp "$tests/gate.sh" "$tests/ran.sh" gate/tests
 echo 'words: std' > gate/crates.txt
 printf '%s\n' 'crate words' 'test words::one' 'wrong bodies: 1 refused' 'wrong body words/wrong' > list
-stub() {
-    { echo '#!/bin/sh'; cat; } > "$1"
-    chmod +x "$1"
-}
 stub stubs/rt << 'END'
 mkdir -p crates/ldvbi/out
 echo program > crates/ldvbi/out/ldvbi

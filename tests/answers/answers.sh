@@ -47,9 +47,7 @@ searches() {
 plays() {
     player=./player_$1
     [ "$1" != python ] || player="python3 $top/examples/player.py"
-    status=0
-    bounded $player "$2.tbc" $3 search "$4" < empty > out 2> err || status=$?
-    [ "$status" != 0 ] || sed -n "s/^search: \(field [0-9]*\) picture $4\$/\1/p" out > answer
+    ! does $player "$2.tbc" $3 search "$4" || sed -n "s/^search: \(field [0-9]*\) picture $4\$/\1/p" out > answer
 }
 by_side() {
     set -- "$1.tbc" $2

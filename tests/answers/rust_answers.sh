@@ -47,8 +47,7 @@ in_rust() {
 }
 # plays_rust SIDE ON COMMAND WANTED: a picture has to be the one that was asked for
 plays_rust() {
-    status=0
-    bounded ./player "$1.tbc" $2 "$3" "$4" < empty > out 2> err || status=$?
+    does ./player "$1.tbc" $2 "$3" "$4"
     picture=' picture [0-9]*'
     case $3$4 in search*[!0-9]*) ;; search*) picture=" picture $4" ;; esac
     [ "$status" != 0 ] || grep -x "[a-z]*: field [0-9]*\($picture\)\?" out | grep -o 'field [0-9]*' > answer

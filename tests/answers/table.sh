@@ -27,8 +27,8 @@ draws_sides() {
 
 # asks NAME ANSWERER [PATTERN]: of each row of the table, checks what a program answers that is NAME in its last column.
 # ANSWERER is a function, with words or without, that is called with the side, its system and levels, and the question,
-# which is in `question`, too: it leaves an answer in the file `answer`, or none there, and the status in `status`. With a
-# pattern those rows are asked whose question it matches as a whole.
+# which is in `question`, too: it leaves an answer in the file `answer`, or none there, and the status in `status`. With
+# a pattern those rows are asked whose question it matches as a whole.
 asks() {
     sed '/^#/d; s/ *| */|/g' "$here/answers.txt" > rows
     while IFS='|' read -r side question answer silent; do
@@ -61,8 +61,7 @@ is_none() {
 
 # finds COMMAND..: leaves as the answer what a search has found; what it has found by the lines alone has status 3
 finds() {
-    status=0
-    bounded "$@" < empty > out 2> err || status=$?
+    does "$@"
     case $status in 0 | 3) grep -o '^field [0-9]*' out > answer ;; esac
 }
 

@@ -9,13 +9,6 @@ linked="-I$top/include -L$built -lldvbi -Wl,-rpath,$built"
 on_cav='NTSC 16384 51200'
 on_clv='PAL 16384 54016'
 
-# does COMMAND..: checks that a command succeeds, and says nothing of what it writes unless it fails
-does() {
-    status=0
-    bounded "$@" < empty > out 2> err || status=$?
-    [ "$status" = 0 ]
-}
-
 # prints STATUS TEXT COMMAND..: checks that a command writes this text and ends with this status
 prints() {
     wanted_status=$1

@@ -31,8 +31,7 @@ says() {
     wanted_status=$1
     shift
     printf 'bench: %s\n' "$@" > wanted
-    status=0
-    bounded awk -f "$bench/bounds.awk" "$bench/bounds.txt" said > out 2> err || status=$?
+    does awk -f "$bench/bounds.awk" "$bench/bounds.txt" said
     ended "$wanted_status" wanted empty
 }
 
@@ -40,8 +39,7 @@ all="$count of $count bounds hold"
 but_one="$((count - 1)) of $count bounds hold"
 measured > said
 check 'each ratio is the most that it may be' says 0 "$all"
-status=0
-bounded awk -f "$bench/bounds.awk" empty said > out 2> err || status=$?
+does awk -f "$bench/bounds.awk" empty said
 check 'a table without bounds' [ "$status" = 1 ]
 # A ratio over its bound, and a line that is missing, each in turn
 while IFS='|' read -r name most; do
@@ -54,9 +52,8 @@ done < bounds
 check 'a ratio over its bound, and a line that is missing' [ ! -e wrong ]
 { measured 'read_line' 1; measured; } > said
 check 'of several lines the least ratio counts' says 0 "$all"
-: > said
-bounded awk -f "$bench/bounds.awk" "$bench/bounds.txt" said > out 2> err
-check 'nothing was measured' [ $? = 1 ]
+does awk -f "$bench/bounds.awk" "$bench/bounds.txt" empty
+check 'nothing was measured' [ "$status" = 1 ]
 
 # The whole of it, with a stub in place of each measurement: it writes each fifth line of the file `lines`, and fails
 # where the file `fails` has its name
@@ -75,8 +72,7 @@ echo "bench: $all" >> wanted_text
 # all_of FAILS: runs it, where this measurement fails
 all_of() {
     echo "$1" > fails
-    status=0
-    bounded sh stubs/all.sh "$program" > out 2> err || status=$?
+    does sh stubs/all.sh "$program"
 }
 all_of nothing
 judge 'all measurements are run, and hold' 0 wanted_text ''

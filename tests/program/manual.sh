@@ -1,6 +1,6 @@
 #!/bin/sh
-# Looks at the manual pages and the completions, which texts/write.py makes of the source: they have the options that the
-# help of the built program and of ldvbi-side has, mandoc takes the pages, and bash and zsh offer what is meant.
+# Looks at the manual pages and the completions, which texts/write.py makes of the source: they have the options that
+# the help of the built program and of ldvbi-side has, mandoc takes the pages, and bash and zsh offer what is meant.
 # usage: sh tests/program/manual.sh PROGRAM
 # runs: everywhere
 # fails where: share/completions/ldvbi.bash|s/extract/extrakt/
@@ -24,10 +24,8 @@ options_in_help() {
 }
 # page PAGE: whether mandoc has nothing to say of this page, and its options are those of the file wanted
 page() {
-    status=0
-    mandoc -T lint -W warning "$top/share/man/$1" > out 2>&1 || status=$?
-    cp out err
-    check "mandoc has no warning of $1" [ "$status$(cat out)" = 0 ]
+    does mandoc -T lint -W warning "$top/share/man/$1"
+    check "mandoc has no warning of $1" [ "$status$(cat out err)" = 0 ]
     sed -n 's/^[.]It .*Fl -\([a-z-]*\).*/--\1/p' "$top/share/man/$1" | sort -u > found
     same "the options of $1"
 }

@@ -201,15 +201,13 @@ check 'and so is the latest of the change log' [ "$(sed -n '/^## /{s/^## \([0-9.
 
 # What `make` prints: a line for each crate, and none of the toolchain's. This one says a hundred lines of a crate.
 mkdir toolchain
-cat > toolchain/rt << 'END'
-#!/bin/sh
+stub toolchain/rt << 'END'
 crate=$(basename "$PWD")
 echo "rt $*"
 seq 99 >&2
 [ "$crate" != "$FAILS" ] || exit 7
 touch "out/$crate" "out/lib$crate.a"
 END
-chmod +x toolchain/rt
 path=$work/toolchain:$PATH
 program_crates='vbi_words vbi_line vbi_field vbi_meta vbi_cli ldvbi'
 library_crates='vbi_words vbi_line vbi_near vbi_side vbi_c'
@@ -225,8 +223,7 @@ proved() {
 # On so many processors, where make has this word, each large crate is proved by so many jobs.
 while IFS='|' read -r processors word jobs; do
     rm tree/ldvbi
-    printf '#!/bin/sh\necho %s\n' "$processors" > toolchain/nproc
-    chmod +x toolchain/nproc
+    stub toolchain/nproc "echo $processors"
     proves ldvbi $word
     printf "rt lib --jobs %s\n" $jobs $jobs $jobs 1 $jobs > wanted
     echo 'rt run --jobs 1 -- --help' >> wanted

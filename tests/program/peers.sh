@@ -16,21 +16,15 @@ REAL=$program
 PATH=$work/bin:$PATH
 export DRAWN REAL PATH
 
-# stub PATH < BODY: a program with this body
-stub() {
-    cat > "$1"
-    chmod +x "$1"
-}
 # The program, which keeps the rows that it draws; its documents have a word of MISREAD instead of its own
 stub bin/ldvbi << 'END'
-#!/bin/sh
 case $1 in
     draw) tee "$DRAWN" | "$REAL" "$@" ;;
     *) "$REAL" "$@" | sed "1,2s/\"vbiData\":\[[0-9]*/${MISREAD:-&}/" ;;
 esac
 END
-stub bin/chdman << 'END'
-#!/usr/bin/env python3
+stub bin/chdman 'exec python3 "$0.py" "$@"'
+cat > bin/chdman.py << 'END'
 import os, sys
 words = dict(zip(sys.argv[2:], sys.argv[3:]))
 with open(words["-o"], "wb") as file, open(os.environ["DRAWN"]) as rows:
@@ -40,32 +34,27 @@ with open(words["-o"], "wb") as file, open(os.environ["DRAWN"]) as rows:
             file.write(bytes(4) + b"".join(read) + bytes(3))
 END
 stub bin/ldverify << 'END'
-#!/bin/sh
 printf 'lead-in code detected\ndetected frame 1\nlead-out code detected\nfinal frame number was %s\n' "${LAST:-100}"
 echo "${VERIFIED:-}"
 END
 for name in zvbi:ZVBI_READS edges:EDGES_READS; do
-    printf '#!/bin/sh\ncat > /dev/null\ntr " " "\\n" < "$DRAWN" | sed "1s/.*/${%s:-&}/"\n' ${name#*:} | stub bin/${name%:*}
+    stub bin/${name%:*} "cat > /dev/null; tr ' ' '\\n' < \"\$DRAWN\" | sed \"1s/.*/\${${name#*:}:-&}/\""
 done
 stub bin/recovered << 'END'
-#!/bin/sh
 cat > /dev/null
 [ "$3" = 1 ] || RECOVERED_READS=${BOTH_READS:-}
 tr ' ' '\n' < "$DRAWN" | sed "s/\$/ 1/; 1s/.*/${RECOVERED_READS:-&}/"
 END
 # The script around it, with stubs for the compiler and for python3: FAILS is what the words of the one have that fails
 for tool in cc python3 chdman ldverify; do
-    printf '#!/bin/sh\necho "%s $*"\ncase "%s $*" in *"${FAILS:-nothing fails}"*) exit 1 ;; esac\n' $tool $tool |
-        stub alone/$tool
+    stub alone/$tool "echo \"$tool \$*\"; case \"$tool \$*\" in *\"\${FAILS:-nothing fails}\"*) exit 1 ;; esac"
 done
 for tool in sh dirname mktemp rm; do
     ln -s "$(command -v $tool)" alone
 done
 # around [FAILS]: runs it, where this tool fails
 around() {
-    status=0
-    (unset CC && PATH=$work/alone FAILS=${1:-} && export PATH FAILS && sh "$top/peers/compare.sh" ./ldvbi) \
-        < empty > out 2> err || status=$?
+    does env -u CC PATH="$work/alone" FAILS="${1:-}" sh "$top/peers/compare.sh" ./ldvbi
 }
 around
 check 'the script builds its readers, then compares' \
@@ -135,9 +124,7 @@ END
 
 # compares FAULT PART: runs that with this in the environment
 compares() {
-    status=0
-    bounded env PYTHONDONTWRITEBYTECODE=1 ${1:+"$1"} python3 compare.py "$top/peers" "$2" bin/ldvbi bin 1 \
-        < empty > out 2> err || status=$?
+    does env PYTHONDONTWRITEBYTECODE=1 ${1:+"$1"} python3 compare.py "$top/peers" "$2" bin/ldvbi bin 1
 }
 alike='the words of lines as they were drawn are not read alike'
 disc="ldverify finds an error on a drawn disc, or ldvbi doesn't read its words"

@@ -10,9 +10,8 @@
 . "$(dirname "$0")/../helpers.sh"
 
 pictures=$top/docs/pictures
-status=0
 mkdir made
-bounded sh "$pictures/make.sh" "$program" made < empty > out 2> err || status=$?
+does sh "$pictures/make.sh" "$program" made
 for name in word second-reading change-170 nearest; do
     check "the picture $name" cmp "made/$name.svg" "$pictures/$name.svg"
     check "FORMATS.md shows $name" grep -q "(pictures/$name.svg)" "$top/docs/FORMATS.md"
@@ -183,8 +182,7 @@ check 'samples beyond black and white: in the frame' [ "$status $(tail -n 1 foun
 # The script reads a word itself, to find its half cells: those of the lengths of its system, and no others. This program
 # says a word of each line, also of one that shows none. 48 half cells that are too long have no room in a line: one of
 # them stands among the shortest, and two of one level.
-printf '#!/bin/sh\ncat > rest\necho "$WORD"\n' > says_word
-chmod +x says_word
+stub says_word 'cat > rest; echo "$WORD"'
 rest() {
     printf " L$1 H$1%.0s" 1 2 3 4 5 6 7 8 9 10 11 12 13 14 15 16 17 18 19 20 21
 }

@@ -44,8 +44,7 @@ fi
 
 # A difference is found: of a program that is the proved one, but for the third of its answers of a kind, and of a
 # library in which a bit of one call is another. What alters an answer runs the program, as wine and qemu do.
-cat > altering << 'END'
-#!/bin/sh
+stub altering << 'END'
 status=0
 "$@" > answer.out 2> answer.err || status=$?
 ! grep -q "$ALTER_LIKE" "answer.$ALTER_FILE" || echo >> "$ALTERING/alike"
@@ -61,7 +60,6 @@ cat answer.out
 cat answer.err >&2
 exit $status
 END
-chmod +x altering
 cat > turning.c << 'END'
 #define _GNU_SOURCE
 #include <dlfcn.h>

@@ -18,8 +18,7 @@ stops() {
     for crate in vbi_words vbi_line vbi_field vbi_meta vbi_cli vbi_c; do cp -r "$top/crates/$crate" crates; done
     sed -i "$4" "crates/$3"
     ! cmp -s "crates/$3" "$top/crates/$3" || return 1
-    status=0
-    bounded python3 "$top/rust/erase.py" crates "$top/rust/hand" crate > out 2> err || status=$?
+    does python3 "$top/rust/erase.py" crates "$top/rust/hand" crate
     echo "erase.py: crates/$3:$1: $2" > wanted
     [ "$status" = 1 ] && cmp -s err wanted
 }
@@ -141,8 +140,7 @@ usage='usage: player FILE SYSTEM BLACK WHITE search PLACE, chapter N, play ..'
 while IFS='|' read -r ended words played said; do
     printf "$played" > wanted_text
     said_line "${said:+player: $said}"
-    status=0
-    bounded "$player" $words < empty > out 2> err || status=$?
+    does "$player" $words
     check "the player: $words" ended $ended wanted_text wanted
 done << END
 0|side.tbc $on search 30 play search 7 play chapter 0|search: field 65 picture 30\nplay: field 97 picture 46\n\

@@ -77,10 +77,8 @@ cat > columns << 'END'
 END
 { jq -c '.fields[2, 3].vbiCause' documents/ntsc.json; jq -c '.fields[1, 2, 3].vbiCause' documents/pal.json; } > found
 check 'the least and the greatest columns' cmp found columns
-status=0
-validates "$schema" documents/*.json > said 2> err || status=$?
-cat said >> err
-check 'documents of every kind are valid' [ "$status $(grep -c '^valid ' said)" = '0 7' ]
+does "$(with_jsonschema)" "$here/validate.py" "$schema" documents/*.json
+check 'documents of every kind are valid' [ "$status $(grep -c '^valid ' out)" = '0 7' ]
 
 # What may stand at each place of a document is valid there, and all else is refused: of a document of one record each,
 # with a word on some of its lines
@@ -117,10 +115,9 @@ while read -r document record count words; do
         pal) system='PAL NTSC 1135 313 710510' ;;
     esac
     places $system $words > places
-    status=0
-    bounded "$(with_jsonschema)" "$here/validate_parts.py" "$schema" places one.json < empty > said 2> err || status=$?
-    cat said >> err
-    check "each place of a record of $document with $words" [ "$status $(cat said)" = "0 27 places, $count documents" ]
+    does "$(with_jsonschema)" "$here/validate_parts.py" "$schema" places one.json
+    cat out >> err
+    check "each place of a record of $document with $words" [ "$status $(cat out)" = "0 27 places, $count documents" ]
 done << 'END'
 ntsc 0 291 word word none
 ntsc 4 294 none none word
@@ -129,8 +126,7 @@ pal 3 294 none none word
 END
 
 # Each column that a line has, and no other; as many fields as a document can have
-status=0
-bounded "$(with_jsonschema)" bounds.py "$schema" < empty > said 2> err || status=$?
-cat said >> err
-check 'columns and counts of fields at and beyond each bound' [ "$status$(cat said)" = 0 ]
+does "$(with_jsonschema)" bounds.py "$schema"
+cat out >> err
+check 'columns and counts of fields at and beyond each bound' [ "$status$(cat out)" = 0 ]
 finish

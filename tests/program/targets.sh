@@ -9,12 +9,6 @@
 # shellcheck source=tests/helpers.sh
 . "$(dirname "$0")/../helpers.sh"
 
-# stub PATH BODY: a program with this body
-stub() {
-    printf '#!/bin/sh\n%s\n' "$2" > "$1"
-    chmod +x "$1"
-}
-
 # A tree in which each script says its name and its words, and nothing has to be built
 mkdir -p tree/tests tree/bench tree/peers tree/rust tree/.ci tree/crates bin
 cp "$top/Makefile" tree

@@ -105,9 +105,9 @@ field='"audioSamples":735,"diskLoc":1.1,"isFirstField":true,"medianBurstIRE":19.
 bytes=$(wc -c < long.json)
 for times in 2 4 6 8 10 12 14 16 18 20; do
     rm -f mark
-    status=0
-    bounded sh -c 'ulimit -v $1; shift; LD_PRELOAD=$1 REFUSE_MARK=mark "$2" line --meta long.json "$3"' \
-        sh $((bytes * times / 1024)) "$work/refuse.so" "$program" "$stored/stdin" > out 2> err || status=$?
+    # shellcheck disable=SC2016
+    does sh -c 'ulimit -v $1; shift; LD_PRELOAD=$1 REFUSE_MARK=mark "$2" line --meta long.json "$3"' \
+        sh $((bytes * times / 1024)) "$work/refuse.so" "$program" "$stored/stdin"
     set -- 0 "$stored/stdout" ''
     [ ! -e mark ] || set -- 1 empty 'ldvbi: out of memory'
     judge "10 MB of metadata within $times times its bytes" "$@"
