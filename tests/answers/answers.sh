@@ -22,7 +22,6 @@ check 'stops is built' does $cc -std=c99 $strict -o stops_c "$top/examples/stops
 check 'stops is built in C++' does $cxx -std=c++17 $strict -o stops_cpp "$top/examples/stops.cpp" $linked
 check 'player is built' does $cc -std=c99 $strict -o player_c "$top/examples/player.c" $linked
 check 'player is built in C++' does $cxx -std=c++17 $strict -o player_cpp "$top/examples/player.cpp" $linked
-check 'call is built' does $cc -std=c99 -D_DEFAULT_SOURCE $strict -o call "$here/call.c" $linked
 cat > stops.py << 'END_OF_PYTHON'
 import sys
 import ldvbi
@@ -31,6 +30,25 @@ with ldvbi.Stream(path, system, int(black), int(white), recover=True) as side:
     for field, stop in enumerate(ldvbi.judge_stops(side), 1):
         if stop == ldvbi.State.believed:
             print("field", field)
+END_OF_PYTHON
+# A picture or a time by ldvbi_seek alone
+cat > call.py << 'END_OF_PYTHON'
+import re
+import sys
+import ldvbi
+path, system, black, white, asked = sys.argv[1:]
+rate, (number, *behind) = 30 if system == "NTSC" else 25, map(int, re.split("[:.]", asked))
+if behind:
+    minutes, seconds, picture = behind
+    if minutes >= 60 or picture >= rate:
+        sys.exit("no clock shows this time")
+    number = ((number * 60 + minutes) * 60 + seconds) * rate + picture
+with ldvbi.Stream(path, system, int(black), int(white)) as side:
+    found = ldvbi.seek(side, number, "times" if behind else "pictures")
+if found is None:
+    sys.exit(1)
+assert found.number.number == number and found.looked <= 400
+print("field", found.field + 1)
 END_OF_PYTHON
 draws_sides
 
@@ -49,6 +67,9 @@ plays() {
     [ "$1" != python ] || player="python3 $top/examples/player.py"
     ! does $player "$2.tbc" $3 search "$4" || sed -n "s/^search: \(field [0-9]*\) picture $4\$/\1/p" out > answer
 }
+by_call() {
+    finds python3 call.py "$1.tbc" $2 $3
+}
 by_side() {
     set -- "$1.tbc" $2
     set -- "$1" --system "$2" --black "$3" --white "$4"
@@ -57,9 +78,6 @@ by_side() {
     else
         finds python3 "$top/python/ldvbi-side" "$@" --seek "$question"
     fi
-}
-by_call() {
-    finds ./call "$1.tbc" $2 $3
 }
 
 for pair in c:c c++:cpp python:python; do
