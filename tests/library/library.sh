@@ -1,6 +1,6 @@
 #!/bin/sh
-# Calls the library from C and Python: tests over its border, in memory behind which no page follows, and the package's
-# readings beside the document of `extract`. Before that, what the library needs and gives.
+# Calls the library from C and Python: tests over its border, in memory behind which no page follows. Before that, what
+# the library needs and gives.
 # Needs libldvbi.a and libldvbi.so.1 beside the program, or at the top of the repository (`make lib`).
 # usage: sh tests/library/library.sh PROGRAM
 # runs: library rust
@@ -51,19 +51,5 @@ done << 'END'
 library -fsanitize=address,undefined
 library_worn
 END
-
-# The readings of the package: drawn discs, a cut one, and a field with each cause and pass
-discs
-{ cat cav.tbc; head -c 100000 clv.tbc; } > cut.tbc
-signal NTSC 1 << 'WORDS' | ntsc_samples > causes.tbc
-82CFFF|82CFFF @170-171L|-
-L900 H10|82CFFF @170-174L|L164 H746
-WORDS
-for name in cav clv cut causes; do
-    case $name in clv) options=$pal on=$on_clv ;; *) options=$ntsc on=$on_cav ;; esac
-    run extract $options $name.tbc
-    cp out $name.json
-    check "the readings of $name" does sh -c "python3 '$here/readings.py' $on $name.tbc < $name.json"
-done
 
 finish

@@ -183,7 +183,7 @@ def test_near(tv, starts, cell, shorter, longer, fewest, most):
 
 # Words, how many of the 28 columns of a cell of NTSC (29 of some) are turned over on lines 16, 17 and 18, and the
 # passes in which they are recovered, 0 where they aren't. Of the 35 or 36 columns of PAL it is three more. So 9 leave a
-# word ahead of the one with this bit turned by 10 or 11 columns, 10 by 8 or 9, 11 by 6 or 7, 12 by 4 or 5.
+# word ahead of the one with this bit turned by 10 or 11 columns, 8 by 12 or 13, and so on to 12 by 4 or 5.
 WORN = (
     ((0x8DC0A1, 0xF12345, 0xF12345), (0, 0, 0), (1, 1, 1)),
     # one line: a code that may stand on it, or not
@@ -193,15 +193,17 @@ WORN = (
     # lines 17 and 18 of one word, where neither alone is enough
     ((0, 0xF12345, 0xF12345), (0, 13, 13), (0, 3, 3)), ((0x8DC0A1, 0xF1234A, 0xF1234A), (12, 12, 12), (0, 3, 3)),
     # of two words
-    ((0, 0xF12345, 0xF54321), (0, 9, 10), (0, 3, 0)), ((0, 0xF12345, 0xF54321), (0, 10, 9), (0, 0, 3)),
+    ((0, 0xF12345, 0xF54321), (0, 9, 10), (0, 3, 0)), ((0, 0xF54321, 0xF1234A), (0, 10, 8), (0, 0, 3)),
     ((0, 0xF1234A, 0xF54321), (0, 9, 9), (0, 0, 3)))
 
 
 def worn_rows(tv, words, turned):
-    """Lines 16, 17 and 18. Half of the columns that are turned over lie in the middle of either half cell."""
-    rows, edges = array("H"), edges_of(tv)
+    """Lines 16, 17 and 18, of which the last begins a column late. Half of the columns that are turned over lie in the
+    middle of either half cell."""
+    rows = array("H")
     for row, (word, columns) in enumerate(zip(words, turned)):
-        line = drawn(tv, word)
+        begun = tv._replace(start=tv.start + (row == 2) * tv.over)
+        line, edges = drawn(begun, word), edges_of(begun)
         for place in range(columns and columns + (3 if tv is PAL else 0)):
             column = edges[2 * (5 + 4 * row) + place % 2] + 4 + place // 2
             line[column] = tv.black + tv.white - line[column]

@@ -4,7 +4,7 @@ import gzip
 import os
 import unittest
 
-from cases import in_database, reason
+from cases import reason
 from command_runs import NO_METADATA, Runs
 from ldvbi_side.command.faults import naming
 
@@ -38,8 +38,7 @@ class Messages(Runs):
             ("my sides is a folder: ldvbi-side scan 'my sides'", "'my sides'"),
             ("my sides is a folder: ldvbi-side scan 'my sides'", "join side.vbi.json 'my sides'"),
             ("/dev/null is no file that can be mapped", "/dev/null LEVELS"),
-            ("side.tbc: white is not from 0 to 65535", "side.tbc --white 65536 " + HALF),
-            ("side.tbc: black is not below white", "side.tbc --white 16384 " + HALF))
+            ("side.tbc: white is not from 0 to 65535", "side.tbc --white 65536 " + HALF))
 
     def test_compressed_files(self):
         for name, words in (("packed.tbc", "packed.tbc LEVELS"), ("packed.tbc.gz", "packed.tbc.gz"),
@@ -62,16 +61,11 @@ class Messages(Runs):
                      "side.vbi.json " + option) for option in ("--black 16384", "--system PAL")))
 
     def test_metadata(self):
-        words = "side.tbc --meta meta.json"
-        self.refused("meta.json: No such file or directory", words)
-        none = " is no metadata with videoParameters"
-        self.each_file("meta.json", words, (none, b""), (none, b"[]"), (none, b"\xff"), (none, b"{}"),
-                       (": unknown system", '{"videoParameters":{"system":"SECAM","black16bIre":1,"white16bIre":2}}'),
-                       (": no black level given", '{"videoParameters":{"system":"NTSC"}}'))
-        self.each_file("meta.db", "side.tbc --meta meta.db",
+        """Those of a file that can't be read have its name, as those of what it says."""
+        self.refused("meta.json: No such file or directory", "side.tbc --meta meta.json")
+        self.each_file("meta.json", "side.tbc --meta meta.json", (" is no metadata with videoParameters", b"{}"),
+                       (": no black level given", '{"videoParameters":{"system":"NTSC"}}'),
                        (": SQLite can't read it: file is not a database", b"SQLite format 3\0" + bytes(1000)))
-        in_database(self.named("video.db"), "CREATE TABLE video (system TEXT)")
-        self.refused("video.db: no table capture; there are: video", "side.tbc --meta video.db")
 
     def test_outputs(self):
         self.metadata("side.tbc.json")
@@ -81,15 +75,7 @@ class Messages(Runs):
             self.each((ABSENT, "side.vbi.json %s absent/out" % option),
                       ("folder: Is a directory", "side.vbi.json %s folder" % option))
         self.each((ABSENT, "join side.tbc side.vbi.json --html absent/out"), (ABSENT, "index absent/out page.html"),
-                  ("side.tbc has 12 whole fields, and side.tbc.json has 0", "side.tbc --into out"))
-
-    def test_pages(self):
-        none = " is no page that --html wrote"
-        self.each_file(
-            "page.html", "index index.html page.html", (none, b"<title>\xff\xfe</title>"),
-            (none, b'<meta name="ldvbi-side" content="[]">'), (none, b'<meta name="ldvbi-side">'),
-            (" is a page of another version: write it again", b'<meta name="ldvbi-side" content="{}">'))
-        self.refused("absent.html: No such file or directory", "index index.html absent.html")
+                  ("absent.html: No such file or directory", "index index.html absent.html"))
 
 
 class Naming(unittest.TestCase):

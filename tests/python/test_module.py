@@ -52,6 +52,17 @@ class Kinds(unittest.TestCase):
             with self.subTest((place, type(source))):
                 self.assertEqual(ldvbi.read_line(source, *NTSC), WORD)
 
+    def test_each_cause(self):
+        """Lines by each call: one whose word smoothed levels alone show, and two without a word, of which each has
+        another column."""
+        lines = [line_with(word, NTSC, [change]) for word, *change in (
+            (0x82CFFF, 170, 171, False), (0, 14, 33, True), (0, 164, 909, True))]
+        wanted = [(ldvbi.Cause.word, 2, 0, 0x82CFFF), (ldvbi.Cause.change, 0, 34, 0), (ldvbi.Cause.hold, 0, 200, 0)]
+        rows, field = b"".join(lines), bytes(15 * 1820) + b"".join(lines) + bytes(245 * 1820)
+        for found in ([ldvbi.read_line(line, *NTSC) for line in lines], ldvbi.read_rows(rows, *NTSC),
+                      ldvbi.read_field(field, *NTSC), *ldvbi.fields(field, *NTSC)):
+            self.assertEqual(list(found), wanted)
+
     def test_refused(self):
         view, calls = memoryview(self.line), (ldvbi.read_line, ldvbi.read_rows, ldvbi.read_field, ldvbi.fields,
                                               ldvbi.Stream)
@@ -88,8 +99,6 @@ class Kinds(unittest.TestCase):
         self.assertIsNotNone(reason(ldvbi.read_line, line, *NTSC))
         line.append(0)
 
-
-class Sizes(unittest.TestCase):
     def test_sizes(self):
         for system, line, field in (("NTSC", 1820, 478660), (ldvbi.System.PAL, 2270, 710510), (1, 1820, 478660)):
             self.assertEqual((ldvbi.line_bytes(system), ldvbi.field_bytes(system)), (line, field))
@@ -160,11 +169,8 @@ class Library(InFolder):
         state = TRY % 'tuple(ldvbi.judge(bytes(24), "NTSC")[0])'
         for code, library, said in (
                 (cause, (1, 0, 5), "[5, 5]"), (cause, (1, 0, 255), "[255, 255]"),
-                (cause, (1, 0, 4), "[<Cause.hold: 4>, <Cause.hold: 4>]"),
                 (cause, (1, 9, 0), "the library's status is 9"), (state, (1, 0, 0, JUDGE % (4, 0)), "(5, 4)"),
                 (state, (1, 0, 0, JUDGE % (2 ** 31 - 1, 0)), "(5, 2147483647)"),
-                (state, (1, 0, 0, JUDGE % (3, 0)), "(5, <State.due: 3>)"),
-                (state, (1, 0, 0, JUDGE % (0, 0)), "(None, <State.nothing: 0>)"),
                 (state, (1, 0, 0, JUDGE % (0, 9)), "the library's status is 9")):
             self.assertEqual(run(code, LDVBI_LIBRARY=self.other(*library)), said + "\n")
 

@@ -101,13 +101,6 @@ def untyped_in(function):
 
 
 class Types(unittest.TestCase):
-    def test_what_is_public_and_what_has_no_type(self):
-        tree = ast.parse("def a(b: int, *c, d: int = 0) -> int: ...\ndef _e(f): ...\n"
-                         "class G:\n    def __init__(self, h): ...\n    def _i(self, j): ...\n"
-                         "class _K:\n    def l(self, m): ...\n")
-        self.assertEqual([(one.name, untyped_in(one)) for one in public_functions(tree)],
-                         [("a", ["c"]), ("__init__", ["h", "return"])])
-
     def test_each_public_function_has_types(self):
         found = [(name, one.name, untyped_in(one)) for name, tree in MODULES.items() for one in public_functions(tree)]
         self.assertEqual([one for one in found if one[-1]], [])

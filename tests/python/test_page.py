@@ -100,12 +100,6 @@ class Pages(unittest.TestCase):
             self.assertEqual([tag for tag, _ in read.tags[:4]], ["html", "head", "meta", "title"])
             self.assertIn(("meta", {"name": "viewport", "content": "width=device-width, initial-scale=1"}), read.tags)
 
-    def test_a_list_of_a_later_answer(self):
-        one = side(rows("1..2"))
-        for value, text in ((True, "yes"), (False, "no")):
-            one.answer["later"] = [{"first": 77777, "near": None, "is": value, "places": [1, 2]}]
-            self.assertEqual(Page(page(one)).rows["later"][0], ["77777", "", text, "1, 2"])
-
     def test_it_needs_nothing_else(self):
         text = page(damaged(), lambda one: "<svg></svg>")
         for tag, known in Page(text).tags:
@@ -115,14 +109,15 @@ class Pages(unittest.TestCase):
         self.assertEqual(set(re.findall("https?://[^\"' ]*", text)), {"http://www.w3.org/2000/svg"})
 
     def test_names_are_escaped(self):
+        """Those of a list, too, that a later answer has."""
         name = '<b>"&\u00fc</b>.tbc'
         one = side(rows("Bx60"))
-        one.answer["<b>&later</b>"] = [{"<b>&first": "<b>&one</b>"}]
+        one.answer["<b>&later</b>"] = [{"<b>&first": "<b>&one</b>", "near": None, "is": False, "places": [1, 2]}]
         read = Page(page(one, title=name, command="dd if='%s'" % name))
         self.assertEqual([read.texts["h1"], read.texts["title"][:2]], [[name], [name, name]])
         self.assertIn("dd if='%s'" % name, " ".join(read.texts["dd"]))
-        self.assertEqual(read.rows["<b>&later</b>"][0], ["<b>&one</b>"])
-        self.assertEqual(read.heads["<b>&later</b>"], ["<b>&first"])
+        self.assertEqual(read.rows["<b>&later</b>"][0], ["<b>&one</b>", "", "no", "1, 2"])
+        self.assertEqual(read.heads["<b>&later</b>"][0], "<b>&first")
         self.assertNotIn("b", [tag for tag, _ in read.tags])
 
     def test_bad_lines_are_drawn_up_to_a_count(self):
@@ -187,9 +182,9 @@ class Indexes(InFolder):
              "4 fields lost; 2 pictures lost; begins at 7, ends at 14"],
             ["can't tell", "0", "none", "none", "no picture number and no time"],
             ["yes", "4", "2, 1 to 2", "none", ""]])
-        text = self.read("none #1.html").decode()
-        self.assertIn("&quot;version&quot;: 2, ", text)
-        older = self.write("older.html", text.replace("&quot;version&quot;: 2, ", ""))
-        other = self.write("other.html", "<html><head><meta name=x></head></html>")
-        self.assertEqual([reason(index_of, "index.html", [name]) for name in (older, other)], [
-            older + " is a page of another version: write it again", other + " is no page that --html wrote"])
+        known = '<meta name="ldvbi-side" content="%s">'
+        for text, why in ((known % "{}", "a page of another version: write it again"),
+                          *((text, "no page that --html wrote") for text in (
+                              known % "[]", '<meta name="ldvbi-side">', "<meta name=x>", b"<title>\xff\xfe</title>"))):
+            self.assertEqual(reason(index_of, "index.html", [self.write("other.html", text)]),
+                             "%s is %s" % (self.named("other.html"), why))
