@@ -142,7 +142,7 @@ class Chains(unittest.TestCase):
 
     def test_noise_takes_no_more_looks_than_other_sides(self):
         """For each reading a handful of earlier ones is looked at, and as many more as a side with damage needs."""
-        count, dice = 6000, random.Random(3)
+        count, dice = 3000, random.Random(3)
         noise = {"random": [dice.randrange(80000) for _ in range(count)], "small": [dice.randrange(50)
                  for _ in range(count)], "one": [5] * count, "jumps": [
                      40000 * (place // 5 % 2) + place for place in range(count)]}
@@ -182,7 +182,7 @@ class Chains(unittest.TestCase):
     def test_with_and_without_memory(self):
         """Random readings, damaged in few ways over and over: each chain is worth as much."""
         for kind in ("both", "film"):
-            for seed in range(30):
+            for seed in range(8):
                 ones = damaged_alike(random.Random(seed), Pace(kind))
                 found = [walked(ones, kind)]
                 for name, value in (("SURE", 1 << 40), ("MOST_PRICES", 2)):

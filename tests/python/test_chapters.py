@@ -12,8 +12,8 @@ from judged import packed_of
 from judged_chapters import ChapterTruth, chapter_in, judged, of_package
 from ldvbi import Number, State
 from ldvbi_side.judge.answer import analyse
-from simulate import KINDS, PLAYED, Simulated
-from test_judged import PICTURES
+from simulate import KINDS, Simulated
+from test_judged import PICTURES, sides_of
 
 NOTHING = Number(None, State.nothing)
 
@@ -32,19 +32,17 @@ def truth_of(text, misread=()):
 
 
 class Beside(unittest.TestCase):
-    """Two sides of each kind of KINDS, and of each other kind."""
+    """Two sides of each kind of KINDS, and of each other kind but minutes alone."""
 
     @classmethod
     def setUpClass(cls):
         cls.counts, cls.told = Counter(), []
-        sides = [(seed, None, None) for seed in range(2000, 2014)]
-        sides += [(seed, kind, PICTURES[kind]) for kind in PLAYED for seed in range(2)]
-        for seed, kind, count in sides:
+        for seed, kind, count in sides_of(PICTURES):
             cls.counts.update(judged(seed, kind, cls.told.append, count)[1])
 
     def test_the_promise_is_kept(self):
         self.assertEqual(self.counts["broken promises"], 0, self.told)
-        self.assertEqual(self.counts["sides"], 2 * len(KINDS) + 2 * len(PLAYED))
+        self.assertEqual(self.counts["sides"], 2 * len(KINDS) + 2 * len(PICTURES))
         self.assertGreater(self.counts["promised"], 0.98 * self.counts["right"])
 
     def test_what_is_listed(self):

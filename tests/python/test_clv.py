@@ -75,11 +75,11 @@ class Clv(unittest.TestCase):
         check(self, """
     one in 1001 | NTSC t0..5999!400%1001 | no missing lost | whys clock
         | leftOut 0:00:13.10, 0:00:46.21, 0:01:20.02, 0:01:53.13, 0:02:26.24, 0:03:00.05
-    two a minute | NTSC t0..1 t2..17999!0,1%1800 t18000..18001 t18002..19999!0,1%1800 | no missing | leftOut x10
-        | leftOut 0:01:00.00-0:01:00.01, .. | leftOut .., 0:11:00.00-0:11:00.01
+    two a minute | NTSC t12602..17999!0,1%1800 t18000..18001 t18002..19999!0,1%1800 | no missing
+        | leftOut 0:08:00.00-0:08:00.01, 0:09:00.00-0:09:00.01, 0:11:00.00-0:11:00.01
     damage beside them | NTSC t0..1999!1800,1801 3599=?/?/? | missing 0:00:59.29 unread
         | leftOut 0:01:00.00-0:01:00.01
-    half of it is lost | NTSC t0..12011!400%1001 -6001:18000 | lost 5999-6001 12012 number | leftOut x6 | missing x1
+    half of it is lost | NTSC t0..8007!400%1001 -4001:12000 | lost 3999-4001 8008 number | leftOut x4 | missing x1
     two sides have a clock each | NTSC t0..4999!400%1001 t0..4999!750%1001 | no lost | breaks x1
     a short stretch by a long one | NTSC t0..5004!400%1001 t6507..8999!400%1001 | lost x1
     short ones together | NTSC t0..1501!400%1001 t2903..4403!400%1001 t5906..7406!400%1001 | lost x2

@@ -1,12 +1,13 @@
 """Several captures of one side: what they have together, which one each number is taken from, and where they disagree
 about a number."""
 
+import functools
 import unittest
 import xml.etree.ElementTree as xml
 
 from cases import reason
-from compact import made, rows, span
-from discs import joined, side
+from compact import made, span
+from discs import side
 from ldvbi_side.command.join import joined_text, range_rows
 from ldvbi_side.draw.bars import COLOURS, bars_of
 from ldvbi_side.draw.together import page_of_joined
@@ -18,12 +19,17 @@ DETOUR = "1..50 151..170 71..100"
 SOME = "t0..4499!7%1000"  # without five times, which the clock leaves out
 
 
-def together(*texts, system="PAL"):
-    return joined(*(rows(text, 30 if system == "NTSC" else 25) for text in texts), system=system)
+@functools.lru_cache(maxsize=None)  # a side keeps its answer
+def capture(text):
+    return made(text, side)
 
 
 def join_sides(*sides):
     return join([capture_of(one, name) for name, one in zip("abc", sides)])
+
+
+def together(*texts, system="PAL"):
+    return join_sides(*(capture("%s %s" % (system, text)) for text in texts))
 
 
 def taken(found, number):

@@ -1,12 +1,13 @@
-"""`ldvbi-side join` as a process: what it prints and writes, and what it refuses."""
+"""`ldvbi-side join`: what it prints and writes, and what it refuses."""
 
 import json
 
-from command_runs import IN_PLACE, NO_METADATA, Runs
+from calls import Calls
+from command_runs import IN_PLACE, NO_METADATA
 from streams import NTSC, pictures, write_stream
 
 
-class Joins(Runs):
+class Joins(Calls):
     """side.vbi.json has pictures 0 to 11, a number in each field; other.tbc has 4 to 7 and 10 to 15."""
 
     def setUp(self):

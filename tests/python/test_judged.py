@@ -12,15 +12,21 @@ from judged import Judged, Package, judged, packed_of
 from judged_truth import JudgedTruth
 from ldvbi import Counted, Number, Pace, State
 from ldvbi_side.judge.answer import analyse
-from simulate import KINDS, PLAYED
+from simulate import KINDS
 from test_simulated import Sides
 
-# of each kind of PLAYED how many pictures two sides have
+# of each kind of PLAYED but minutes alone how many pictures two sides have
 PICTURES = {"skips": None, "worn": 300, "swapped": 200, "speeds": 1000, "joined": 150, "losses": 600, "restarts": 150,
-            "loops": 300, "turned": 300, "searched": 500, "sides": 200, "minutes": None}
-# The library doesn't judge minutes alone, and promises nothing of a disc that is turned by hand: it isn't regular, so
-# that a number may be due in a field that has the one beside it.
-JUDGED = [kind for kind in PLAYED if kind not in ("minutes", "turned")]
+            "loops": 300, "turned": 300, "searched": 500, "sides": 200}
+# The library promises nothing of a disc that is turned by hand: it isn't regular, so that a number may be due in a
+# field that has the one beside it.
+JUDGED = [kind for kind in PICTURES if kind != "turned"]
+
+
+def sides_of(kinds):
+    """Two sides of each kind of KINDS and of each of these: seed, kind and count of pictures."""
+    return [(seed, None, 600) for seed in range(2000, 2014)] + [
+        (seed, kind, PICTURES[kind]) for kind in kinds for seed in range(2)]
 
 
 class Beside(Sides):
@@ -29,9 +35,7 @@ class Beside(Sides):
     @classmethod
     def setUpClass(cls):
         cls.totals, cls.kinds, cls.told = {"given": Counter(), "found": Counter()}, {}, []
-        sides = [(seed, None, None) for seed in range(2000, 2014)]
-        sides += [(seed, kind, PICTURES[kind]) for kind in JUDGED for seed in range(2)]
-        for seed, kind, count in sides:
+        for seed, kind, count in sides_of(JUDGED):
             kind, counts = judged(seed, kind, cls.told.append, count)
             cls.kinds.setdefault(kind, Counter()).update(counts["given"])
             for how, one in counts.items():
@@ -58,8 +62,8 @@ class Beside(Sides):
         minute, and numbers at another speed. No seek by the judge answers a field of another number, and many by the
         lines alone do."""
         self.within(self.totals["given"], """
-            right by both: 20101..; due by the judge, right: 801..; wrong by the judge: 0; due by the judge, wrong: 0;
-            seeks: 22001..; seeks, wrong by the lines: 11..; seeks, wrong by the judge: 0; seeks of misread ones: 61..;
+            right by both: 14101..; due by the judge, right: 701..; wrong by the judge: 0; due by the judge, wrong: 0;
+            seeks: 16701..; seeks, wrong by the lines: 11..; seeks, wrong by the judge: 0; seeks of misread ones: 61..;
             seeks of misread ones, wrong by the lines: 31..; seeks of misread ones, wrong by the judge: 0;
             seeks, found by the judge - seeks, found by the lines: 1..""")
         usual = sum((one for kind, one in self.kinds.items() if kind not in ("skips", "speeds")), Counter())

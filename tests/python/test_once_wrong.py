@@ -93,21 +93,20 @@ class Lost(unittest.TestCase):
     """)
 
     def test_minutes(self):
-        """Six minutes alone. Where fields over the end of a minute are lost, each of both has lost its own. What may be
-        unread at the ends of a minute is not sure to be lost."""
+        """Four minutes alone. Where fields over the end of a minute are lost, each of both has lost its own. What may
+        be unread at the ends of a minute is not sure to be lost."""
         check(self, """
-    whole | n0..5x3000 | no lost missing | whole yes
-    of NTSC | NTSC n0..5x3590 | no lost missing | whole yes
-    of 3596 | NTSC n0..5x3596 | no lost missing | whole yes
-    of 3600 | NTSC n0..5x3600 | no lost missing | whole yes
-    a third | n0..5x3000 -6501:7500 | lost 6000-8001 1000 number | no missing | whole no
-    nearly all | n0..5x3000 -6051:8950 | lost 6000-6101 2900 number | no missing
-    over an end | n0..5x3000 -7506:10495 | lost 6000-7506 1495 number, 7505-9011 1495 number | no missing
-    of NTSC, a few | NTSC n0..5x3596 -8001:8100 | lost 7192-10689 94 number | no missing
-    beside unread ones | n0..5x3000 5901:6100=? -6501:7500 | lost 5900-8001 900 number | no missing
-    held | n0..1x3000 n2x3900 n3..5x3000 | no lost missing | breaks held.. | breaks .., 900 | whole no
-    two sides | n0..1x3000 n2x500 Ox9 Lx9 n3..5x3000 | no lost missing breaks
-    one whole minute | n0..1x3000 n3x2900 n4..5x3000 | lost 6000-6001 3000 number | missing 0:02 lost
+    whole | n0..3x3000 | no lost missing | whole yes
+    of NTSC | NTSC n0..3x3590 | no lost missing | whole yes
+    of 3600 | NTSC n0..3x3600 | no lost missing | whole yes
+    a third | n0..3x3000 -3501:4500 | lost 3000-5001 1000 number | no missing | whole no
+    nearly all | n0..3x3000 -3051:5950 | lost 3000-3101 2900 number | no missing
+    over an end | n0..3x3000 -4506:7495 | lost 3000-4506 1495 number, 4505-6011 1495 number | no missing
+    of NTSC, a few | NTSC n0..3x3596 -4405:4504 | lost 3596-7093 94 number | no missing
+    beside unread ones | n0..3x3000 2901:3100=? -3501:4500 | lost 2900-5001 900 number | no missing
+    held | n0x3000 n1x3900 n2..3x3000 | no lost missing | breaks held.. | breaks .., 900 | whole no
+    two sides | n0x3000 n1x500 Ox9 Lx9 n2..3x3000 | no lost missing breaks
+    one whole minute | n0x3000 n2x2900 n3x3000 | lost 3000-3001 3000 number | missing 0:01 lost
     """)
 
     def test_joined(self):

@@ -1,4 +1,4 @@
-"""The command as a process: documents of TBC files, metadata beside them, two captures; and the files that it
+"""The command: documents of TBC files, metadata beside them, two captures; and the files that it
 writes, never in the place of an input."""
 
 import json

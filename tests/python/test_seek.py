@@ -12,7 +12,7 @@ from ldvbi import Number, Pace, State
 from simulate import simulated
 from streams import NTSC, PAL, write_fields
 
-SIDES = int(os.environ.get("SEEK_SIDES", "40"))
+SIDES = int(os.environ.get("SEEK_SIDES", "20"))
 
 
 def side_of(fields, setup=PAL, rest=0):

@@ -5,12 +5,12 @@ import random
 import struct
 
 import ldvbi
-from command_runs import Runs
+from calls import Calls
 from simulated_discs import disc
 from streams import NTSC, PAL, line_with, worn_line, write_stream
 
 SETUPS = {"cav-ntsc": NTSC, "cav-pal": PAL, "cav-film": NTSC, "clv-pal": PAL}
-PICTURES = 40
+PICTURES = 24
 
 
 def noisy(rng, word, setup, noise):
@@ -23,7 +23,7 @@ def noisy(rng, word, setup, noise):
     return struct.pack("<%dH" % len(samples), *samples)
 
 
-class Noise(Runs):
+class Noise(Calls):
     """Discs of a kind, of which each line has noise."""
 
     def drawn(self, kind, noise):
@@ -63,11 +63,11 @@ class Noise(Runs):
                 found = self.answer(kind)
                 self.assertEqual(found["showings"], [[number, field, field] for field, (number, _) in enumerate(rows, 1)
                                                      if number is not None])
-                self.assertGreater(len(found["confirmed"]), 3)
+                self.assertGreater(len(found["confirmed"]), 1)
                 self.assertEqual((found["missing"], found["unread"]), ([], []))
 
 
-class Pages(Runs):
+class Pages(Calls):
     def test_the_row_of_the_nearest_word(self):
         """It is drawn behind a bad line that has one, and the columns that differ are marked."""
         write_stream(self.named("side.tbc"), NTSC, [[0, worn_line(0xF12345, NTSC, 9, 11), 0],
@@ -83,7 +83,7 @@ class Pages(Runs):
         self.assertNotIn("the row of", folds[1] + without)
 
 
-class Documents(Runs):
+class Documents(Calls):
     def setUp(self):
         """Line 17 of field 1 is worn: its word is 11 columns off, and any other one 29 - 11. Field 2 is clean. Line 18
         of field 3 is 13 columns off, which is too much."""
