@@ -16,12 +16,18 @@ export LDVBI_PROGRAM
 # A file has the runs of many tests, and may run beside other scripts on a machine with few processors.
 seconds=$((5 * seconds))
 export seconds
-# As many files at a time as there are processors, up to one that fails where that ends the script. What NAME says is
-# then in NAME.err, its status in NAME.status. Of some, which run the same lines millions of times, and no line alone,
-# the lines aren't recorded.
-# shellcheck disable=SC2016
-basename -s .py "$here"/test_*.py | (cd "$here" && xargs -P "$(nproc)" -n 1 sh -c '
-    case $2 in test_classes | test_joined_sets | test_judged | test_simulated) COVERAGE_PROCESS_START= ;; esac
+# As many files at a time as there are processors, those that take longest first, up to one that fails where that ends
+# the script. What NAME says is then in NAME.err, its status in NAME.status. Of some, which run no line of the package
+# alone, the lines aren't recorded.
+longest='test_simulated test_statuses test_scan test_into_run test_scan_ends test_clv test_messages test_run_edges
+test_joined_sets test_join test_classes'
+# shellcheck disable=SC2016,SC2086
+{ printf '%s\n' $longest && basename -s .py "$here"/test_*.py; } | awk '!known[$0]++' | (
+    cd "$here" && xargs -P "$(nproc)" -n 1 sh -c '
+    case $2 in
+        test_chapters | test_classes | test_examples | test_joined_sets | test_judged) COVERAGE_PROCESS_START= ;;
+        test_other_damage | test_places | test_simulated | test_soundness | test_worn) COVERAGE_PROCESS_START= ;;
+    esac
     status=0
     timeout -k 5 "$seconds" python3 -m unittest -v "$2" < /dev/null > "$1/$2.out" 2> "$1/$2.err" || status=$?
     echo "$status $(tail -n 1 "$1/$2.err")" > "$1/$2.status"
