@@ -165,7 +165,6 @@ bounded venv/bin/ldvbi-side cav.tbc --system NTSC --black 60000 --white 65535 --
 sed -n 's/.*\(dd if=.* line.svg\).*/\1/p' said > plot.sh
 check 'the summary has a command that draws a line' grep -q 'python3 venv/.*/ldvbi_side/contrib/plot_line.py ' plot.sh
 check 'it runs without the program' does env PATH="$work/venv/bin:/usr/bin:/bin" sh plot.sh
-check 'it has drawn the line' grep -q '^<svg' line.svg
 # Without the program the module reads the line: the same picture of each cause and pass
 plot=$(echo venv/lib/python3*/site-packages)/ldvbi_side/contrib/plot_line.py
 for description in 82CFFF '82CFFF @170-171L' L910 'L900 H10' '82CFFF @170-174L' 'L164 H746'; do

@@ -202,9 +202,6 @@ def main():
         for setting in settings:
             for row in rows:
                 tests[kind](setting, *row)
-    # What a capture that goes on may change, as judged.txt has it: without field 58 field 10 is answered otherwise.
-    fields = side_of("100..104 .23 116 . 117= .23 129=", "pictures", 30)
-    compare(("part", ), [answered_alone((1, 1, 1), fields[:end], 10) for end in (58, 59)], [(0, NOTHING), (105, DUE)])
     test_first_of()
     finish()
 

@@ -96,7 +96,7 @@ static void are_texts(const char *(*text_of)(uint32_t), const char *const *texts
     }
 }
 
-/* ---- Threads that each read a line of their own, over and over: a word is 0 then where one reading wasn't that word */
+/* ---- Threads that each read a line of their own, over and over: its word is 0 then where one reading had another */
 
 static void *read_often(void *word)
 {

@@ -18,29 +18,20 @@ is_refused_in_a_line() {
 
 check 'pixels is built' does $cc -std=c99 $strict -o pixels "$top/examples/pixels.c" $linked
 
-# Lines at 13.5 MHz, drawn here by the standards alone: cells of two microseconds that change in their middle, upwards
-# for a one, with edges of a quarter of a half cell and a little noise. Each word begins at another part of a pixel.
+# Lines at 13.5 MHz, drawn by the standards alone, with a little noise. Each word begins at another part of a pixel.
+with_python
+PYTHONPATH=$PYTHONPATH:$here
 cat > pixels.py << 'END'
 import random, sys
-BEFORE = {"NTSC": 122, "PAL": 132}  # pixels of a line before those of active video
+from lines import Television, drawn
+BEFORE = {"NTSC": 122, "PAL": 132}[sys.argv[1]]  # pixels of a line before those of active video
 chance = random.Random(60856)
-
-def is_high(word, half):
-    return 0 <= half < 48 and (word >> (23 - int(half) // 2) & 1) == int(half) % 2
-
-def level(word, time):
-    """From 0 to 1, this many half cells behind the word's begin."""
-    return sum(is_high(word, time + part / 32) for part in range(-4, 5)) / 9
-
-def pixels(system, half_cell, word):
-    begin = 10.5 + chance.uniform(-0.25, 0.25)
-    for place in range(720):
-        here = level(word, ((BEFORE[system] + place) / 13.5 - begin) / half_cell) if word else 0
-        yield round(16 + 219 * here + chance.uniform(-12, 12)) % 256 if here else 16
-
 for row in sys.stdin:
     for word in row.split()[:3]:
-        sys.stdout.buffer.write(bytes(pixels(sys.argv[1], float(sys.argv[2]), 0 if word == "-" else int(word, 16))))
+        begin = 13.5 * (10.5 + chance.uniform(-0.25, 0.25)) - BEFORE
+        tv = Television(1, 28, 223, 720, 263, 1000, int(1000 * begin), int(13500 * float(sys.argv[2])))
+        line = drawn(tv, 0 if word == "-" else int(word, 16))
+        sys.stdout.buffer.write(bytes(level + chance.randint(-12, 12) for level in line))
 END
 cat > pixels.txt << 'END'
 - F00001 F00001

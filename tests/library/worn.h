@@ -93,12 +93,10 @@ enum Filling { OF_NOISE, OF_BLACK, OF_WHITE, OF_ANY };
 typedef struct {
     const char *name;
     double noise;      /* of each sample, its standard deviation */
-    int smeared;       /* columns of whose samples, the noise among them, each is the mean */
     int moved;         /* columns by which each edge may come early or late, each for itself */
     int dropouts;      /* how many there are within the word */
     int shortest, longest; /* columns of each */
     enum Filling filling;
-    int burst;         /* columns, anywhere within the word, with noise of 1.5 more */
     int is_played;     /* sync and colour burst before it, edges of 3.5 MHz that ring, and noise that is coloured */
 } Wear;
 
@@ -205,14 +203,6 @@ static void put_dropout(const Television *tv, const Wear *wear, size_t start, do
         line[column] = filling == OF_NOISE ? evenly() : filling == OF_WHITE;
 }
 
-static void add_burst(const Television *tv, int columns, size_t start, double *line)
-{
-    size_t begin = start + below((uint32_t)(word_columns(tv) - (size_t)columns));
-
-    for (size_t column = begin; column < begin + (size_t)columns; column++)
-        line[column] += 1.5 * normally();
-}
-
 /* ---- Whole lines */
 
 static void put_line(const Television *tv, const double *line, uint8_t *bytes)
@@ -240,12 +230,8 @@ static void draw_worn(const Television *tv, const Wear *wear, uint32_t word, uin
     }
     if (wear->noise > 0)
         add_noise(tv, wear->noise, wear->is_played, line);
-    if (wear->smeared > 1)
-        smear(tv, wear->smeared, line);
     for (int i = 0; i < wear->dropouts; i++)
         put_dropout(tv, wear, start, line);
-    if (wear->burst > 0)
-        add_burst(tv, wear->burst, start, line);
     put_line(tv, line, bytes);
 }
 
@@ -261,7 +247,7 @@ typedef struct {
     double rate;  /* megahertz of bits (0: those of teletext in the system) or of a sine (0: any from 0.1 to 1.6) */
     int count;    /* bits; or columns of video of which each has the mean */
     double level; /* of bits, or microseconds of a half cell of biphase bits (0: any from 0.45 to 0.55) */
-    int smeared;  /* as of Wear */
+    int smeared;  /* columns of whose samples each is the mean */
 } Kind;
 
 /* Bits of so many columns, each held at its level: some of which the first sixteen come by turns, captions behind three

@@ -4,10 +4,10 @@ of what is drawn."""
 import unittest
 import xml.etree.ElementTree as xml
 
-from compact import rows
+from compact import made
 from discs import side
 from ldvbi.readings import Cut
-from ldvbi_side.draw.curve import Scale, ticks
+from ldvbi_side.draw.curve import ticks
 from ldvbi_side.draw.drawing import drawing_of
 from ldvbi_side.draw.marks import Mark, counts_of, marks_of
 from ldvbi_side.draw.svg import Svg, shortened
@@ -91,7 +91,6 @@ class Marks(unittest.TestCase):
 
 class Parts(unittest.TestCase):
     def test_texts_that_fit(self):
-        self.assertEqual(shortened("0123456789", 100, 10), "0123456789")
         self.assertEqual(shortened("0123456789", 46, 10), "012\u2026789")  # 7 characters of 6.5 pixels
         self.assertEqual(shortened("0123456789", 65.1, 10), "0123456789")  # as wide as it may be
         self.assertEqual(shortened("0123456789", 64.9, 10), "0123\u20266789")
@@ -105,25 +104,10 @@ class Parts(unittest.TestCase):
         self.assertEqual(ticks(7, 100, 5, [1, 2]), [7] + list(range(8, 101, 2)))  # no step is large enough
         self.assertEqual(ticks(1, 0, 5, [1]), [])
 
-    def test_scales(self):
-        numbers = {"count": 2, "least": "1:09:00.00", "greatest": "1:09:01.05"}
-        for system, rate in (("PAL", 25), ("NTSC", 30)):
-            scale = Scale({"unit": "time", "system": system, "numbers": numbers}, 0, 100)
-            self.assertEqual((scale.least, scale.greatest), (69 * 60 * rate, (69 * 60 + 1) * rate + 5))
-            self.assertEqual(list(map(scale.text_of, (scale.least, scale.greatest))), ["1:09:00", "1:09:01.05"])
-            self.assertEqual(scale.place_of(entry("doubtful", kind="time", number="1:09")), (scale.y(scale.least), 0))
-            self.assertIsNone(scale.place_of(entry("doubtful", kind="clv picture", number="07.12")))
-        minutes = {"count": 2, "least": "0:59", "greatest": "1:01"}
-        scale = Scale({"unit": "minute", "system": "PAL", "numbers": minutes}, 0, 90)
-        self.assertEqual(list(map(scale.y, (61, 60, 59))), [15, 45, 75])
-        self.assertEqual([scale.place_of(entry("doubtful", kind="time", number=one)) for one in ("1:02", "0:58")],
-                         [(0, 1), (90, -1)])
-        self.assertEqual(list(map(scale.text_of, scale.ticks())), ["0:59", "1:00", "1:01"])
-
 
 def drawn(text, **more):
     """The parts of a drawing with a class, as pairs of this and their words or titles."""
-    picture = xml.fromstring(drawing_of(side(rows(text), **more), "side.tbc"))
+    picture = xml.fromstring(drawing_of(made(text, side, **more), "side.tbc"))
     return [(part.get("class"), "".join(part.itertext())) for part in picture.iter() if part.get("class")]
 
 
@@ -132,22 +116,22 @@ def of_class(found, name):
 
 
 NOTHING = "no picture number and no time"
-HOUR = "t89950..90039!90000,90001,90002,90003,90004"
+MINUTE = "NTSC t1740..1829!1800,1801,1802,1803,1804"
 FAR = "1..1500 1001:1003/2.16=S 2001.16=S"
 # A side, the class of some parts of its drawing, and their words
 DRAWN = (
-    (HOUR, "system", ["PAL, CLV, 170 fields, 85 times, 0:59:58.00 to 1:00:01.14"]),
-    (HOUR, "number-label", ["0:59:58", "0:59:59", "1:00:00", "1:00:01"]),
-    (HOUR, "run", ["0:59:58.00 to 0:59:59.24 in fields 1 to 99", "1:00:00.05 to 1:00:01.14 in fields 101 to 169"]),
+    (MINUTE, "system", ["NTSC, CLV, 170 fields, 85 times, 0:00:58.00 to 0:01:00.29"]),
+    (MINUTE, "number-label", ["0:00:58", "0:00:59", "0:01:00"]),
+    (MINUTE, "run", ["0:00:58.00 to 0:00:59.29 in fields 1 to 119", "0:01:00.05 to 0:01:00.29 in fields 121 to 169"]),
     ("", "empty", [NOTHING]),
     ("Bx40", "empty", [NOTHING, "lines 17 and 18 have 0 words, 0 are bad, 80 blank: are black and white right?"]),
     ("10..19 79999 21..29", "number-label", ["10", "15", "20", "25"]),
     ("10..19 1 21..29", "number-label", ["10", "15", "20", "25"]),
-    ("1..11 Bx10 12..23", "run", ["1 to 11 in fields 1 to 21", "12 to 23 in fields 33 to 55"]),
     ("1..11 Bx10 12..23", "jumps", ["10 fields too many, from 11 in field 21 to 12 in field 33"]),
     # stops that fall together are one mark
     (FAR, "stop", ["picture stop of 501 in field 1001, line 16", "picture stop of 1001 in field 2001, line 16"]),
-    ("1..600!0%8", "upright", []), ("1..30 21=?", "upright", []))
+    # a picture of a second has no place on the curve
+    ("t0..57 9=s7.12/M/-", "doubt", []), ("1..600!0%8", "upright", []), ("1..30 21=?", "upright", []))
 # A side, and one of its lanes, with how much is in it; some stand there only where there is something in them (None).
 # Doubtful numbers beyond the scale stand on both lines, which is one mark on the curve and two in the lane's count.
 COUNTS = (("t0..57/3", "other speeds", 1), ("t0..57/3", "swapped fields", None), ("1..9 ?x4 14..30", "undecided", 4),
@@ -166,27 +150,28 @@ class Drawings(unittest.TestCase):
         for text, lane, count in COUNTS:
             counts = dict(one.split(": ") for one in of_class(drawn(text), "count"))
             self.assertEqual(counts.get(lane), count if count is None else str(count), (text, lane))
-        for number in (79999, 1):
-            words, = of_class(drawn("10..19 %d 21..29" % number), "doubt")
-            self.assertEqual(words.partition(" in ")[0], "doubtful: picture %d" % number)
+        for text, number in (("10..19 79999 21..29", "picture 79999"), ("10..19 1 21..29", "picture 1"),
+                             ("m59x20 m60x28 9=-/M/@2:10", "time 2:10")):
+            words, = of_class(drawn(text), "doubt")
+            self.assertEqual(words.partition(" in ")[0], "doubtful: " + number)
 
     def test_a_cav_side(self):
-        found = drawn("Lx8 1..19 25 2 28..49 Ox8 9=S/S/#1 61=?/!/~", system="NTSC")
+        found = drawn("NTSC Lx8 1..19 25 2 28..49 Ox8 9=S/S/#1 61=?/!/~")
         self.assertEqual(of_class(found, "system"), ["NTSC, CAV, 102 fields, 41 pictures, 1 to 49"])
         self.assertEqual(of_class(found, "stop"), ["picture stop of 1 in field 9, lines 16 and 17"])
         self.assertEqual(of_class(found, "lead-in"), ["lead-in: fields 1 to 8"])
         self.assertIn("line 17, field 61: hold 200", of_class(found, "line-17"))
         self.assertTrue(of_class(found, "upright"))
         self.assertEqual(len(of_class(found, "doubt")), 1)
-        self.assertIn("film (2 and 3 fields a picture)", of_class(drawn("f1..39", system="NTSC"), "system")[0])
+        self.assertIn("film (2 and 3 fields a picture)", of_class(drawn("NTSC f1..39"), "system")[0])
         found = drawn("-/#9/#9", cut=Cut(2, 5))
         self.assertEqual(of_class(found, "run") + of_class(found, "system"), [
             "9 in field 1", "PAL, CAV, 1 field, field 2 is cut: 5 bytes of it, 1 picture, 9 to 9"])
 
     def test_sides_of_whose_numbers_none_is_believed(self):
         for text in ("-/#3/#5", "8AE001/@0:01/@0:02", "-/@0:01/@0:02"):
-            for system in ("NTSC", "PAL"):
-                found = drawn(text, system=system)
+            for system in ("NTSC ", "PAL "):
+                found = drawn(system + text)
                 self.assertEqual(of_class(found, "empty"), ["no picture number and no time is believed"])
                 self.assertEqual([name for name, _ in found if name in ("run", "doubt", "number-label")], [], text)
 
@@ -202,7 +187,7 @@ class Drawings(unittest.TestCase):
         self.assertEqual(len(of_class(drawn("1..399!0%8"), "upright")), 2 * 49)
 
     def test_unread_numbers_are_pale(self):
-        picture = xml.fromstring(drawing_of(side(rows("1..30 21=?")), "side.tbc"))
+        picture = xml.fromstring(drawing_of(made("1..30 21=?", side), "side.tbc"))
         marks = [part.get("fill") for part in picture.iter() if part.get("class") == "unread"]
         labels = [part.get("fill") for part in picture.iter() if part.text == "unread: 1"]
         self.assertEqual((marks, labels), (["#fca5a5"], ["#64748b"]))
@@ -212,7 +197,7 @@ class Legend(unittest.TestCase):
     def test_it_fits_on_a_narrow_page(self):
         """A page 900 pixels wide shows 850 of the drawing. Letters are 7 pixels wide, or less."""
         texts = [(float(text.get("x")), float(text.get("y")), text.text)
-                 for text in xml.fromstring(drawing_of(side(rows("1..8 5=-/#3^/#3^")), "side")).iter(SPACE + "text")]
+                 for text in xml.fromstring(drawing_of(made("1..8 5=-/#3^/#3^", side), "side")).iter(SPACE + "text")]
         wanted = ["change", "hold", "unfinished", "recovered", "read only after smoothing", "word", "blank",
                   "lead-in, lead-out", "doubtful number"]
         found = [one for one in texts if one[2] in wanted]

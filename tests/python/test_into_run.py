@@ -205,12 +205,6 @@ class Long(Copies):
 
 
 class Sides(Copies):
-    def test_is_first_field_of_a_database(self):
-        os.unlink(self.named("side.tbc.json"))
-        self.database(12)
-        for words in ("side.tbc", "side.vbi.json --meta side.tbc.db"):
-            self.assertEqual(self.printed(words + " --seek 4"), b"field 5, frame 2\n")
-
     def test_compare_with_system_and_levels(self):
         """These stand in place of the metadata's, each by itself."""
         os.link(self.named("side.tbc"), self.named("other.tbc"))

@@ -89,16 +89,6 @@ class Values(unittest.TestCase):
                 self.assertEqual((why is None, found if why is None else None),
                                  (count % 4 > 0, whole if why is None else None))
 
-    def test_lists_inside(self):
-        text = ' {"a" : [1 , [2]], "b\\u0041":[ ],"c":{"d":5 }} '
-        for piece in range(1, 30):
-            one = Scanner(io.StringIO(text), piece)
-            found = []
-            for name in one.members():
-                found.append((name, [one.value() for _ in one.items()] if one.comes("[") else one.value()))
-            one.end()
-            self.assertEqual(found, [("a", [1, [2]]), ("bA", []), ("c", {"d": 5})])
-
     def test_no_more_is_held_than_a_value_and_a_piece(self):
         fields = ("%s%s" % ("," if place else '{"fields":[', json.dumps({"a": [place] * 100})) for place in range(3000))
         one = Scanner(Made(of=fields), 4096)  # about two million characters
