@@ -52,8 +52,8 @@ faults() {
             *:*) head -c ${written#*:} ${written%:*} > part ;;
             *) cp $written part ;;
         esac
-        stands "$1 of $faulty_input: reads: $read_fault, writes: $write_fault" $ended part "${said:+ldvbi: $said}" \
-            "$reads" "$writes"
+        stands "$1 of $faulty_input: reads of $descriptor: $read_fault, writes: $write_fault" $ended part \
+            "${said:+ldvbi: $said}" "$reads" "$writes"
     done
 }
 

@@ -64,35 +64,23 @@ each 'metadata that is not JSON' "$stored/stdin" line --meta nan.json
 each 'the stored run with metadata' "$stored/stdin" line --meta line.json
 each 'the joined run' black.tbc extract --meta full.json
 
-# said_of_texts NAME TAIL SAID: checks what the program says of metadata of each length, which is a quote, letters and
-# this tail. No allocation may be refused then.
-powers='1024 2048 4096 8192 16384 32768 65536 131072 262144 524288 1048576 2097152 4194304 8388608 16777216 33554432'
-# shellcheck disable=SC2086
-{ seq 0 1000; printf '%s\n' $powers; } > lengths
+# What the program says of metadata of each length: a quote and letters, a text without its end. No allocation may be
+# refused then. One shell is for all, since to bound each run by itself takes longer than the runs do.
+{ seq 0 1000; awk 'BEGIN { for (size = 1024; size <= 33554432; size *= 2) print size }'; } > lengths
 { printf '"'; head -c 33554432 /dev/zero | tr '\000' a; } > letters
-said_of_texts() {
-    rm -f mark
-    status=0
-    # One shell for all, since to bound each run by itself takes longer than the runs do
-    # shellcheck disable=SC2016
-    bounded sh -c '
-        while read -r length; do
-            { head -c $((length - ${#3})) letters; printf %s "$3"; } > text.json
-            code=0
-            LD_PRELOAD=$2 REFUSE_MARK=mark "$1" line --meta text.json < empty > out 2> said || code=$?
-            said=
-            read -r said < said
-            echo "$length $code $said"
-            cat out
-        done' sh "$program" "$work/refuse.so" "$2" < lengths > answers || status=$?
-    sed "s/\$/ 1 $3/" lengths > wanted
-    diff wanted answers | head -n 20 > err
-    check "$1: what is said at each length" [ "$status$(cat err)" = 0 ]
-    check "$1: no allocation is refused" [ ! -e mark ]
-}
-said_of_texts 'a text without its end' '' 'ldvbi: metadata is not JSON'
-sed -i 1,2d lengths
-said_of_texts 'a text' '"' 'ldvbi: metadata has no videoParameters'
+rm -f mark
+# shellcheck disable=SC2016
+does sh -c '
+    while read -r length; do
+        head -c $length letters > text.json
+        code=0
+        LD_PRELOAD=$2 REFUSE_MARK=mark "$1" line --meta text.json < empty 2>&1 || code=$?
+        echo "$length $code"
+    done < lengths' sh "$program" "$work/refuse.so"
+sed 's/^/ldvbi: metadata is not JSON\n/; s/$/ 1/' lengths > wanted
+diff wanted out | head -n 20 >> err
+check 'what is said of a text of each length' [ "$status$(cat err)" = 0 ]
+check 'no allocation is refused for it' [ ! -e mark ]
 
 # Metadata of 10 MB, as ld-decode writes it; here what is wanted stands behind the records of fields. Want of memory is
 # said exactly where an allocation was refused, with so many times its bytes of memory at most.
