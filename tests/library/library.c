@@ -57,43 +57,40 @@ static void test_layout(void)
     CHECK(sizeof(LdvbiFieldReadings) == 24 && offsetof(LdvbiFieldReadings, lines[2]) == 16);
 }
 
-/* ---- Texts by their numbers' names, and that of any other number */
+/* ---- Texts by their numbers' names, of which one is the last, and that of any other number */
 
-static const char *const statuses[] = {
-    [LDVBI_DONE] = "done",
-    [LDVBI_BAD_SYSTEM] = "system is neither NTSC nor PAL",
-    [LDVBI_BAD_LEVELS] = "black is not below white, or one of them is above 65535",
-    [LDVBI_BAD_LENGTH] = "length does not fit the system",
-    [LDVBI_BAD_WORD] = "number is no code word",
-    [LDVBI_BAD_COUNTED] = "neither pictures nor times are counted",
-    [LDVBI_BAD_PACE] = "pace is neither that of video nor of film, nor to be found",
-};
-static const char *const causes[] = {
-    [LDVBI_WORD] = "word", [LDVBI_BLANK] = "blank", [LDVBI_UNFINISHED] = "unfinished", [LDVBI_CHANGE] = "change",
-    [LDVBI_HOLD] = "hold",
-};
-static const char *const kinds[] = {
-    [LDVBI_OTHER] = "other", [LDVBI_PICTURE] = "picture", [LDVBI_CHAPTER] = "chapter", [LDVBI_TIME] = "time",
-    [LDVBI_CLV_PICTURE] = "clv picture", [LDVBI_CX_ON] = "cx on", [LDVBI_CX_OFF] = "cx off", [LDVBI_USERS] = "users",
-    [LDVBI_LEAD_IN] = "lead-in", [LDVBI_LEAD_OUT] = "lead-out", [LDVBI_PICTURE_STOP] = "picture stop",
-    [LDVBI_CLV_MARK] = "clv",
-};
-static const char *const formats[] = {
-    [LDVBI_NEITHER] = "neither", [LDVBI_CAV] = "cav", [LDVBI_CLV] = "clv", [LDVBI_BOTH] = "both",
-};
-static const char *const states[] = {
-    [LDVBI_NOTHING] = "nothing", [LDVBI_BELIEVED] = "believed", [LDVBI_DOUBTFUL] = "doubtful", [LDVBI_DUE] = "due",
-};
-
-static void are_texts(const char *(*text_of)(uint32_t), const char *const *texts, size_t size)
+static void are_texts(const char *(*text_of)(uint32_t), uint32_t last, const char *const *texts)
 {
     static const uint32_t wide[] = {256, 257, 65535, 65536, 1u << 31, UINT32_MAX};
 
     for (uint32_t number = 0; number < 256 + sizeof wide / sizeof *wide; number++) {
         uint32_t any = number < 256 ? number : wide[number - 256];
 
-        CHECK(strcmp(text_of(any), any < size / sizeof *texts ? texts[any] : "unknown") == 0);
+        CHECK(strcmp(text_of(any), any <= last ? texts[any] : "unknown") == 0);
     }
+}
+
+static void test_texts(void)
+{
+    are_texts(ldvbi_status_text, LDVBI_BAD_PACE, (const char *[]){
+        [LDVBI_DONE] = "done", [LDVBI_BAD_SYSTEM] = "system is neither NTSC nor PAL",
+        [LDVBI_BAD_LEVELS] = "black is not below white, or one of them is above 65535",
+        [LDVBI_BAD_LENGTH] = "length does not fit the system", [LDVBI_BAD_WORD] = "number is no code word",
+        [LDVBI_BAD_COUNTED] = "neither pictures nor times are counted",
+        [LDVBI_BAD_PACE] = "pace is neither that of video nor of film, nor to be found"});
+    are_texts(ldvbi_cause_text, LDVBI_HOLD, (const char *[]){
+        [LDVBI_WORD] = "word", [LDVBI_BLANK] = "blank", [LDVBI_UNFINISHED] = "unfinished", [LDVBI_CHANGE] = "change",
+        [LDVBI_HOLD] = "hold"});
+    are_texts(ldvbi_kind_text, LDVBI_CLV_MARK, (const char *[]){
+        [LDVBI_OTHER] = "other", [LDVBI_PICTURE] = "picture", [LDVBI_CHAPTER] = "chapter", [LDVBI_TIME] = "time",
+        [LDVBI_CLV_PICTURE] = "clv picture", [LDVBI_CX_ON] = "cx on", [LDVBI_CX_OFF] = "cx off",
+        [LDVBI_USERS] = "users", [LDVBI_LEAD_IN] = "lead-in", [LDVBI_LEAD_OUT] = "lead-out",
+        [LDVBI_PICTURE_STOP] = "picture stop", [LDVBI_CLV_MARK] = "clv"});
+    are_texts(ldvbi_format_text, LDVBI_BOTH, (const char *[]){
+        [LDVBI_NEITHER] = "neither", [LDVBI_CAV] = "cav", [LDVBI_CLV] = "clv", [LDVBI_BOTH] = "both"});
+    are_texts(ldvbi_state_text, LDVBI_DUE, (const char *[]){
+        [LDVBI_NOTHING] = "nothing", [LDVBI_BELIEVED] = "believed", [LDVBI_DOUBTFUL] = "doubtful",
+        [LDVBI_DUE] = "due"});
 }
 
 /* ---- Threads that each read a line of their own, over and over: its word is 0 then where one reading had another */
@@ -157,11 +154,7 @@ int main(void)
     test_version();
     test_numbers();
     test_layout();
-    are_texts(ldvbi_status_text, statuses, sizeof statuses);
-    are_texts(ldvbi_cause_text, causes, sizeof causes);
-    are_texts(ldvbi_kind_text, kinds, sizeof kinds);
-    are_texts(ldvbi_format_text, formats, sizeof formats);
-    are_texts(ldvbi_state_text, states, sizeof states);
+    test_texts();
     test_threads();
     test_cut_file();
     printf("%d wrong\n", wrong);

@@ -35,16 +35,6 @@ status=0
 bounded python3 -m ldvbi_side - --csv < side.vbi.json > out 2> err || status=$?
 judge 'a document on standard input' 0 csv ''
 
-# Levels that can't be right are recognised, and the command that looks at a line is printed
-told side.tbc --system NTSC --black 1 --white 2 --summary
-grep '^levels: lines 17 and 18 have 0 words, 10 are bad, 0 blank: ' out > found
-check 'levels that are too low' [ "$status $(wc -l < found)" = '4 1' ]
-sed -n 's/^levels: .* Look at one: //p' out > look.sh
-ln -s "$program" ldvbi
-status=0
-(PATH=$PATH:. && bounded sh look.sh) < empty > out 2> err || status=$?
-check 'the command that is printed draws the line' [ "$status $(grep -c '<svg' line.svg)" = '0 1' ]
-
 # Each cause, and a word of the second reading, in a stream that is cut
 signal NTSC 1 << 'WORDS' | ntsc_samples > side.tbc
 82CFFF|82CFFF @170-171L|-

