@@ -7,8 +7,9 @@ import signal
 import sys
 import time
 
+from calls import Calls
 from cases import in_database
-from command_runs import COMMAND, DEADLINE, IN_PLACE, NO_METADATA, SIZE, Runs
+from command_runs import COMMAND, DEADLINE, IN_PLACE, NO_METADATA, SIZE
 from streams import NTSC, pictures, worn_line, write_stream
 from test_into_rows import FORM
 
@@ -16,7 +17,7 @@ PARAMETERS = {"system": "NTSC", "black16bIre": 16384.0, "white16bIre": 51200, "s
 MEMORY = 50 << 20  # bytes
 
 
-class Copies(Runs):
+class Copies(Calls):
     def setUp(self):
         super().setUp()
         self.metadata(12)

@@ -4,8 +4,9 @@ import gzip
 import os
 import unittest
 
+from calls import Calls
 from cases import reason
-from command_runs import NO_METADATA, Runs
+from command_runs import NO_METADATA
 from ldvbi_side.command.faults import naming
 
 SETTINGS = "give --meta, or --system, --black and --white"
@@ -14,7 +15,7 @@ NOT_JSON = "not JSON: line 1 is wrong from column 1 on"
 ABSENT = "absent/out: No such file or directory"
 
 
-class Messages(Runs):
+class Messages(Calls):
     def each(self, *rows):
         for text, words in rows:
             with self.subTest(words):

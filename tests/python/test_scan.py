@@ -6,6 +6,7 @@ import os
 import time
 from urllib.parse import quote
 
+from calls import Calls
 from command_runs import IN_PLACE
 from scanned import ROWS, Scans
 from streams import TOP
@@ -14,7 +15,7 @@ HEAD = ["side", "whole", "lost", "unread", "format", "from", "to", "fields", "wh
 YES, NO = "side.tbc,yes,0,0,cav,1,30,60,", "side.tbc,no,2,0,cav,1,8,12,4 fields lost; 2 pictures lost"
 
 
-class Tables(Scans):
+class Tables(Scans, Calls):
     """A folder of twelve sides, which are read one after the other, and side by side."""
 
     def test_twelve_sides(self):
@@ -78,7 +79,7 @@ class Tables(Scans):
                 self.assertIn("<td>%s</td><td>fault</td>" % name, index)
 
 
-class Statuses(Scans):
+class Statuses(Scans, Calls):
     def setUp(self):
         super().setUp()
         self.add("side.tbc")
@@ -106,7 +107,7 @@ class Statuses(Scans):
         self.assertEqual(self.scan("d")[1].split("\n")[1][:25], "d/side ??.tbc  yes       ")
 
 
-class Pages(Scans):
+class Pages(Scans, Calls):
     def page(self, side="side.tbc"):
         """The page of a side."""
         status, text, said = self.scan("--json", "--html", "pages", side)

@@ -6,6 +6,7 @@ import re
 import unittest
 
 import ldvbi
+from calls import Calls
 from ldvbi_side.command.parsers import parser_of_side, parsers
 from ldvbi_side.command.statuses import statuses_of
 from scanned import Scans
@@ -24,7 +25,7 @@ PRINTED = ("index", "--help", "--version")
 WITH_OTHERS = {"--meta", "--system", "--black", "--white", "--no-recover", "--recovered", "--strict", "--output"}
 
 
-class Statuses(Scans):
+class Statuses(Scans, Calls):
     def setUp(self):
         super().setUp()
         for name, fields, rest in zip(SIDES, ("1..30", "1..11 14..30", "Bx60", "1..30"), (0, 0, 0, 12345)):
