@@ -19,6 +19,7 @@ with_python
 
 # The examples, of which some answer alike; a player has at most 60 lines
 seek='seek seek.py'
+stops='stops stops_cpp'
 player='player player_cpp player.py'
 for name in seek.c stops.c player.c pixels.c; do
     check "$name is built" does $cc -std=c99 $strict -o ${name%.c} "$top/examples/$name" $linked
@@ -108,7 +109,8 @@ for part in 4_478659 5_1 8_32760 0_1; do
 done
 
 # What examples are asked: their status, what they write, sides, words, both parted by ;, and what is said. In place of
-# @ stand the side's system and levels.
+# @ stand the side's system and levels, and in that of & what the example is asked that is told no other words. `stops`
+# says nothing of pictures.
 cut='the last field is cut: field'
 few='of this side is supported by those around it, so this is what the lines say'
 is_a_picture='neither a picture from 0 to 79999, a time as 0:59:29.07, nor a chapter from 0 to 79'
@@ -131,9 +133,7 @@ $seek|1|not found|stops_4_478659|@ 3|$cut 5 has 478659 of 478660 bytes
 $seek|0|field 5|stops_8_32760|@ 3|$cut 9 has 32760 of 478660 bytes
 $seek|2||cav|@;@ chapter 3 4;@ 3 4;@ 3 chapter|usage
 $seek|2||cav|SECAM 16384 51200 3;pal 1 2 3|system is neither NTSC nor PAL
-$seek|2||cav|1 16384 51200 3;NTSC 51200 16384 3;NTSC 16384 16384 3;NTSC 81920 90000 3;NTSC 16384 81920 3|*
-$seek|2||cav|NTSC 16384 4294967297 3;NTSC -1 51200 3;NTSC 16384 +51200 3;NTSC 16384x 51200 3|*
-$seek|2||cav|NTSC 16384 99999999999999999999 3|*
+$seek|2||cav|1 16384 51200 3;NTSC 16384 16384 3;NTSC 81920 90000 3;NTSC 16384 +51200 3;NTSC 16384x 51200 3|*
 $seek|2||cav|@ xyz;@ 3x;@ -3;@ 80000;@ 4294967299|$is_a_picture
 $seek|2||cav|@ 0:00:60.00;@ 0:100:00.00;@ 0:00:00.100;@ 10:00:00.00;@ 0:00:00;@ 0:00:00.00.00|$is_a_picture
 $seek|2||cav|@ chapter 80;@ chapter -1;@ chapter 3x;@ chapter 256;@ chapter 4294967299|$is_a_picture
@@ -141,24 +141,18 @@ $seek|2||cav|@ chapter 0:00:00.00|$is_a_picture
 $seek|2||empty|NTSC 51200 16384 3|*
 $seek|2||nowhere;folder;null|@ 3|*
 stops_cpp|0|field 7 picture 3;field 8;2 stops|cav|@|
-stops_cpp|0|0 stops|clv;empty|@|
-stops_cpp|0|field 5 picture 3;field 8;field 9 picture 5;3 stops|stops|@|
+$stops|0|0 stops|clv;empty|@|
+$stops|0|field 5 picture 3;field 8;field 9 picture 5;3 stops|stops|@|
 stops_cpp|0|field 1;field 2 picture 3;2 stops|differ|@|
 stops_cpp|0|field 5 picture 3;field 6;field 9 picture 5;field 10;4 stops|once|@|
-stops_cpp|0|field 3 picture 2;field 21 picture 11;field 39 picture 20;3 stops|worn|@|
+$stops|0|field 3 picture 2;field 21 picture 11;field 39 picture 20;3 stops|worn|@|
 stops_cpp|0|0 stops|stops_4_478659|@|$cut 5 has 478659 of 478660 bytes
-stops_cpp|0|field 5 picture 3;1 stops|stops_5_1|@|$cut 6 has 1 of 478660 bytes
+$stops|0|field 5 picture 3;1 stops|stops_5_1|@|$cut 6 has 1 of 478660 bytes
 stops_cpp|0|field 5 picture 3;field 8;2 stops|stops_8_32760|@|$cut 9 has 32760 of 478660 bytes
 stops_cpp|0|0 stops|stops_0_1|@|$cut 1 has 1 of 478660 bytes
-stops|0|field 5;field 8;field 9;3 stops|stops|@|
-stops|0|field 5;1 stops|stops_5_1|@|$cut 6 has 1 of 478660 bytes
-stops|0|field 3;field 21;field 39;3 stops|worn|@|
-stops|0|0 stops|empty|@|
 stops|2||folder|@|Is a directory
 stops_cpp|2||folder|@|standard input: Is a directory
-stops stops_cpp|2||cav|@ cav.tbc|usage
-stops stops_cpp|2||cav|NTSC 51200 16384;SECAM 16384 51200;pal 16384 51200;NTSC 16384 81920;NTSC -1 51200|*
-stops stops_cpp|2||cav|NTSC 16384 xyz;NTSC 16384 4294967297;NTSC 16384 99999999999999999999|*
+$stops|2||cav|@ cav.tbc|usage
 $player|1|search: field 65 picture 30;play: field 97 picture 46;search: not found|side|@ search 30 play search 79999|
 $player|0|search: field 49 picture 22;search: field 21 picture 7;play: field 33 picture 17|side\
 |@ search 22 search 7 play|
@@ -172,17 +166,20 @@ $player|0|search: field 23 picture 12;play: field 39 picture 20|worn|@ search 12
 $player|1|search: not found|clv|@ search 3|
 $player|1|play: not found|stops_4_478659|@ play|
 $player|2||cav|@|usage
-$player|2||cav|NTSC 51200 16384 search 3;SECAM 16384 51200 search 3;pal 16384 51200 search 3|*
-$player|2||cav|NTSC 16384 81920 search 3;NTSC 16384 xyz search 3;NTSC 16384 4294967297 search 3|*
-$player|2||cav|NTSC 16384 99999999999999999999 search 3;@ search 3x;@ search;@ stop|*
+$player|2||cav|@ search 3x;@ search;@ stop|*
+$seek $stops $player|2||cav|NTSC 51200 16384 &;SECAM 16384 51200 &;pal 1 2 &;NTSC 16384 81920 &;NTSC -1 51200 &|*
+$seek $stops $player|2||cav|NTSC 16384 xyz &;NTSC 16384 4294967297 &;NTSC 16384 99999999999999999999 &|*
 $player|2||nowhere;empty;folder|@ play|*
 END
 while IFS='|' read -r examples ended text side words said; do
     on=$on_cav
     case $side in clv | marks) on=$on_clv ;; esac
     for name in $examples; do
-        called $name $side $(echo "$words" | sed "s/@/$on/")
-        check "$name $side $words" answers_so $ended "$text" "$said"
+        case $name in seek*) asked=3 ;; player*) asked='search 3' ;; *) asked= ;; esac
+        called $name $side $(echo "$words" | sed "s/@/$on/; s/&/$asked/")
+        shown=$text
+        [ $name != stops ] || shown=$(echo "$text" | sed 's/ picture [0-9]*//g')
+        check "$name $side $words" answers_so $ended "$shown" "$said"
     done
 done < rows
 for name in $seek $player; do
