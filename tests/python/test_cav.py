@@ -107,6 +107,7 @@ class Cav(unittest.TestCase):
     three fields | PAL/41 1..30 -41:43 | lost 39-42 3 both
     and in these once more | PAL/41,42 1..30 -41:43 | lost 39-42 3 both
     without parity | 1..30 -41:43 | lost 39-42 3 number
+    beside another field | PAL/20,41 1..30 -41:43 | lost 19-20 None parity, 39-42 3 both
     a clock may have left out a number | NTSC/5 t0..1 t3..4 | lost 3-5 2 undecided
     no number is near | PAL/4 1 Bx4 4 | lost 3-4 None parity
     at the beginning | PAL/2 b1..30 | lost 1-2 None parity

@@ -5,7 +5,6 @@ import struct
 
 import ldvbi
 from cases import InFolder
-from ldvbi_side.command.summary import summary
 from ldvbi_side.levels import options_of
 from ldvbi_side.side import side_of_tbc
 from streams import NTSC, PAL, pictures, write_stream
@@ -38,8 +37,8 @@ class Levels(InFolder):
         self.addCleanup(side.samples.close)
         return side.answer["levels"]
 
-    def draw(self, setup, line_of=steep, count=60):
-        write_stream(self.path, setup, [[line_of(word, setup) for word in field] for field in pictures(count)])
+    def draw(self, setup, line_of=steep):
+        write_stream(self.path, setup, [[line_of(word, setup) for word in field] for field in pictures(60)])
 
     def best(self, setup):
         """What is said of the side that was drawn: how many of its lines are read, of how many, and by which options
@@ -86,14 +85,6 @@ class Levels(InFolder):
         drawn = at_share(NTSC, 40)
         write_stream(self.path, drawn, fields)
         self.assertEqual(self.best(NTSC), [0, 200, "--white 30000", 100])
-
-    def test_the_summary(self):
-        self.draw(at_share(NTSC, 40), count=20)
-        side = side_of_tbc(self.path, ldvbi.System.NTSC, *NTSC[1:])
-        self.addCleanup(side.samples.close)
-        lines = [line for line in summary(side.answer, lambda *line: "dd") if line.startswith("levels: ")]
-        self.assertEqual(lines, ["levels: lines 17 and 18 have 0 words, 0 are bad, 40 blank: 0 of 40 lines read with "
-                                 "black 16384, white 51200; 40 with --white 30000. Look at one: dd"])
 
     def test_a_few_lines_are_no_reason(self):
         """One line of 20 that other levels read is named, one of 21 isn't, nor that of a field without a code."""

@@ -124,7 +124,3 @@ class Places(unittest.TestCase):
         found = [place for name, place in places_of(ONE_LINE + "95:19200/192=B 10083=B") if name == "unread"]
         self.assertEqual(len(found), 100)
         self.assertIn("10078-10084 654-656", found)
-
-
-if __name__ == "__main__":
-    unittest.main()

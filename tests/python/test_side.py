@@ -191,6 +191,13 @@ class Summaries(unittest.TestCase):
                          r"wrong, or the signal is noise\. Look at one: dd ")
         self.assertRegex(recovered, "^levels: lines 17 and 18 have 0 words of their own, 60 are bad, 0 blank: ")
 
+    def test_levels_that_read_more_are_named(self):
+        one = made("NTSC Bx20", side)
+        one.answer["levels"]["tried"] = {"lines": 40, "read": 0, "black": 16384, "white": 51200, "best": {
+            "system": None, "black": None, "white": 30000, "read": 40}}
+        self.assertIn(": 0 of 40 lines read with black 16384, white 51200; 40 with --white 30000. Look at one: dd ",
+                      lines_of(one)[6])
+
     def test_levels_are_blamed_of_the_right_file_alone(self):
         text = "perhaps another system, or another file's metadata. Look at one: dd "
         for expected, cut, is_other in ((4, None, False), (None, None, False), (5, None, True), (3, None, True),

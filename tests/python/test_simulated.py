@@ -5,11 +5,8 @@ import re
 import unittest
 from collections import Counter
 
-from comparison import Comparison
-from ldvbi_side.judge.answer import analyse
-from measure import fields_of, measured
-from simulate import KINDS, PLAYED, simulated
-from truth import Truth
+from measure import measured
+from simulate import KINDS, PLAYED
 
 SEEDS = range(2000, 2042)
 SAMPLE = 3  # each so many of these sides are looked at for what holds of every answer
@@ -127,14 +124,3 @@ class ByHand(Played):
         for name in ("sides", "minutes"):
             self.within(self.totals[name], "lost - lost found: 0; lost places - lost places found: 0")
         self.within(self.totals["minutes"], "lost places: 1..")
-
-
-class Parity(unittest.TestCase):
-    def test_parity_loses_nothing(self):
-        for seed in range(2000, 2007):
-            side = simulated(seed)
-            truth = Truth(side)
-            without, with_parity = (Comparison(truth, analyse(fields_of(side, parity))).counts
-                                    for parity in (False, True))
-            for name in ("missing", "first fields", "lost places found", "backs found"):
-                self.assertGreaterEqual(with_parity[name], without[name])

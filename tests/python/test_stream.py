@@ -1,6 +1,5 @@
 """Stream and fields: a TBC file, or a buffer, as a sequence of readings."""
 
-import contextlib
 import gc
 import itertools
 import mmap
@@ -78,30 +77,18 @@ class Sequences(Streams):
             self.assertEqual((side.system, side.cut), (ldvbi.System.PAL, (4, 100) if rest else None))
 
 
-class Large(Streams):
-    def far(self, setup, count):
-        """A stream of black fields, the last of which shows a picture, and 1,000 bytes more: files with holes."""
-        size, line = ldvbi.field_bytes(setup[0]), ldvbi.line_bytes(setup[0])
-        with open(self.path, "wb") as file:
-            file.seek((count - 1) * size + 15 * line)
-            file.write(3 * ldvbi.draw_line(0xF12345, *setup))
-            file.truncate(count * size + 1000)
-        return ldvbi.Stream(self.path, *setup)
-
     def test_more_than_4_gib(self):
+        """Fields without a drawn line, the last of which shows a picture."""
         for setup, count in ((NTSC, 8982), (PAL, 6052)):
-            with self.subTest(setup), self.far(setup, count) as side:
+            write_stream(self.path, setup, [[]] * (count - 1) + [[0xF12345] * 3], 1000)
+            with self.subTest(setup), ldvbi.Stream(self.path, *setup) as side:
                 self.assertGreater(os.path.getsize(self.path), 2 ** 32)
                 self.assertEqual((len(side), side.cut_bytes), (count, 1000))
-                self.assertEqual([number_of(side[index]) for index in (count - 1, -1)], [12345, 12345])
-                self.assertEqual([number_of(field) for field in side[count - 1:]], [12345])
-                self.assertEqual(side[count - 2].first.cause, ldvbi.Cause.blank)
-                shown = [number for number, field in enumerate(side, 1) if field.second.word]
-                self.assertEqual(shown, [count])
+                last = side[count - 1], side[-1], *side[count - 1:]
+                self.assertEqual(list(map(number_of, last)), [12345] * 3)
+                self.assertEqual([number for number, field in enumerate(side, 1) if field.second.word], [count])
 
-
-class Refused(Streams):
-    def test_at_the_call(self):
+    def test_refused(self):
         self.drawn(1).close()
         absent = self.named("absent.tbc")
         for call in (ldvbi.Stream, ldvbi.fields):
@@ -169,9 +156,9 @@ class Ahead(Streams):
     def setUp(self):
         super().setUp()
         Advised.notes = []
-        patches = contextlib.ExitStack()
-        patches.enter_context(mock.patch.object(ldvbi.stream.mmap, "mmap", Advised))
-        self.addCleanup(patches.close)
+        patch = mock.patch.object(ldvbi.stream.mmap, "mmap", Advised)
+        patch.start()
+        self.addCleanup(patch.stop)
 
     def advised(self, advice):
         """The bytes of which the system was advised so, as pairs of begin and end, in their order."""
@@ -201,15 +188,12 @@ class Ahead(Streams):
                 side.rows(100)
                 self.assertEqual(self.advised(mmap.MADV_DONTNEED), blocks + self.pages((100 * size, 101 * size)))
 
-    def test_a_system_without_such_advice(self):
-        with mock.patch.object(ldvbi.stream, "_GIVE_BACK", None):
-            self.assertEqual(len(list(self.drawn(COUNT))), COUNT)
-        self.assertEqual(self.advised(mmap.MADV_DONTNEED), [])
-
     def test_pages_of_one_field(self):
+        """Also where the system takes no such advice as to give pages back."""
         side = self.drawn(COUNT)
         side[100]
         first = 100 * 478660 + 15 * 1820
         self.assertEqual(self.advised(mmap.MADV_WILLNEED), self.pages((first, first + 3 * 1820)))
-        side[10:12]
-        self.assertEqual(len(self.advised(mmap.MADV_WILLNEED)), 3)
+        with mock.patch.object(ldvbi.stream, "_GIVE_BACK", None):
+            side[10:12]
+        self.assertEqual([len(self.advised(advice)) for advice in (mmap.MADV_WILLNEED, mmap.MADV_DONTNEED)], [3, 1])
