@@ -36,7 +36,7 @@ class Set:
 class Sets(unittest.TestCase):
     @classmethod
     def setUpClass(cls):
-        cls.sets = [Set(seed) for seed in range(50)]
+        cls.sets = [Set(seed) for seed in range(100)]
 
     def test_the_sets_have_what_is_looked_at(self):
         counts = Counter()
@@ -48,8 +48,8 @@ class Sets(unittest.TestCase):
             for stretch in one.joined["lacks"]:
                 counts["lacking"] += stretch["count"]
                 counts["alone"] += stretch["count"] if len(stretch["in"]) == 1 and len(one.ones) > 2 else 0
-        self.assertEqual((counts["cav"], counts["clv"]), (86, 63))
-        for name, least in (("taken", 12000), ("due", 40), ("lost", 20), ("lacking", 2000), ("alone", 40)):
+        self.assertEqual((counts["cav"], counts["clv"]), (173, 126))
+        for name, least in (("taken", 25000), ("due", 80), ("lost", 90), ("lacking", 2000), ("alone", 200)):
             self.assertGreater(counts[name], least, name)
 
     def test_what_is_taken_is_there(self):
